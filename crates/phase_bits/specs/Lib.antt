@@ -1,0 +1,4 @@
+pub mod Number
+pub mod Flags
+pub mod Text
+pub mod Records
