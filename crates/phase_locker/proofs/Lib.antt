@@ -1,0 +1,15 @@
+pub mod Filters
+pub mod Cells
+pub mod Counts
+pub mod Shares
+pub mod Parked
+pub mod Left
+pub mod Handed
+pub mod Lookups
+pub mod Holding
+pub mod Judging
+pub mod Leaving
+pub mod Keeping
+pub mod Others
+pub mod Fresh
+pub mod Standing

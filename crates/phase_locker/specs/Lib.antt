@@ -1,0 +1,8 @@
+pub mod Natures
+pub mod Rows
+pub mod Order
+pub mod Fits
+pub mod Gifts
+pub mod Attempts
+pub mod Others
+pub mod Stands

@@ -1,0 +1,17 @@
+//! Lockers: who may read or write a cell, how a call waits that may not, and to whom the lock is given then.
+#![tactic(auto)]
+
+mod attempts;
+mod gifts;
+mod holder;
+mod locker;
+mod parks;
+mod store;
+mod tickets;
+mod ways;
+
+pub use holder::HolderLocker;
+pub use locker::PhaseLocker;
+pub use parks::Parks;
+pub use tickets::{Attempt, LockNature, LockResult, ReadTicket, WriteTicket};
+pub use ways::{Given, How, LockerKind, Waiting, Who};
