@@ -1,0 +1,57 @@
+-- What holds of each element of a list.
+use Rattle.std.proofs.Common.{◌≡◌, ℕ, ◌+◌, List, [], ◌∷◌, refl, arith, Bool, true, false, Some, cond, subst}
+use Rattle.std.specs.Prelude.{◌==◌}
+use Rattle.std.specs.List.{find, AllByRecursion}
+use Rattle.schedule_rules.specs.History.{count}
+use Rattle.schedule_rules.specs.Sections.{Section, without_innermost}
+use Rattle.schedule_rules.specs.Guards.{Guard, without_guard, put_in}
+use Rattle.schedule_rules.proofs.Opened.{put}
+
+-- where none passes a test, a fact of those that do not pass is one of all
+pub each_else : {X : Type 0} (t : X → Bool) (P Q : X → Type 0) (xs : List X) → count t xs ≡ 0
+    → ((x : X) → t x ≡ false → P x → Q x) → AllByRecursion P xs → AllByRecursion Q xs
+each_else t P Q [] none f ps = tt
+each_else {X} t P Q (x ∷ xs) none f ps = by (t x) refl none (λ n. each_else t P Q xs n f ps.1)
+  where
+    by : (b : Bool) → t x ≡ b → cond b (count t xs + 1) (count t xs) ≡ 0 → (count t xs ≡ 0 → AllByRecursion Q xs) → AllByRecursion Q (x ∷ xs)
+    by true e n rest = absurd (omega arith)
+    by false e n rest = (f x e ps.0, rest n)
+
+-- what is found is one of them
+pub each_found : {X : Type 0} (q : X → Bool) (P : X → Type 0) (xs : List X) (x : X) → find q xs ≡ Some x → AllByRecursion P xs → P x
+each_found q P [] x e ps = absurd (cc)
+each_found {X} q P (y ∷ xs) x e ps = by (q y) e (λ k. each_found q P xs x k ps.1)
+  where
+    same : (u w : X) → Some u ≡ Some w → P u → P w
+    same u w k p = let s : u ≡ w = cc in subst P s p
+
+    by : (b : Bool) → cond b (Some y) (find q xs) ≡ Some x → (find q xs ≡ Some x → P x) → P x
+    by true k rest = same y x k ps.0
+    by false k rest = rest k
+
+-- without the party's innermost section
+pub each_ended : (P : Section → Type 0) (p : ℕ) (ss : List Section) → AllByRecursion P ss → AllByRecursion P (without_innermost p ss)
+each_ended P p [] ps = tt
+each_ended P p (s ∷ ss) ps = by (s.party == p) (each_ended P p ss ps.1)
+  where
+    by : (b : Bool) → AllByRecursion P (without_innermost p ss) → AllByRecursion P (cond b ss (s ∷ without_innermost p ss))
+    by true rest = ps.1
+    by false rest = (ps.0, rest)
+
+-- without a guard
+pub each_removed : (P : Guard → Type 0) (g : ℕ) (gs : List Guard) → AllByRecursion P gs → AllByRecursion P (without_guard g gs)
+each_removed P g [] ps = tt
+each_removed P g (x ∷ gs) ps = by (x.number == g) (each_removed P g gs ps.1)
+  where
+    by : (b : Bool) → AllByRecursion P (without_guard g gs) → AllByRecursion P (cond b gs (x ∷ without_guard g gs))
+    by true rest = ps.1
+    by false rest = (ps.0, rest)
+
+-- with a value set
+pub each_put : (P : Guard → Type 0) (g v : ℕ) (gs : List Guard) → ((x : Guard) → P x → P (put v x)) → AllByRecursion P gs → AllByRecursion P (put_in g v gs)
+each_put P g v [] f ps = tt
+each_put P g v (x ∷ gs) f ps = by (x.number == g) (each_put P g v gs f ps.1)
+  where
+    by : (b : Bool) → AllByRecursion P (put_in g v gs) → AllByRecursion P (cond b (put v x ∷ gs) (x ∷ put_in g v gs))
+    by true rest = (f x ps.0, ps.1)
+    by false rest = (ps.0, rest)

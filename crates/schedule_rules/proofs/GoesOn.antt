@@ -1,0 +1,64 @@
+-- A waiting call goes on with what its party did last: its wait says the same call as the party's latest act.
+use Rattle.std.proofs.Common.{subst, ◌≡◌, ◌≢◌, ℕ, List, [], ◌∷◌, refl, ap, arith, true, false, None, Some}
+use Rattle.std.specs.Prelude.{Bool, ◌==◌}
+use Rattle.std.specs.declared.option.Option.{Option}
+use Rattle.schedule_rules.specs.declared.plan.CellPlan.{CellPlan}
+use Rattle.schedule_rules.specs.declared.step.Act.{Act}
+use Rattle.schedule_rules.specs.declared.step.Act.TheVariants as act
+use Rattle.schedule_rules.specs.declared.step.Step.{Step}
+use Rattle.schedule_rules.specs.declared.line.Answer.{Answer}
+use Rattle.schedule_rules.specs.declared.line.Answer.TheVariants as answer
+use Rattle.schedule_rules.specs.Calls.{Want, Calls}
+use Rattle.schedule_rules.specs.History.{Event, latest_act, latest_act_after, newer_act}
+use Rattle.schedule_rules.specs.Waits.{Wait, Attempt, wait_of, without_wait, with_wait, attempt_of_wait, attempt_with, waits_after, waits}
+use Rattle.schedule_rules.proofs.Opened.{wait_removed, wait_kept}
+
+-- what is attempted again is the act
+abbrev pub Agrees : Option Attempt → Act → Type 0
+Agrees None a = Unit {0}
+Agrees (Some t) a = (k : _) → t.want ≡ Calls k → a ≡ act.Call t.cell k
+
+module _ (cells : List CellPlan) where
+  agrees_now : (ws : List Wait) (h : List Event) (s : Step) (older : Act) → Agrees (attempt_of_wait (wait_of s.party ws)) older → Agrees (attempt_with cells ws h s.party s.act) (newer_act true s.act older)
+  agrees_now ws h s older IH = by s.act
+    where
+      by : (a : Act) → Agrees (attempt_with cells ws h s.party a) (newer_act true a older)
+      by (act.Call c k) = λ j e. ap (λ w. act_of_want w) e
+        where
+          act_of_want : Want → Act
+          act_of_want (Calls i) = act.Call c i
+      by act.Again = IH
+      by (act.Made v) = tt
+      by act.MadeFailed = tt
+      by (act.Look g) = tt
+      by (act.Set g v) = tt
+      by (act.Release g) = tt
+
+  module _ (h : List Event) (s : Step) (p : ℕ) (ws : List Wait) (older : Act) (IH : Agrees (attempt_of_wait (wait_of p ws)) older) where
+    left_over : (b : Bool) → (s.party == p) ≡ b → Agrees (attempt_of_wait (wait_of p (without_wait s.party ws))) (newer_act b s.act older)
+    left_over true is = rw (own is) (rw (wait_removed p ws) tt)
+      where
+        own : (s.party == p) ≡ true → s.party ≡ p
+        own e = grind arith
+    left_over false is = rw (wait_kept s.party p ws (other is)) IH
+      where
+        other : (s.party == p) ≡ false → p ≢ s.party
+        other e = grind arith
+
+    again : (b : Bool) (way : _) → (s.party == p) ≡ b → (o : Option Attempt) → attempt_with cells ws h s.party s.act ≡ o → Agrees (attempt_of_wait (wait_of p (with_wait s.party way o (without_wait s.party ws)))) (newer_act b s.act older)
+    again b way is None on = left_over b is
+    again false way is (Some a) on = rw is (left_over false is)
+    again true way is (Some a) on = rw is (subst (λ o. Agrees o (newer_act true s.act older)) on (agrees_now ws h s older (own is)))
+      where
+        own : (s.party == p) ≡ true → Agrees (attempt_of_wait (wait_of s.party ws)) older
+        own e = let same : s.party ≡ p = grind arith in rw same IH
+
+    after : (a : Answer) → Agrees (attempt_of_wait (wait_of p (waits_after cells h s a ws))) (latest_act_after a (s.party == p) s.act older)
+    after (answer.Refused r) = IH
+    after (answer.Waiting way) = again (s.party == p) way refl (attempt_with cells ws h s.party s.act) refl
+    after _ = left_over (s.party == p) refl
+
+  -- a party's wait and its latest act say the same call
+  pub wait-agrees : (p : ℕ) (h : List Event) → Agrees (attempt_of_wait (wait_of p (waits cells h))) (latest_act p h)
+  wait-agrees p [] = tt
+  wait-agrees p (e ∷ h) = after h e.step p (waits cells h) (latest_act p h) (wait-agrees p h) e.line.answer

@@ -1,0 +1,9 @@
+pub mod Found
+pub mod Opened
+pub mod Earlier
+pub mod GoesOn
+pub mod Each
+pub mod Initialized
+pub mod OneSuccess
+mod OneTranscript
+mod Waiting

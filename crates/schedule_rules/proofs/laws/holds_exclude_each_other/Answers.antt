@@ -1,0 +1,5 @@
+use Rattle.schedule_rules.proofs.Initialized.{alone}
+use Rattle.schedule_rules.proofs.laws.holds_exclude_each_other.Goals as goal
+
+pub returns : goal.returns
+returns g = λ cells h c k. alone cells h k c

@@ -1,0 +1,5 @@
+use Rattle.schedule_rules.proofs.Initialized.{initialized-stays}
+use Rattle.schedule_rules.proofs.laws.initialized_stays.Goals as goal
+
+pub returns : goal.returns
+returns c = initialized-stays

@@ -1,0 +1,48 @@
+-- Histories of steps and their lines. The latest event stands first.
+use Rattle.std.specs.Prelude.{ℕ, Bool, true, false, List, [], ◌∷◌, ◌==◌, ◌+◌, length, nat_lt, if◌then◌else◌}
+use Rattle.schedule_rules.specs.declared.step.Act.{Act}
+use Rattle.schedule_rules.specs.declared.step.Act.TheVariants as act
+use Rattle.schedule_rules.specs.declared.line.Answer.{Answer}
+use Rattle.schedule_rules.specs.declared.line.Answer.TheVariants as answer
+use Rattle.schedule_rules.specs.declared.step.Step.{Step}
+use Rattle.schedule_rules.specs.declared.line.Line.{Line}
+
+-- how many pass a test
+abbrev pub count : {X : Type 0} → (X → Bool) → List X → ℕ
+count p [] = 0
+count p (x ∷ xs) = if p x then count p xs + 1 else count p xs
+
+-- a step and its line
+pub record Event : Type 0 where
+  pub step : Step
+  pub line : Line
+
+-- the events before the step with this number
+abbrev pub before : ℕ → List Event → List Event
+before n [] = []
+before n (e ∷ h) = if nat_lt (length h) n then e ∷ h else before n h
+
+-- a party's own act replaces the older one, unless it is Again
+abbrev pub newer_act : Bool → Act → Act → Act
+newer_act false a older = older
+newer_act true act.Again older = older
+newer_act true a older = a
+
+-- a refused step leaves what was asked
+abbrev pub latest_act_after : Answer → Bool → Act → Act → Act
+latest_act_after (answer.Refused r) is_own a older = older
+latest_act_after _ is_own a older = newer_act is_own a older
+
+-- what a party asked last: its latest step that was not refused, besides Again
+abbrev pub latest_act : ℕ → List Event → Act
+latest_act p [] = act.Again
+latest_act p (e ∷ h) = latest_act_after e.line.answer (e.step.party == p) e.step.act (latest_act p h)
+
+-- an Again stands for the latest act
+abbrev pub act_by : Act → ℕ → List Event → Act
+act_by act.Again p h = latest_act p h
+act_by a p h = a
+
+-- what a step does: an Again goes on with what its party asked last
+abbrev pub act_of : List Event → Step → Act
+act_of h s = act_by s.act s.party h

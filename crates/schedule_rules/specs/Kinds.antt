@@ -1,0 +1,17 @@
+-- What the kinds of cells are, and the cells of a plan.
+use Rattle.std.specs.Prelude.{ℕ, Bool, true, List, slice_index_or}
+use Rattle.schedule_rules.specs.declared.plan.Kind.TheVariants as kind
+use Rattle.schedule_rules.specs.declared.plan.CellPlan.{CellPlan}
+use Rattle.schedule_rules.specs.declared.plan.Place.TheVariants as place
+
+-- a cell that no plan has
+abbrev pub no_cell : CellPlan
+no_cell = record { kind = kind.LockedLazy; place = place.Spin }
+
+-- the cell with this number
+abbrev pub cell_at : List CellPlan → ℕ → CellPlan
+cell_at cells c = slice_index_or cells c no_cell
+
+-- a run that failed is tried again
+abbrev pub retries : CellPlan → Bool
+retries x = true

@@ -1,0 +1,63 @@
+-- The sections that run: their generators have no outcome yet.
+use Rattle.std.specs.Prelude.{ℕ, Bool, false, List, [], ◌∷◌, ◌==◌, length, if◌then◌else◌}
+use Rattle.std.specs.List.{find}
+use Rattle.std.specs.declared.option.Option.{Option}
+use Rattle.std.specs.declared.option.Option.TheVariants.{None, Some}
+use Rattle.schedule_rules.specs.declared.step.Act.{Act}
+use Rattle.schedule_rules.specs.declared.step.Act.TheVariants as act
+use Rattle.schedule_rules.specs.declared.line.Answer.{Answer}
+use Rattle.schedule_rules.specs.declared.line.Answer.TheVariants as answer
+use Rattle.schedule_rules.specs.declared.step.Step.{Step}
+use Rattle.schedule_rules.specs.Calls.{Want, Calls}
+use Rattle.schedule_rules.specs.History.{Event, act_of}
+
+-- a section whose generator runs
+pub record Section : Type 0 where
+  pub party : ℕ
+  pub cell : ℕ
+  pub want : Want
+  pub start : ℕ  -- the number of the step that opened it
+
+-- the section of a party that was opened last
+abbrev pub innermost : ℕ → List Section → Option Section
+innermost p ss = find (λ s. s.party == p) ss
+
+-- the sections besides the party's innermost
+abbrev pub without_innermost : ℕ → List Section → List Section
+without_innermost p [] = []
+without_innermost p (s ∷ ss) = if s.party == p then ss else s ∷ without_innermost p ss
+
+-- one section more, whose generator runs
+abbrev pub with_run : Act → ℕ → ℕ → List Section → List Section
+with_run (act.Call c k) p n ss = record { party = p; cell = c; want = Calls k; start = n } ∷ ss
+with_run _ p n ss = ss
+
+-- an outcome ends the innermost section of its party
+abbrev pub sections_ended : Act → ℕ → List Section → List Section
+sections_ended (act.Made v) p ss = without_innermost p ss
+sections_ended act.MadeFailed p ss = without_innermost p ss
+sections_ended _ p ss = ss
+
+-- the sections that run after a step with this answer
+abbrev pub sections_after : List Event → Step → Answer → List Section → List Section
+sections_after h s (answer.Refused r) ss = ss
+sections_after h s answer.Running ss = with_run (act_of h s) s.party (length h) ss
+sections_after h s _ ss = sections_ended s.act s.party ss
+
+-- the sections that run, the latest of which stands first
+abbrev pub sections : List Event → List Section
+sections [] = []
+sections (e ∷ h) = sections_after h e.step e.line.answer (sections h)
+
+-- a section of the cell
+abbrev pub runs_in : ℕ → Section → Bool
+runs_in c s = s.cell == c
+
+-- a generator's section of the party
+abbrev pub generates_for : ℕ → Option Section → Bool
+generates_for p None = false
+generates_for p (Some s) = s.party == p
+
+-- the party runs the generator of the cell
+abbrev pub runs : ℕ → ℕ → List Event → Bool
+runs p c h = generates_for p (find (runs_in c) (sections h))

@@ -1,0 +1,18 @@
+//! What a schedule and a transcript are: the plan, the steps and the lines as types, and in `specs/` which transcript
+//! of a schedule is legal. Nothing here runs.
+#![tactic(auto)]
+
+mod laws;
+mod line;
+mod plan;
+mod step;
+mod transcript;
+
+pub use laws::{
+    generators_succeed_once, holds_exclude_each_other, initialized_stays, one_transcript_is_legal,
+    refused_steps_change_nothing, steps_wait_exactly_where_barred,
+};
+pub use line::{Answer, Given, How, Line, Refusal};
+pub use plan::{Call, CellPlan, Kind, Place, Plan};
+pub use step::{Act, Step};
+pub use transcript::{Final, Transcript};

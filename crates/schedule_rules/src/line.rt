@@ -1,0 +1,64 @@
+//! The lines that steps are answered by.
+
+use phase_bits::Phase;
+
+/// How a call waits.
+#[derive(Clone, Copy, PartialEq, Eq, Debug)]
+pub enum How {
+    /// It tries again by itself.
+    Spin,
+}
+
+/// What a step gave to calls that wait.
+#[derive(Clone, Copy, PartialEq, Eq, Debug)]
+pub enum Given {
+    /// Nothing.
+    Nobody,
+}
+
+/// Why a step is refused. A refused step changes nothing.
+#[derive(Clone, Copy, PartialEq, Eq, Debug)]
+pub enum Refusal {
+    /// 1: the party waits, and the act is not `Again`.
+    Waits,
+    /// 2: the act is `Again`, and the party does not wait.
+    NotWaiting,
+    /// 5: no open guard of the party has this number.
+    NoGuard,
+    /// 6: a set on a read guard.
+    NotWriter,
+    /// 7: an outcome of a generator, and the party runs no section.
+    NoSection,
+}
+
+/// What a step answers.
+#[derive(Clone, Copy, PartialEq, Eq, Debug)]
+pub enum Answer {
+    /// The published phase.
+    Phase(Phase),
+    /// The value that the holder of a guard sees.
+    Value(u64),
+    /// A guard to read. It has the number of this step.
+    ReadGuard,
+    /// A guard to write. It has the number of this step.
+    WriteGuard,
+    /// The party is now inside a section whose generator runs.
+    Running,
+    /// A value was set, or a guard was given back.
+    Done,
+    /// The generator that this step ended failed.
+    Failed,
+    /// The party asked for a run of the generator that it is running.
+    Cyclic,
+    /// The lock that the call wants is barred.
+    Waiting(How),
+    /// The step is refused.
+    Refused(Refusal),
+}
+
+/// The line of a step.
+#[derive(Clone, Copy, PartialEq, Eq, Debug)]
+pub struct Line {
+    pub answer: Answer,
+    pub given: Given,
+}

@@ -1,0 +1,41 @@
+//! The plan of a schedule: its parties and its cells.
+
+/// What a cell is, by the type of static_init that it stands for.
+#[derive(Clone, Copy, PartialEq, Eq, Debug)]
+pub enum Kind {
+    /// A value behind a lock, which a read or a write initializes.
+    LockedLazy,
+}
+
+/// Which lock a cell has, that is, how a call waits that its lock bars.
+#[derive(Clone, Copy, PartialEq, Eq, Debug)]
+pub enum Place {
+    /// A call that is barred tries again by itself, and nothing is handed to it.
+    Spin,
+}
+
+/// What a party may ask of a cell.
+#[derive(Clone, Copy, PartialEq, Eq, Debug)]
+pub enum Call {
+    /// The published phase, without a lock.
+    Phase,
+    /// A guard to read, after a run of the generator where one is wanted.
+    Read,
+    /// A guard to write, after a run of the generator where one is wanted.
+    Write,
+}
+
+/// A cell of a plan.
+#[derive(Clone, Copy, PartialEq, Eq, Debug)]
+pub struct CellPlan {
+    pub kind: Kind,
+    pub place: Place,
+}
+
+/// The parties and the cells of a schedule. Both are numbered from 0.
+#[derive(Drop)]
+pub struct Plan {
+    /// How many parties there are: below 2^20 in a schedule that runs.
+    pub parties: u32,
+    pub cells: Vec<CellPlan>,
+}

@@ -1,0 +1,29 @@
+//! The steps of a schedule.
+
+use crate::plan::Call;
+
+/// What a party does in one step. A guard is named by the number of the step whose line answered it.
+#[derive(Clone, Copy, PartialEq, Eq, Debug)]
+pub enum Act {
+    /// One attempt of a call at a cell.
+    Call { cell: u32, call: Call },
+    /// One more attempt of the call that waits.
+    Again,
+    /// The generator of the party's innermost section made this value.
+    Made { value: u64 },
+    /// The generator of the party's innermost section failed.
+    MadeFailed,
+    /// The value that the holder of the guard sees.
+    Look { guard: u32 },
+    /// The holder of a write guard sets the value.
+    Set { guard: u32, value: u64 },
+    /// The guard is given back.
+    Release { guard: u32 },
+}
+
+/// One step of one party.
+#[derive(Clone, Copy, PartialEq, Eq, Debug)]
+pub struct Step {
+    pub party: u32,
+    pub act: Act,
+}
