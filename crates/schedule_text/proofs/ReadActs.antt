@@ -1,0 +1,171 @@
+-- An act that is read is spelled so, and what spells an act is read as that one.
+use Rattle.std.proofs.Common.{◌≡◌, ℕ, ◌^◌, ◌<◌, Bool, true, false, cond, eqb, List, [], ◌∷◌, ◌++◌, Option, Some, None, refl, sym, ap, ◌∙◌, append_assoc, arith}
+use Rattle.std.specs.Prelude.{codes}
+use Rattle.std.specs.Fmt.{decimal}
+use Rattle.schedule_rules.specs.declared.plan.Call.TheVariants as call
+use Rattle.schedule_rules.specs.declared.step.Act.{Act}
+use Rattle.schedule_rules.specs.declared.step.Act.TheVariants as act
+use Rattle.schedule_text.specs.Lines.{Word}
+use Rattle.schedule_text.specs.ScheduleText.{ActFits}
+use Rattle.schedule_text.specs.ReadFields.{Field, ◌>>=◌, bytes_after, number_at, name_at}
+use Rattle.schedule_text.specs.ReadSteps.{act_text, last_number_at, last_name_at, call_at, release_at, read_else, made_failed_at, value_at, made_else, look_at, set_at, again_at, phase_at, write_at, read_or_release_at, made_at, act_at}
+use Rattle.schedule_text.proofs.ReadWords.{bind_some, carry, word_takes}
+use Rattle.schedule_text.proofs.ReadNumbers.{number_takes, number_again, name_takes, name_again}
+
+-- ---- a number that ends a line
+
+-- the digits of a number, and a line feed
+abbrev ended : ℕ → List ℕ
+ended n = decimal n ++ (10 ∷ [])
+
+ended_is : (bytes after rest : List ℕ) (n : ℕ) → bytes ≡ decimal n ++ after → after ≡ codes "\n" ++ rest → bytes ≡ ended n ++ rest
+ended_is bytes after rest n e f = e ∙ ap (λ (x : List ℕ). decimal n ++ x) f ∙ sym (append_assoc (decimal n) (10 ∷ []) rest)
+
+last_number_takes : (bytes : List ℕ) (n : ℕ) (rest : List ℕ) → last_number_at bytes ≡ Some (n, rest) → (bytes ≡ ended n ++ rest) × (n < 2 ^ 64)
+unfolding last_number_at
+last_number_takes bytes n rest e =
+    let a = bind_some (number_at bytes) (λ n. bytes_after (codes "\n") n.1 >>= λ rest. Some (n.0, rest)) (n, rest) e in
+    let b = bind_some (bytes_after (codes "\n") a.0.1) (λ rest. Some (a.0.0, rest)) (n, rest) a.2 in
+    let t = number_takes bytes a.0.0 a.0.1 a.1 in
+    let w = word_takes (codes "\n") a.0.1 b.0 b.1 in
+    carry (λ (n : ℕ) (rest : List ℕ). (bytes ≡ ended n ++ rest) × (n < 2 ^ 64)) a.0.0 n b.0 rest b.2 (ended_is bytes a.0.1 b.0 a.0.0 t.0 w, t.1)
+
+last_number_again : (n : ℕ) (more : List ℕ) → n < 2 ^ 64 → last_number_at (ended n ++ more) ≡ Some (n, more)
+unfolding last_number_at bytes_after
+last_number_again n more lt =
+    let low : 10 < 48 = omega arith in
+    rw (append_assoc (decimal n) (10 ∷ []) more, number_again n 10 more lt low) refl
+
+pub last_name_takes : (bytes : List ℕ) (n : ℕ) (rest : List ℕ) → last_name_at bytes ≡ Some (n, rest) → (bytes ≡ (decimal n ++ (10 ∷ [])) ++ rest) × (n < 2 ^ 32)
+unfolding last_name_at
+last_name_takes bytes n rest e =
+    let a = bind_some (name_at bytes) (λ n. bytes_after (codes "\n") n.1 >>= λ rest. Some (n.0, rest)) (n, rest) e in
+    let b = bind_some (bytes_after (codes "\n") a.0.1) (λ rest. Some (a.0.0, rest)) (n, rest) a.2 in
+    let t = name_takes bytes a.0.0 a.0.1 a.1 in
+    let w = word_takes (codes "\n") a.0.1 b.0 b.1 in
+    carry (λ (n : ℕ) (rest : List ℕ). (bytes ≡ ended n ++ rest) × (n < 2 ^ 32)) a.0.0 n b.0 rest b.2 (ended_is bytes a.0.1 b.0 a.0.0 t.0 w, t.1)
+
+pub last_name_again : (n : ℕ) (more : List ℕ) → n < 2 ^ 32 → last_name_at ((decimal n ++ (10 ∷ [])) ++ more) ≡ Some (n, more)
+unfolding last_name_at bytes_after
+last_name_again n more lt =
+    let low : 10 < 48 = omega arith in
+    rw (append_assoc (decimal n) (10 ∷ []) more, name_again n 10 more lt low) refl
+
+-- ---- what is read is spelled so
+
+-- what was read from the front
+pub record TakesAct (bytes : List ℕ) (a : Act) (rest : List ℕ) : Type 0 where
+  pub spelling : bytes ≡ act_text a ++ rest
+  pub fits : ActFits a
+
+behind : (word : Word) (bytes start text : List ℕ) → bytes ≡ word ++ start → start ≡ text → bytes ≡ word ++ text
+behind word bytes start text e f = e ∙ ap (λ (x : List ℕ). word ++ x) f
+
+abbrev found : (ℕ → Act) → ℕ × List ℕ → Field Act
+found make n = Some (make n.0, n.1)
+
+-- a word, and a number below 2^32 that ends the line
+named : (word : Word) (make : ℕ → Act) (bytes : List ℕ) (a : Act) (rest : List ℕ)
+    → ((n : ℕ) (rest : List ℕ) → n < 2 ^ 32 → bytes ≡ word ++ (ended n ++ rest) → TakesAct bytes (make n) rest)
+    → (bytes_after word bytes >>= λ start. last_name_at start >>= found make) ≡ Some (a, rest) → TakesAct bytes a rest
+named word make bytes a rest takes e =
+    let s = bind_some (bytes_after word bytes) (λ start. last_name_at start >>= found make) (a, rest) e in
+    let n = bind_some (last_name_at s.0) (found make) (a, rest) s.2 in
+    let w = word_takes word bytes s.0 s.1 in
+    let t = last_name_takes s.0 n.0.0 n.0.1 n.1 in
+    carry (TakesAct bytes) (make n.0.0) a n.0.1 rest n.2 (takes n.0.0 n.0.1 t.1 (behind word bytes s.0 (ended n.0.0 ++ n.0.1) w t.0))
+
+phase_takes : (bytes : List ℕ) (a : Act) (rest : List ℕ) → phase_at bytes ≡ Some (a, rest) → TakesAct bytes a rest
+unfolding phase_at call_at act_text
+phase_takes bytes a rest e = named (codes "phase ") (λ c. act.Call c call.Phase) bytes a rest (λ n rest lt e. record { spelling = e; fits = lt }) e
+
+write_takes : (bytes : List ℕ) (a : Act) (rest : List ℕ) → write_at bytes ≡ Some (a, rest) → TakesAct bytes a rest
+unfolding write_at call_at act_text
+write_takes bytes a rest e = named (codes "write ") (λ c. act.Call c call.Write) bytes a rest (λ n rest lt e. record { spelling = e; fits = lt }) e
+
+look_takes : (bytes : List ℕ) (a : Act) (rest : List ℕ) → look_at bytes ≡ Some (a, rest) → TakesAct bytes a rest
+unfolding look_at act_text
+look_takes bytes a rest e = named (codes "look ") (λ g. act.Look g) bytes a rest (λ n rest lt e. record { spelling = e; fits = lt }) e
+
+release_takes : (bytes : List ℕ) (a : Act) (rest : List ℕ) → release_at bytes ≡ Some (a, rest) → TakesAct bytes a rest
+unfolding release_at act_text
+release_takes bytes a rest e = named (codes "release ") (λ g. act.Release g) bytes a rest (λ n rest lt e. record { spelling = e; fits = lt }) e
+
+read_takes : (bytes : List ℕ) (o : Option (List ℕ)) (a : Act) (rest : List ℕ) → bytes_after (codes "read ") bytes ≡ o → read_else o bytes ≡ Some (a, rest) → TakesAct bytes a rest
+unfolding call_at act_text
+read_takes bytes None a rest at e = release_takes bytes a rest e
+read_takes bytes (Some start) a rest at e =
+    named (codes "read ") (λ c. act.Call c call.Read) bytes a rest (λ n rest lt e. record { spelling = e; fits = lt }) (rw at e)
+
+again_takes : (bytes : List ℕ) (a : Act) (rest : List ℕ) → again_at bytes ≡ Some (a, rest) → TakesAct bytes a rest
+unfolding again_at act_text
+again_takes bytes a rest e =
+    let s = bind_some (bytes_after (codes "again\n") bytes) (λ rest. Some (act.Again, rest)) (a, rest) e in
+    carry (TakesAct bytes) act.Again a s.0 rest s.2 (record { spelling = word_takes (codes "again\n") bytes s.0 s.1; fits = tt })
+
+made_takes : (bytes : List ℕ) (o : Option (List ℕ)) (a : Act) (rest : List ℕ) → bytes_after (codes "made ") bytes ≡ o → made_else o bytes ≡ Some (a, rest) → TakesAct bytes a rest
+unfolding value_at made_failed_at act_text
+made_takes bytes None a rest at e =
+    let s = bind_some (bytes_after (codes "made_failed\n") bytes) (λ rest. Some (act.MadeFailed, rest)) (a, rest) e in
+    carry (TakesAct bytes) act.MadeFailed a s.0 rest s.2 (record { spelling = word_takes (codes "made_failed\n") bytes s.0 s.1; fits = tt })
+made_takes bytes (Some start) a rest at e =
+    let v = bind_some (last_number_at start) (λ v. Some (act.Made v.0, v.1)) (a, rest) e in
+    let w = word_takes (codes "made ") bytes start at in
+    let t = last_number_takes start v.0.0 v.0.1 v.1 in
+    carry (TakesAct bytes) (act.Made v.0.0) a v.0.1 rest v.2 (record { spelling = behind (codes "made ") bytes start (ended v.0.0 ++ v.0.1) w t.0; fits = t.1 })
+
+set_is : (bytes start after last rest : List ℕ) (g v : ℕ) → bytes ≡ codes "set " ++ start → start ≡ decimal g ++ after → after ≡ codes " " ++ last → last ≡ ended v ++ rest → bytes ≡ act_text (act.Set g v) ++ rest
+unfolding act_text
+set_is bytes start after last rest g v e f h k =
+    let tail : start ≡ decimal g ++ (32 ∷ (ended v ++ rest)) = f ∙ ap (λ (x : List ℕ). decimal g ++ x) (behind (codes " ") after last (ended v ++ rest) h k) in
+    behind (codes "set ") bytes start ((decimal g ++ (32 ∷ ended v)) ++ rest) e (tail ∙ sym (append_assoc (decimal g) (32 ∷ ended v) rest))
+
+set_takes : (bytes : List ℕ) (a : Act) (rest : List ℕ) → set_at bytes ≡ Some (a, rest) → TakesAct bytes a rest
+unfolding set_at
+set_takes bytes a rest e =
+    let s = bind_some (bytes_after (codes "set ") bytes) (λ start. name_at start >>= λ g. bytes_after (codes " ") g.1 >>= λ last. last_number_at last >>= found (act.Set g.0)) (a, rest) e in
+    let g = bind_some (name_at s.0) (λ g. bytes_after (codes " ") g.1 >>= λ last. last_number_at last >>= found (act.Set g.0)) (a, rest) s.2 in
+    let m = bind_some (bytes_after (codes " ") g.0.1) (λ last. last_number_at last >>= found (act.Set g.0.0)) (a, rest) g.2 in
+    let v = bind_some (last_number_at m.0) (found (act.Set g.0.0)) (a, rest) m.2 in
+    let first = word_takes (codes "set ") bytes s.0 s.1 in
+    let guard = name_takes s.0 g.0.0 g.0.1 g.1 in
+    let space = word_takes (codes " ") g.0.1 m.0 m.1 in
+    let value = last_number_takes m.0 v.0.0 v.0.1 v.1 in
+    carry (TakesAct bytes) (act.Set g.0.0 v.0.0) a v.0.1 rest v.2
+    (record { spelling = set_is bytes s.0 g.0.1 m.0 v.0.1 g.0.0 v.0.0 first guard.0 space value.0; fits = (guard.1, value.1) })
+
+-- one of two readings
+pick : {A : Type 0} (b : Bool) (x y : Option A) (z : A) (P : Type 0) → cond b x y ≡ Some z → (x ≡ Some z → P) → (y ≡ Some z → P) → P
+pick true x y z P e f g = f e
+pick false x y z P e f g = g e
+
+pub act_takes : (bytes : List ℕ) (a : Act) (rest : List ℕ) → act_at bytes ≡ Some (a, rest) → TakesAct bytes a rest
+unfolding act_at read_or_release_at made_at
+act_takes [] a rest e = absurd cc
+act_takes (b ∷ bs) a rest e =
+    let bytes : List ℕ = b ∷ bs in
+    let P : Type 0 = TakesAct bytes a rest in
+    pick (eqb b 112) (phase_at bytes) _ (a, rest) P e (phase_takes bytes a rest) (λ e.
+    pick (eqb b 114) (read_or_release_at bytes) _ (a, rest) P e (read_takes bytes (bytes_after (codes "read ") bytes) a rest refl) (λ e.
+    pick (eqb b 119) (write_at bytes) _ (a, rest) P e (write_takes bytes a rest) (λ e.
+    pick (eqb b 97) (again_at bytes) _ (a, rest) P e (again_takes bytes a rest) (λ e.
+    pick (eqb b 109) (made_at bytes) _ (a, rest) P e (made_takes bytes (bytes_after (codes "made ") bytes) a rest refl) (λ e.
+    pick (eqb b 108) (look_at bytes) _ (a, rest) P e (look_takes bytes a rest) (λ e.
+    pick (eqb b 115) (set_at bytes) _ (a, rest) P e (set_takes bytes a rest) (λ e. absurd cc)))))))
+
+-- ---- what is spelled is read
+
+pub act_again : (a : Act) (more : List ℕ) → ActFits a → act_at (act_text a ++ more) ≡ Some (a, more)
+unfolding act_at act_text bytes_after phase_at call_at write_at read_or_release_at release_at again_at made_at value_at made_failed_at look_at set_at
+act_again (act.Call c call.Phase) more fits = rw (last_name_again c more fits) refl
+act_again (act.Call c call.Read) more fits = rw (last_name_again c more fits) refl
+act_again (act.Call c call.Write) more fits = rw (last_name_again c more fits) refl
+act_again act.Again more fits = refl
+act_again (act.Made v) more fits = rw (last_number_again v more fits) refl
+act_again act.MadeFailed more fits = refl
+act_again (act.Look g) more fits = rw (last_name_again g more fits) refl
+act_again (act.Set g v) more fits =
+    let value : List ℕ = decimal v ++ (10 ∷ []) in
+    let low : 32 < 48 = omega arith in
+    rw (append_assoc (decimal g) (32 ∷ value) more, name_again g 32 (value ++ more) fits.0 low, last_number_again v more fits.1) refl
+act_again (act.Release g) more fits = rw (last_name_again g more fits) refl

@@ -1,0 +1,135 @@
+-- Steps and cells: what is read is spelled so, and what is spelled so is read as that one.
+use Rattle.std.proofs.Common.{◌≡◌, ℕ, ◌<◌, List, [], ◌∷◌, ◌++◌, length, Option, Some, None, refl, sym, ap, ◌∙◌, append_assoc, arith}
+use Rattle.std.specs.Prelude.{codes}
+use Rattle.std.specs.Fmt.{decimal}
+use Rattle.std.specs.List.{flat_map, AllByRecursion}
+use Rattle.std.proofs.lemmas.List.{length-append, flat_map_more}
+use Rattle.std.proofs.lemmas.Option.{some_pair_parts}
+use Rattle.schedule_rules.specs.declared.plan.Kind.{Kind}
+use Rattle.schedule_rules.specs.declared.plan.Kind.TheVariants as kind
+use Rattle.schedule_rules.specs.declared.plan.Place.{Place}
+use Rattle.schedule_rules.specs.declared.plan.Place.TheVariants as place
+use Rattle.schedule_rules.specs.declared.plan.CellPlan.{CellPlan}
+use Rattle.schedule_rules.specs.declared.step.Act.{Act}
+use Rattle.schedule_rules.specs.declared.step.Act.TheVariants as act
+use Rattle.schedule_rules.specs.declared.step.Step.{Step}
+use Rattle.schedule_text.specs.Lines.{line_rest}
+use Rattle.schedule_text.specs.ScheduleText.{act_words, StepFits}
+use Rattle.schedule_text.specs.ReadFields.{◌>>=◌, bytes_after, name_at}
+use Rattle.schedule_text.specs.ReadSteps.{act_text, act_at, step_text, step_at, cell_text, cell_at}
+use Rattle.schedule_text.proofs.ReadWords.{bind_some, carry, word_takes}
+use Rattle.schedule_text.proofs.ReadNumbers.{name_takes, name_again}
+use Rattle.schedule_text.proofs.ReadActs.{act_takes, act_again}
+
+-- ---- steps
+
+rest_is : (a : Act) → line_rest (act_words a) ≡ 32 ∷ act_text a
+unfolding act_text
+rest_is (act.Call c k) = refl
+rest_is act.Again = refl
+rest_is (act.Made v) = refl
+rest_is act.MadeFailed = refl
+rest_is (act.Look g) = refl
+rest_is (act.Set g v) = refl
+rest_is (act.Release g) = refl
+
+step_is : (s : Step) → step_text s ≡ decimal s.party ++ (32 ∷ act_text s.act)
+unfolding step_text
+step_is s = ap (λ (x : List ℕ). decimal s.party ++ x) (rest_is s.act)
+
+-- what was read from the front
+pub record TakesStep (bytes : List ℕ) (s : Step) (rest : List ℕ) : Type 0 where
+  pub spelling : bytes ≡ step_text s ++ rest
+  pub fits : StepFits s
+
+step_is_read : (bytes start after rest : List ℕ) (s : Step) → bytes ≡ decimal s.party ++ after → after ≡ codes " " ++ start → start ≡ act_text s.act ++ rest → bytes ≡ step_text s ++ rest
+step_is_read bytes start after rest s e f h =
+    let tail : after ≡ 32 ∷ (act_text s.act ++ rest) = f ∙ ap (λ (x : List ℕ). 32 ∷ x) h in
+    e ∙ ap (λ (x : List ℕ). decimal s.party ++ x) tail ∙ sym (append_assoc (decimal s.party) (32 ∷ act_text s.act) rest) ∙ ap (λ (x : List ℕ). x ++ rest) (sym (step_is s))
+
+abbrev found : ℕ → Act × List ℕ → Option (Step × List ℕ)
+found p a = Some (record { party = p; act = a.0 }, a.1)
+
+pub step_takes : (bytes : List ℕ) (s : Step) (rest : List ℕ) → step_at bytes ≡ Some (s, rest) → TakesStep bytes s rest
+unfolding step_at
+step_takes bytes s rest e =
+    let p = bind_some (name_at bytes) (λ p. bytes_after (codes " ") p.1 >>= λ start. act_at start >>= found p.0) (s, rest) e in
+    let m = bind_some (bytes_after (codes " ") p.0.1) (λ start. act_at start >>= found p.0.0) (s, rest) p.2 in
+    let a = bind_some (act_at m.0) (found p.0.0) (s, rest) m.2 in
+    let made : Step = record { party = p.0.0; act = a.0.0 } in
+    let party = name_takes bytes p.0.0 p.0.1 p.1 in
+    let space = word_takes (codes " ") p.0.1 m.0 m.1 in
+    let act = act_takes m.0 a.0.0 a.0.1 a.1 in
+    carry (TakesStep bytes) made s a.0.1 rest a.2
+    (record { spelling = step_is_read bytes m.0 p.0.1 a.0.1 made party.0 space act.spelling; fits = record { party = party.1; act = act.fits } })
+
+pub step_again : (s : Step) (more : List ℕ) → StepFits s → step_at (step_text s ++ more) ≡ Some (s, more)
+unfolding step_at bytes_after
+step_again s more fits =
+    let low : 32 < 48 = omega arith in
+    let grouped : step_text s ++ more ≡ decimal s.party ++ (32 ∷ (act_text s.act ++ more)) =
+    ap (λ (x : List ℕ). x ++ more) (step_is s) ∙ append_assoc (decimal s.party) (32 ∷ act_text s.act) more in
+    ap step_at grouped ∙ rw (name_again s.party 32 (act_text s.act ++ more) fits.party low, act_again s.act more fits.act) refl
+
+pub step_shortens : (bytes : List ℕ) (s : Step) (rest : List ℕ) → bytes ≡ step_text s ++ rest → length rest < length bytes
+step_shortens bytes s rest e =
+    let n = ap length e in
+    let m = ap length (step_is s) in
+    omega (arith, n, m, length-append (step_text s) rest, length-append (decimal s.party) (32 ∷ act_text s.act))
+
+-- ---- cells
+
+only_cell : (k : Kind) (p : Place) (more : List ℕ) → let c : CellPlan = record { kind = k; place = p } in cell_at (cell_text c ++ more) ≡ Some (c, more)
+unfolding cell_at cell_text bytes_after
+only_cell kind.LockedLazy place.Spin more = refl
+
+pub cell_again : (c : CellPlan) (more : List ℕ) → cell_at (cell_text c ++ more) ≡ Some (c, more)
+cell_again c more = only_cell c.kind c.place more
+
+pub cell_takes : (bytes : List ℕ) (c : CellPlan) (rest : List ℕ) → cell_at bytes ≡ Some (c, rest) → bytes ≡ cell_text c ++ rest
+unfolding cell_at cell_text
+cell_takes bytes c rest e =
+    let made : CellPlan = record { kind = kind.LockedLazy; place = place.Spin } in
+    let s = bind_some (bytes_after (codes "cell LockedLazy spin\n") bytes) (λ rest. Some (made, rest)) (c, rest) e in
+    carry (λ (x : CellPlan) (rest : List ℕ). bytes ≡ cell_text x ++ rest) made c s.0 rest s.2 (word_takes (codes "cell LockedLazy spin\n") bytes s.0 s.1)
+
+filled : (k : Kind) (p : Place) → let c : CellPlan = record { kind = k; place = p } in 0 < length (cell_text c)
+unfolding cell_text
+filled kind.LockedLazy place.Spin = omega arith
+
+pub cell_shortens : (bytes : List ℕ) (c : CellPlan) (rest : List ℕ) → bytes ≡ cell_text c ++ rest → length rest < length bytes
+cell_shortens bytes c rest e =
+    let n = ap length e in
+    let m = filled c.kind c.place in
+    omega (arith, n, m, length-append (cell_text c) rest)
+
+-- ---- one after another
+
+pub one_more : {A : Type 0} (f : A → List ℕ) (text : List ℕ) (xs : List A) (x : A) (rest after : List ℕ) → text ≡ flat_map f xs ++ rest → rest ≡ f x ++ after → text ≡ flat_map f (xs ++ x ∷ []) ++ after
+one_more f text xs x rest after so_far next =
+    so_far ∙ ap (λ (r : List ℕ). flat_map f xs ++ r) next ∙ sym (append_assoc (flat_map f xs) (f x) after) ∙ ap (λ (r : List ℕ). r ++ after) (flat_map_more f [] xs x)
+
+pub all_push : {A : Type 0} (P : A → Type 0) (xs : List A) (x : A) → AllByRecursion P xs → P x → AllByRecursion P (xs ++ x ∷ [])
+all_push P [] x h p = (p, tt)
+all_push P (y ∷ ys) x h p = (h.0, all_push P ys x h.1 p)
+
+-- two lists of lines that spell one text are one
+pub same : {A : Type 0} (at : List ℕ → Option (A × List ℕ)) (f : A → List ℕ) (Fits : A → Type 0)
+    → ((x : A) (more : List ℕ) → Fits x → at (f x ++ more) ≡ Some (x, more))
+    → (xs ys : List A) (m n : List ℕ) → AllByRecursion Fits xs → AllByRecursion Fits ys → at m ≡ None → at n ≡ None
+    → flat_map f xs ++ m ≡ flat_map f ys ++ n → (xs ≡ ys) × (m ≡ n)
+same at f Fits again [] [] m n p q h k e = (refl, e)
+same at f Fits again [] (y ∷ ys) m n p q h k e =
+    let grouped = e ∙ append_assoc (f y) (flat_map f ys) n in
+    let read = ap at grouped ∙ again y (flat_map f ys ++ n) q.0 in
+    absurd cc
+same at f Fits again (x ∷ xs) [] m n p q h k e =
+    let grouped = sym e ∙ append_assoc (f x) (flat_map f xs) m in
+    let read = ap at grouped ∙ again x (flat_map f xs ++ m) p.0 in
+    absurd cc
+same at f Fits again (x ∷ xs) (y ∷ ys) m n p q h k e =
+    let grouped = sym (append_assoc (f x) (flat_map f xs) m) ∙ e ∙ append_assoc (f y) (flat_map f ys) n in
+    let read = sym (again x (flat_map f xs ++ m) p.0) ∙ ap at grouped ∙ again y (flat_map f ys ++ n) q.0 in
+    let parts = some_pair_parts x y (flat_map f xs ++ m) (flat_map f ys ++ n) read in
+    let t = same at f Fits again xs ys m n p.1 q.1 h k parts.1 in
+    (cc, t.1)

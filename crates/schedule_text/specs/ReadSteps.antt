@@ -1,0 +1,137 @@
+-- What a reader of a text's front answers: acts, steps and cells, each up to the end of its line.
+use Rattle.std.specs.Prelude.{ℕ, List, [], ◌∷◌, Option, Some, None, ◌==◌, if◌then◌else◌, codes}
+use Rattle.schedule_rules.specs.declared.plan.Kind.TheVariants as kind
+use Rattle.schedule_rules.specs.declared.plan.Place.TheVariants as place
+use Rattle.schedule_rules.specs.declared.plan.Call.{Call}
+use Rattle.schedule_rules.specs.declared.plan.Call.TheVariants as call
+use Rattle.schedule_rules.specs.declared.plan.CellPlan.{CellPlan}
+use Rattle.schedule_rules.specs.declared.step.Act.{Act}
+use Rattle.schedule_rules.specs.declared.step.Act.TheVariants as act
+use Rattle.schedule_rules.specs.declared.step.Step.{Step}
+use Rattle.schedule_text.specs.Lines.{line_text}
+use Rattle.schedule_text.specs.ScheduleText.{act_words, step_words, cell_words}
+use Rattle.schedule_text.specs.ReadFields.{Field, ◌>>=◌, bytes_after, number_at, name_at}
+
+-- the text of an act, up to the end of its line
+unfoldable pub act_text : Act → List ℕ
+act_text a = line_text (act_words a)
+
+-- the line of a step
+unfoldable pub step_text : Step → List ℕ
+step_text s = line_text (step_words s)
+
+-- the line of a cell
+unfoldable pub cell_text : CellPlan → List ℕ
+cell_text c = line_text (cell_words c)
+
+-- a number below 2^64 that ends a line
+unfoldable pub last_number_at : List ℕ → Field ℕ
+last_number_at bytes = do
+  n ← number_at bytes
+  rest ← bytes_after (codes "\n") n.1
+  Some (n.0, rest)
+
+-- a number below 2^32 that ends a line
+unfoldable pub last_name_at : List ℕ → Field ℕ
+last_name_at bytes = do
+  n ← name_at bytes
+  rest ← bytes_after (codes "\n") n.1
+  Some (n.0, rest)
+
+-- the cell of a call
+unfoldable pub call_at : Call → List ℕ → Field Act
+call_at k bytes = do
+  c ← last_name_at bytes
+  Some (act.Call c.0 k, c.1)
+
+unfoldable pub release_at : List ℕ → Field Act
+release_at bytes = do
+  rest ← bytes_after (codes "release ") bytes
+  g ← last_name_at rest
+  Some (act.Release g.0, g.1)
+
+-- a call to read, or else the release of a guard
+abbrev pub read_else : Option (List ℕ) → List ℕ → Field Act
+read_else (Some rest) bytes = call_at call.Read rest
+read_else None bytes = release_at bytes
+
+unfoldable pub made_failed_at : List ℕ → Field Act
+made_failed_at bytes = do
+  rest ← bytes_after (codes "made_failed\n") bytes
+  Some (act.MadeFailed, rest)
+
+unfoldable pub value_at : List ℕ → Field Act
+value_at bytes = do
+  v ← last_number_at bytes
+  Some (act.Made v.0, v.1)
+
+-- what the generator made, or else that it failed
+abbrev pub made_else : Option (List ℕ) → List ℕ → Field Act
+made_else (Some rest) bytes = value_at rest
+made_else None bytes = made_failed_at bytes
+
+unfoldable pub look_at : List ℕ → Field Act
+look_at bytes = do
+  rest ← bytes_after (codes "look ") bytes
+  g ← last_name_at rest
+  Some (act.Look g.0, g.1)
+
+unfoldable pub set_at : List ℕ → Field Act
+set_at bytes = do
+  start ← bytes_after (codes "set ") bytes
+  g ← name_at start
+  rest ← bytes_after (codes " ") g.1
+  v ← last_number_at rest
+  Some (act.Set g.0 v.0, v.1)
+
+unfoldable pub again_at : List ℕ → Field Act
+again_at bytes = do
+  rest ← bytes_after (codes "again\n") bytes
+  Some (act.Again, rest)
+
+unfoldable pub phase_at : List ℕ → Field Act
+phase_at bytes = do
+  rest ← bytes_after (codes "phase ") bytes
+  call_at call.Phase rest
+
+unfoldable pub write_at : List ℕ → Field Act
+write_at bytes = do
+  rest ← bytes_after (codes "write ") bytes
+  call_at call.Write rest
+
+unfoldable pub read_or_release_at : List ℕ → Field Act
+read_or_release_at bytes = read_else (bytes_after (codes "read ") bytes) bytes
+
+unfoldable pub made_at : List ℕ → Field Act
+made_at bytes = made_else (bytes_after (codes "made ") bytes) bytes
+
+-- an act is told by its first letter
+unfoldable pub act_at : List ℕ → Field Act
+act_at [] = None
+act_at (b ∷ bytes) =
+    if b == 112 then phase_at (b ∷ bytes)
+    else (if b == 114 then read_or_release_at (b ∷ bytes)
+    else (if b == 119 then write_at (b ∷ bytes)
+    else (if b == 97 then again_at (b ∷ bytes)
+    else (if b == 109 then made_at (b ∷ bytes)
+    else (if b == 108 then look_at (b ∷ bytes)
+    else (if b == 115 then set_at (b ∷ bytes)
+    else None))))))
+
+unfoldable pub step_at : List ℕ → Field Step
+step_at bytes = do
+  p ← name_at bytes
+  rest ← bytes_after (codes " ") p.1
+  a ← act_at rest
+  Some (record { party = p.0; act = a.0 }, a.1)
+
+unfoldable pub cell_at : List ℕ → Field CellPlan
+cell_at bytes = do
+  rest ← bytes_after (codes "cell LockedLazy spin\n") bytes
+  Some (record { kind = kind.LockedLazy; place = place.Spin }, rest)
+
+-- how many parties there are, behind the version of the text
+unfoldable pub parties_at : List ℕ → Field ℕ
+parties_at bytes = do
+  rest ← bytes_after (codes "schedule 1\nparties ") bytes
+  last_name_at rest

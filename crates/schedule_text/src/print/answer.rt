@@ -1,0 +1,65 @@
+//! The answers of steps.
+
+ghost use Rattle.std.specs.Prelude.{◌≡◌, [], ◌∷◌, ◌++◌, OnOk, codes};
+ghost use Rattle.std.specs.Fmt.{decimal};
+ghost use Rattle.phase_bits.specs.Number.{number};
+ghost use Rattle.phase_bits.specs.Text.{phase_text};
+ghost use Rattle.schedule_text.specs.Lines.{line_text};
+ghost use Rattle.schedule_text.specs.TranscriptText.{answer_words, refusal_words};
+
+use crate::print::number::push_decimal;
+use crate::print::phase::push_phase;
+use phase_bits::Phase;
+use schedule_rules::{Answer, How, Refusal};
+use std::alloc::{AllocError, Global};
+
+/// Appends an answer behind the number of its step, and ends the line.
+pub fn push_answer(alloc: Global, text: &mut Vec<u8>, answer: Answer) -> Result<(), AllocError>
+    ensures { OnOk result (text.new.items ≡ text.old.items ++ line_text (answer_words answer)) }
+{
+    match answer {
+        Answer::Phase(phase) => push_phase_answer(alloc, text, phase),
+        Answer::Value(value) => push_value_answer(text, value),
+        Answer::ReadGuard => text.extend_from_slice(b"read-guard\n"),
+        Answer::WriteGuard => text.extend_from_slice(b"write-guard\n"),
+        Answer::Running => text.extend_from_slice(b"running\n"),
+        Answer::Done => text.extend_from_slice(b"done\n"),
+        Answer::Failed => text.extend_from_slice(b"failed\n"),
+        Answer::Cyclic => text.extend_from_slice(b"cyclic\n"),
+        Answer::Waiting(How::Spin) => text.extend_from_slice(b"waiting spin\n"),
+        Answer::Refused(reason) => push_refusal(text, reason),
+    }
+}
+
+/// Appends the answer of a phase, and ends the line.
+fn push_phase_answer(alloc: Global, text: &mut Vec<u8>, phase: Phase) -> Result<(), AllocError>
+    ensures { OnOk result (text.new.items
+        ≡ text.old.items ++ line_text (codes "phase" ∷ phase_text (number phase) ∷ [])) }
+{
+    text.extend_from_slice(b"phase ")?;
+    push_phase(alloc, text, phase)?;
+    text.extend_from_slice(b"\n")
+}
+
+/// Appends the answer of a value, and ends the line.
+fn push_value_answer(text: &mut Vec<u8>, value: u64) -> Result<(), AllocError>
+    ensures { OnOk result (text.new.items
+        ≡ text.old.items ++ line_text (codes "value" ∷ decimal value ∷ [])) }
+{
+    text.extend_from_slice(b"value ")?;
+    push_decimal(text, value, b'\n')
+}
+
+/// Appends a refusal with its number and its name, and ends the line.
+fn push_refusal(text: &mut Vec<u8>, reason: Refusal) -> Result<(), AllocError>
+    ensures { OnOk result (text.new.items
+        ≡ text.old.items ++ line_text (codes "refused" ∷ refusal_words reason)) }
+{
+    match reason {
+        Refusal::Waits => text.extend_from_slice(b"refused 1 Waits\n"),
+        Refusal::NotWaiting => text.extend_from_slice(b"refused 2 NotWaiting\n"),
+        Refusal::NoGuard => text.extend_from_slice(b"refused 5 NoGuard\n"),
+        Refusal::NotWriter => text.extend_from_slice(b"refused 6 NotWriter\n"),
+        Refusal::NoSection => text.extend_from_slice(b"refused 7 NoSection\n"),
+    }
+}

@@ -1,0 +1,91 @@
+use super::print_transcript;
+use phase_bits::Phase;
+use schedule_rules::{Answer, Final, Given, How, Line, Refusal, Transcript};
+use std::alloc::{AllocError, Global};
+use std::test::Fail;
+
+/// The text of the transcript of these answers and finals.
+fn printed(alloc: Global, answers: &[Answer], finals: &[Final]) -> Result<Vec<u8>, AllocError> {
+    let mut lines = Vec::with_capacity(alloc, answers.len())?;
+    for answer in answers {
+        lines.push(Line {
+            answer: *answer,
+            given: Given::Nobody,
+        })?;
+    }
+    let finals = Vec::from_slice(alloc, finals)?;
+    print_transcript(alloc, &Transcript { lines, finals })
+}
+
+const FIRST: &[u8] = b"transcript 1
+0 running
+1 read-guard
+2 value 22
+3 done
+4 write-guard
+5 done
+6 done
+7 read-guard
+8 value 33
+cell 0 Phase (Initialized) 33
+end
+";
+
+const OTHERS: &[u8] = b"transcript 1
+0 phase Phase (not initialized)
+1 phase Phase (Initialization panicked | Initialization skiped)
+2 phase Phase (Initialized | Registered)
+3 failed
+4 cyclic
+5 waiting spin
+6 refused 1 Waits
+7 refused 2 NotWaiting
+8 refused 5 NoGuard
+9 refused 6 NotWriter
+10 refused 7 NoSection
+11 value 18446744073709551615
+cell 0 Phase (not initialized) none
+cell 1 Phase (Initialization panicked | Initialization skiped) none
+end
+";
+
+#[test]
+fn transcripts_are_printed(rt: HostRuntime) -> Result<(), Fail> {
+    let alloc = rt.alloc();
+    let failed = Phase::INITIALIZATION_PANICKED.union(Phase::INITIALIZATION_SKIPED);
+    let first = [
+        Answer::Running,
+        Answer::ReadGuard,
+        Answer::Value(22),
+        Answer::Done,
+        Answer::WriteGuard,
+        Answer::Done,
+        Answer::Done,
+        Answer::ReadGuard,
+        Answer::Value(33),
+    ];
+    let others = [
+        Answer::Phase(Phase::empty()),
+        Answer::Phase(failed),
+        Answer::Phase(Phase::INITIALIZED_AND_REGISTERED),
+        Answer::Failed,
+        Answer::Cyclic,
+        Answer::Waiting(How::Spin),
+        Answer::Refused(Refusal::Waits),
+        Answer::Refused(Refusal::NotWaiting),
+        Answer::Refused(Refusal::NoGuard),
+        Answer::Refused(Refusal::NotWriter),
+        Answer::Refused(Refusal::NoSection),
+        Answer::Value(18446744073709551615),
+    ];
+    let left = |phase, value| Final { phase, value };
+    let set = left(Phase::INITIALIZED, Some(33));
+    let unset = [left(Phase::empty(), None), left(failed, None)];
+    assert_eq!(rt;
+        printed(alloc, &[], &[])?.as_slice(),
+        b"transcript 1\nend\n".as_slice()
+    );
+    assert_eq!(rt; printed(alloc, &first, &[set])?.as_slice(), FIRST);
+    assert_eq!(rt; printed(alloc, &others, &unset)?.as_slice(), OTHERS);
+    Ok(())
+}

@@ -1,0 +1,112 @@
+//! Acts at the front of a text, each up to the end of its line.
+
+ghost use Rattle.std.specs.Prelude.{◌≡◌};
+ghost use Rattle.schedule_text.specs.ReadFields.{Gives};
+ghost use Rattle.schedule_text.specs.ReadSteps.{call_at, release_at, read_or_release_at, made_at, look_at, set_at, again_at, phase_at, write_at, act_at};
+
+use super::field::{after_word, first_byte, last_u32, last_u64, number_u32};
+use schedule_rules::{Act, Call};
+
+/// The cell of a call.
+#[tactic(auto, unfolding(crate::specs::ReadSteps::call_at))]
+fn cell_of(call: Call, text: &[u8]) -> Option<(Act, &[u8])>
+    ensures { Gives (λ found. (found.0, found.1.now)) result (call_at call text.now) }
+{
+    let (cell, rest) = last_u32(text)?;
+    Some((Act::Call { cell, call }, rest))
+}
+
+/// `phase c`.
+#[tactic(auto, unfolding(crate::specs::ReadSteps::phase_at))]
+fn phase(text: &[u8]) -> Option<(Act, &[u8])>
+    ensures { Gives (λ found. (found.0, found.1.now)) result (phase_at text.now) }
+{
+    cell_of(Call::Phase, after_word(text, b"phase ")?)
+}
+
+/// `write c`.
+#[tactic(auto, unfolding(crate::specs::ReadSteps::write_at))]
+fn write(text: &[u8]) -> Option<(Act, &[u8])>
+    ensures { Gives (λ found. (found.0, found.1.now)) result (write_at text.now) }
+{
+    cell_of(Call::Write, after_word(text, b"write ")?)
+}
+
+/// `read c`, or else `release g`.
+#[tactic(auto, unfolding(crate::specs::ReadSteps::read_or_release_at))]
+fn read_or_release(text: &[u8]) -> Option<(Act, &[u8])>
+    ensures { Gives (λ found. (found.0, found.1.now)) result (read_or_release_at text.now) }
+{
+    match after_word(text, b"read ") {
+        Some(rest) => cell_of(Call::Read, rest),
+        None => release(text),
+    }
+}
+
+/// `release g`.
+#[tactic(auto, unfolding(crate::specs::ReadSteps::release_at))]
+fn release(text: &[u8]) -> Option<(Act, &[u8])>
+    ensures { Gives (λ found. (found.0, found.1.now)) result (release_at text.now) }
+{
+    let (guard, rest) = last_u32(after_word(text, b"release ")?)?;
+    Some((Act::Release { guard }, rest))
+}
+
+/// `again`.
+#[tactic(auto, unfolding(crate::specs::ReadSteps::again_at))]
+fn again(text: &[u8]) -> Option<(Act, &[u8])>
+    ensures { Gives (λ found. (found.0, found.1.now)) result (again_at text.now) }
+{
+    Some((Act::Again, after_word(text, b"again\n")?))
+}
+
+/// `made v`, or else `made_failed`.
+#[tactic(auto, unfolding(crate::specs::ReadSteps::made_at, crate::specs::ReadSteps::value_at, crate::specs::ReadSteps::made_failed_at))]
+fn made(text: &[u8]) -> Option<(Act, &[u8])>
+    ensures { Gives (λ found. (found.0, found.1.now)) result (made_at text.now) }
+{
+    match after_word(text, b"made ") {
+        Some(rest) => {
+            let (value, rest) = last_u64(rest)?;
+            Some((Act::Made { value }, rest))
+        }
+        None => Some((Act::MadeFailed, after_word(text, b"made_failed\n")?)),
+    }
+}
+
+/// `look g`.
+#[tactic(auto, unfolding(crate::specs::ReadSteps::look_at))]
+fn look(text: &[u8]) -> Option<(Act, &[u8])>
+    ensures { Gives (λ found. (found.0, found.1.now)) result (look_at text.now) }
+{
+    let (guard, rest) = last_u32(after_word(text, b"look ")?)?;
+    Some((Act::Look { guard }, rest))
+}
+
+/// `set g v`.
+#[tactic(auto, unfolding(crate::specs::ReadSteps::set_at))]
+fn set(text: &[u8]) -> Option<(Act, &[u8])>
+    ensures { Gives (λ found. (found.0, found.1.now)) result (set_at text.now) }
+{
+    let (guard, rest) = number_u32(after_word(text, b"set ")?)?;
+    let (value, rest) = last_u64(after_word(rest, b" ")?)?;
+    Some((Act::Set { guard, value }, rest))
+}
+
+/// An act, which its first letter tells, up to the end of its line.
+#[tactic(auto, unfolding(crate::specs::ReadSteps::act_at))]
+pub(super) fn act(text: &[u8]) -> Option<(Act, &[u8])>
+    ensures { Gives (λ found. (found.0, found.1.now)) result (act_at text.now) }
+{
+    let (first, _) = first_byte(text)?;
+    match first {
+        b'p' => phase(text),
+        b'r' => read_or_release(text),
+        b'w' => write(text),
+        b'a' => again(text),
+        b'm' => made(text),
+        b'l' => look(text),
+        b's' => set(text),
+        _ => None,
+    }
+}

@@ -1,0 +1,79 @@
+//! The lines of a schedule at the front of a text.
+
+ghost use Rattle.std.specs.Prelude.{◌≡◌, ◌++◌, List, IfOk, IsTrue, ◌↔◌, codes};
+ghost use Rattle.std.specs.List.{flat_map, AllByRecursion};
+ghost use Rattle.schedule_text.specs.ScheduleText.{StepFits};
+ghost use Rattle.schedule_text.specs.ReadFields.{Gives};
+ghost use Rattle.schedule_text.specs.ReadSteps.{parties_at, cell_text, cell_at, step_text, step_at};
+
+use super::act::act;
+use super::field::{after_word, last_u32, number_u32};
+use schedule_rules::{CellPlan, Kind, Place, Step};
+use std::alloc::{AllocError, Global};
+
+/// The lines before the cells, which say how many parties there are.
+#[tactic(auto, unfolding(crate::specs::ReadSteps::parties_at))]
+pub(super) fn parties(text: &[u8]) -> Option<(u32, &[u8])>
+    ensures { Gives (λ found. (found.0, found.1.now)) result (parties_at text.now) }
+{
+    last_u32(after_word(text, b"schedule 1\nparties ")?)
+}
+
+/// The line of a cell.
+#[tactic(auto, unfolding(crate::specs::ReadSteps::cell_at))]
+fn cell(text: &[u8]) -> Option<(CellPlan, &[u8])>
+    ensures { Gives (λ found. (found.0, found.1.now)) result (cell_at text.now) }
+{
+    let rest = after_word(text, b"cell LockedLazy spin\n")?;
+    let cell = CellPlan {
+        kind: Kind::LockedLazy,
+        place: Place::Spin,
+    };
+    Some((cell, rest))
+}
+
+/// The line of a step.
+#[tactic(auto, unfolding(crate::specs::ReadSteps::step_at))]
+fn step(text: &[u8]) -> Option<(Step, &[u8])>
+    ensures { Gives (λ found. (found.0, found.1.now)) result (step_at text.now) }
+{
+    let (party, rest) = number_u32(text)?;
+    let (act, rest) = act(after_word(rest, b" ")?)?;
+    Some((Step { party, act }, rest))
+}
+
+/// The lines of cells, up to one that is none.
+pub(super) fn cells(alloc: Global, text: &[u8]) -> Result<(Vec<CellPlan>, &[u8]), AllocError>
+    ensures taken { IfOk result (λ found. text.now ≡ flat_map cell_text found.0.items ++ found.1.now) }
+    ensures ended { IfOk result (λ found. cell_at found.1.now ≡ None) }
+{
+    let mut cells = Vec::new(alloc);
+    let mut rest = text;
+    while let Some((next, after)) = cell(rest) {
+        cells.push(next)?;
+        rest = after;
+    }
+    Ok((cells, rest))
+}
+
+/// The lines of steps, up to one that is none.
+pub(super) fn steps(alloc: Global, text: &[u8]) -> Result<(Vec<Step>, &[u8]), AllocError>
+    ensures taken { IfOk result (λ found. text.now ≡ flat_map step_text found.0.items ++ found.1.now) }
+    ensures fit { IfOk result (λ found. AllByRecursion StepFits found.0.items) }
+    ensures ended { IfOk result (λ found. step_at found.1.now ≡ None) }
+{
+    let mut steps = Vec::new(alloc);
+    let mut rest = text;
+    while let Some((next, after)) = step(rest) {
+        steps.push(next)?;
+        rest = after;
+    }
+    Ok((steps, rest))
+}
+
+/// Whether the text is the last line and nothing more.
+pub(super) fn is_end(text: &[u8]) -> bool
+    ensures { IsTrue result ↔ (text.now ≡ codes "end\n") }
+{
+    text == b"end\n".as_slice()
+}

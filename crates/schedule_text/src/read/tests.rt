@@ -1,0 +1,157 @@
+use super::*;
+use schedule_rules::{Act, Call, CellPlan, Kind, Place};
+use std::test::Fail;
+
+const NOTHING: &[u8] = b"schedule 1\nparties 0\nsteps\nend\n";
+
+const NINE_STEPS: &[u8] = b"schedule 1
+parties 1
+cell LockedLazy spin
+steps
+0 read 0
+0 made 22
+0 look 1
+0 release 1
+0 write 0
+0 set 4 33
+0 release 4
+0 read 0
+0 look 7
+end
+";
+
+/// The largest numbers that are read, and the acts that the other texts leave out.
+const LARGEST: &[u8] = b"schedule 1
+parties 4294967295
+steps
+4294967295 phase 4294967295
+0 again
+0 made 18446744073709551615
+0 made_failed
+0 set 4294967295 18446744073709551615
+end
+";
+
+const BAD: [&[u8]; 36] = [
+    b"",
+    b"schedule 2\nparties 0\nsteps\nend\n",
+    b"schedule 01\nparties 0\nsteps\nend\n",
+    b"parties 0\nsteps\nend\n",
+    b"schedule 1\nparties 00\nsteps\nend\n",
+    b"schedule 1\nparties 4294967296\nsteps\nend\n",
+    b"schedule 1\nparties \nsteps\nend\n",
+    b"schedule 1\nparties +1\nsteps\nend\n",
+    b"schedule 1\nparties -1\nsteps\nend\n",
+    b"schedule 1\nparties 1 \nsteps\nend\n",
+    b"schedule 1\nparties  1\nsteps\nend\n",
+    b"schedule 1\n\nparties 1\nsteps\nend\n",
+    b"schedule 1\r\nparties 1\r\nsteps\r\nend\r\n",
+    b"schedule 1\nparties 1\ncell LockedLazyLocal spin\nsteps\nend\n",
+    b"schedule 1\nparties 1\ncell LockedLazy park\nsteps\nend\n",
+    b"schedule 1\nparties 1\ncell LockedLazy spin once\nsteps\nend\n",
+    b"schedule 1\nparties 1\ncell LockedLazy\nsteps\nend\n",
+    b"schedule 1\nparties 1\nsteps\ncell LockedLazy spin\nend\n",
+    b"schedule 1\nparties 1\nend\n",
+    b"schedule 1\nparties 1\nsteps\n0 read 0\n",
+    b"schedule 1\nparties 1\nsteps\nend",
+    b"schedule 1\nparties 1\nsteps\nend\n\n",
+    b"schedule 1\nparties 1\nsteps\nend\n0 again\n",
+    b"schedule 1\nparties 1\nsteps\n\nend\n",
+    b"schedule 1\nparties 1\nsteps\n# none\nend\n",
+    b"schedule 1\nparties 1\nsteps\n0  again\nend\n",
+    b"schedule 1\nparties 1\nsteps\n0\tagain\nend\n",
+    b"schedule 1\nparties 1\nsteps\n0 again \nend\n",
+    b"schedule 1\nparties 1\nsteps\n0 again\xff\nend\n",
+    b"schedule 1\nparties 1\nsteps\n00 again\nend\n",
+    b"schedule 1\nparties 1\nsteps\n0 wait 0\nend\n",
+    b"schedule 1\nparties 1\nsteps\n0 made 18446744073709551616\nend\n",
+    b"schedule 1\nparties 1\nsteps\n0 made 01\nend\n",
+    b"schedule 1\nparties 1\nsteps\n0 look 4294967296\nend\n",
+    b"schedule 1\nparties 1\nsteps\n0 set 4\nend\n",
+    b"schedule 1\nparties 1\nsteps\n0 read 0 0\nend\n",
+];
+
+/// What the text is read as, where it has at most a thousand bytes.
+fn read(alloc: Global, text: &[u8]) -> Result<(Plan, Vec<Step>), ReadError> {
+    if text.len() > 1000 {
+        return Err(ReadError::Memory);
+    }
+    read_schedule(alloc, text)
+}
+
+#[test]
+fn reads_nine_steps(rt: HostRuntime) -> Result<(), Fail> {
+    let (plan, steps) = read(rt.alloc(), NINE_STEPS)?;
+    let cell = CellPlan {
+        kind: Kind::LockedLazy,
+        place: Place::Spin,
+    };
+    let call = |call| Act::Call { cell: 0, call };
+    let acts = [
+        call(Call::Read),
+        Act::Made { value: 22 },
+        Act::Look { guard: 1 },
+        Act::Release { guard: 1 },
+        call(Call::Write),
+        Act::Set {
+            guard: 4,
+            value: 33,
+        },
+        Act::Release { guard: 4 },
+        call(Call::Read),
+        Act::Look { guard: 7 },
+    ];
+    assert_eq!(rt; plan.parties, 1);
+    assert_eq!(rt; plan.cells.as_slice(), [cell].as_slice());
+    assert_eq!(rt; steps.len(), acts.len());
+    for (step, act) in steps.iter().zip(acts.iter()) {
+        assert_eq!(rt; step.party, 0);
+        assert_eq!(rt; step.act, *act);
+    }
+    Ok(())
+}
+
+#[test]
+fn reads_the_largest_numbers(rt: HostRuntime) -> Result<(), Fail> {
+    let (plan, steps) = read(rt.alloc(), LARGEST)?;
+    let acts = [
+        Act::Call {
+            cell: u32::MAX,
+            call: Call::Phase,
+        },
+        Act::Again,
+        Act::Made { value: u64::MAX },
+        Act::MadeFailed,
+        Act::Set {
+            guard: u32::MAX,
+            value: u64::MAX,
+        },
+    ];
+    assert_eq!(rt; plan.parties, u32::MAX);
+    assert_eq!(rt; plan.cells.len(), 0);
+    assert_eq!(rt; steps.len(), acts.len());
+    for (step, act) in steps.iter().zip(acts.iter()) {
+        assert_eq!(rt; step.act, *act);
+    }
+    Ok(())
+}
+
+#[test]
+fn refuses_each_part_of_a_text(rt: HostRuntime) -> Result<(), Fail> {
+    for text in [NOTHING, NINE_STEPS, LARGEST] {
+        let _read = read(rt.alloc(), text)?;
+        for end in 0..text.len() {
+            let part = read(rt.alloc(), &text[..end]);
+            assert!(rt; matches!(part, Err(ReadError::BadLine(0))), "cut at {end}");
+        }
+    }
+    Ok(())
+}
+
+#[test]
+fn refuses_bad_lines(rt: HostRuntime) {
+    for (i, text) in BAD.iter().enumerate() {
+        let answer = read(rt.alloc(), text);
+        assert!(rt; matches!(answer, Err(ReadError::BadLine(0))), "text {i}");
+    }
+}
