@@ -1,0 +1,119 @@
+-- Short words for steps, lines and cells.
+use Rattle.std.specs.Prelude.{ℕ}
+use Rattle.std.specs.declared.option.Option.TheVariants.{None, Some}
+use Rattle.phase_bits.specs.Number.{phase_of}
+use Rattle.schedule_rules.specs.declared.plan.Kind.TheVariants as kind
+use Rattle.schedule_rules.specs.declared.plan.Place.TheVariants as place
+use Rattle.schedule_rules.specs.declared.plan.Call.TheVariants as call
+use Rattle.schedule_rules.specs.declared.plan.CellPlan.{CellPlan}
+use Rattle.schedule_rules.specs.declared.step.Act.{Act}
+use Rattle.schedule_rules.specs.declared.step.Act.TheVariants as act
+use Rattle.schedule_rules.specs.declared.step.Step.{Step}
+use Rattle.schedule_rules.specs.declared.line.Given.TheVariants as given
+use Rattle.schedule_rules.specs.declared.line.How.TheVariants as how
+use Rattle.schedule_rules.specs.declared.line.Refusal.{Refusal}
+use Rattle.schedule_rules.specs.declared.line.Refusal.TheVariants as refused
+use Rattle.schedule_rules.specs.declared.line.Answer.{Answer}
+use Rattle.schedule_rules.specs.declared.line.Answer.TheVariants as answer
+use Rattle.schedule_rules.specs.declared.line.Line.{Line}
+use Rattle.schedule_rules.specs.declared.transcript.Final.{Final}
+
+-- a cell whose calls spin
+abbrev pub cell : CellPlan
+cell = record { kind = kind.LockedLazy; place = place.Spin }
+
+-- the steps, with their party first
+abbrev pub step : ℕ → Act → Step
+step p a = record { party = p; act = a }
+
+abbrev pub phase : ℕ → ℕ → Step
+phase p c = step p (act.Call c call.Phase)
+
+abbrev pub read : ℕ → ℕ → Step
+read p c = step p (act.Call c call.Read)
+
+abbrev pub write : ℕ → ℕ → Step
+write p c = step p (act.Call c call.Write)
+
+abbrev pub again : ℕ → Step
+again p = step p act.Again
+
+abbrev pub made : ℕ → ℕ → Step
+made p v = step p (act.Made v)
+
+abbrev pub made_failed : ℕ → Step
+made_failed p = step p act.MadeFailed
+
+abbrev pub look : ℕ → ℕ → Step
+look p g = step p (act.Look g)
+
+abbrev pub put : ℕ → ℕ → ℕ → Step
+put p g v = step p (act.Set g v)
+
+abbrev pub release : ℕ → ℕ → Step
+release p g = step p (act.Release g)
+
+-- the lines, each of which gives nothing
+abbrev pub line : Answer → Line
+line a = record { answer = a; given = given.Nobody }
+
+abbrev pub refusal : Refusal → Line
+refusal r = line (answer.Refused r)
+
+abbrev pub empty_phase : Line
+empty_phase = line (answer.Phase (phase_of 0))
+
+abbrev pub initialized_phase : Line
+initialized_phase = line (answer.Phase (phase_of 1))
+
+abbrev pub failed_phase : Line
+failed_phase = line (answer.Phase (phase_of 6))
+
+abbrev pub value : ℕ → Line
+value v = line (answer.Value v)
+
+abbrev pub read_guard : Line
+read_guard = line answer.ReadGuard
+
+abbrev pub write_guard : Line
+write_guard = line answer.WriteGuard
+
+abbrev pub running : Line
+running = line answer.Running
+
+abbrev pub done : Line
+done = line answer.Done
+
+abbrev pub failed : Line
+failed = line answer.Failed
+
+abbrev pub cyclic : Line
+cyclic = line answer.Cyclic
+
+abbrev pub waiting : Line
+waiting = line (answer.Waiting how.Spin)
+
+abbrev pub waits : Line
+waits = refusal refused.Waits
+
+abbrev pub not_waiting : Line
+not_waiting = refusal refused.NotWaiting
+
+abbrev pub no_guard : Line
+no_guard = refusal refused.NoGuard
+
+abbrev pub not_writer : Line
+not_writer = refusal refused.NotWriter
+
+abbrev pub no_section : Line
+no_section = refusal refused.NoSection
+
+-- what cells are left with
+abbrev pub untouched : Final
+untouched = record { phase = phase_of 0; value = None }
+
+abbrev pub initialized_with : ℕ → Final
+initialized_with v = record { phase = phase_of 1; value = Some v }
+
+abbrev pub left_failed : Final
+left_failed = record { phase = phase_of 6; value = None }
