@@ -1,0 +1,19 @@
+use Rattle.phase_schedule.proofs.rows.Rows.begin.Given as goal
+
+abbrev pub ghost-attempt : goal.ghost-attempt
+ghost-attempt g a = g.h
+
+abbrev pub ghost-made : goal.ghost-made
+ghost-made g a = g.h
+
+abbrev pub ghost-made_failed : goal.ghost-made_failed
+ghost-made_failed g a = g.h
+
+abbrev pub ghost-look : goal.ghost-look
+ghost-look g a = g.h
+
+abbrev pub ghost-set : goal.ghost-set
+ghost-set g a = g.h
+
+abbrev pub ghost-release : goal.ghost-release
+ghost-release g a = g.h

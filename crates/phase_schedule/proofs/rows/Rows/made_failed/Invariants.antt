@@ -1,0 +1,4 @@
+use Rattle.phase_schedule.proofs.rows.Rows.made_failed.Given as goal
+
+abbrev pub ghost-innermost : goal.ghost-innermost
+ghost-innermost g a = g.h

@@ -1,0 +1,32 @@
+//! Why a schedule does not run.
+
+ghost use Rattle.std.specs.Prelude.{◌≡◌};
+ghost use Rattle.phase_schedule.specs.declared.error.RunError.TheVariants.{Memory};
+
+use std::alloc::AllocError;
+use thiserror::Error;
+
+/// Why a schedule does not run. All but want of memory are found before the first step.
+#[derive(Debug, Drop, Error)]
+pub enum RunError {
+    /// There are 2^20 parties or more. This is asked first.
+    #[error("too many parties")]
+    TooManyParties,
+    /// The step with this number is the first that names an unknown party or cell, and its party is unknown.
+    #[error("unknown party at step {step}")]
+    UnknownParty { step: u32 },
+    /// The step with this number is the first that names an unknown party or cell, and its cell is unknown.
+    #[error("unknown cell at step {step}")]
+    UnknownCell { step: u32 },
+    /// Memory ran out.
+    #[error("out of memory")]
+    Memory,
+}
+
+impl From<AllocError> for RunError {
+    ghost from_gives = { λ _ e. e ≡ Memory };
+
+    fn from(_error: AllocError) -> RunError {
+        RunError::Memory
+    }
+}

@@ -1,0 +1,26 @@
+//! Runs schedules: an engine with one row for each cell, party and step, and whole runs.
+#![tactic(auto)]
+
+mod attempt;
+mod cause;
+mod engine;
+mod error;
+mod fresh;
+mod held;
+mod look_up;
+mod outcome;
+mod perform;
+mod progress;
+mod rows;
+mod run;
+#[cfg(test)]
+mod tests;
+
+pub use engine::Engine;
+pub use error::RunError;
+pub use run::run_schedule;
+pub use schedule_rules::{
+    Act, Answer, Call, CellPlan, Final, Given, How, Kind, Line, Place, Plan, Refusal, Step,
+    Transcript,
+};
+pub use schedule_text::{ReadError, print_transcript, read_schedule};
