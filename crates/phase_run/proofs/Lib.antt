@@ -1,0 +1,4 @@
+pub mod KnownBytes
+pub mod Sizes
+pub mod Handed
+pub mod Called

@@ -1,0 +1,24 @@
+//! The program over any source of bytes and any sink: reads a schedule, runs it, and writes its transcript.
+#![tactic(auto)]
+
+mod answer;
+mod failed;
+mod memory;
+mod program;
+mod read;
+mod sink;
+mod source;
+mod standard;
+mod status;
+mod stop;
+#[cfg(test)]
+mod tests;
+mod write;
+
+pub use failed::Failed;
+pub use memory::{MemSink, MemSource};
+pub use program::run_program;
+pub use sink::Sink;
+pub use source::Source;
+pub use standard::{StdSink, StdSource};
+pub use status::Status;
