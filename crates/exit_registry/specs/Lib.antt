@@ -1,0 +1,4 @@
+pub mod Registry
+pub mod Chains
+pub mod Turns
+pub mod Logs

@@ -1,0 +1,1 @@
+//! The exit: each registered cell has its turn.
