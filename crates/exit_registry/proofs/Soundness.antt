@@ -1,11 +1,11 @@
 -- A registry stays sound.
-use Rattle.std.proofs.Common.{◌≡◌, ◌≢◌, ℕ, zero, suc, ◌+◌, ◌^◌, ◌<◌, ◌≤◌, ◌==◌, Bool, true, false, cond, List, [], ◌∷◌, ◌++◌, length, refl, arith, ◌∙◌, ap, sym, subst, inl, inr, not, All}
-use Rattle.std.specs.Prelude.{replicate, slice_index_or, slice_set, ◌&&◌}
-use Rattle.std.proofs.Math.ListN.{length-set, length-replicate, get_or, set}
+use Rattle.std.proofs.Common.{◌≡◌, ◌≢◌, ℕ, zero, suc, ◌+◌, ◌^◌, ◌<◌, ◌≤◌, ◌==◌, Bool, true, false, cond, List, [], ◌∷◌, ◌++◌, length, refl, arith, sym, subst, inl, inr, All}
+use Rattle.std.specs.Prelude.{replicate, slice_index_or}
+use Rattle.std.proofs.Math.ListN.{length-set, length-replicate, get_or}
 use Rattle.std.proofs.lemmas.List.{get_or-set_other, get_or-set_same}
 use Rattle.std.proofs.lemmas.Bool.{cases_eq}
 use Rattle.std.proofs.lemmas.List.Elements.{All-nil, All-cons}
-use Rattle.exit_registry.specs.Registry.{Registry, IsSound, cells_of, is_known, is_empty, first_of, rest_of, occurs, new_registry, round_with, registered, looked, after_turn, due}
+use Rattle.exit_registry.specs.Registry.{Registry, IsSound, cells_of, is_known, rest_of, occurs, new_registry, registered, looked, after_turn, due}
 
 -- ---- how often a cell is in a list
 
@@ -24,6 +24,9 @@ occurs-other c d cs n = rw (apart d c n) (omega arith)
 pub occurs-append : (c : ℕ) (xs ys : List ℕ) → occurs c (xs ++ ys) ≡ occurs c xs + occurs c ys
 occurs-append c [] ys = omega arith
 occurs-append c (x ∷ xs) ys = omega (arith, occurs-append c xs ys)
+
+pub none_first : (d c : ℕ) (cs : List ℕ) → occurs d (c ∷ cs) ≡ 0 → (c ≢ d) × (occurs d cs ≡ 0)
+none_first d c cs h = ((λ e. let f : occurs d (d ∷ cs) ≡ 0 = subst (λ x. occurs d (x ∷ cs) ≡ 0) e h in omega (arith, f, occurs-first d cs)), omega (arith, h))
 
 -- ---- cells that are known
 

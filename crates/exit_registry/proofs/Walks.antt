@@ -1,17 +1,17 @@
 -- What is seen of the rows, when a cell is registered, a round begins, or a turn is taken.
-use Rattle.std.proofs.Common.{◌≡◌, ◌≢◌, ℕ, zero, suc, ◌+◌, ◌-◌, ◌^◌, ◌<◌, ◌≤◌, ◌==◌, Bool, true, false, cond, List, [], ◌∷◌, ◌++◌, length, refl, arith, ◌∙◌, ap, sym, subst, inl, inr, not, map, take, add-one}
-use Rattle.std.specs.Prelude.{replicate, slice_index_or, slice_set, count_by, ◌&&◌, Some, None, Option}
-use Rattle.std.proofs.Math.ListN.{length-set, length-replicate, set, length-map, get_or-map, get_or}
+use Rattle.std.proofs.Common.{◌≡◌, ◌≢◌, ℕ, zero, suc, ◌+◌, ◌-◌, ◌^◌, ◌<◌, Bool, true, false, cond, List, [], ◌∷◌, ◌++◌, length, refl, arith, ◌∙◌, ap, sym, not, map, take, add-one}
+use Rattle.std.specs.Prelude.{replicate, slice_index_or, count_by, ◌&&◌, Some, None}
+use Rattle.std.proofs.Math.ListN.{length-set, set, length-map, get_or-map, get_or}
 use Rattle.std.proofs.lemmas.List.{get_or-set_other, get_or-set_same, map-set}
 use Rattle.std.proofs.lemmas.List.Elements.{All-head}
 use Rattle.std.proofs.lemmas.List.Sums.{count_by-le-length, sum_by-set}
 use Rattle.std.proofs.lemmas.Grind.{common_steps}
 use Rattle.exit_registry.specs.declared.registry.Row.{Row}
 use Rattle.exit_registry.specs.declared.registry.Chain.{Chain}
-use Rattle.exit_registry.specs.Registry.{Registry, IsSound, cells_of, is_known, is_empty, first_of, rest_of, occurs, new_registry, registered, after_register, look_at, looked, after_turn, due}
+use Rattle.exit_registry.specs.Registry.{Registry, cells_of, is_known, is_empty, first_of, rest_of, occurs, new_registry, registered, after_register, look_at, looked, after_turn}
 use Rattle.exit_registry.specs.declared.registry.Look.TheVariants.{Round, Closed}
 use Rattle.exit_registry.specs.Chains.{unknown, row_at, walk, cells_in, seen, IsKept}
-use Rattle.exit_registry.proofs.Soundness.{eq_self, occurs-first, occurs-append, not_due, sound-new, sound-registered, sound-looked, sound-after_turn}
+use Rattle.exit_registry.proofs.Soundness.{occurs-append, none_first, not_due, sound-new, sound-registered, sound-looked, sound-after_turn}
 
 -- a list that is written back whole
 pub take_all : (n : ℕ) (xs ys : List Row) → length xs ≡ n → take n (xs ++ ys) ≡ xs
@@ -34,9 +34,6 @@ length-walk : (n : ℕ) (rows : List Row) (c : ℕ) → length (walk n rows c) �
 unfolding walk
 length-walk zero rows c = refl
 length-walk (suc n) rows c = ap suc (length-walk n rows (row_at rows c).next)
-
-none_first : (d c : ℕ) (cs : List ℕ) → occurs d (c ∷ cs) ≡ 0 → (c ≢ d) × (occurs d cs ≡ 0)
-none_first d c cs h = ((λ e. let f : occurs d (d ∷ cs) ≡ 0 = subst (λ x. occurs d (x ∷ cs) ≡ 0) e h in omega (arith, f, occurs-first d cs)), omega (arith, h))
 
 -- the row of a cell that is in none of the lists does not matter
 pub walk-set : (n : ℕ) (rows : List Row) (c d : ℕ) (r : Row) → occurs d (walk n rows c) ≡ 0 → walk n (set rows d r) c ≡ walk n rows c

@@ -1,5 +1,5 @@
 -- Rows, each with the number of the next cell of its round.
-use Rattle.std.specs.Prelude.{ℕ, zero, suc, ◌+◌, ◌≤◌, Bool, false, List, [], ◌∷◌, length, map, count_by, slice_index_or}
+use Rattle.std.specs.Prelude.{ℕ, zero, suc, ◌+◌, ◌≤◌, Bool, false, List, [], ◌∷◌, map, count_by, slice_index_or}
 use Rattle.exit_registry.specs.declared.registry.Row.{Row}
 use Rattle.exit_registry.specs.declared.registry.Chain.{Chain}
 use Rattle.exit_registry.specs.Registry.{Registry, IsSound}

@@ -2,3 +2,4 @@ pub mod Registry
 pub mod Chains
 pub mod Turns
 pub mod Logs
+pub mod Exits

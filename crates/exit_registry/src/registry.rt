@@ -6,7 +6,10 @@ ghost use Rattle.exit_registry.specs.Registry.{Registry, IsSound, new_registry, 
 use std::alloc::{AllocError, Global};
 use std::marker::Model;
 
-/// What a look answers.
+#[cfg(test)]
+mod tests;
+
+/// What a look answers. This project's own.
 #[derive(Clone, Copy, PartialEq, Eq, Debug)]
 pub enum Look {
     /// The number of cells that the look took: those registered since the last one, of which there was at least one.
@@ -38,8 +41,8 @@ struct Chain {
 /// No cells.
 const NOTHING: Chain = Chain { count: 0, first: 0 };
 
-/// The cells registered for the exit, and the rounds in which it takes them. This project's own, in place of the list
-/// of static_init's exit manager, in which the cells themselves are linked.
+/// The cells registered for the exit, and the rounds in which it takes them. It stands for the one register of
+/// static_init, in which the cells themselves are linked.
 ///
 /// A contract sees the cells registered since the last look, in the order in which the next look would take them; the
 /// cells left of the last look, in the order of their turns; for each cell whether it was ever registered; and whether
@@ -126,13 +129,14 @@ impl ExitRegistry {
         self.is_open
     }
 
-    /// Registers a cell. Answers false exactly where the registry is closed, and then nothing changes.
+    /// Registers a cell, which is below `cells` and was not registered before. Answers false exactly where the registry is
+    /// closed, and then nothing changes. It is static_init's `finalize_at_exit`.
     pub fn register(&mut self, cell: u32) -> bool
         requires cell { cell < cells_of self.old }
         requires unknown { is_known self.old cell ≡ false }
         ensures accepted { result ≡ self.old.is_open }
         ensures after { self.new ≡ after_register cell self.old }
-        ensures sound { IsSound self.new }
+        ensures sound { IsSound self.old × IsSound self.new }
     {
         if !self.is_open {
             return false;
@@ -147,7 +151,7 @@ impl ExitRegistry {
         requires { self.old.left ≡ [] }
         ensures look { result ≡ look_at self.old.pending }
         ensures after { self.new ≡ looked self.old }
-        ensures sound { IsSound self.new }
+        ensures sound { IsSound self.old × IsSound self.new }
     {
         let round = self.pending;
         self.pending = NOTHING;
@@ -163,7 +167,7 @@ impl ExitRegistry {
     pub fn next_turn(&mut self) -> Option<u32>
         ensures cell { result ≡ first_of self.old.left }
         ensures after { self.new ≡ after_turn self.old }
-        ensures sound { IsSound self.new }
+        ensures sound { IsSound self.old × IsSound self.new }
     {
         if self.left.count == 0 {
             return None;

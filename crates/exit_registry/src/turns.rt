@@ -16,7 +16,7 @@ pub enum Turn {
     Busy,
 }
 
-/// A cell whose turn has come, and how it ended.
+/// A cell that had its turn, and how that ended. This project's own.
 #[derive(Clone, Copy, PartialEq, Eq, Debug)]
 pub struct Turned {
     /// The number of the cell.
@@ -25,7 +25,7 @@ pub struct Turned {
     pub turn: Turn,
 }
 
-/// What has a turn in the exit. It is static_init's `OnExit`, which has a turn by its finalizer.
+/// What has a turn in the exit. It is static_init's `OnExit`, whose `execute` answers nothing.
 ///
 /// A contract sees four truth values of an object: whether it is initialized, whether a ticket of it is open, whether
 /// its finalizer succeeded, and whether it failed.

@@ -1,4 +1,4 @@
-use Rattle.std.proofs.Common.{◌∙◌, sym, ap, refl}
+use Rattle.std.proofs.Common.{sym}
 use Rattle.exit_registry.proofs.Walks.{look_seen, look_kept, look_closes, look_stays, look_closed, look_round}
 use Rattle.exit_registry.proofs.registry.ExitRegistry.look.Goals as goal
 
@@ -18,7 +18,7 @@ returns-then-round-eq0-clause-after c =
     rw (sym (look_closes s.rows.items s.pending s.left s.is_open c.args.self.now c.self.view_is c.self.invariant c.if-round-eq0.true)) (look_seen s.rows.items s.pending s.left s.is_open c.args.self.now c.self.view_is c.self.invariant)
 
 pub returns-then-round-eq0-clause-sound : goal.returns-then-round-eq0-clause-sound
-returns-then-round-eq0-clause-sound c = (invariant_of-self c).sound
+returns-then-round-eq0-clause-sound c = (rw (← c.self.view_is) c.self.invariant.sound, (invariant_of-self c).sound)
 
 pub invariant_of-self-else-round-eq0 : goal.invariant_of-self-else-round-eq0
 invariant_of-self-else-round-eq0 c =
@@ -36,4 +36,4 @@ returns-clause-after c =
     rw (sym (look_stays s.rows.items s.pending s.left s.is_open c.args.self.now c.self.view_is c.self.invariant c.if-round-eq0.false)) (look_seen s.rows.items s.pending s.left s.is_open c.args.self.now c.self.view_is c.self.invariant)
 
 pub returns-clause-sound : goal.returns-clause-sound
-returns-clause-sound c = (invariant_of-self-else-round-eq0 c).sound
+returns-clause-sound c = (rw (← c.self.view_is) c.self.invariant.sound, (invariant_of-self-else-round-eq0 c).sound)

@@ -1,4 +1,4 @@
-use Rattle.std.proofs.Common.{◌≡◌, ◌∙◌, sym, ap, arith}
+use Rattle.std.proofs.Common.{◌≡◌, ◌∙◌, ap, arith}
 use Rattle.std.proofs.lemmas.List.{get_or_default}
 use Rattle.exit_registry.specs.declared.registry.Row.{Row}
 use Rattle.exit_registry.specs.Chains.{unknown, row_at}
@@ -43,4 +43,4 @@ returns-clause-after c =
     turn_seen s.rows.items s.pending s.left s.is_open c.args.self.now c.self.view_is c.self.invariant c.if-self-eq0.false c.index.result.now.next (next_is c)
 
 pub returns-clause-sound : goal.returns-clause-sound
-returns-clause-sound c = (invariant_of-self c).sound
+returns-clause-sound c = (rw (← c.self.view_is) c.self.invariant.sound, (invariant_of-self c).sound)

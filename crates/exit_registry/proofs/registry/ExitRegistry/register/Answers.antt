@@ -1,5 +1,5 @@
-use Rattle.std.proofs.Common.{◌≡◌, ◌∙◌, true, false, Bool, not, ap, sym, arith, take, drop, ◌++◌, length, refl}
-use Rattle.std.proofs.Math.ListN.{set, length-set}
+use Rattle.std.proofs.Common.{◌≡◌, ◌∙◌, true, arith, take, drop, ◌++◌, length}
+use Rattle.std.proofs.Math.ListN.{set}
 use Rattle.exit_registry.proofs.Walks.{linked, link_room, register_seen, register_kept, take_all}
 use Rattle.exit_registry.proofs.registry.ExitRegistry.register.Goals as goal
 
@@ -27,4 +27,4 @@ returns-clause-after c =
     rw (rows_now c, c.link-self-inside.ensures.round) (register_seen s.rows.items s.pending s.left s.is_open c.args.self.now c.self.view_is c.self.invariant c.args.cell c.requires.cell c.requires.unknown (was_open c))
 
 pub returns-clause-sound : goal.returns-clause-sound
-returns-clause-sound c = (invariant_of-self c).sound
+returns-clause-sound c = (rw (← c.self.view_is) c.self.invariant.sound, (invariant_of-self c).sound)
