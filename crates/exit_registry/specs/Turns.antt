@@ -3,7 +3,7 @@ use Rattle.std.specs.Prelude.{◌≡◌, Bool, true, false}
 use Rattle.exit_registry.specs.declared.turns.Turn.{Turn}
 use Rattle.exit_registry.specs.declared.turns.Turn.TheVariants.{Skipped, Done, Failed, Busy}
 
--- what is seen of an object that has a turn: it is initialized, a ticket of it is open, its finalizer succeeded, it failed
+-- what is seen of an object that has a turn: it is initialized, it is held, its finalizer succeeded, its finalizer failed
 pub record Meanings : Type 0 where
   pub initialized : Bool
   pub held : Bool

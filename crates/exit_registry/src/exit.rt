@@ -52,8 +52,9 @@ impl ExitRegistry {
     }
 
     /// Takes rounds until a look closes the registry, and executes the object of each cell once: first those of the
-    /// cells that are left, then those of the cells registered since the last look, the latest first. The log has each
-    /// of them with its turn. It must be empty, and made for as many cells as there are objects.
+    /// cells that are left, then those of the cells registered since the last look, the latest first. Each of these cells
+    /// must have an object. The log has them with their turns; it must be empty, and made for at least as many cells as
+    /// there are objects. It stands for static_init's `execute_at_exit`.
     pub fn run_exit(&mut self, cells: &mut [Box<dyn Finalizable>], log: &mut Log)
         requires below { All (λ c. c < length cells.old) (due self.old) }
         requires empty { log.old.turns ≡ [] }
@@ -64,6 +65,7 @@ impl ExitRegistry {
         ensures turns { All (λ t. HasTurnedAt (λ b. meanings b) t cells.old cells.new) log.new.turns }
         ensures others { (c : ℕ) → occurs c (due self.old) ≡ 0 → slice_get cells.new c ≡ slice_get cells.old c }
         ensures room { log.new.cells ≡ log.old.cells }
+        ensures sound { IsSound self.new }
     {
         while let Some(cell) = self.next_cell() {
             log.note(turn_at(cells, cell));

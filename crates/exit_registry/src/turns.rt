@@ -6,13 +6,13 @@ ghost use Rattle.exit_registry.specs.Turns.{Meanings, Answers, left_by, is_still
 /// How an exit turn ended. This project's own: the exit of static_init answers nothing.
 #[derive(Clone, Copy, PartialEq, Eq, Debug)]
 pub enum Turn {
-    /// There was nothing to finalize: the object was not initialized.
+    /// The object was not initialized, and the finalizer did not run.
     Skipped,
     /// The finalizer succeeded.
     Done,
     /// The finalizer failed.
     Failed,
-    /// A ticket was open, and the finalizer did not run.
+    /// The object was initialized and held, and the finalizer did not run.
     Busy,
 }
 
@@ -27,14 +27,16 @@ pub struct Turned {
 
 /// What has a turn in the exit. It is static_init's `OnExit`, whose `execute` answers nothing.
 ///
-/// A contract sees four truth values of an object: whether it is initialized, whether a ticket of it is open, whether
-/// its finalizer succeeded, and whether it failed.
+/// A contract sees four truth values of an object: whether it is initialized, whether it is held, whether its finalizer
+/// succeeded, and whether that failed. For a cell they are its phase's INITIALIZED, an open ticket, FINALIZED and
+/// FINALIZATION_PANICKED.
 pub trait Finalizable: Drop {
     // The four truth values.
     ghost meanings: { Self → Meanings };
 
     /// The turn of the object. It is `Skipped` exactly where the object is not initialized, and `Busy` exactly where it
-    /// is and a ticket is open; nothing changes then. Else the finalizer runs.
+    /// is initialized and held; nothing changes then. Else the finalizer runs, and the turn is `Done` where it succeeds
+    /// and `Failed` where it fails.
     fn execute(&mut self) -> Turn
         ensures answers { Answers (meanings self.old) result }
         ensures leaves { meanings self.new ≡ left_by result (meanings self.old) }

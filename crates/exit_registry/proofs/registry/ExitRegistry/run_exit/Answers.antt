@@ -1,6 +1,6 @@
 use Rattle.std.proofs.Common.{◌∙◌, sym, ap, refl}
 use Rattle.exit_registry.specs.Logs.{LogBook}
-use Rattle.exit_registry.proofs.Exiting.{exit_begins, turn_inside, log_room, exit_goes_on, all_turned, closed_first, others_stay}
+use Rattle.exit_registry.proofs.Exiting.{exit_begins, turn_inside, log_room, exit_goes_on, all_turned, closed_first, others_stay, sound-closed}
 use Rattle.exit_registry.proofs.registry.ExitRegistry.run_exit.Goals as goal
 
 pub loop-cell-init : goal.loop-cell-init
@@ -37,3 +37,6 @@ returns-clause-others g c = others_stay _ c.args.self.now c.loop-cell.self c.arg
 
 pub returns-clause-room : goal.returns-clause-room
 returns-clause-room g c = c.loop-cell.invariant.1
+
+pub returns-clause-sound : goal.returns-clause-sound
+returns-clause-sound g c = rw (c.in_default.ensures.closed refl) (sound-closed c.loop-cell.self c.in_default.ensures.sound)
