@@ -1,0 +1,4 @@
+pub mod Soundness
+pub mod Walks
+pub mod Exiting
+pub mod Boxes

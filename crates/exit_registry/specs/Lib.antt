@@ -1,0 +1,5 @@
+pub mod Registry
+pub mod Chains
+pub mod Turns
+pub mod Logs
+pub mod Exits
