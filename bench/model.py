@@ -15,14 +15,35 @@ MOST_READERS = 2**20 - 1
 
 
 class Cell:
-    def __init__(self):
+    def __init__(self, parks):
+        self.parks = parks
         self.phase, self.value = EMPTY, None
-        self.readers = 0
+        self.guards = 0  # open read guards
         self.runner = None  # the party whose generator runs
         self.writer = None  # the open write guard
+        self.shares = {}  # party -> "read" or "write": locks given to parked calls that made no step since
+        self.parked = []  # parties with the nature to which they are woken, in order of parking
+
+    def readers(self):
+        return self.guards + sum(nature == "read" for nature in self.shares.values())
 
     def is_held_to_write(self):
-        return self.runner is not None or self.writer is not None
+        return self.runner is not None or self.writer is not None or "write" in self.shares.values()
+
+    def hand_over(self):
+        """Gives the cell to parked calls where nothing holds it: to all readers where there is one, else to the first writer."""
+        if self.readers() or self.is_held_to_write():
+            return ""
+        readers = [party for party, nature in self.parked if nature == "read"]
+        if readers:
+            self.shares.update((party, "read") for party in readers)
+            self.parked = [(party, nature) for party, nature in self.parked if nature != "read"]
+            return " gives readers"
+        if not self.parked:
+            return ""
+        party, _ = self.parked.pop(0)
+        self.shares[party] = "write"
+        return f" gives writer {party}"
 
 
 class Guard:
@@ -32,15 +53,17 @@ class Guard:
 
 
 class Model:
-    def __init__(self, parties, cells):
-        self.cells = [Cell() for _ in range(cells)]
+    """Cells that park or spin. On a parking cell each barred call parks, and a downgrade gives nothing."""
+
+    def __init__(self, parties, parks):
+        self.cells = [Cell(park) for park in parks]
         self.waiting = [None] * parties  # the call that waits
         self.running = [[] for _ in range(parties)]  # the sections that run, innermost last
         self.guards = {}
         self.steps = 0
 
     def step(self, party, act, *args):
-        """Makes one step and returns the text of its answer."""
+        """Makes one step and returns the text of its answer, with what it gave."""
         answer = self.refusal(party, act, args) or self.answer(party, act, args)
         self.steps += 1
         return answer
@@ -50,11 +73,11 @@ class Model:
             return None if act == "again" else "refused 1 Waits"
         if act == "again":
             return "refused 2 NotWaiting"
-        if act in ("look", "set", "release"):
+        if act in ("look", "set", "release", "downgrade", "clone"):
             guard = self.guards.get(args[0])
-            if guard is None or guard.party != party:
+            if guard is None or guard.party != party or (act == "clone" and guard.writes):
                 return "refused 5 NoGuard"
-            if act == "set" and not guard.writes:
+            if act in ("set", "downgrade") and not guard.writes:
                 return "refused 6 NotWriter"
         if act in ("made", "made_failed") and not self.running[party]:
             return "refused 7 NoSection"
@@ -67,6 +90,9 @@ class Model:
             return self.call(party, act, args[0])
         if act in ("made", "made_failed"):
             return self.outcome(party, args)
+        return self.use(party, act, args)
+
+    def use(self, party, act, args):
         guard = self.guards[args[0]]
         cell = self.cells[guard.cell]
         if act == "look":
@@ -74,32 +100,59 @@ class Model:
         if act == "set":
             guard.value = args[1]
             return "done"
+        if act == "clone":
+            return "borrowed" if cell.readers() == MOST_READERS else self.read_guard(party, guard.cell)
         del self.guards[args[0]]
         if guard.writes:
             cell.phase, cell.value, cell.writer = guard.phase, guard.value, None
         else:
-            cell.readers -= 1
-        return "done"
+            cell.guards -= 1
+        if act == "downgrade":
+            return self.read_guard(party, guard.cell)
+        return "done" + cell.hand_over()
 
     def call(self, party, call, number):
         cell = self.cells[number]
-        self.waiting[party] = None
-        if call == "phase":
-            return "phase " + PHASES[cell.phase]
-        if cell.runner == party:
-            return "cyclic"
         writes = call == "write" or cell.phase != INITIALIZED
-        barred = cell.is_held_to_write() or (cell.readers > 0 if writes else cell.readers == MOST_READERS)
-        if barred:
-            self.waiting[party] = (call, number)
+        nature = None if call == "phase" else "write" if writes else "read"
+        self.waiting[party] = None
+        share = cell.shares.pop(party, None)
+        cell.parked = [(other, woken) for other, woken in cell.parked if other != party]
+        given = ""
+        if share is None or share != nature:
+            given = cell.hand_over() if share is not None else ""
+            if call != "phase" and cell.runner == party:
+                return "cyclic"
+            if self.bars(cell, nature):
+                return self.wait(party, call, number) + given
+        return self.admit(party, call, number, nature) + given
+
+    def bars(self, cell, nature):
+        if nature is None:
+            return False
+        if nature == "write":
+            return cell.is_held_to_write() or cell.readers() > 0
+        return cell.is_held_to_write() or cell.readers() == MOST_READERS
+
+    def wait(self, party, call, number):
+        cell = self.cells[number]
+        self.waiting[party] = (call, number)
+        if not cell.parks:
             return "waiting spin"
-        if cell.phase != INITIALIZED:
-            cell.runner = party
-            self.running[party].append((number, call))
-            return "running"
-        if call == "read":
+        cell.parked.append((party, call))
+        return f"waiting {call}"
+
+    def admit(self, party, call, number, nature):
+        cell = self.cells[number]
+        if nature is None:
+            return "phase " + PHASES[cell.phase]
+        if nature == "read":
             return self.read_guard(party, number)
-        return self.write_guard(party, number, cell.phase, cell.value)
+        if cell.phase == INITIALIZED:
+            return self.write_guard(party, number, cell.phase, cell.value)
+        cell.runner = party
+        self.running[party].append((number, call))
+        return "running"
 
     def outcome(self, party, args):
         number, call = self.running[party].pop()
@@ -107,14 +160,14 @@ class Model:
         cell.runner = None
         if not args:
             cell.phase = FAILED
-            return "failed"
+            return "failed" + cell.hand_over()
         if call == "write":
             return self.write_guard(party, number, INITIALIZED, args[0])
         cell.phase, cell.value = INITIALIZED, args[0]
         return self.read_guard(party, number)
 
     def read_guard(self, party, number):
-        self.cells[number].readers += 1
+        self.cells[number].guards += 1
         self.guards[self.steps] = Guard(party, number, False)
         return "read-guard"
 
@@ -132,9 +185,10 @@ class Model:
 class Player:
     """Chooses steps that mostly do something, with some that are refused or wait."""
 
-    def __init__(self, parties, cells, seed, greatest):
+    def __init__(self, parties, cells, seed, greatest, parking):
         self.random = random.Random(seed)
-        self.model = Model(parties, cells)
+        self.parks = [self.random.random() < parking for _ in range(cells)]
+        self.model = Model(parties, self.parks)
         self.parties, self.cells, self.greatest = parties, cells, greatest
         self.own = [[] for _ in range(parties)]  # the numbers of each party's guards
 
@@ -143,7 +197,9 @@ class Player:
         model, number = self.model, self.random.randrange
         if draw() < 0.03:
             return self.random.choice(
-                [("again",), ("made", 1), ("made_failed",), ("look", number(model.steps + 1)), ("set", number(model.steps + 1), 7)]
+                [("again",), ("made", 1), ("made_failed",)]
+                + [(act, number(model.steps + 1)) for act in ("look", "release", "downgrade", "clone")]
+                + [("set", number(model.steps + 1), 7)]
             )
         if model.waiting[party] is not None:
             return ("again",)
@@ -153,9 +209,11 @@ class Player:
             guard = self.random.choice(self.own[party])
             if draw() < 0.6:
                 return ("release", guard)
-            if model.guards[guard].writes and draw() < 0.6:
-                return ("set", guard, number(self.greatest))
-            return ("look", guard)
+            if draw() < 0.25:
+                return ("look", guard)
+            if not model.guards[guard].writes:
+                return ("clone", guard)
+            return ("downgrade", guard) if draw() < 0.3 else ("set", guard, number(self.greatest))
         call = "phase" if draw() < 0.1 else "read" if draw() < 0.6 else "write"
         return (call, number(self.cells))
 
@@ -163,17 +221,18 @@ class Player:
         party = self.random.randrange(self.parties)
         act = self.choose(party)
         answer = self.model.step(party, *act)
-        if answer.endswith("-guard"):
-            self.own[party].append(self.model.steps - 1)
-        if act[0] == "release" and answer == "done":
+        if act[0] in ("release", "downgrade") and not answer.startswith("refused"):
             self.own[party].remove(act[1])
+        if "-guard" in answer:
+            self.own[party].append(self.model.steps - 1)
         return f"{party} {' '.join(map(str, act))}", answer
 
 
-def schedule(parties, cells, steps, seed, greatest=10**6):
-    """The text of a random schedule, and the text of its transcript."""
-    player = Player(parties, cells, seed, greatest)
-    text = ["schedule 1", f"parties {parties}"] + ["cell LockedLazy spin"] * cells + ["steps"]
+def schedule(parties, cells, steps, seed, greatest=10**6, parking=0.0):
+    """The text of a random schedule, and the text of its transcript. So many of its cells park."""
+    player = Player(parties, cells, seed, greatest, parking)
+    places = ["park" if park else "spin" for park in player.parks]
+    text = ["schedule 1", f"parties {parties}"] + [f"cell LockedLazy {place}" for place in places] + ["steps"]
     lines = ["transcript 1"]
     for n in range(steps):
         step, answer = player.step()

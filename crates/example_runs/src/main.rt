@@ -6,12 +6,14 @@ use std::rt::Files;
 use std::{fs, io};
 
 /// The examples, by the names of their files.
-const NAMES: [&str; 5] = [
+const NAMES: [&str; 7] = [
     "first",
     "readers_and_a_writer",
     "nested_generators",
     "a_failing_generator",
     "refusals",
+    "a_hand_over",
+    "downgrade_and_clone",
 ];
 
 /// More bytes than any of their transcripts has.
