@@ -1,22 +1,40 @@
 -- The steps of a first schedule, for its texts.
-use Rattle.std.specs.Prelude.{[], ◌∷◌}
+use Rattle.std.specs.Prelude.{List, [], ◌∷◌}
 use Rattle.schedule_rules.specs.Transcripts.{Schedule, Account}
-use Rattle.schedule_examples.specs.Words.{cell, read, write, made, look, put, release}
-use Rattle.schedule_examples.specs.Examples.{due_lines, due_finals}
+use Rattle.schedule_rules.specs.declared.transcript.Final.{Final}
+use Rattle.schedule_examples.specs.Words.{cell, read, write, made, look, put, release, value, read_guard, write_guard, running, done, initialized_with}
+use Rattle.schedule_examples.specs.Examples.{Row, row, steps_of, lines_of}
 
 -- a schedule without parties, cells and steps
 abbrev pub empty_schedule : Schedule
 empty_schedule = record { parties = 0; cells = []; steps = [] }
 
--- a read, a write that sets another value, and a read of that
-abbrev pub first_schedule : Schedule
-first_schedule = record {
-  parties = 1;
-  cells = cell ∷ [];
-  steps =
-      read 0 0 ∷ made 0 22 ∷ look 0 1 ∷ release 0 1 ∷ write 0 0 ∷ put 0 4 33 ∷ release 0 4 ∷ read 0 0 ∷ look 0 7 ∷ [];
-}
+-- its transcript
+abbrev pub empty_account : Account
+empty_account = record { lines = []; finals = [] }
 
--- what is due for a schedule: its lines, and what its cells are left with
-abbrev pub due_account : Schedule → Account
-due_account x = record { lines = due_lines x.cells x.steps; finals = due_finals x.cells x.steps }
+-- a read, a write that sets another value, and a read of that
+abbrev pub first_rows : List Row
+first_rows =
+    row (read 0 0) running
+    ∷ row (made 0 22) read_guard
+    ∷ row (look 0 1) (value 22)
+    ∷ row (release 0 1) done
+    ∷ row (write 0 0) write_guard
+    ∷ row (put 0 4 33) done
+    ∷ row (release 0 4) done
+    ∷ row (read 0 0) read_guard
+    ∷ row (look 0 7) (value 33)
+    ∷ []
+
+-- what the cell is left with
+abbrev pub first_finals : List Final
+first_finals = initialized_with 33 ∷ []
+
+-- the schedule of these steps
+abbrev pub first_schedule : Schedule
+first_schedule = record { parties = 1; cells = cell ∷ []; steps = steps_of first_rows }
+
+-- its transcript
+abbrev pub first_account : Account
+first_account = record { lines = lines_of first_rows; finals = first_finals }

@@ -9,8 +9,9 @@ use Rattle.schedule_rules.specs.declared.plan.CellPlan.{CellPlan}
 use Rattle.schedule_rules.specs.declared.step.Act.{Act}
 use Rattle.schedule_rules.specs.declared.step.Act.TheVariants as act
 use Rattle.schedule_rules.specs.declared.step.Step.{Step}
-use Rattle.schedule_rules.specs.declared.line.Given.TheVariants as given
-use Rattle.schedule_rules.specs.declared.line.How.TheVariants as how
+use Rattle.phase_locker.specs.declared.ways.Given.{Given}
+use Rattle.phase_locker.specs.declared.ways.Given.TheVariants as given
+use Rattle.phase_locker.specs.declared.ways.How.TheVariants as how
 use Rattle.schedule_rules.specs.declared.line.Refusal.{Refusal}
 use Rattle.schedule_rules.specs.declared.line.Refusal.TheVariants as refused
 use Rattle.schedule_rules.specs.declared.line.Answer.{Answer}
@@ -21,6 +22,10 @@ use Rattle.schedule_rules.specs.declared.transcript.Final.{Final}
 -- a cell whose calls spin
 abbrev pub cell : CellPlan
 cell = record { kind = kind.LockedLazy; place = place.Spin }
+
+-- a cell whose calls park
+abbrev pub parking_cell : CellPlan
+parking_cell = record { kind = kind.LockedLazy; place = place.Park }
 
 -- the steps, with their party first
 abbrev pub step : ℕ → Act → Step
@@ -52,6 +57,23 @@ put p g v = step p (act.Set g v)
 
 abbrev pub release : ℕ → ℕ → Step
 release p g = step p (act.Release g)
+
+abbrev pub downgrade : ℕ → ℕ → Step
+downgrade p g = step p (act.Downgrade g)
+
+abbrev pub clone : ℕ → ℕ → Step
+clone p g = step p (act.Clone g)
+
+-- what lines give
+abbrev pub readers : Given
+readers = given.Readers
+
+abbrev pub writer : ℕ → Given
+writer p = given.Writer p
+
+-- the same answer, and this is given
+abbrev pub giving : Given → Line → Line
+giving g l = record { answer = l.answer; given = g }
 
 -- the lines, each of which gives nothing
 abbrev pub line : Answer → Line
@@ -90,8 +112,20 @@ failed = line answer.Failed
 abbrev pub cyclic : Line
 cyclic = line answer.Cyclic
 
+abbrev pub borrowed : Line
+borrowed = line answer.Borrowed
+
 abbrev pub waiting : Line
 waiting = line (answer.Waiting how.Spin)
+
+abbrev pub waiting_read : Line
+waiting_read = line (answer.Waiting how.ParkedRead)
+
+abbrev pub waiting_write : Line
+waiting_write = line (answer.Waiting how.ParkedWrite)
+
+abbrev pub waiting_drain : Line
+waiting_drain = line (answer.Waiting how.Drain)
 
 abbrev pub waits : Line
 waits = refusal refused.Waits

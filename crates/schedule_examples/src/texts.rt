@@ -1,25 +1,28 @@
-//! The texts of first schedules, and of the transcripts that are due for them.
+//! The texts of first schedules, and of their transcripts.
 
-ghost use Rattle.std.specs.Prelude.{◌≡◌, ◌++◌, codes};
+ghost use Rattle.std.specs.Prelude.{[], ◌∷◌, ◌≡◌, ◌++◌, codes};
 ghost use Rattle.schedule_text.specs.ScheduleText.{schedule_text};
 ghost use Rattle.schedule_text.specs.TranscriptText.{transcript_text};
-ghost use Rattle.schedule_examples.specs.FirstSteps.{empty_schedule, first_schedule, due_account};
+ghost use Rattle.schedule_examples.specs.Examples.{Goes};
+ghost use Rattle.schedule_examples.specs.Words.{cell};
+ghost use Rattle.schedule_examples.specs.FirstSteps.{empty_schedule, empty_account, first_rows, first_finals, first_schedule, first_account};
 
 /// The texts of a schedule without parties, cells and steps.
 pub fn the_empty_schedule_is_spelled()
     ensures schedule { schedule_text empty_schedule
         ≡ codes "schedule 1\nparties 0\nsteps\nend\n" }
-    ensures transcript { transcript_text (due_account empty_schedule)
+    ensures transcript { transcript_text empty_account
         ≡ codes "transcript 1\nend\n" }
 {}
 
 /// The texts of a read, a write that sets another value, and a read of that.
 pub fn the_first_schedule_is_spelled()
+    ensures goes { Goes (cell ∷ []) first_rows first_finals }
     ensures schedule { schedule_text first_schedule
         ≡ codes "schedule 1\nparties 1\ncell LockedLazy spin\nsteps\n"
         ++ codes "0 read 0\n0 made 22\n0 look 1\n0 release 1\n"
         ++ codes "0 write 0\n0 set 4 33\n0 release 4\n0 read 0\n0 look 7\nend\n" }
-    ensures transcript { transcript_text (due_account first_schedule)
+    ensures transcript { transcript_text first_account
         ≡ codes "transcript 1\n0 running\n1 read-guard\n2 value 22\n3 done\n"
         ++ codes "4 write-guard\n5 done\n6 done\n7 read-guard\n8 value 33\n"
         ++ codes "cell 0 Phase (Initialized) 33\nend\n" }

@@ -106,10 +106,16 @@ pub fn two_parties_wait_for_each_other()
         (untouched ∷ untouched ∷ []) }
 {}
 
-/// A read is barred by 2^20 - 1 readers and not by one fewer, and a write by a single one.
+/// A read is barred by 2^20 - 1 readers and not by one fewer, and a write by a single one. A drain bars each write, and a
+/// read only where no reader is left. Beside a write hold both are barred.
 pub fn readers_bar_writes_and_too_many_bar_reads()
-    ensures most { is_barred (Some Reads) (record { readers = 2 ^ 20 - 1; written = false }) ≡ true }
-    ensures fewer { is_barred (Some Reads) (record { readers = 2 ^ 20 - 2; written = false }) ≡ false }
-    ensures one { is_barred (Some Writes) (record { readers = 1; written = false }) ≡ true }
-    ensures free { is_barred (Some Writes) (record { readers = 0; written = false }) ≡ false }
+    ensures most { is_barred (Some Reads) (record { readers = 2 ^ 20 - 1; written = false; drained = false }) ≡ true }
+    ensures fewer { is_barred (Some Reads) (record { readers = 2 ^ 20 - 2; written = false; drained = false }) ≡ false }
+    ensures one { is_barred (Some Writes) (record { readers = 1; written = false; drained = false }) ≡ true }
+    ensures free { is_barred (Some Writes) (record { readers = 0; written = false; drained = false }) ≡ false }
+    ensures drained { is_barred (Some Writes) (record { readers = 0; written = false; drained = true }) ≡ true }
+    ensures drained_read { is_barred (Some Reads) (record { readers = 0; written = false; drained = true }) ≡ true }
+    ensures draining_read { is_barred (Some Reads) (record { readers = 1; written = false; drained = true }) ≡ false }
+    ensures written { is_barred (Some Writes) (record { readers = 0; written = true; drained = false }) ≡ true }
+    ensures written_read { is_barred (Some Reads) (record { readers = 0; written = true; drained = false }) ≡ true }
 {}

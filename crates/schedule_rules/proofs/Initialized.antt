@@ -1,5 +1,5 @@
 -- INITIALIZED is never cleared, and a generator runs only where it is not there.
-use Rattle.std.proofs.Common.{◌≡◌, ◌≢◌, ◌<◌, ℕ, List, [], ◌∷◌, length, refl, sym, ◌∙◌, ap, subst, arith, Bool, true, false, ◌&&◌, cond, None, Some}
+use Rattle.std.proofs.Common.{◌≡◌, ◌≢◌, ◌<◌, ℕ, List, [], ◌∷◌, length, refl, sym, ◌∙◌, ap, subst, arith, Bool, true, false, not, ◌&&◌, cond, None, Some}
 use Rattle.std.specs.Prelude.{◌==◌, is_some, if◌then◌else◌}
 use Rattle.std.specs.List.{find, AllByRecursion}
 use Rattle.std.specs.declared.option.Option.{Option}
@@ -11,27 +11,29 @@ use Rattle.schedule_rules.specs.declared.step.Act.{Act}
 use Rattle.schedule_rules.specs.declared.step.Act.TheVariants as act
 use Rattle.schedule_rules.specs.declared.step.Step.{Step}
 use Rattle.schedule_rules.specs.declared.line.Line.{Line}
-use Rattle.schedule_rules.specs.declared.line.How.{How}
-use Rattle.schedule_rules.specs.declared.line.Given.{Given}
+use Rattle.phase_locker.specs.declared.ways.How.{How}
+use Rattle.phase_locker.specs.declared.ways.Given.{Given}
 use Rattle.schedule_rules.specs.declared.line.Answer.{Answer}
 use Rattle.schedule_rules.specs.declared.line.Answer.TheVariants as answer
 use Rattle.schedule_rules.specs.declared.line.Refusal.{Refusal}
 use Rattle.schedule_rules.specs.declared.line.Refusal.TheVariants as refusals
 use Rattle.schedule_rules.specs.Kinds.{cell_at}
-use Rattle.schedule_rules.specs.Calls.{Want, Calls, rule, initializes}
+use Rattle.schedule_rules.specs.Calls.{Want, Calls, Reads, rule, initializes}
 use Rattle.schedule_rules.specs.Changes.{Content, Ran, effect}
 use Rattle.schedule_rules.specs.History.{Event, act_of, latest_act, count}
 use Rattle.schedule_rules.specs.Sections.{Section, innermost, without_innermost, runs_in, with_run, sections}
 use Rattle.schedule_rules.specs.Guards.{Guard, numbered, without_guard, with_reader, with_writer, guards}
 use Rattle.schedule_rules.specs.Replay.{Back, back_of_run, back_of_step, replay, phase_at, content_after_back}
 use Rattle.schedule_rules.specs.Waits.{Wait, wait_of, waits, attempt_of_wait}
-use Rattle.schedule_rules.specs.Holds.{writes_cell, is_barred}
+use Rattle.schedule_rules.specs.Holds.{writes_cell, is_barred, holding_with}
 use Rattle.schedule_rules.specs.Refusals.{refusal, refusal_by, no_section}
-use Rattle.schedule_rules.specs.Answers.{answer_admitted, way_at}
-use Rattle.schedule_rules.specs.Due.{answer_of_made, due_answer, due_tried, due_made, due_look, meeting}
-use Rattle.schedule_rules.specs.Legal.{IsLegal, IsLegalLine, IsExclusive, answer_of}
+use Rattle.schedule_rules.specs.Answers.{answer_admitted}
+use Rattle.schedule_rules.specs.Due.{answer_of_made, due_answer, due_tried, due_made, due_look, due_clone, meeting}
+use Rattle.schedule_rules.specs.Legal.{IsLegal, IsLegalLine, IsExclusive, answer_of, due_at}
+use Rattle.schedule_rules.specs.Laws.{waits_judged}
 use Rattle.schedule_rules.proofs.Found.{found_counts}
 use Rattle.schedule_rules.proofs.Opened.{count_ended, count_removed}
+use Rattle.schedule_rules.proofs.Waiting.{due_at-judged}
 use Rattle.schedule_rules.proofs.GoesOn.{Agrees, wait-agrees}
 use Rattle.schedule_rules.proofs.Each.{each_else, each_found, each_ended, each_removed, each_put}
 
@@ -80,7 +82,7 @@ module _ (cells : List CellPlan) (h : List Event) where
   abbrev event : Step → Answer → Given → Event
   event s a g = record { step = s; line = record { answer = a; given = g } }
 
-  module _ (k : IsSound None (sections h) (guards h)) (alone : (c : ℕ) → IsExclusive h c) where
+  module _ (k : IsSound None (sections h) (guards h)) (alone : (c : ℕ) → IsExclusive cells h c) where
     -- an event that opens nothing, ends nothing and gives nothing back
     quiet : (e : Event) → sections (e ∷ h) ≡ sections h → guards (e ∷ h) ≡ guards h → back_of_step h e.step e.line.answer ≡ None → Grows e
     quiet e a b c = record {
@@ -212,6 +214,27 @@ module _ (cells : List CellPlan) (h : List Event) where
         by c true same r = let s : x.cell ≡ c = grind arith in subst (λ d. has (effect (cell_at cells d) x.changes (replay cells d h)).phase initialized ≡ true) s value
         by c false same r = r
 
+    -- a guard to write is turned into one to read: its section is given back
+    downgraded_writer : (p g : ℕ) (i : Given) (x : Guard) → numbered g (guards h) ≡ Some x → x.writes ≡ true → Grows (event (record { party = p; act = act.Downgrade g }) answer.ReadGuard i)
+    downgraded_writer p g i x e w = let k : Grows (event (record { party = p; act = act.Release g }) answer.Done i) = released_writer p g i x e w in record {
+      back = k.back;
+      backed = k.backed;
+      sound = record {
+        unready = k.sound.unready;
+        ready = rw e ((λ d. absurd (cc)), k.sound.ready);
+      };
+      kept = k.kept;
+    }
+
+    -- a guard to read is taken off, and one put in its place
+    downgraded_reader : (p g : ℕ) (i : Given) (x : Guard) → numbered g (guards h) ≡ Some x → x.writes ≡ false → Grows (event (record { party = p; act = act.Downgrade g }) answer.ReadGuard i)
+    downgraded_reader p g i x e w = record {
+      back = None;
+      backed = rw e (rw w refl);
+      sound = record { unready = k.unready; ready = rw e ((λ d. absurd (cc)), each_removed (IsReady None) g (guards h) k.ready) };
+      kept = λ c r. r;
+    }
+
     -- the act is a call, or goes on with one
     abbrev IsCalling : Act → Type 0
     IsCalling (act.Call c j) = Unit {0}
@@ -284,10 +307,10 @@ module _ (cells : List CellPlan) (h : List Event) where
         by _ t = absurd t
 
     -- an attempt, by whether it is cyclic or barred
-    in_turn : (P : Answer → Type 0) (own barred : Bool) (w : How) (r : Answer) → P answer.Cyclic → P (answer.Waiting w) → P r
+    in_turn : (P : Answer → Type 0) (own barred : Bool) (w : How) (r : Answer) → P answer.Cyclic → ((way : How) → P (answer.Waiting way)) → P r
         → P (if own then answer.Cyclic else if barred then answer.Waiting w else r)
     in_turn P true barred w r x y z = x
-    in_turn P false true w r x y z = y
+    in_turn P false true w r x y z = y w
     in_turn P false false w r x y z = z
 
     -- a call that is admitted
@@ -306,18 +329,18 @@ module _ (cells : List CellPlan) (h : List Event) where
         by false e = rw e (running p c a call.Write i t does e)
 
     -- an attempt
-    attempted : (p c : ℕ) (a : Act) (w : Want) (i : Given) → IsCalling a → ((j : Call) → w ≡ Calls j → act_of h (record { party = p; act = a }) ≡ act.Call c j)
-        → Grows (event (record { party = p; act = a }) (due_tried cells h p (Some (record { cell = c; want = w }))) i)
-    attempted p c a (Calls j) i t does =
-        let m : _ = meeting cells h p c in
-        in_turn (λ r. Grows (event (record { party = p; act = a }) r i)) (initializes (Calls j) && m.own_run) (is_barred (rule (cell_at cells c) (Calls j) m.content.phase) m.holding)
-        (way_at (cell_at cells c).place) (answer_admitted (cell_at cells c) (Calls j) m.content) (cyclic p a i t) (waiting p a (way_at (cell_at cells c).place) i t) (admitted p c a j i t (does j refl))
+    attempted : (p c : ℕ) (a : Act) (w : Want) (i : Given) (ws : List Wait) (chosen : Bool) → IsCalling a → ((j : Call) → w ≡ Calls j → act_of h (record { party = p; act = a }) ≡ act.Call c j)
+        → Grows (event (record { party = p; act = a }) (due_tried cells h p (Some (record { cell = c; want = w })) ws chosen) i)
+    attempted p c a (Calls j) i ws chosen t does =
+        let m : _ = meeting cells h p (record { cell = c; want = Calls j }) ws in
+        in_turn (λ r. Grows (event (record { party = p; act = a }) r i)) (initializes (Calls j) && m.own_run) (not m.kept && is_barred (rule (cell_at cells c) (Calls j) m.content.phase) m.holding)
+        _ (answer_admitted (cell_at cells c) (Calls j) m.content) (cyclic p a i t) (λ way. waiting p a way i t) (admitted p c a j i t (does j refl))
 
     -- one more attempt of the call that waits
-    again : (p : ℕ) (i : Given) (o : Option Wait) → wait_of p (waits cells h) ≡ o → refusal_by cells (is_some o) h p act.Again ≡ None
-        → Grows (event (record { party = p; act = act.Again }) (due_tried cells h p (attempt_of_wait o)) i)
-    again p i None e f = absurd (cc)
-    again p i (Some w) e f = attempted p w.cell act.Again w.want i tt (λ j n. subst (λ o. Agrees (attempt_of_wait o) (latest_act p h)) e (wait-agrees cells p h) j n)
+    again : (p : ℕ) (i : Given) (ws : List Wait) (chosen : Bool) (o : Option Wait) → wait_of p (waits cells h) ≡ o → refusal_by cells (is_some o) h p act.Again ≡ None
+        → Grows (event (record { party = p; act = act.Again }) (due_tried cells h p (attempt_of_wait o) ws chosen) i)
+    again p i ws chosen None e f = absurd (cc)
+    again p i ws chosen (Some w) e f = attempted p w.cell act.Again w.want i ws chosen tt (λ j n. subst (λ o. Agrees (attempt_of_wait o) (latest_act p h)) e (wait-agrees cells p h) j n)
 
     -- an outcome that is not refused ends a section
     ends : (p : ℕ) (a : Act) (b : Bool) (o : Option Section) → refusal_by cells b h p a ≡ None → (refusal_by cells false h p a ≡ no_section o) → (refusal_by cells true h p a ≢ None) → (t : Section) × (o ≡ Some t)
@@ -353,46 +376,82 @@ module _ (cells : List CellPlan) (h : List Event) where
         by true w = released_writer p g i x e w
         by false w = released_reader p g i x e w
 
+    -- a downgrade
+    downgraded : (p g : ℕ) (i : Given) (o : Option Guard) → numbered g (guards h) ≡ o → Grows (event (record { party = p; act = act.Downgrade g }) answer.ReadGuard i)
+    downgraded p g i None e = record {
+      back = None;
+      backed = rw e refl;
+      sound = record { unready = k.unready; ready = rw e (each_removed (IsReady None) g (guards h) k.ready) };
+      kept = λ c r. r;
+    }
+    downgraded p g i (Some x) e = by x.writes refl
+      where
+        by : (b : Bool) → x.writes ≡ b → Grows (event (record { party = p; act = act.Downgrade g }) answer.ReadGuard i)
+        by true w = downgraded_writer p g i x e w
+        by false w = downgraded_reader p g i x e w
+
+    -- a clone, by whether a read is barred
+    cloned : (p g : ℕ) (i : Given) (ws : List Wait) (o : Option Guard) → numbered g (guards h) ≡ o → Grows (event (record { party = p; act = act.Clone g }) (due_clone cells h ws o) i)
+    cloned p g i ws None e = quiet _ refl refl refl
+    cloned p g i ws (Some x) e = by (is_barred (Some Reads) (holding_with x.cell h ws))
+      where
+        by : (b : Bool) → Grows (event (record { party = p; act = act.Clone g }) (if b then answer.Borrowed else answer.ReadGuard) i)
+        by true = quiet _ refl refl refl
+        by false = record {
+          back = None;
+          backed = refl;
+          sound = record { unready = k.unready; ready = rw e ((λ d. absurd (cc)), k.ready) };
+          kept = λ c r. r;
+        }
+
     -- a step that is not refused
-    free : (p : ℕ) (a : Act) (i : Given) → refusal cells h (record { party = p; act = a }) ≡ None
-        → Grows (event (record { party = p; act = a }) (due_answer cells h (record { party = p; act = a })) i)
-    free p (act.Call c j) i f = attempted p c (act.Call c j) (Calls j) i tt (λ m n. same j m n)
+    free : (p : ℕ) (a : Act) (i : Given) (ws : List Wait) (chosen : Bool) → refusal cells h (record { party = p; act = a }) ≡ None
+        → Grows (event (record { party = p; act = a }) (due_answer cells h (record { party = p; act = a }) ws chosen) i)
+    free p (act.Call c j) i ws chosen f = attempted p c (act.Call c j) (Calls j) i ws chosen tt (λ m n. same j m n)
       where
         same : (j m : Call) → Calls j ≡ Calls m → act.Call c j ≡ act.Call c m
         same j m n = let s : j ≡ m = cc in ap (λ x. act.Call c x) s
-    free p act.Again i f = again p i (wait_of p (waits cells h)) refl f
-    free p (act.Made v) i f =
+    free p act.Again i ws chosen f = again p i ws chosen (wait_of p (waits cells h)) refl f
+    free p (act.Made v) i ws chosen f =
         let t : _ = ends p (act.Made v) (is_some (wait_of p (waits cells h))) (innermost p (sections h)) f refl (λ x. apart x) in
         rw t.1 (made p v i t.0 t.1)
       where
         apart : Some refusals.Waits ≡ None → ⊥
         apart x = cc
-    free p act.MadeFailed i f =
+    free p act.MadeFailed i ws chosen f =
         let t : _ = ends p act.MadeFailed (is_some (wait_of p (waits cells h))) (innermost p (sections h)) f refl (λ x. apart x) in
         failed p i t.0 t.1
       where
         apart : Some refusals.Waits ≡ None → ⊥
         apart x = cc
-    free p (act.Look g) i f = looked p g i (numbered g (guards h))
-    free p (act.Set g v) i f = set p g v i
-    free p (act.Release g) i f = released p g i (numbered g (guards h)) refl
+    free p (act.Look g) i ws chosen f = looked p g i (numbered g (guards h))
+    free p (act.Set g v) i ws chosen f = set p g v i
+    free p (act.Release g) i ws chosen f = released p g i (numbered g (guards h)) refl
+    free p (act.Downgrade g) i ws chosen f = downgraded p g i (numbered g (guards h)) refl
+    free p (act.Clone g) i ws chosen f = cloned p g i ws (numbered g (guards h)) refl
 
     -- a legal line
     legal : (s : Step) (l : Line) → IsLegalLine cells h s l → Grows (record { step = s; line = l })
     legal s l m = by (refusal cells h s) refl
       where
+        ws : List Wait
+        ws = waits_judged cells m.moment h s l.given
+
+        due : (o : Option Refusal) → refusal cells h s ≡ o → l.answer ≡ answer_of o (due_answer cells h s ws m.chosen)
+        due o e = m.answered ∙ ap (λ x. answer_of x (due_at cells m.moment h s l.given m.chosen)) e ∙ ap (answer_of o) (due_at-judged cells m.moment h s l.given m.chosen)
+
         by : (o : Option Refusal) → refusal cells h s ≡ o → Grows (record { step = s; line = l })
-        by None e = subst (λ r. Grows (event s r l.given)) (sym (m.answered ∙ ap (λ o. answer_of o (due_answer cells h s)) e)) (free s.party s.act l.given e)
-        by (Some q) e = subst (λ r. Grows (event s r l.given)) (sym (m.answered ∙ ap (λ o. answer_of o (due_answer cells h s)) e)) (refused s q l.given)
+        by None e = subst (λ r. Grows (event s r l.given)) (sym (due None e)) (free s.party s.act l.given ws m.chosen e)
+        by (Some q) e = subst (λ r. Grows (event s r l.given)) (sym (due (Some q) e)) (refused s q l.given)
 
 -- at the beginning nothing holds a cell
-alone_at_first : (c : ℕ) → IsExclusive [] c
-alone_at_first c = record { one_writer = omega arith; no_reader = λ w. refl; limit = omega arith }
+alone_at_first : (cells : List CellPlan) (c : ℕ) → IsExclusive cells [] c
+alone_at_first cells c = record { one_writer = omega arith; no_reader = λ w. refl; no_drain = λ w. refl; limit = omega arith }
 
 module _ (cells : List CellPlan) where
   -- at each moment of a legal history the holds of a cell exclude each other
-  pub alone : (h : List Event) → IsLegal cells h → (c : ℕ) → IsExclusive h c
-  alone [] k = alone_at_first
+  pub alone : (h : List Event) → IsLegal cells h → (c : ℕ) → IsExclusive cells h c
+  alone [] k = alone_at_first cells
   alone (e ∷ h) k = k.1
 
   -- what a legal history goes on by

@@ -5,5 +5,6 @@ pub mod GoesOn
 pub mod Each
 pub mod Initialized
 pub mod OneSuccess
+pub mod Bars
 mod OneTranscript
 mod Waiting

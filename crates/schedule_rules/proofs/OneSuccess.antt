@@ -1,6 +1,6 @@
 -- A generator of a cell succeeds at most once.
-use Rattle.std.proofs.Common.{◌≡◌, ◌<◌, ◌≤◌, ℕ, ◌+◌, List, [], ◌∷◌, length, refl, sym, ◌∙◌, subst, arith, Bool, true, false, cond, None, Some, ◌⊎◌, inl, inr}
-use Rattle.std.specs.Prelude.{◌==◌}
+use Rattle.std.proofs.Common.{◌≡◌, ◌<◌, ◌≤◌, ℕ, ◌+◌, List, [], ◌∷◌, length, refl, sym, ◌∙◌, ap, subst, arith, Bool, true, false, cond, None, Some, ◌⊎◌, inl, inr}
+use Rattle.std.specs.Prelude.{◌==◌, is_some}
 use Rattle.std.specs.List.{find}
 use Rattle.std.specs.declared.option.Option.{Option}
 use Rattle.phase_bits.specs.Flags.{has, initialized}
@@ -8,26 +8,31 @@ use Rattle.schedule_rules.specs.declared.plan.CellPlan.{CellPlan}
 use Rattle.schedule_rules.specs.declared.step.Act.{Act}
 use Rattle.schedule_rules.specs.declared.step.Act.TheVariants as act
 use Rattle.schedule_rules.specs.declared.step.Step.{Step}
+use Rattle.schedule_rules.specs.declared.plan.Call.{Call}
 use Rattle.schedule_rules.specs.declared.plan.Call.TheVariants as call
 use Rattle.schedule_rules.specs.declared.line.Line.{Line}
-use Rattle.schedule_rules.specs.declared.line.Given.{Given}
+use Rattle.phase_locker.specs.declared.ways.Given.{Given}
 use Rattle.schedule_rules.specs.declared.line.Refusal.{Refusal}
+use Rattle.schedule_rules.specs.declared.line.Refusal.TheVariants as refusals
 use Rattle.schedule_rules.specs.declared.line.Answer.{Answer}
 use Rattle.schedule_rules.specs.declared.line.Answer.TheVariants as answer
 use Rattle.schedule_rules.specs.Kinds.{cell_at}
 use Rattle.schedule_rules.specs.Changes.{effect}
-use Rattle.schedule_rules.specs.History.{Event, act_of, count}
+use Rattle.schedule_rules.specs.History.{Event, act_of, latest_act, count}
 use Rattle.schedule_rules.specs.Sections.{Section, innermost, runs_in, sections}
-use Rattle.schedule_rules.specs.Guards.{Guard, numbered, without_guard, with_reader, with_writer, reader_made, writer_made, guards}
+use Rattle.schedule_rules.specs.Guards.{Guard, numbered, without_guard, reader_beside, with_writer, reader_made, writer_made, guards}
 use Rattle.schedule_rules.specs.Replay.{back_of_run, back_of_guard, replay, phase_at, content_after_back}
 use Rattle.schedule_rules.specs.Holds.{writes_cell}
 use Rattle.schedule_rules.specs.Calls.{Want, Calls}
-use Rattle.schedule_rules.specs.Refusals.{refusal}
-use Rattle.schedule_rules.specs.Due.{answer_of_made, due_made, due_answer}
-use Rattle.schedule_rules.specs.Legal.{IsLegal, IsLegalLine, answer_of}
+use Rattle.schedule_rules.specs.Waits.{Wait, wait_of, attempt_of_wait, waits}
+use Rattle.schedule_rules.specs.Refusals.{refusal, refusal_by}
+use Rattle.schedule_rules.specs.Due.{answer_of_made, due_made}
+use Rattle.schedule_rules.specs.Legal.{IsLegal, IsLegalLine, answer_of, due_at}
 use Rattle.schedule_rules.specs.Laws.{successes, is_success}
 use Rattle.schedule_rules.proofs.Found.{found_counts, found_passes}
 use Rattle.schedule_rules.proofs.Opened.{count_removed, writes_put}
+use Rattle.schedule_rules.proofs.GoesOn.{Agrees, wait-agrees}
+use Rattle.schedule_rules.proofs.Waiting.{due_at-judged}
 use Rattle.schedule_rules.proofs.Each.{each_found}
 use Rattle.schedule_rules.proofs.Initialized.{IsReady, IsUnready, alone, sound, initialized-stays, one_if}
 
@@ -41,19 +46,15 @@ none_removed : (t : Guard → Bool) (g : ℕ) (gs : List Guard) → numbered g g
 none_removed t g [] e = refl
 none_removed t g (x ∷ gs) e = grind (arith, none_removed t g gs)
 
--- a guard to read writes nothing
-reader_keeps : (h : List Event) (p c : ℕ) (a : Act) (gs : List Guard) → count (writes_cell c) (with_reader h p a gs) ≡ count (writes_cell c) gs
-reader_keeps h p c (act.Call d k) gs = refl
-reader_keeps h p c act.Again gs = refl
-reader_keeps h p c (act.Made v) gs = by (innermost p (sections h))
-  where
-    by : (o : Option Section) → count (writes_cell c) (reader_made (length h) p o gs) ≡ count (writes_cell c) gs
-    by None = refl
-    by (Some s) = refl
-reader_keeps h p c act.MadeFailed gs = refl
-reader_keeps h p c (act.Look g) gs = refl
-reader_keeps h p c (act.Set g v) gs = refl
-reader_keeps h p c (act.Release g) gs = refl
+-- a guard to read beside another writes nothing
+beside_keeps : (n p c : ℕ) (o : Option Guard) (gs : List Guard) → count (writes_cell c) (reader_beside n p o gs) ≡ count (writes_cell c) gs
+beside_keeps n p c None gs = refl
+beside_keeps n p c (Some x) gs = refl
+
+-- a guard to read that a run leaves writes nothing
+made_keeps : (n p c : ℕ) (o : Option Section) (gs : List Guard) → count (writes_cell c) (reader_made n p o gs) ≡ count (writes_cell c) gs
+made_keeps n p c None gs = refl
+made_keeps n p c (Some s) gs = refl
 
 -- one more or the same
 at_least : (b : Bool) (n : ℕ) → n ≤ cond b (n + 1) n
@@ -73,6 +74,8 @@ writer_adds h p c act.MadeFailed gs = omega arith
 writer_adds h p c (act.Look g) gs = omega arith
 writer_adds h p c (act.Set g v) gs = omega arith
 writer_adds h p c (act.Release g) gs = omega arith
+writer_adds h p c (act.Downgrade g) gs = omega arith
+writer_adds h p c (act.Clone g) gs = omega arith
 
 module _ (cells : List CellPlan) where
   -- a value is published in the cell, or a guard to write it is open
@@ -95,14 +98,43 @@ module _ (cells : List CellPlan) where
           apart : true ≡ false → ⊥
           apart x = cc
 
+  -- where a party goes on and is answered, it goes on with a call
+  goes_on_by_call : (h : List Event) (p : ℕ) (l : Line) → IsLegalLine cells h (record { party = p; act = act.Again }) l → l.answer ≡ answer.ReadGuard
+      → (c : ℕ) × (j : Call) × (latest_act p h ≡ act.Call c j)
+  goes_on_by_call h p l k r = by (wait_of p (waits cells h)) refl (wait-agrees cells p h) (refusal_by cells (is_some (wait_of p (waits cells h))) h p act.Again) refl k.answered
+    where
+      by : (o : Option Wait) → wait_of p (waits cells h) ≡ o → Agrees (attempt_of_wait (wait_of p (waits cells h))) (latest_act p h)
+          → (x : Option Refusal) → refusal_by cells (is_some (wait_of p (waits cells h))) h p act.Again ≡ x
+          → l.answer ≡ answer_of x (due_at cells k.moment h (record { party = p; act = act.Again }) l.given k.chosen)
+          → (c : ℕ) × (j : Call) × (latest_act p h ≡ act.Call c j)
+      by o e agrees (Some q) f due = absurd (apart (sym r ∙ due))
+        where
+          apart : answer.ReadGuard ≡ answer.Refused q → ⊥
+          apart x = cc
+      by None e agrees None f due = absurd (apart (subst (λ o. refusal_by cells (is_some o) h p act.Again ≡ None) e f))
+        where
+          apart : Some refusals.NotWaiting ≡ None → ⊥
+          apart x = cc
+      by (Some y) e agrees None f due = (y.cell, call_of y.want, subst (λ o. Agrees (attempt_of_wait o) (latest_act p h)) e agrees (call_of y.want) (whole y.want))
+        where
+          call_of : Want → Call
+          call_of (Calls j) = j
+
+          whole : (v : Want) → v ≡ Calls (call_of v)
+          whole (Calls j) = refl
+
   module _ (c : ℕ) (h : List Event) (p : ℕ) (k : IsLegal cells h) (w : 0 < count (writes_cell c) (guards h)) where
-    -- a guard that is given back publishes its value, and others stay
-    released : (g : ℕ) (i : _) (o : Option Guard) → numbered g (guards h) ≡ o
-        → IsMade c (record { step = record { party = p; act = act.Release g }; line = record { answer = answer.Done; given = i } } ∷ h)
-    released g i None e = inr (let same : _ = none_removed (writes_cell c) g (guards h) e in omega (arith, same))
-    released g i (Some x) e = by (writes_cell c x) refl
+    -- a guard that writes the cell publishes its value where its section is given back, and without others the cell is
+    -- not written
+    published_or_left : (g : ℕ) (o : Option Guard) → numbered g (guards h) ≡ o
+        → (has (content_after_back cells c (back_of_guard (numbered g (guards h))) (replay cells c h)).phase initialized ≡ true)
+        ⊎ (0 < count (writes_cell c) (without_guard g (guards h)))
+    published_or_left g None e = inr (let same : _ = none_removed (writes_cell c) g (guards h) e in omega (arith, same))
+    published_or_left g (Some x) e = by (writes_cell c x) refl
       where
-        by : (b : Bool) → writes_cell c x ≡ b → IsMade c (record { step = record { party = p; act = act.Release g }; line = record { answer = answer.Done; given = i } } ∷ h)
+        by : (b : Bool) → writes_cell c x ≡ b
+            → (has (content_after_back cells c (back_of_guard (numbered g (guards h))) (replay cells c h)).phase initialized ≡ true)
+            ⊎ (0 < count (writes_cell c) (without_guard g (guards h)))
         by false f =
             inr (let one : _ = count_removed (writes_cell c) g (guards h) x e in let zero : one_if (writes_cell c x) ≡ 0 = rw f refl in omega (arith, one, zero))
         by true f = inl (published x.writes refl f)
@@ -121,27 +153,61 @@ module _ (cells : List CellPlan) where
                 let here : x.cell ≡ c = grind arith in
                 rw e (rw d (rw same (subst (λ a. has (effect (cell_at cells a) x.changes (replay cells a h)).phase initialized ≡ true) here (sees d))))
 
+    -- the event of a step with this answer
+    abbrev event : Act → Answer → Given → Event
+    event a r i = record { step = record { party = p; act = a }; line = record { answer = r; given = i } }
+
+    -- a guard that is given back publishes its value, and others stay
+    released : (g : ℕ) (i : Given) → IsMade c (event (act.Release g) answer.Done i ∷ h)
+    released g i = published_or_left g (numbered g (guards h)) refl
+
+    -- so does one that is turned into a guard to read
+    downgraded : (g : ℕ) (i : Given) → IsMade c (event (act.Downgrade g) answer.ReadGuard i ∷ h)
+    downgraded g i = by (published_or_left g (numbered g (guards h)) refl)
+      where
+        by : (has (content_after_back cells c (back_of_guard (numbered g (guards h))) (replay cells c h)).phase initialized ≡ true)
+            ⊎ (0 < count (writes_cell c) (without_guard g (guards h))) → IsMade c (event (act.Downgrade g) answer.ReadGuard i ∷ h)
+        by (inl r) = inl r
+        by (inr n) = inr (rw (beside_keeps (length h) p c (numbered g (guards h)) (without_guard g (guards h))) n)
+
     -- what is done takes a guard to write away only where its value is published
-    done : (a : Act) (i : _) → IsMade c (record { step = record { party = p; act = a }; line = record { answer = answer.Done; given = i } } ∷ h)
-    done (act.Release g) i = released g i (numbered g (guards h)) refl
+    done : (a : Act) (i : Given) → IsMade c (event a answer.Done i ∷ h)
+    done (act.Release g) i = released g i
     done (act.Set g v) i = inr (rw (writes_put c g v (guards h)) w)
     done (act.Call d j) i = inr w
     done act.Again i = inr w
     done (act.Made v) i = inr w
     done act.MadeFailed i = inr w
     done (act.Look g) i = inr w
+    done (act.Downgrade g) i = inr w
+    done (act.Clone g) i = inr w
 
-    -- any step leaves the guard to write, or publishes its value
-    any_step : (a : Act) (r : Answer) (i : _) → IsMade c (record { step = record { party = p; act = a }; line = record { answer = r; given = i } } ∷ h)
-    any_step a answer.ReadGuard i = inr (rw (reader_keeps h p c (act_of h (record { party = p; act = a })) (guards h)) w)
-    any_step a answer.WriteGuard i = inr (omega (arith, writer_adds h p c (act_of h (record { party = p; act = a })) (guards h)))
-    any_step a answer.Done i = done a i
-    any_step a _ i = inr w
+    -- a guard to read takes one to write away only by a downgrade
+    read : (a : Act) (l : Line) → IsLegalLine cells h (record { party = p; act = a }) l → l.answer ≡ answer.ReadGuard → IsMade c (event a answer.ReadGuard l.given ∷ h)
+    read (act.Call d j) l m r = inr w
+    read act.Again l m r = let t : _ = goes_on_by_call h p l m r in inr (rw t.2 w)
+    read (act.Made v) l m r = inr (rw (made_keeps (length h) p c (innermost p (sections h)) (guards h)) w)
+    read act.MadeFailed l m r = inr w
+    read (act.Look g) l m r = inr w
+    read (act.Set g v) l m r = inr w
+    read (act.Release g) l m r = inr w
+    read (act.Downgrade g) l m r = downgraded g l.given
+    read (act.Clone g) l m r = inr (rw (beside_keeps (length h) p c (numbered g (guards h)) (guards h)) w)
+
+    -- any legal step leaves the guard to write, or publishes its value
+    any_step : (a : Act) (l : Line) → IsLegalLine cells h (record { party = p; act = a }) l → IsMade c (record { step = record { party = p; act = a }; line = l } ∷ h)
+    any_step a l m = by l.answer refl
+      where
+        by : (r : Answer) → l.answer ≡ r → IsMade c (event a r l.given ∷ h)
+        by answer.ReadGuard e = read a l m e
+        by answer.WriteGuard e = inr (omega (arith, writer_adds h p c (act_of h (record { party = p; act = a })) (guards h)))
+        by answer.Done e = done a l.given
+        by _ e = inr w
 
   -- once a value was made, it stays
   made-stays : (c : ℕ) (e : Event) (h : List Event) → IsLegal cells (e ∷ h) → IsMade c h → IsMade c (e ∷ h)
   made-stays c e h k (inl r) = inl (initialized-stays cells h e c k r)
-  made-stays c e h k (inr w) = any_step c h e.step.party k.2 w e.step.act e.line.answer e.line.given
+  made-stays c e h k (inr w) = any_step c h e.step.party k.2 w e.step.act e.line k.0
 
 -- a success ends a section of the cell
 success-runs : (c : ℕ) (a : Act) (r : Answer) (o : Option Section) → is_success c a r o ≡ true → (s : Section) × (o ≡ Some s) × ((s.cell == c) ≡ true)
@@ -202,10 +268,10 @@ module _ (cells : List CellPlan) where
       → IsMade cells c (record { step = s; line = l } ∷ h)
   success-makes c h s l k ok = by s.act k.answered ok
     where
-      by : (a : Act) → l.answer ≡ answer_of (refusal cells h (record { party = s.party; act = a })) (due_answer cells h (record { party = s.party; act = a }))
+      by : (a : Act) → l.answer ≡ answer_of (refusal cells h (record { party = s.party; act = a })) (due_at cells k.moment h (record { party = s.party; act = a }) l.given k.chosen)
           → is_success c a l.answer (innermost s.party (sections h)) ≡ true → IsMade cells c (record { step = record { party = s.party; act = a }; line = l } ∷ h)
       by (act.Made v) due n =
-          made-legal c h s.party v l.given l.answer (refusal cells h (record { party = s.party; act = act.Made v })) (innermost s.party (sections h)) refl refl due n
+          made-legal c h s.party v l.given l.answer (refusal cells h (record { party = s.party; act = act.Made v })) (innermost s.party (sections h)) refl refl (due ∙ ap (answer_of (refusal cells h (record { party = s.party; act = act.Made v }))) (due_at-judged cells k.moment h (record { party = s.party; act = act.Made v }) l.given k.chosen)) n
       by _ due n = absurd (cc)
 
   -- no value was made in the cell, or one was, and it stays

@@ -1,16 +1,36 @@
--- A schedule has at most one legal transcript.
-use Rattle.std.proofs.Common.{◌≡◌, ◌<◌, List, [], ◌∷◌, length, refl, sym, ◌∙◌, ap, subst, arith}
+-- A schedule of cells that do not park has at most one legal transcript.
+use Rattle.std.proofs.Common.{◌≡◌, ◌<◌, ℕ, List, [], ◌∷◌, length, refl, sym, ◌∙◌, ap, subst, arith, Bool, true, false, ◌&&◌, not}
+use Rattle.std.specs.Prelude.{if◌then◌else◌, nat_lt}
+use Rattle.std.specs.declared.option.Option.{Option}
+use Rattle.std.specs.declared.option.Option.TheVariants.{None, Some}
 use Rattle.std.proofs.lemmas.List.{same_lists}
+use Rattle.std.proofs.lemmas.List.{get_or_past}
 use Rattle.std.proofs.lemmas.Option.{get_or_from_slice_get}
 use Rattle.schedule_rules.specs.declared.plan.CellPlan.{CellPlan}
 use Rattle.schedule_rules.specs.declared.step.Step.{Step}
 use Rattle.schedule_rules.specs.declared.line.Line.{Line}
 use Rattle.schedule_rules.specs.declared.line.Answer.{Answer}
-use Rattle.schedule_rules.specs.declared.line.Given.{Given}
-use Rattle.schedule_rules.specs.declared.line.Given.TheVariants as given
+use Rattle.schedule_rules.specs.declared.line.Answer.TheVariants as answer
+use Rattle.schedule_rules.specs.declared.line.Refusal.{Refusal}
+use Rattle.phase_locker.specs.declared.ways.Given.{Given}
+use Rattle.phase_locker.specs.declared.ways.Given.TheVariants as given
+use Rattle.phase_locker.specs.declared.ways.How.{How}
+use Rattle.schedule_rules.specs.declared.plan.Place.{Place}
+use Rattle.schedule_rules.specs.declared.plan.Place.TheVariants as place
+use Rattle.schedule_rules.specs.declared.step.Act.{Act}
+use Rattle.schedule_rules.specs.declared.step.Act.TheVariants as act
 use Rattle.schedule_rules.specs.declared.transcript.Final.{Final}
 use Rattle.schedule_rules.specs.History.{Event}
-use Rattle.schedule_rules.specs.Legal.{IsLegal, IsLegalLine}
+use Rattle.schedule_rules.specs.Kinds.{no_cell, cell_at, is_parking}
+use Rattle.schedule_rules.specs.Calls.{Want, Calls, rule, initializes}
+use Rattle.schedule_rules.specs.Waits.{Attempt, attempt, Wait, wait_of, attempt_of_wait, waits, other_waits, cell_concerned}
+use Rattle.schedule_rules.specs.Refusals.{refusal}
+use Rattle.schedule_rules.specs.Answers.{way_at, Meeting, answer_barred, answer_admitted, answer_of_attempt}
+use Rattle.schedule_rules.specs.Holds.{is_barred}
+use Rattle.schedule_rules.specs.Due.{meeting, due_tried, due_answer}
+use Rattle.schedule_rules.specs.Gifts.{is_nobody, may_give_on, may_give_first, may_give_last}
+use Rattle.schedule_rules.specs.Legal.{IsLegal, IsLegalLine, Moment, First, Last, answer_of, due_at, may_give}
+use Rattle.schedule_rules.specs.Laws.{NoneParks}
 use Rattle.schedule_rules.specs.Transcripts.{Schedule, Account, told, AreFinals, final_of, IsLegalTranscript}
 
 -- what a legal history goes on from is legal
@@ -23,35 +43,101 @@ legal-behind cells (s ∷ ss) (l ∷ ls) h k = (legal-behind cells ss ls (record
 abbrev line : Answer → Given → Line
 line a g = record { answer = a; given = g }
 
--- there is just one gift
-same_given : (a b : Given) → a ≡ b
-same_given given.Nobody given.Nobody = refl
-
--- lines with the same answer are the same
+-- lines with the same answer and the same gift are the same
 line_by_answer : (a b : Answer) (g k : Given) → a ≡ b → g ≡ k → line a g ≡ line b k
 line_by_answer a b g k e f = ap (λ x. line x g) e ∙ ap (λ x. line b x) f
 
--- two legal lines of one step are the same
-same_line : (cells : List CellPlan) (h : List Event) (s : Step) (l m : Line) → IsLegalLine cells h s l → IsLegalLine cells h s m → l ≡ m
-same_line cells h s l m a b = line_by_answer l.answer m.answer l.given m.given (a.answered ∙ sym b.answered) (same_given l.given m.given)
+-- at a place where no call parks, a call waits in one way
+one_way : (p : Place) (v w : How) → is_parking p ≡ false → way_at p v ≡ way_at p w
+one_way place.Spin v w e = refl
+one_way place.Park v w e = absurd (cc)
+
+-- so an attempt there has one answer
+one_answer : (x : CellPlan) (w : Want) (m : Meeting) (b d : Bool) → is_parking x.place ≡ false → answer_of_attempt x w m b ≡ answer_of_attempt x w m d
+one_answer x w m b d e =
+    ap (λ (y : Answer). if initializes w && m.own_run then answer.Cyclic else if not m.kept && is_barred (rule x w m.content.phase) m.holding then y else answer_admitted x w m.content)
+    same
+  where
+    same : answer_barred x w m b ≡ answer_barred x w m d
+    same = ap (λ (v : How). answer.Waiting v) (one_way x.place _ _ e)
+
+apart : false ≡ true → ⊥
+apart e = cc
+
+module _ (cells : List CellPlan) (spins : NoneParks cells) where
+  -- no cell parks, also none that no plan has
+  never_parks : (c : ℕ) → is_parking (cell_at cells c).place ≡ false
+  never_parks c = by (nat_lt c (length cells)) refl
+    where
+      by : (b : Bool) → nat_lt c (length cells) ≡ b → is_parking (cell_at cells c).place ≡ false
+      by true e = spins c no_cell (grind arith)
+      by false e = ap (λ x. is_parking x.place) (get_or_past cells c no_cell (grind arith))
+
+  module _ (h : List Event) (s : Step) where
+    -- a step has no choice how it waits
+    tried_alike : (p : ℕ) (o : Option Attempt) (ws : List Wait) (b d : Bool) → due_tried cells h p o ws b ≡ due_tried cells h p o ws d
+    tried_alike p None ws b d = refl
+    tried_alike p (Some a) ws b d =
+        one_answer (cell_at cells a.cell) a.want (meeting cells h p a ws) b d (never_parks a.cell)
+
+    due_alike : (p : ℕ) (a : Act) (ws : List Wait) (b d : Bool) → due_answer cells h (record { party = p; act = a }) ws b ≡ due_answer cells h (record { party = p; act = a }) ws d
+    due_alike p (act.Call c k) ws b d = tried_alike p (Some (record { cell = c; want = Calls k })) ws b d
+    due_alike p act.Again ws b d = tried_alike p (attempt_of_wait (wait_of p (waits cells h))) ws b d
+    due_alike p _ ws b d = refl
+
+    -- nothing may be given at the first moment
+    never_first : (o : Option Attempt) (g : Given) → may_give_first cells h s o g ≡ false
+    never_first None g = refl
+    never_first (Some a) g = rw (never_parks a.cell) refl
+
+    -- nor at the last
+    never_on : (o : Option ℕ) (a : Answer) (g : Given) → may_give_on cells h s o a g ≡ false
+    never_on None a g = refl
+    never_on (Some c) a g = rw (never_parks c) refl
+
+    nothing_last : (a : Answer) (g : Given) → may_give_last cells h s a g ≡ true → g ≡ given.Nobody
+    nothing_last a given.Nobody d = refl
+    nothing_last a given.Readers d = absurd (apart (sym (never_on (cell_concerned cells h s) a given.Readers) ∙ d))
+    nothing_last a (given.Writer q) d = absurd (apart (sym (never_on (cell_concerned cells h s) a (given.Writer q)) ∙ d))
+
+    nobody : (g : Given) → is_nobody g ≡ true → g ≡ given.Nobody
+    nobody given.Nobody d = refl
+    nobody given.Readers d = absurd (cc)
+    nobody (given.Writer q) d = absurd (cc)
+
+    -- a legal line gives nothing, and its answer is the due one
+    just_one : (l : Line) → IsLegalLine cells h s l → (l.answer ≡ answer_of (refusal cells h s) (due_answer cells h s (other_waits cells h s) false)) × (l.given ≡ given.Nobody)
+    just_one l k = by (refusal cells h s) k.moment k.answered k.gave
+      where
+        by : (o : Option Refusal) (m : Moment) → l.answer ≡ answer_of o (due_at cells m h s l.given k.chosen) → may_give cells o m h s l ≡ true
+            → (l.answer ≡ answer_of o (due_answer cells h s (other_waits cells h s) false)) × (l.given ≡ given.Nobody)
+        by (Some r) m e d = (e, nobody l.given d)
+        by None First e d = absurd (apart (sym (never_first (attempt cells h s) l.given) ∙ d))
+        by None Last e d = (e ∙ due_alike s.party s.act (other_waits cells h s) k.chosen false, nothing_last l.answer l.given d)
+
+    -- two legal lines of one step are the same
+    same_line : (l m : Line) → IsLegalLine cells h s l → IsLegalLine cells h s m → l ≡ m
+    same_line l m a b =
+        let x : _ = just_one l a in let y : _ = just_one m b in
+        line_by_answer l.answer m.answer l.given m.given (x.0 ∙ sym y.0) (x.1 ∙ sym y.1)
 
 -- lists with the same heads and rests are the same
 joined : (l m : Line) (ls ms : List Line) → l ≡ m → ls ≡ ms → (l ∷ ls) ≡ (m ∷ ms)
 joined l m ls ms e f = ap (λ x. x ∷ ls) e ∙ ap (λ xs. m ∷ xs) f
 
 -- as many lines as steps that make a legal history are the same
-pub same_lines : (cells : List CellPlan) (ss : List Step) (ls ms : List Line) (h : List Event) → length ls ≡ length ss → length ms ≡ length ss
+pub same_lines : (cells : List CellPlan) → NoneParks cells → (ss : List Step) (ls ms : List Line) (h : List Event) → length ls ≡ length ss → length ms ≡ length ss
     → IsLegal cells (told h ss ls) → IsLegal cells (told h ss ms) → ls ≡ ms
-same_lines cells [] [] [] h a b k j = refl
-same_lines cells [] [] (m ∷ ms) h a b k j = absurd (omega arith)
-same_lines cells [] (l ∷ ls) ms h a b k j = absurd (omega arith)
-same_lines cells (s ∷ ss) [] ms h a b k j = absurd (omega arith)
-same_lines cells (s ∷ ss) (l ∷ ls) [] h a b k j = absurd (omega arith)
-same_lines cells (s ∷ ss) (l ∷ ls) (m ∷ ms) h a b k j =
+same_lines cells spins [] [] [] h a b k j = refl
+same_lines cells spins [] [] (m ∷ ms) h a b k j = absurd (omega arith)
+same_lines cells spins [] (l ∷ ls) ms h a b k j = absurd (omega arith)
+same_lines cells spins (s ∷ ss) [] ms h a b k j = absurd (omega arith)
+same_lines cells spins (s ∷ ss) (l ∷ ls) [] h a b k j = absurd (omega arith)
+same_lines cells spins (s ∷ ss) (l ∷ ls) (m ∷ ms) h a b k j =
     let heads : l ≡ m =
-    same_line cells h s l m (legal-behind cells ss ls (record { step = s; line = l } ∷ h) k).0 (legal-behind cells ss ms (record { step = s; line = m } ∷ h) j).0
+    same_line cells spins h s l m (legal-behind cells ss ls (record { step = s; line = l } ∷ h) k).0 (legal-behind cells ss ms (record { step = s; line = m } ∷ h) j).0
     in let P : Line → Type 0 = λ x. IsLegal cells (told (record { step = s; line = x } ∷ h) ss ms)
-    in let rests : ls ≡ ms = same_lines cells ss ls ms (record { step = s; line = l } ∷ h) (omega arith) (omega arith) k (subst P (sym heads) j)
+    in let rests : ls ≡ ms = same_lines cells spins ss ls ms (record { step = s; line = l } ∷ h) (omega arith) (omega arith) k (subst P (sym heads) j)
     in joined l m ls ms heads rests
 
 -- the finals of one history are the same
@@ -62,11 +148,11 @@ same_finals xs ys cells h a b =
     get_or_from_slice_get xs k (final_of cells k h) d (a.each k q) ∙ sym (get_or_from_slice_get ys k (final_of cells k h) d (b.each k q)))
 
 -- the lines of two legal transcripts
-pub lines_of_legal : (x : Schedule) (t u : Account) → IsLegalTranscript x t → IsLegalTranscript x u → t.lines ≡ u.lines
-lines_of_legal x t u a b = same_lines x.cells x.steps t.lines u.lines [] a.lines b.lines a.legal b.legal
+pub lines_of_legal : (x : Schedule) (t u : Account) → NoneParks x.cells → IsLegalTranscript x t → IsLegalTranscript x u → t.lines ≡ u.lines
+lines_of_legal x t u spins a b = same_lines x.cells spins x.steps t.lines u.lines [] a.lines b.lines a.legal b.legal
 
 -- the finals of two legal transcripts
-pub finals_of_legal : (x : Schedule) (t u : Account) → IsLegalTranscript x t → IsLegalTranscript x u → t.finals ≡ u.finals
-finals_of_legal x t u a b =
+pub finals_of_legal : (x : Schedule) (t u : Account) → NoneParks x.cells → IsLegalTranscript x t → IsLegalTranscript x u → t.finals ≡ u.finals
+finals_of_legal x t u spins a b =
     let P : List Line → Type 0 = λ ls. AreFinals t.finals x.cells (told [] x.steps ls) in
-    same_finals t.finals u.finals x.cells (told [] x.steps u.lines) (subst P (lines_of_legal x t u a b) a.finals) b.finals
+    same_finals t.finals u.finals x.cells (told [] x.steps u.lines) (subst P (lines_of_legal x t u spins a b) a.finals) b.finals

@@ -1,5 +1,5 @@
 -- The answers of calls, by what they meet at the cell.
-use Rattle.std.specs.Prelude.{Bool, ◌&&◌, if◌then◌else◌}
+use Rattle.std.specs.Prelude.{Bool, true, false, not, ◌&&◌, if◌then◌else◌}
 use Rattle.std.specs.Option.{unwrap_or}
 use Rattle.std.specs.declared.option.Option.{Option}
 use Rattle.std.specs.declared.option.Option.TheVariants.{None, Some}
@@ -10,11 +10,11 @@ use Rattle.schedule_rules.specs.declared.plan.Place.{Place}
 use Rattle.schedule_rules.specs.declared.plan.Place.TheVariants as place
 use Rattle.schedule_rules.specs.declared.line.Answer.{Answer}
 use Rattle.schedule_rules.specs.declared.line.Answer.TheVariants as answer
-use Rattle.schedule_rules.specs.declared.line.How.{How}
-use Rattle.schedule_rules.specs.declared.line.How.TheVariants as how
-use Rattle.schedule_rules.specs.Calls.{Want, Calls, Nature, Reads, Writes, rule, asks, initializes}
+use Rattle.phase_locker.specs.declared.ways.How.{How}
+use Rattle.phase_locker.specs.declared.ways.How.TheVariants as how
+use Rattle.schedule_rules.specs.Calls.{Want, Calls, Nature, Reads, Writes, rule, asks, initializes, waking_nature, way_of_nature}
 use Rattle.schedule_rules.specs.Changes.{Content}
-use Rattle.schedule_rules.specs.Holds.{Holding, is_barred}
+use Rattle.schedule_rules.specs.Holds.{Holding, is_barred, is_barred_by_readers}
 
 -- the value, which every cell has that answers by it
 abbrev pub answer_of_value : Content → Answer
@@ -34,20 +34,32 @@ call_answer_admitted (Some Writes) x k y = call_answer_written x k y
 abbrev pub answer_admitted : CellPlan → Want → Content → Answer
 answer_admitted x (Calls k) y = call_answer_admitted (rule x (Calls k) y.phase) x k y
 
--- how a call waits at a place
-abbrev pub way_at : Place → How
-way_at place.Spin = how.Spin
+-- a call that parks drains, or is woken as its nature says
+abbrev pub way_parked : Want → Bool → How
+way_parked w true = how.Drain
+way_parked w false = way_of_nature (waking_nature w)
 
--- what an attempt meets: whether its own party runs the cell's generator, what the cell holds, and what stands on it
--- against a lock
+-- how a barred call waits at a place
+abbrev pub way_at : Place → How → How
+way_at place.Park way = way
+way_at place.Spin way = how.Spin
+
+-- what an attempt meets: whether its own party runs the cell's generator, whether the call keeps a share or a drain,
+-- what the cell holds, and what stands on it against a lock
 pub record Meeting : Type 0 where
   pub own_run : Bool
+  pub kept : Bool
   pub content : Content
   pub holding : Holding
 
+-- the answer of an attempt that is barred. Where readers alone bar it, it drains by choice
+abbrev pub answer_barred : CellPlan → Want → Meeting → Bool → Answer
+answer_barred x w m chosen =
+    answer.Waiting (way_at x.place (way_parked w (chosen && is_barred_by_readers (rule x w m.content.phase) m.holding)))
+
 -- the answer of an attempt. Whether it is cyclic is asked before any lock is tried
-abbrev pub answer_of_attempt : CellPlan → Want → Meeting → Answer
-answer_of_attempt x w m =
+abbrev pub answer_of_attempt : CellPlan → Want → Meeting → Bool → Answer
+answer_of_attempt x w m chosen =
     if initializes w && m.own_run then answer.Cyclic
-    else if is_barred (rule x w m.content.phase) m.holding then answer.Waiting (way_at x.place)
+    else if not m.kept && is_barred (rule x w m.content.phase) m.holding then answer_barred x w m chosen
     else answer_admitted x w m.content

@@ -2,6 +2,8 @@
 use Rattle.std.specs.Prelude.{ℕ, Bool, true, false, ◌&&◌, if◌then◌else◌}
 use Rattle.std.specs.declared.option.Option.{Option}
 use Rattle.std.specs.declared.option.Option.TheVariants.{None, Some}
+use Rattle.phase_locker.specs.declared.ways.How.{How}
+use Rattle.phase_locker.specs.declared.ways.How.TheVariants as how
 use Rattle.schedule_rules.specs.declared.plan.Call.{Call}
 use Rattle.schedule_rules.specs.declared.plan.Call.TheVariants as call
 use Rattle.schedule_rules.specs.declared.plan.CellPlan.{CellPlan}
@@ -44,3 +46,18 @@ call_rule x call.Write p = Some Writes
 -- the lock that is wanted at this phase
 abbrev pub rule : CellPlan → Want → ℕ → Option Nature
 rule x (Calls k) p = call_rule x k p
+
+-- as what a parked call is woken
+abbrev pub call_waking_nature : Call → Nature
+call_waking_nature call.Phase = Reads
+call_waking_nature call.Read = Reads
+call_waking_nature call.Write = Writes
+
+-- the same for whatever is attempted
+abbrev pub waking_nature : Want → Nature
+waking_nature (Calls k) = call_waking_nature k
+
+-- a call parks to be woken so
+abbrev pub way_of_nature : Nature → How
+way_of_nature Reads = how.ParkedRead
+way_of_nature Writes = how.ParkedWrite

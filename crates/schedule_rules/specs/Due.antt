@@ -1,5 +1,5 @@
 -- The answer that is due for a step that is not refused.
-use Rattle.std.specs.Prelude.{ℕ, List, if◌then◌else◌}
+use Rattle.std.specs.Prelude.{ℕ, Bool, List, if◌then◌else◌}
 use Rattle.std.specs.declared.option.Option.{Option}
 use Rattle.std.specs.declared.option.Option.TheVariants.{None, Some}
 use Rattle.schedule_rules.specs.declared.plan.Call.{Call}
@@ -11,13 +11,13 @@ use Rattle.schedule_rules.specs.declared.line.Answer.TheVariants as answer
 use Rattle.schedule_rules.specs.declared.step.Step.{Step}
 use Rattle.schedule_rules.specs.declared.plan.CellPlan.{CellPlan}
 use Rattle.schedule_rules.specs.Kinds.{cell_at}
-use Rattle.schedule_rules.specs.Calls.{Want, Calls}
+use Rattle.schedule_rules.specs.Calls.{Want, Calls, Reads, rule}
 use Rattle.schedule_rules.specs.History.{Event}
 use Rattle.schedule_rules.specs.Sections.{Section, innermost, runs, sections}
 use Rattle.schedule_rules.specs.Guards.{Guard, numbered, guards}
-use Rattle.schedule_rules.specs.Replay.{replay, inside}
-use Rattle.schedule_rules.specs.Waits.{Attempt, attempt}
-use Rattle.schedule_rules.specs.Holds.{holding}
+use Rattle.schedule_rules.specs.Replay.{replay, phase_at, inside}
+use Rattle.schedule_rules.specs.Waits.{Attempt, attempt, Wait, wait_of, waits}
+use Rattle.schedule_rules.specs.Holds.{is_barred, keeps, readers, holding_with}
 use Rattle.schedule_rules.specs.Answers.{answer_of_value, Meeting, answer_of_attempt}
 
 -- what a generator's value leaves
@@ -30,18 +30,29 @@ abbrev pub answer_of_made : Want → Answer
 answer_of_made (Calls k) = call_answer_of_made k
 
 module _ (cells : List CellPlan) where
-  -- what an attempt of the party at the cell meets
-  abbrev pub meeting : List Event → ℕ → ℕ → Meeting
-  meeting h p c = record { own_run = runs p c h; content = replay cells c h; holding = holding c h }
+  -- the party's waiting call keeps its share or drain
+  abbrev pub keeps_own : List Event → ℕ → Attempt → Bool
+  keeps_own h p a =
+      keeps (wait_of p (waits cells h)) (rule (cell_at cells a.cell) a.want (phase_at cells a.cell h)) (readers cells a.cell h)
 
-  -- the answer of an attempt
-  abbrev pub due_attempt : List Event → ℕ → Attempt → Answer
-  due_attempt h p a = answer_of_attempt (cell_at cells a.cell) a.want (meeting h p a.cell)
+  -- what an attempt of the party at the cell meets, where these calls of others wait
+  abbrev pub meeting : List Event → ℕ → Attempt → List Wait → Meeting
+  meeting h p a ws =
+      record {
+        own_run = runs p a.cell h;
+        kept = keeps_own h p a;
+        content = replay cells a.cell h;
+        holding = holding_with a.cell h ws;
+      }
+
+  -- the answer of an attempt, where these calls of others wait, and where it drains by choice
+  abbrev pub due_attempt : List Event → ℕ → Attempt → List Wait → Bool → Answer
+  due_attempt h p a ws chosen = answer_of_attempt (cell_at cells a.cell) a.want (meeting h p a ws) chosen
 
   -- the answer of a step that attempts something. None does not occur where the step is not refused
-  abbrev pub due_tried : List Event → ℕ → Option Attempt → Answer
-  due_tried h p None = answer.Done
-  due_tried h p (Some a) = due_attempt h p a
+  abbrev pub due_tried : List Event → ℕ → Option Attempt → List Wait → Bool → Answer
+  due_tried h p None ws chosen = answer.Done
+  due_tried h p (Some a) ws chosen = due_attempt h p a ws chosen
 
   -- the answer of a value made, by the section that it ends
   abbrev pub due_made : List Event → ℕ → Option Section → Answer
@@ -53,16 +64,23 @@ module _ (cells : List CellPlan) where
   due_look h None = answer.Done
   due_look h (Some x) = answer_of_value (if x.writes then inside cells h x else replay cells x.cell h)
 
-  -- the answer of each act
-  abbrev pub due_act : List Event → Step → Act → Answer
-  due_act h s (act.Call c k) = due_tried h s.party (attempt cells h s)
-  due_act h s act.Again = due_tried h s.party (attempt cells h s)
-  due_act h s (act.Made v) = due_made h v (innermost s.party (sections h))
-  due_act h s act.MadeFailed = answer.Failed
-  due_act h s (act.Look g) = due_look h (numbered g (guards h))
-  due_act h s (act.Set g v) = answer.Done
-  due_act h s (act.Release g) = answer.Done
+  -- a clone is barred as a call that reads
+  abbrev pub due_clone : List Event → List Wait → Option Guard → Answer
+  due_clone h ws None = answer.Done
+  due_clone h ws (Some x) = if is_barred (Some Reads) (holding_with x.cell h ws) then answer.Borrowed else answer.ReadGuard
 
-  -- the answer of a step that is not refused
-  abbrev pub due_answer : List Event → Step → Answer
-  due_answer h s = due_act h s s.act
+  -- the answer of each act
+  abbrev pub due_act : List Event → Step → List Wait → Bool → Act → Answer
+  due_act h s ws chosen (act.Call c k) = due_tried h s.party (attempt cells h s) ws chosen
+  due_act h s ws chosen act.Again = due_tried h s.party (attempt cells h s) ws chosen
+  due_act h s ws chosen (act.Made v) = due_made h v (innermost s.party (sections h))
+  due_act h s ws chosen act.MadeFailed = answer.Failed
+  due_act h s ws chosen (act.Look g) = due_look h (numbered g (guards h))
+  due_act h s ws chosen (act.Set g v) = answer.Done
+  due_act h s ws chosen (act.Release g) = answer.Done
+  due_act h s ws chosen (act.Downgrade g) = answer.ReadGuard
+  due_act h s ws chosen (act.Clone g) = due_clone h ws (numbered g (guards h))
+
+  -- the answer of a step that is not refused, where these calls of others wait, and where it drains by choice
+  abbrev pub due_answer : List Event → Step → List Wait → Bool → Answer
+  due_answer h s ws chosen = due_act h s ws chosen s.act

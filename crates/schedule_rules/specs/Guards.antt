@@ -66,10 +66,17 @@ writer_made n p v None gs = gs
 writer_made n p v (Some s) gs =
     record { number = n; party = p; cell = s.cell; writes = true; start = s.start; changes = Ran (Some v) ∷ [] } ∷ gs
 
+-- a read guard on the cell of another guard
+abbrev pub reader_beside : ℕ → ℕ → Option Guard → List Guard → List Guard
+reader_beside n p None gs = gs
+reader_beside n p (Some x) gs = reader n p x.cell ∷ gs
+
 -- a read guard more, by the act that gets it
 abbrev pub with_reader : List Event → ℕ → Act → List Guard → List Guard
 with_reader h p (act.Call c k) gs = reader (length h) p c ∷ gs
 with_reader h p (act.Made v) gs = reader_made (length h) p (innermost p (sections h)) gs
+with_reader h p (act.Downgrade g) gs = reader_beside (length h) p (numbered g gs) (without_guard g gs)
+with_reader h p (act.Clone g) gs = reader_beside (length h) p (numbered g gs) gs
 with_reader h p _ gs = gs
 
 -- a write guard more, by the act that gets it

@@ -1,7 +1,8 @@
 -- What the kinds of cells are, and the cells of a plan.
-use Rattle.std.specs.Prelude.{ℕ, Bool, true, List, slice_index_or}
+use Rattle.std.specs.Prelude.{ℕ, Bool, true, false, List, slice_index_or}
 use Rattle.schedule_rules.specs.declared.plan.Kind.TheVariants as kind
 use Rattle.schedule_rules.specs.declared.plan.CellPlan.{CellPlan}
+use Rattle.schedule_rules.specs.declared.plan.Place.{Place}
 use Rattle.schedule_rules.specs.declared.plan.Place.TheVariants as place
 
 -- a cell that no plan has
@@ -11,6 +12,11 @@ no_cell = record { kind = kind.LockedLazy; place = place.Spin }
 -- the cell with this number
 abbrev pub cell_at : List CellPlan → ℕ → CellPlan
 cell_at cells c = slice_index_or cells c no_cell
+
+-- barred calls of the cell park
+abbrev pub is_parking : Place → Bool
+is_parking place.Park = true
+is_parking place.Spin = false
 
 -- a run that failed is tried again
 abbrev pub retries : CellPlan → Bool

@@ -1,5 +1,5 @@
 -- What laws about all histories say.
-use Rattle.std.specs.Prelude.{ℕ, Bool, true, false, not, List, [], ◌∷◌, ◌≡◌, ◌==◌, ◌+◌, ◌&&◌, is_none, if◌then◌else◌}
+use Rattle.std.specs.Prelude.{ℕ, Bool, true, false, not, List, [], ◌∷◌, ◌≡◌, ◌==◌, ◌+◌, ◌&&◌, All, is_none, if◌then◌else◌}
 use Rattle.std.specs.declared.option.Option.{Option}
 use Rattle.std.specs.declared.option.Option.TheVariants.{None, Some}
 use Rattle.schedule_rules.specs.declared.line.Answer.{Answer}
@@ -8,17 +8,20 @@ use Rattle.schedule_rules.specs.declared.step.Act.{Act}
 use Rattle.schedule_rules.specs.declared.step.Act.TheVariants as act
 use Rattle.schedule_rules.specs.declared.step.Step.{Step}
 use Rattle.schedule_rules.specs.declared.plan.CellPlan.{CellPlan}
-use Rattle.schedule_rules.specs.Kinds.{cell_at}
-use Rattle.schedule_rules.specs.Calls.{rule, initializes}
+use Rattle.phase_locker.specs.declared.ways.Given.{Given}
+use Rattle.schedule_rules.specs.Kinds.{cell_at, is_parking}
+use Rattle.schedule_rules.specs.Calls.{Reads, rule, initializes}
 use Rattle.schedule_rules.specs.History.{Event}
 use Rattle.schedule_rules.specs.Sections.{Section, innermost, runs, sections}
-use Rattle.schedule_rules.specs.Guards.{guards}
+use Rattle.schedule_rules.specs.Guards.{Guard, numbered, guards}
 use Rattle.schedule_rules.specs.Replay.{replay, phase_at}
-use Rattle.schedule_rules.specs.Waits.{Attempt, attempt, waits}
-use Rattle.schedule_rules.specs.Holds.{holding, is_barred}
+use Rattle.schedule_rules.specs.Waits.{Attempt, attempt, Wait, waits, waits_given, other_waits}
+use Rattle.schedule_rules.specs.Holds.{holding_with, is_barred}
 use Rattle.schedule_rules.specs.Refusals.{refusal}
+use Rattle.schedule_rules.specs.Due.{keeps_own}
+use Rattle.schedule_rules.specs.Legal.{Moment, First, Last}
 
--- the event leaves what is open, who waits and what is published
+-- the event leaves what is open, who waits and with which shares and drains, and what is published
 pub record ChangesNothing (cells : List CellPlan) (h : List Event) (e : Event) : Type 0 where
   pub sections_stay : sections (e ∷ h) ≡ sections h
   pub guards_stay : guards (e ∷ h) ≡ guards h
@@ -27,20 +30,51 @@ pub record ChangesNothing (cells : List CellPlan) (h : List Event) (e : Event) :
 
 -- the answer says that a call waits
 abbrev pub is_waiting : Answer → Bool
-is_waiting (answer.Waiting w) = true
+is_waiting (answer.Waiting way) = true
 is_waiting _ = false
 
-module _ (cells : List CellPlan) where
-  -- the lock that the attempt wants is barred, and it is not cyclic
-  abbrev pub is_barred_attempt : List Event → ℕ → Option Attempt → Bool
-  is_barred_attempt h p None = false
-  is_barred_attempt h p (Some a) =
-      not (initializes a.want && runs p a.cell h)
-      && is_barred (rule (cell_at cells a.cell) a.want (phase_at cells a.cell h)) (holding a.cell h)
+-- the answer says that a clone is barred
+abbrev pub is_borrowed : Answer → Bool
+is_borrowed answer.Borrowed = true
+is_borrowed _ = false
 
-  -- the step is not refused, and what it attempts is barred
-  abbrev pub is_barred_step : List Event → Step → Bool
-  is_barred_step h s = is_none (refusal cells h s) && is_barred_attempt h s.party (attempt cells h s)
+module _ (cells : List CellPlan) where
+  -- the calls of others that wait when the rule of the step is judged: after a gift of the first moment
+  abbrev pub waits_judged : Moment → List Event → Step → Given → List Wait
+  waits_judged First h s g = waits_given cells h s g (other_waits cells h s)
+  waits_judged Last h s g = other_waits cells h s
+
+  -- the attempt is not cyclic, keeps no share and no drain, and what stands on the cell, where these calls of others
+  -- wait, bars the lock that it wants
+  abbrev pub is_barred_attempt : List Event → ℕ → Option Attempt → List Wait → Bool
+  is_barred_attempt h p None ws = false
+  is_barred_attempt h p (Some a) ws =
+      not (initializes a.want && runs p a.cell h)
+      && (not (keeps_own cells h p a)
+      && is_barred (rule (cell_at cells a.cell) a.want (phase_at cells a.cell h)) (holding_with a.cell h ws))
+
+  -- the step is not refused, and what it attempts is barred, where its line gives this at this moment
+  abbrev pub is_barred_step : List Event → Step → Given → Moment → Bool
+  is_barred_step h s g m =
+      is_none (refusal cells h s) && is_barred_attempt h s.party (attempt cells h s) (waits_judged m h s g)
+
+  -- a read on the cell of the guard is barred, where these calls of others wait
+  abbrev pub is_barred_beside : List Event → Option Guard → List Wait → Bool
+  is_barred_beside h None ws = false
+  is_barred_beside h (Some x) ws = is_barred (Some Reads) (holding_with x.cell h ws)
+
+  -- the act is a clone, and a read beside its guard is barred
+  abbrev pub is_barred_clone : List Event → Act → List Wait → Bool
+  is_barred_clone h (act.Clone g) ws = is_barred_beside h (numbered g (guards h)) ws
+  is_barred_clone h _ ws = false
+
+  -- the step is a clone that is not refused, and it is barred, where its line gives this at this moment
+  abbrev pub is_borrowing_step : List Event → Step → Given → Moment → Bool
+  is_borrowing_step h s g m = is_none (refusal cells h s) && is_barred_clone h s.act (waits_judged m h s g)
+
+-- no cell parks a call
+abbrev pub NoneParks : List CellPlan → Type 0
+NoneParks cells = All (λ x. is_parking x.place ≡ false) cells
 
 -- a generator of the cell ends by a value: a made that is not refused ends this section
 abbrev pub is_success : ℕ → Act → Answer → Option Section → Bool

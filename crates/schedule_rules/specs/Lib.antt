@@ -13,6 +13,7 @@ pub mod Answers
 pub mod Due
 pub mod Gifts
 pub mod Legal
+pub mod Core
 pub mod Transcripts
 pub mod Laws
 pub use Rattle.phase_bits.specs.Number

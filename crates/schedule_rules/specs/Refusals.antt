@@ -34,6 +34,12 @@ no_writer None = Some refused.NoGuard
 no_writer (Some false) = Some refused.NotWriter
 no_writer (Some true) = None
 
+-- a read guard is needed
+abbrev pub no_reader : Option Bool → Option Refusal
+no_reader None = Some refused.NoGuard
+no_reader (Some false) = None
+no_reader (Some true) = Some refused.NoGuard
+
 -- a section is needed that a generator's outcome ends
 abbrev pub no_section : Option Section → Option Refusal
 no_section None = Some refused.NoSection
@@ -49,6 +55,8 @@ module _ (cells : List CellPlan) where
   refusal_free h p (act.Look g) = no_guard (writes_of (guard_of g p (guards h)))
   refusal_free h p (act.Set g v) = no_writer (writes_of (guard_of g p (guards h)))
   refusal_free h p (act.Release g) = no_guard (writes_of (guard_of g p (guards h)))
+  refusal_free h p (act.Downgrade g) = no_writer (writes_of (guard_of g p (guards h)))
+  refusal_free h p (act.Clone g) = no_reader (writes_of (guard_of g p (guards h)))
 
   -- the reason to refuse the act, by whether the party waits
   abbrev pub refusal_by : Bool → List Event → ℕ → Act → Option Refusal

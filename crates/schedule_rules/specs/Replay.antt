@@ -34,9 +34,10 @@ abbrev pub back_failed : List Event → ℕ → Act → Option Back
 back_failed h p act.MadeFailed = back_of_run None (innermost p (sections h))
 back_failed h p _ = None
 
--- the made of a read gives its section back, and its holder reads on
+-- the made of a read, or a downgrade, gives its section back, and its holder reads on
 abbrev pub back_read : List Event → ℕ → Act → Option Back
 back_read h p (act.Made v) = back_of_run (Some v) (innermost p (sections h))
+back_read h p (act.Downgrade g) = back_of_guard (numbered g (guards h))
 back_read h p _ = None
 
 -- what is given back by a step that is done

@@ -42,6 +42,8 @@ names_known_cell cells act.MadeFailed = true
 names_known_cell cells (act.Look g) = true
 names_known_cell cells (act.Set g v) = true
 names_known_cell cells (act.Release g) = true
+names_known_cell cells (act.Downgrade g) = true
+names_known_cell cells (act.Clone g) = true
 
 -- the party and the cell that a step names are among so many
 pub record IsKnown (parties cells : ℕ) (s : Step) : Type 0 where

@@ -1,42 +1,85 @@
 //! Laws of the definitions, for every history. Each is the contract of a function that does nothing.
 
-ghost use Rattle.std.specs.Prelude.{ℕ, List, ◌∷◌, ◌≡◌, ◌≤◌, true};
+ghost use Rattle.std.specs.Prelude.{ℕ, Bool, List, ◌∷◌, ◌≡◌, ◌≤◌, ◌<◌, true, false};
+ghost use Rattle.std.specs.declared.option.Option.TheVariants.{Some};
+ghost use Rattle.phase_bits.specs.Records.{bars_read, bars_write};
+ghost use Rattle.phase_locker.specs.declared.ways.Given.{Given};
+ghost use Rattle.phase_locker.specs.declared.ways.Given.TheVariants as given;
 ghost use Rattle.schedule_rules.specs.declared.plan.CellPlan.{CellPlan};
 ghost use Rattle.schedule_rules.specs.declared.step.Step.{Step};
 ghost use Rattle.schedule_rules.specs.declared.line.Line.{Line};
-ghost use Rattle.schedule_rules.specs.declared.line.Given.{Given};
 ghost use Rattle.schedule_rules.specs.declared.line.Refusal.{Refusal};
 ghost use Rattle.schedule_rules.specs.declared.line.Answer.TheVariants as answer;
+ghost use Rattle.schedule_rules.specs.Calls.{Reads, Writes};
 ghost use Rattle.schedule_rules.specs.History.{Event};
+ghost use Rattle.schedule_rules.specs.Waits.{Attempt, Wait};
+ghost use Rattle.schedule_rules.specs.Holds.{readers_with, writers_with, holding, holding_with, is_barred};
+ghost use Rattle.schedule_rules.specs.Core.{core, core_with};
+ghost use Rattle.schedule_rules.specs.Due.{keeps_own, due_attempt};
 ghost use Rattle.schedule_rules.specs.Legal.{IsLegal, IsLegalLine, IsExclusive};
 ghost use Rattle.schedule_rules.specs.Replay.{phase_at};
 ghost use Rattle.phase_bits.specs.Flags.{has, initialized};
-ghost use Rattle.schedule_rules.specs.Laws.{ChangesNothing, is_waiting, is_barred_step, successes};
+ghost use Rattle.schedule_rules.specs.Laws.{
+  ChangesNothing,
+  is_waiting,
+  is_borrowed,
+  is_barred_step,
+  is_borrowing_step,
+  NoneParks,
+  successes,
+};
 ghost use Rattle.schedule_rules.specs.Transcripts.{Schedule, Account, IsLegalTranscript};
 
-/// A refused step leaves all sections, guards and waiting calls, and every published phase and value, as they were.
+/// A refused step leaves all sections, guards and waiting calls with their shares and drains, and every published phase
+/// and value, as they were. Where its line is legal, it gives nothing.
 pub fn refused_steps_change_nothing()
-    ensures { (cells : List CellPlan) (h : List Event) (s : Step) (r : Refusal) (g : Given) →
+    ensures changes { (cells : List CellPlan) (h : List Event) (s : Step) (r : Refusal) (g : Given) →
         ChangesNothing cells h (record { step = s; line = record { answer = answer.Refused r; given = g } }) }
+    ensures gives { (cells : List CellPlan) (h : List Event) (s : Step) (r : Refusal) (g : Given) →
+        IsLegalLine cells h s (record { answer = answer.Refused r; given = g }) → g ≡ given.Nobody }
 {}
 
-/// A step waits exactly where it is not refused, is not cyclic, and the lock that it wants is barred. So a step that is
-/// neither refused nor barred is answered in that step.
+/// A step waits exactly where it is not refused, is not cyclic, its call keeps no share and no drain, and the lock that
+/// it wants is barred: by what stands on the cell without a share or a drain of its own, and with what its line gave at
+/// the first moment. So a step that is neither refused nor barred is answered in that step. A clone never waits: where a
+/// read is barred, it is answered so.
 pub fn steps_wait_exactly_where_barred()
-    ensures { (cells : List CellPlan) (h : List Event) (s : Step) (l : Line) →
-        IsLegalLine cells h s l → is_waiting l.answer ≡ is_barred_step cells h s }
+    ensures waits { (cells : List CellPlan) (h : List Event) (s : Step) (l : Line) →
+        (legal : IsLegalLine cells h s l) → is_waiting l.answer ≡ is_barred_step cells h s l.given legal.moment }
+    ensures borrows { (cells : List CellPlan) (h : List Event) (s : Step) (l : Line) →
+        (legal : IsLegalLine cells h s l) → is_borrowed l.answer ≡ is_borrowing_step cells h s l.given legal.moment }
 {}
 
-/// A schedule has at most one legal transcript: the same lines, and the same finals.
+/// A schedule of cells that do not park has at most one legal transcript: the same lines, and the same finals. Where a
+/// cell parks its calls, a step may hand over to one call or to another, or to none.
 pub fn one_transcript_is_legal()
-    ensures lines { (x : Schedule) (t u : Account) → IsLegalTranscript x t → IsLegalTranscript x u → t.lines ≡ u.lines }
-    ensures finals { (x : Schedule) (t u : Account) → IsLegalTranscript x t → IsLegalTranscript x u → t.finals ≡ u.finals }
+    ensures lines { (x : Schedule) (t u : Account) → NoneParks x.cells →
+        IsLegalTranscript x t → IsLegalTranscript x u → t.lines ≡ u.lines }
+    ensures finals { (x : Schedule) (t u : Account) → NoneParks x.cells →
+        IsLegalTranscript x t → IsLegalTranscript x u → t.finals ≡ u.finals }
 {}
 
-/// At each moment of a legal history the holds of every cell exclude each other: at most one write hold, no read guard
-/// beside it, and readers within their limit.
+/// At each moment of a legal history the holds of every cell exclude each other: at most one write hold or write share,
+/// beside it no read guard, no read share and no drain, and readers within their limit.
 pub fn holds_exclude_each_other()
-    ensures { (cells : List CellPlan) (h : List Event) (c : ℕ) → IsLegal cells h → IsExclusive h c }
+    ensures { (cells : List CellPlan) (h : List Event) (c : ℕ) → IsLegal cells h → IsExclusive cells h c }
+{}
+
+/// The record of a cell's holders bars the locks that the rules bar, and no other: wherever the holds of the cell
+/// exclude each other, and also while the share or the drain of a call is taken away and handed on. A call that keeps
+/// its share or its drain is not barred at all.
+pub fn records_bar_what_rules_bar()
+    ensures reads { (cells : List CellPlan) (h : List Event) (c : ℕ) → IsExclusive cells h c →
+        is_barred (Some Reads) (holding cells c h) ≡ bars_read (core cells c h) }
+    ensures writes { (cells : List CellPlan) (h : List Event) (c : ℕ) →
+        is_barred (Some Writes) (holding cells c h) ≡ bars_write (core cells c h) }
+    ensures reads_with { (cells : List CellPlan) (h : List Event) (c : ℕ) (ws : List Wait) →
+        (0 < writers_with c h ws → readers_with c h ws ≡ 0) →
+        is_barred (Some Reads) (holding_with c h ws) ≡ bars_read (core_with cells c h ws) }
+    ensures writes_with { (cells : List CellPlan) (h : List Event) (c : ℕ) (ws : List Wait) →
+        is_barred (Some Writes) (holding_with c h ws) ≡ bars_write (core_with cells c h ws) }
+    ensures kept { (cells : List CellPlan) (h : List Event) (p : ℕ) (a : Attempt) (ws : List Wait) (chosen : Bool) →
+        keeps_own cells h p a ≡ true → is_waiting (due_attempt cells h p a ws chosen) ≡ false }
 {}
 
 /// INITIALIZED is never cleared.

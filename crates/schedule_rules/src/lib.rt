@@ -10,9 +10,10 @@ mod transcript;
 
 pub use laws::{
     generators_succeed_once, holds_exclude_each_other, initialized_stays, one_transcript_is_legal,
-    refused_steps_change_nothing, steps_wait_exactly_where_barred,
+    records_bar_what_rules_bar, refused_steps_change_nothing, steps_wait_exactly_where_barred,
 };
-pub use line::{Answer, Given, How, Line, Refusal};
+pub use line::{Answer, Line, Refusal};
+pub use phase_locker::{Given, How};
 pub use plan::{Call, CellPlan, Kind, Place, Plan};
 pub use step::{Act, Step};
 pub use transcript::{Final, Transcript};

@@ -1,20 +1,7 @@
 //! The lines that steps are answered by.
 
 use phase_bits::Phase;
-
-/// How a call waits.
-#[derive(Clone, Copy, PartialEq, Eq, Debug)]
-pub enum How {
-    /// It tries again by itself.
-    Spin,
-}
-
-/// What a step gave to calls that wait.
-#[derive(Clone, Copy, PartialEq, Eq, Debug)]
-pub enum Given {
-    /// Nothing.
-    Nobody,
-}
+use phase_locker::{Given, How};
 
 /// Why a step is refused. A refused step changes nothing.
 #[derive(Clone, Copy, PartialEq, Eq, Debug)]
@@ -23,9 +10,9 @@ pub enum Refusal {
     Waits,
     /// 2: the act is `Again`, and the party does not wait.
     NotWaiting,
-    /// 5: no open guard of the party has this number.
+    /// 5: no open guard of the party has this number, or a clone names a write guard.
     NoGuard,
-    /// 6: a set on a read guard.
+    /// 6: a set or a downgrade on a read guard.
     NotWriter,
     /// 7: an outcome of a generator, and the party runs no section.
     NoSection,
@@ -50,6 +37,8 @@ pub enum Answer {
     Failed,
     /// The party asked for a run of the generator that it is running.
     Cyclic,
+    /// A clone is barred.
+    Borrowed,
     /// The lock that the call wants is barred.
     Waiting(How),
     /// The step is refused.
@@ -60,5 +49,6 @@ pub enum Answer {
 #[derive(Clone, Copy, PartialEq, Eq, Debug)]
 pub struct Line {
     pub answer: Answer,
+    /// What it gave to calls that are parked.
     pub given: Given,
 }

@@ -10,6 +10,8 @@ pub enum Kind {
 /// Which lock a cell has, that is, how a call waits that its lock bars.
 #[derive(Clone, Copy, PartialEq, Eq, Debug)]
 pub enum Place {
+    /// A call that is barred parks, and the lock is handed to it when it is free.
+    Park,
     /// A call that is barred tries again by itself, and nothing is handed to it.
     Spin,
 }

@@ -19,6 +19,10 @@ pub enum Act {
     Set { guard: u32, value: u64 },
     /// The guard is given back.
     Release { guard: u32 },
+    /// The write guard is given back, and its holder reads on.
+    Downgrade { guard: u32 },
+    /// One more read guard, beside this one.
+    Clone { guard: u32 },
 }
 
 /// One step of one party.

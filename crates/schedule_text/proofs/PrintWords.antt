@@ -1,27 +1,84 @@
--- The words of answers.
-use Rattle.std.specs.Prelude.{◌∷◌, ◌++◌, ◌≡◌}
-use Rattle.std.proofs.Common.{refl, ap, ◌∙◌}
-use Rattle.std.proofs.lemmas.List.{append-nil}
+-- The words of answers and of gifts.
+use Rattle.std.specs.Prelude.{ℕ, ◌-◌, List, [], ◌∷◌, ◌++◌, ◌≡◌, length, take, codes}
+use Rattle.std.specs.Fmt.{decimal}
+use Rattle.std.proofs.Common.{zero, suc, refl, sym, ap, ◌∙◌, append_assoc, arith}
+use Rattle.std.proofs.lemmas.List.{append-nil, length-append}
+use Rattle.phase_bits.specs.Number.{number}
+use Rattle.phase_bits.specs.Text.{phase_text}
 use Rattle.schedule_rules.specs.declared.line.Answer.{Answer}
 use Rattle.schedule_rules.specs.declared.line.Answer.TheVariants as answer
-use Rattle.schedule_rules.specs.declared.line.Given.{Given}
-use Rattle.schedule_rules.specs.declared.line.Given.TheVariants as given
-use Rattle.schedule_text.specs.Lines.{line_rest, line_text}
-use Rattle.schedule_text.specs.TranscriptText.{answer_words, given_words}
+use Rattle.phase_locker.specs.declared.ways.Given.{Given}
+use Rattle.schedule_text.specs.Lines.{Word, line_rest, line_text}
+use Rattle.schedule_text.specs.TranscriptText.{way_name, refusal_words, answer_words, given_words}
 
--- behind the number of a step stand a space and the line of its answer
-line_rest-answer_words : (a : Answer) → line_rest (answer_words a) ≡ 32 ∷ line_text (answer_words a)
-line_rest-answer_words (answer.Phase p) = refl
-line_rest-answer_words (answer.Value v) = refl
-line_rest-answer_words answer.ReadGuard = refl
-line_rest-answer_words answer.WriteGuard = refl
-line_rest-answer_words answer.Running = refl
-line_rest-answer_words answer.Done = refl
-line_rest-answer_words answer.Failed = refl
-line_rest-answer_words answer.Cyclic = refl
-line_rest-answer_words (answer.Waiting w) = refl
-line_rest-answer_words (answer.Refused r) = refl
+-- each word behind one space
+abbrev behind : List Word → List ℕ
+behind [] = []
+behind (w ∷ ws) = 32 ∷ (w ++ behind ws)
 
--- and no gift adds a word
-pub line_rest-given_words : (a : Answer) (g : Given) → line_rest (answer_words a ++ given_words g) ≡ 32 ∷ line_text (answer_words a)
-line_rest-given_words a given.Nobody = ap line_rest (append-nil (answer_words a)) ∙ line_rest-answer_words a
+-- the words of a line that goes on
+abbrev pub front : List Word → List ℕ
+front [] = []
+front (w ∷ ws) = w ++ behind ws
+
+line_rest-more : (ws vs : List Word) → line_rest (ws ++ vs) ≡ behind ws ++ line_rest vs
+line_rest-more [] vs = refl
+line_rest-more (w ∷ ws) vs =
+    ap (λ (x : List ℕ). 32 ∷ (w ++ x)) (line_rest-more ws vs) ∙ ap (λ (x : List ℕ). 32 ∷ x) (sym (append_assoc w (behind ws) (line_rest vs)))
+
+line_text-more : (w : Word) (ws vs : List Word) → line_text (w ∷ (ws ++ vs)) ≡ front (w ∷ ws) ++ line_rest vs
+line_text-more w ws vs = ap (λ (x : List ℕ). w ++ x) (line_rest-more ws vs) ∙ sym (append_assoc w (behind ws) (line_rest vs))
+
+-- behind an answer its line goes on
+pub answer_goes_on : (a : Answer) (vs : List Word) → line_text (answer_words a ++ vs) ≡ front (answer_words a) ++ line_rest vs
+answer_goes_on (answer.Phase p) vs = line_text-more (codes "phase") (phase_text (number p) ∷ []) vs
+answer_goes_on (answer.Value v) vs = line_text-more (codes "value") (decimal v ∷ []) vs
+answer_goes_on answer.ReadGuard vs = line_text-more (codes "read-guard") [] vs
+answer_goes_on answer.WriteGuard vs = line_text-more (codes "write-guard") [] vs
+answer_goes_on answer.Running vs = line_text-more (codes "running") [] vs
+answer_goes_on answer.Done vs = line_text-more (codes "done") [] vs
+answer_goes_on answer.Failed vs = line_text-more (codes "failed") [] vs
+answer_goes_on answer.Cyclic vs = line_text-more (codes "cyclic") [] vs
+answer_goes_on answer.Borrowed vs = line_text-more (codes "borrowed") [] vs
+answer_goes_on (answer.Waiting w) vs = line_text-more (codes "waiting") (way_name w ∷ []) vs
+answer_goes_on (answer.Refused r) vs = line_text-more (codes "refused") (refusal_words r) vs
+
+-- or ends
+pub answer_ends : (a : Answer) → line_text (answer_words a) ≡ front (answer_words a) ++ (10 ∷ [])
+answer_ends a = sym (ap line_text (append-nil (answer_words a))) ∙ answer_goes_on a []
+
+-- behind the number of a step stand a space and the line of its answer and its gift
+pub step_goes_on : (a : Answer) (vs : List Word) → line_rest (answer_words a ++ vs) ≡ 32 ∷ line_text (answer_words a ++ vs)
+step_goes_on (answer.Phase p) vs = refl
+step_goes_on (answer.Value v) vs = refl
+step_goes_on answer.ReadGuard vs = refl
+step_goes_on answer.WriteGuard vs = refl
+step_goes_on answer.Running vs = refl
+step_goes_on answer.Done vs = refl
+step_goes_on answer.Failed vs = refl
+step_goes_on answer.Cyclic vs = refl
+step_goes_on answer.Borrowed vs = refl
+step_goes_on (answer.Waiting w) vs = refl
+step_goes_on (answer.Refused r) vs = refl
+
+-- the text before the line feed that was taken off
+without_last : (xs : List ℕ) (x : ℕ) (k : ℕ) → k ≡ length xs → take k (xs ++ (x ∷ [])) ≡ xs
+without_last [] x zero e = refl
+without_last (y ∷ ys) x (suc k) e = ap (λ (t : List ℕ). y ∷ t) (without_last ys x k (omega arith))
+without_last [] x (suc k) e = absurd (omega arith)
+without_last (y ∷ ys) x zero e = absurd (omega arith)
+
+taken_off : (items new xs : List ℕ) (len : ℕ) → len ≡ length items → items ≡ xs ++ (10 ∷ []) → new ≡ take (len - 1) items → new ≡ xs
+taken_off items new xs len is e t =
+    let short : len - 1 ≡ length xs = omega (arith, is, ap length e, length-append xs (10 ∷ [])) in
+    t ∙ ap (take (len - 1)) e ∙ without_last xs 10 (len - 1) short
+
+-- a gift takes the place of the line feed behind an answer
+pub gift_behind : (old items new piece : List ℕ) (len : ℕ) (a : Answer) (g : Given) → items ≡ old ++ line_text (answer_words a) → len ≡ length items → new ≡ take (len - 1) items → piece ≡ line_rest (given_words g) → new ++ piece ≡ old ++ line_text (answer_words a ++ given_words g)
+gift_behind old items new piece len a g printed is t e =
+    let ends : items ≡ (old ++ front (answer_words a)) ++ (10 ∷ []) =
+    printed ∙ ap (λ (x : List ℕ). old ++ x) (answer_ends a) ∙ sym (append_assoc old (front (answer_words a)) (10 ∷ [])) in
+    let before = taken_off items new (old ++ front (answer_words a)) len is ends t in
+    ap (λ (x : List ℕ). x ++ piece) before ∙ ap (λ (x : List ℕ). (old ++ front (answer_words a)) ++ x) e
+    ∙ append_assoc old (front (answer_words a)) (line_rest (given_words g))
+    ∙ ap (λ (x : List ℕ). old ++ x) (sym (answer_goes_on a (given_words g)))

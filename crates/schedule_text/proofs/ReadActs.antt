@@ -8,7 +8,7 @@ use Rattle.schedule_rules.specs.declared.step.Act.TheVariants as act
 use Rattle.schedule_text.specs.Lines.{Word}
 use Rattle.schedule_text.specs.ScheduleText.{ActFits}
 use Rattle.schedule_text.specs.ReadFields.{Field, ◌>>=◌, bytes_after, number_at, name_at}
-use Rattle.schedule_text.specs.ReadSteps.{act_text, last_number_at, last_name_at, call_at, release_at, read_else, made_failed_at, value_at, made_else, look_at, set_at, again_at, phase_at, write_at, read_or_release_at, made_at, act_at}
+use Rattle.schedule_text.specs.ReadSteps.{act_text, last_number_at, last_name_at, call_at, release_at, read_else, made_failed_at, value_at, made_else, look_at, set_at, downgrade_at, clone_at, again_at, phase_at, write_at, read_or_release_at, made_at, act_at}
 use Rattle.schedule_text.proofs.ReadWords.{bind_some, carry, word_takes}
 use Rattle.schedule_text.proofs.ReadNumbers.{number_takes, number_again, name_takes, name_again}
 
@@ -91,6 +91,14 @@ release_takes : (bytes : List ℕ) (a : Act) (rest : List ℕ) → release_at by
 unfolding release_at act_text
 release_takes bytes a rest e = named (codes "release ") (λ g. act.Release g) bytes a rest (λ n rest lt e. record { spelling = e; fits = lt }) e
 
+downgrade_takes : (bytes : List ℕ) (a : Act) (rest : List ℕ) → downgrade_at bytes ≡ Some (a, rest) → TakesAct bytes a rest
+unfolding downgrade_at act_text
+downgrade_takes bytes a rest e = named (codes "downgrade ") (λ g. act.Downgrade g) bytes a rest (λ n rest lt e. record { spelling = e; fits = lt }) e
+
+clone_takes : (bytes : List ℕ) (a : Act) (rest : List ℕ) → clone_at bytes ≡ Some (a, rest) → TakesAct bytes a rest
+unfolding clone_at act_text
+clone_takes bytes a rest e = named (codes "clone ") (λ g. act.Clone g) bytes a rest (λ n rest lt e. record { spelling = e; fits = lt }) e
+
 read_takes : (bytes : List ℕ) (o : Option (List ℕ)) (a : Act) (rest : List ℕ) → bytes_after (codes "read ") bytes ≡ o → read_else o bytes ≡ Some (a, rest) → TakesAct bytes a rest
 unfolding call_at act_text
 read_takes bytes None a rest at e = release_takes bytes a rest e
@@ -151,12 +159,14 @@ act_takes (b ∷ bs) a rest e =
     pick (eqb b 97) (again_at bytes) _ (a, rest) P e (again_takes bytes a rest) (λ e.
     pick (eqb b 109) (made_at bytes) _ (a, rest) P e (made_takes bytes (bytes_after (codes "made ") bytes) a rest refl) (λ e.
     pick (eqb b 108) (look_at bytes) _ (a, rest) P e (look_takes bytes a rest) (λ e.
-    pick (eqb b 115) (set_at bytes) _ (a, rest) P e (set_takes bytes a rest) (λ e. absurd cc)))))))
+    pick (eqb b 115) (set_at bytes) _ (a, rest) P e (set_takes bytes a rest) (λ e.
+    pick (eqb b 100) (downgrade_at bytes) _ (a, rest) P e (downgrade_takes bytes a rest) (λ e.
+    pick (eqb b 99) (clone_at bytes) _ (a, rest) P e (clone_takes bytes a rest) (λ e. absurd cc)))))))))
 
 -- ---- what is spelled is read
 
 pub act_again : (a : Act) (more : List ℕ) → ActFits a → act_at (act_text a ++ more) ≡ Some (a, more)
-unfolding act_at act_text bytes_after phase_at call_at write_at read_or_release_at release_at again_at made_at value_at made_failed_at look_at set_at
+unfolding act_at act_text bytes_after phase_at call_at write_at read_or_release_at release_at again_at made_at value_at made_failed_at look_at set_at downgrade_at clone_at
 act_again (act.Call c call.Phase) more fits = rw (last_name_again c more fits) refl
 act_again (act.Call c call.Read) more fits = rw (last_name_again c more fits) refl
 act_again (act.Call c call.Write) more fits = rw (last_name_again c more fits) refl
@@ -169,3 +179,5 @@ act_again (act.Set g v) more fits =
     let low : 32 < 48 = omega arith in
     rw (append_assoc (decimal g) (32 ∷ value) more, name_again g 32 (value ++ more) fits.0 low, last_number_again v more fits.1) refl
 act_again (act.Release g) more fits = rw (last_name_again g more fits) refl
+act_again (act.Downgrade g) more fits = rw (last_name_again g more fits) refl
+act_again (act.Clone g) more fits = rw (last_name_again g more fits) refl

@@ -13,10 +13,10 @@ use Rattle.schedule_rules.specs.declared.plan.CellPlan.{CellPlan}
 use Rattle.schedule_rules.specs.declared.step.Act.{Act}
 use Rattle.schedule_rules.specs.declared.step.Act.TheVariants as act
 use Rattle.schedule_rules.specs.declared.step.Step.{Step}
-use Rattle.schedule_text.specs.Lines.{line_rest}
-use Rattle.schedule_text.specs.ScheduleText.{act_words, StepFits}
+use Rattle.schedule_text.specs.Lines.{line_rest, line_text}
+use Rattle.schedule_text.specs.ScheduleText.{place_words, act_words, StepFits}
 use Rattle.schedule_text.specs.ReadFields.{◌>>=◌, bytes_after, name_at}
-use Rattle.schedule_text.specs.ReadSteps.{act_text, act_at, step_text, step_at, cell_text, cell_at}
+use Rattle.schedule_text.specs.ReadSteps.{act_text, act_at, step_text, step_at, cell_text, spin_at, park_else, place_at, cell_at}
 use Rattle.schedule_text.proofs.ReadWords.{bind_some, carry, word_takes}
 use Rattle.schedule_text.proofs.ReadNumbers.{name_takes, name_again}
 use Rattle.schedule_text.proofs.ReadActs.{act_takes, act_again}
@@ -32,6 +32,8 @@ rest_is act.MadeFailed = refl
 rest_is (act.Look g) = refl
 rest_is (act.Set g v) = refl
 rest_is (act.Release g) = refl
+rest_is (act.Downgrade g) = refl
+rest_is (act.Clone g) = refl
 
 step_is : (s : Step) → step_text s ≡ decimal s.party ++ (32 ∷ act_text s.act)
 unfolding step_text
@@ -79,22 +81,52 @@ step_shortens bytes s rest e =
 
 -- ---- cells
 
+-- a cell of this place
+abbrev cell_with : Place → CellPlan
+cell_with p = record { kind = kind.LockedLazy; place = p }
+
+abbrev made : Place × List ℕ → Option (CellPlan × List ℕ)
+made p = Some (cell_with p.0, p.1)
+
 only_cell : (k : Kind) (p : Place) (more : List ℕ) → let c : CellPlan = record { kind = k; place = p } in cell_at (cell_text c ++ more) ≡ Some (c, more)
-unfolding cell_at cell_text bytes_after
+unfolding cell_at place_at spin_at cell_text bytes_after
+only_cell kind.LockedLazy place.Park more = refl
 only_cell kind.LockedLazy place.Spin more = refl
 
 pub cell_again : (c : CellPlan) (more : List ℕ) → cell_at (cell_text c ++ more) ≡ Some (c, more)
 cell_again c more = only_cell c.kind c.place more
 
+-- the text of a place, up to the end of its line
+abbrev place_text : Place → List ℕ
+place_text p = line_text (place_words p)
+
+place_takes : (bytes : List ℕ) (o : Option (List ℕ)) (p : Place) (rest : List ℕ) → bytes_after (codes "park\n") bytes ≡ o → park_else o bytes ≡ Some (p, rest) → bytes ≡ place_text p ++ rest
+unfolding spin_at
+place_takes bytes (Some start) p rest at e =
+    carry (λ (x : Place) (rest : List ℕ). bytes ≡ place_text x ++ rest) place.Park p start rest e (word_takes (codes "park\n") bytes start at)
+place_takes bytes None p rest at e =
+    let s = bind_some (bytes_after (codes "spin\n") bytes) (λ rest. Some (place.Spin, rest)) (p, rest) e in
+    carry (λ (x : Place) (rest : List ℕ). bytes ≡ place_text x ++ rest) place.Spin p s.0 rest s.2 (word_takes (codes "spin\n") bytes s.0 s.1)
+
+cell_is : (p : Place) → cell_text (record { kind = kind.LockedLazy; place = p }) ≡ codes "cell LockedLazy " ++ place_text p
+unfolding cell_text
+cell_is place.Park = refl
+cell_is place.Spin = refl
+
 pub cell_takes : (bytes : List ℕ) (c : CellPlan) (rest : List ℕ) → cell_at bytes ≡ Some (c, rest) → bytes ≡ cell_text c ++ rest
-unfolding cell_at cell_text
+unfolding cell_at place_at
 cell_takes bytes c rest e =
-    let made : CellPlan = record { kind = kind.LockedLazy; place = place.Spin } in
-    let s = bind_some (bytes_after (codes "cell LockedLazy spin\n") bytes) (λ rest. Some (made, rest)) (c, rest) e in
-    carry (λ (x : CellPlan) (rest : List ℕ). bytes ≡ cell_text x ++ rest) made c s.0 rest s.2 (word_takes (codes "cell LockedLazy spin\n") bytes s.0 s.1)
+    let s = bind_some (bytes_after (codes "cell LockedLazy ") bytes) (λ start. place_at start >>= made) (c, rest) e in
+    let p = bind_some (place_at s.0) made (c, rest) s.2 in
+    let w = word_takes (codes "cell LockedLazy ") bytes s.0 s.1 in
+    let t = place_takes s.0 (bytes_after (codes "park\n") s.0) p.0.0 p.0.1 refl p.1 in
+    let spelling : bytes ≡ cell_text (cell_with p.0.0) ++ p.0.1 =
+    w ∙ ap (λ (x : List ℕ). codes "cell LockedLazy " ++ x) t ∙ ap (λ (x : List ℕ). x ++ p.0.1) (sym (cell_is p.0.0)) in
+    carry (λ (x : CellPlan) (rest : List ℕ). bytes ≡ cell_text x ++ rest) (cell_with p.0.0) c p.0.1 rest p.2 spelling
 
 filled : (k : Kind) (p : Place) → let c : CellPlan = record { kind = k; place = p } in 0 < length (cell_text c)
 unfolding cell_text
+filled kind.LockedLazy place.Park = omega arith
 filled kind.LockedLazy place.Spin = omega arith
 
 pub cell_shortens : (bytes : List ℕ) (c : CellPlan) (rest : List ℕ) → bytes ≡ cell_text c ++ rest → length rest < length bytes

@@ -23,4 +23,5 @@ pub use Rattle.schedule_rules.specs.Answers
 pub use Rattle.schedule_rules.specs.Due
 pub use Rattle.schedule_rules.specs.Gifts
 pub use Rattle.schedule_rules.specs.Legal
+pub use Rattle.schedule_rules.specs.Core
 pub use Rattle.schedule_rules.specs.Transcripts

@@ -1,6 +1,7 @@
 -- What a reader of a text's front answers: acts, steps and cells, each up to the end of its line.
 use Rattle.std.specs.Prelude.{ℕ, List, [], ◌∷◌, Option, Some, None, ◌==◌, if◌then◌else◌, codes}
 use Rattle.schedule_rules.specs.declared.plan.Kind.TheVariants as kind
+use Rattle.schedule_rules.specs.declared.plan.Place.{Place}
 use Rattle.schedule_rules.specs.declared.plan.Place.TheVariants as place
 use Rattle.schedule_rules.specs.declared.plan.Call.{Call}
 use Rattle.schedule_rules.specs.declared.plan.Call.TheVariants as call
@@ -49,6 +50,18 @@ release_at bytes = do
   rest ← bytes_after (codes "release ") bytes
   g ← last_name_at rest
   Some (act.Release g.0, g.1)
+
+unfoldable pub downgrade_at : List ℕ → Field Act
+downgrade_at bytes = do
+  rest ← bytes_after (codes "downgrade ") bytes
+  g ← last_name_at rest
+  Some (act.Downgrade g.0, g.1)
+
+unfoldable pub clone_at : List ℕ → Field Act
+clone_at bytes = do
+  rest ← bytes_after (codes "clone ") bytes
+  g ← last_name_at rest
+  Some (act.Clone g.0, g.1)
 
 -- a call to read, or else the release of a guard
 abbrev pub read_else : Option (List ℕ) → List ℕ → Field Act
@@ -116,7 +129,9 @@ act_at (b ∷ bytes) =
     else (if b == 109 then made_at (b ∷ bytes)
     else (if b == 108 then look_at (b ∷ bytes)
     else (if b == 115 then set_at (b ∷ bytes)
-    else None))))))
+    else (if b == 100 then downgrade_at (b ∷ bytes)
+    else (if b == 99 then clone_at (b ∷ bytes)
+    else None))))))))
 
 unfoldable pub step_at : List ℕ → Field Step
 step_at bytes = do
@@ -125,10 +140,25 @@ step_at bytes = do
   a ← act_at rest
   Some (record { party = p.0; act = a.0 }, a.1)
 
+-- a place that ends a line
+unfoldable pub spin_at : List ℕ → Field Place
+spin_at bytes = do
+  rest ← bytes_after (codes "spin\n") bytes
+  Some (place.Spin, rest)
+
+-- a cell that parks, or else one that spins
+abbrev pub park_else : Option (List ℕ) → List ℕ → Field Place
+park_else (Some rest) bytes = Some (place.Park, rest)
+park_else None bytes = spin_at bytes
+
+unfoldable pub place_at : List ℕ → Field Place
+place_at bytes = park_else (bytes_after (codes "park\n") bytes) bytes
+
 unfoldable pub cell_at : List ℕ → Field CellPlan
 cell_at bytes = do
-  rest ← bytes_after (codes "cell LockedLazy spin\n") bytes
-  Some (record { kind = kind.LockedLazy; place = place.Spin }, rest)
+  start ← bytes_after (codes "cell LockedLazy ") bytes
+  p ← place_at start
+  Some (record { kind = kind.LockedLazy; place = p.0 }, p.1)
 
 -- how many parties there are, behind the version of the text
 unfoldable pub parties_at : List ℕ → Field ℕ

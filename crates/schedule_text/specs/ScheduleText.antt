@@ -21,6 +21,7 @@ kind_name kind.LockedLazy = codes "LockedLazy"
 
 -- the words of a place
 abbrev pub place_words : Place → List Word
+place_words place.Park = codes "park" ∷ []
 place_words place.Spin = codes "spin" ∷ []
 
 -- the name of a call
@@ -38,6 +39,8 @@ act_words act.MadeFailed = codes "made_failed" ∷ []
 act_words (act.Look g) = codes "look" ∷ decimal g ∷ []
 act_words (act.Set g v) = codes "set" ∷ decimal g ∷ decimal v ∷ []
 act_words (act.Release g) = codes "release" ∷ decimal g ∷ []
+act_words (act.Downgrade g) = codes "downgrade" ∷ decimal g ∷ []
+act_words (act.Clone g) = codes "clone" ∷ decimal g ∷ []
 
 -- the line of a cell
 abbrev pub cell_words : CellPlan → List Word
@@ -66,6 +69,8 @@ ActFits act.MadeFailed = Unit {0}
 ActFits (act.Look g) = g < 2 ^ 32
 ActFits (act.Set g v) = (g < 2 ^ 32) × (v < 2 ^ 64)
 ActFits (act.Release g) = g < 2 ^ 32
+ActFits (act.Downgrade g) = g < 2 ^ 32
+ActFits (act.Clone g) = g < 2 ^ 32
 
 -- the numbers of a step are below their limits
 pub record StepFits (s : Step) : Type 0 where

@@ -5,10 +5,10 @@ use Rattle.std.specs.declared.option.Option.TheVariants.{None, Some}
 use Rattle.std.specs.Fmt.{decimal}
 use Rattle.phase_bits.specs.Number.{number}
 use Rattle.phase_bits.specs.Text.{phase_text}
-use Rattle.schedule_rules.specs.declared.line.How.{How}
-use Rattle.schedule_rules.specs.declared.line.How.TheVariants as how
-use Rattle.schedule_rules.specs.declared.line.Given.{Given}
-use Rattle.schedule_rules.specs.declared.line.Given.TheVariants as given
+use Rattle.phase_locker.specs.declared.ways.How.{How}
+use Rattle.phase_locker.specs.declared.ways.How.TheVariants as how
+use Rattle.phase_locker.specs.declared.ways.Given.{Given}
+use Rattle.phase_locker.specs.declared.ways.Given.TheVariants as given
 use Rattle.schedule_rules.specs.declared.line.Refusal.{Refusal}
 use Rattle.schedule_rules.specs.declared.line.Refusal.TheVariants as refused
 use Rattle.schedule_rules.specs.declared.line.Answer.{Answer}
@@ -21,6 +21,9 @@ use Rattle.schedule_text.specs.Lines.{Word, lines_text}
 -- the name of a way to wait
 abbrev pub way_name : How → Word
 way_name how.Spin = codes "spin"
+way_name how.ParkedRead = codes "read"
+way_name how.ParkedWrite = codes "write"
+way_name how.Drain = codes "drain"
 
 -- the number and the name of a reason to refuse
 abbrev pub refusal_words : Refusal → List Word
@@ -40,12 +43,15 @@ answer_words answer.Running = codes "running" ∷ []
 answer_words answer.Done = codes "done" ∷ []
 answer_words answer.Failed = codes "failed" ∷ []
 answer_words answer.Cyclic = codes "cyclic" ∷ []
+answer_words answer.Borrowed = codes "borrowed" ∷ []
 answer_words (answer.Waiting w) = codes "waiting" ∷ way_name w ∷ []
 answer_words (answer.Refused r) = codes "refused" ∷ refusal_words r
 
--- the words of a gift
+-- the words of a gift, behind those of the answer
 abbrev pub given_words : Given → List Word
 given_words given.Nobody = []
+given_words (given.Writer p) = codes "gives" ∷ codes "writer" ∷ decimal p ∷ []
+given_words given.Readers = codes "gives" ∷ codes "readers" ∷ []
 
 -- the lines of steps, numbered from n
 abbrev pub step_lines : ℕ → List Line → List (List Word)

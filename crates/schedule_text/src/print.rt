@@ -8,13 +8,14 @@ ghost use Rattle.schedule_text.specs.Lines.{line_text, lines_text};
 ghost use Rattle.schedule_text.specs.TranscriptText.{step_lines, value_word, final_lines, transcript_text};
 
 mod answer;
+mod line;
 mod number;
 mod phase;
 mod room;
 #[cfg(test)]
 mod tests;
 
-use answer::push_answer;
+use line::push_line;
 use number::push_decimal;
 use phase::push_phase;
 use room::transcript_room;
@@ -42,7 +43,7 @@ fn push_steps(alloc: Global, text: &mut Vec<u8>, lines: &[Line]) -> Result<(), A
 {
     for (number, line) in lines.iter().enumerate() {
         push_decimal(text, number as u64, b' ')?;
-        push_answer(alloc, text, line.answer)?;
+        push_line(alloc, text, line)?;
     }
     Ok(())
 }

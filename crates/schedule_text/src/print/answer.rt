@@ -5,7 +5,7 @@ ghost use Rattle.std.specs.Fmt.{decimal};
 ghost use Rattle.phase_bits.specs.Number.{number};
 ghost use Rattle.phase_bits.specs.Text.{phase_text};
 ghost use Rattle.schedule_text.specs.Lines.{line_text};
-ghost use Rattle.schedule_text.specs.TranscriptText.{answer_words, refusal_words};
+ghost use Rattle.schedule_text.specs.TranscriptText.{answer_words, way_name, refusal_words};
 
 use crate::print::number::push_decimal;
 use crate::print::phase::push_phase;
@@ -26,7 +26,8 @@ pub fn push_answer(alloc: Global, text: &mut Vec<u8>, answer: Answer) -> Result<
         Answer::Done => text.extend_from_slice(b"done\n"),
         Answer::Failed => text.extend_from_slice(b"failed\n"),
         Answer::Cyclic => text.extend_from_slice(b"cyclic\n"),
-        Answer::Waiting(How::Spin) => text.extend_from_slice(b"waiting spin\n"),
+        Answer::Borrowed => text.extend_from_slice(b"borrowed\n"),
+        Answer::Waiting(way) => push_waiting(text, way),
         Answer::Refused(reason) => push_refusal(text, reason),
     }
 }
@@ -48,6 +49,19 @@ fn push_value_answer(text: &mut Vec<u8>, value: u64) -> Result<(), AllocError>
 {
     text.extend_from_slice(b"value ")?;
     push_decimal(text, value, b'\n')
+}
+
+/// Appends that a call waits, and how, and ends the line.
+fn push_waiting(text: &mut Vec<u8>, way: How) -> Result<(), AllocError>
+    ensures { OnOk result (text.new.items
+        ≡ text.old.items ++ line_text (codes "waiting" ∷ way_name way ∷ [])) }
+{
+    match way {
+        How::Spin => text.extend_from_slice(b"waiting spin\n"),
+        How::ParkedRead => text.extend_from_slice(b"waiting read\n"),
+        How::ParkedWrite => text.extend_from_slice(b"waiting write\n"),
+        How::Drain => text.extend_from_slice(b"waiting drain\n"),
+    }
 }
 
 /// Appends a refusal with its number and its name, and ends the line.

@@ -1,15 +1,15 @@
 //! How much room a text takes.
 
-ghost use Rattle.std.specs.Prelude.{◌+◌, ◌*◌, ◌^◌, ◌<◌, ◌≤◌, [], ◌∷◌, length, IfSome, IfNone};
+ghost use Rattle.std.specs.Prelude.{◌+◌, ◌*◌, ◌^◌, ◌<◌, ◌≤◌, [], ◌∷◌, ◌++◌, length, IfSome, IfNone};
 ghost use Rattle.std.specs.Fmt.{decimal};
 ghost use Rattle.phase_bits.specs.Number.{number};
 ghost use Rattle.phase_bits.specs.Text.{phase_text};
 ghost use Rattle.schedule_rules.specs.Transcripts.{account_of};
-ghost use Rattle.schedule_text.specs.Lines.{line_text, lines_text};
-ghost use Rattle.schedule_text.specs.TranscriptText.{answer_words, step_lines, value_word, final_lines, transcript_text};
+ghost use Rattle.schedule_text.specs.Lines.{line_rest, line_text, lines_text};
+ghost use Rattle.schedule_text.specs.TranscriptText.{answer_words, given_words, step_lines, value_word, final_lines, transcript_text};
 
 use phase_bits::Phase;
-use schedule_rules::{Answer, Final, Line, Transcript};
+use schedule_rules::{Answer, Final, Given, Line, Transcript};
 
 /// The bytes of the first line and the last.
 const FRAME_ROOM: usize = 17;
@@ -35,7 +35,7 @@ fn steps_room(lines: &[Line]) -> Option<usize>
     let digits = digit_count(lines.len() as u64);
     let mut room = 0usize;
     for line in lines {
-        room = room.checked_add(digits + answer_room(line.answer))?;
+        room = room.checked_add(digits + line_room(line))?;
     }
     Some(room)
 }
@@ -67,17 +67,49 @@ fn digit_count(number: u64) -> usize
     }
 }
 
+/// At least as many bytes as the line of a step has behind its number, with the space between.
+fn line_room(line: &Line) -> usize
+    ensures enough { length (line_text (answer_words line.now.answer ++ given_words line.now.given)) < result }
+    ensures small { result ≤ 200 }
+{
+    answer_room(line.answer) + given_room(line.given)
+}
+
+/// At least as many bytes as what was given has behind the answer, without the end of the line.
+fn given_room(given: Given) -> usize
+    ensures enough { length (line_rest (given_words given)) ≤ result + 1 }
+    ensures small { result ≤ 24 }
+{
+    match given {
+        Given::Nobody => 0,
+        Given::Readers => 14,
+        Given::Writer(party) => party_digits(party) + 14,
+    }
+}
+
+/// How many digits the number of a party has.
+fn party_digits(party: u32) -> usize
+    ensures enough { length (decimal party) ≤ result }
+    ensures few { result ≤ 10 }
+{
+    match party.checked_ilog10() {
+        None => 1,
+        Some(power) => power as usize + 1,
+    }
+}
+
 /// At least as many bytes as an answer has behind the number of its step, with the space before it.
 fn answer_room(answer: Answer) -> usize
     ensures enough { length (line_text (answer_words answer)) < result }
-    ensures small { result ≤ 200 }
+    ensures small { result ≤ 176 }
 {
     match answer {
         Answer::Phase(phase) => phase_room(phase) + 8,
         Answer::Value(value) => digit_count(value) + 8,
-        Answer::Waiting(_) => 14,
+        Answer::Waiting(_) => 15,
         Answer::Refused(_) => 22,
         Answer::ReadGuard | Answer::WriteGuard => 13,
+        Answer::Borrowed => 10,
         Answer::Running | Answer::Done | Answer::Failed | Answer::Cyclic => 9,
     }
 }

@@ -4,7 +4,14 @@ use schedule_rules::{Answer, Final, Given, How, Line, Refusal, Transcript};
 use std::alloc::{AllocError, Global};
 use std::test::Fail;
 
-/// The text of the transcript of these answers and finals.
+/// The text of the transcript of these lines and finals.
+fn printed_lines(alloc: Global, lines: &[Line], finals: &[Final]) -> Result<Vec<u8>, AllocError> {
+    let lines = Vec::from_slice(alloc, lines)?;
+    let finals = Vec::from_slice(alloc, finals)?;
+    print_transcript(alloc, &Transcript { lines, finals })
+}
+
+/// The text of the transcript of these answers, where no step gave anything, and finals.
 fn printed(alloc: Global, answers: &[Answer], finals: &[Final]) -> Result<Vec<u8>, AllocError> {
     let mut lines = Vec::with_capacity(alloc, answers.len())?;
     for answer in answers {
@@ -13,8 +20,7 @@ fn printed(alloc: Global, answers: &[Answer], finals: &[Final]) -> Result<Vec<u8
             given: Given::Nobody,
         })?;
     }
-    let finals = Vec::from_slice(alloc, finals)?;
-    print_transcript(alloc, &Transcript { lines, finals })
+    printed_lines(alloc, &lines, finals)
 }
 
 const FIRST: &[u8] = b"transcript 1
@@ -46,6 +52,25 @@ const OTHERS: &[u8] = b"transcript 1
 11 value 18446744073709551615
 cell 0 Phase (not initialized) none
 cell 1 Phase (Initialization panicked | Initialization skiped) none
+end
+";
+
+const GIFTS: &[u8] = b"transcript 1
+0 waiting read
+1 waiting write
+2 waiting drain
+3 waiting drain gives writer 12
+4 done gives readers
+5 waiting read gives writer 0
+6 done gives writer 1
+7 waiting spin
+8 borrowed
+9 read-guard gives readers
+10 failed gives writer 4294967295
+11 phase Phase (Initialized) gives readers
+12 value 18446744073709551615 gives writer 10
+13 refused 7 NoSection
+cell 0 Phase (Initialized) 1
 end
 ";
 
@@ -87,5 +112,35 @@ fn transcripts_are_printed(rt: HostRuntime) -> Result<(), Fail> {
     );
     assert_eq!(rt; printed(alloc, &first, &[set])?.as_slice(), FIRST);
     assert_eq!(rt; printed(alloc, &others, &unset)?.as_slice(), OTHERS);
+    Ok(())
+}
+
+#[test]
+fn gifts_are_printed(rt: HostRuntime) -> Result<(), Fail> {
+    let line = |answer, given| Line { answer, given };
+    let lines = [
+        line(Answer::Waiting(How::ParkedRead), Given::Nobody),
+        line(Answer::Waiting(How::ParkedWrite), Given::Nobody),
+        line(Answer::Waiting(How::Drain), Given::Nobody),
+        line(Answer::Waiting(How::Drain), Given::Writer(12)),
+        line(Answer::Done, Given::Readers),
+        line(Answer::Waiting(How::ParkedRead), Given::Writer(0)),
+        line(Answer::Done, Given::Writer(1)),
+        line(Answer::Waiting(How::Spin), Given::Nobody),
+        line(Answer::Borrowed, Given::Nobody),
+        line(Answer::ReadGuard, Given::Readers),
+        line(Answer::Failed, Given::Writer(u32::MAX)),
+        line(Answer::Phase(Phase::INITIALIZED), Given::Readers),
+        line(Answer::Value(u64::MAX), Given::Writer(10)),
+        line(Answer::Refused(Refusal::NoSection), Given::Nobody),
+    ];
+    let set = Final {
+        phase: Phase::INITIALIZED,
+        value: Some(1),
+    };
+    assert_eq!(rt;
+        printed_lines(rt.alloc(), &lines, &[set])?.as_slice(),
+        GIFTS
+    );
     Ok(())
 }

@@ -2,7 +2,7 @@
 
 ghost use Rattle.std.specs.Prelude.{◌≡◌};
 ghost use Rattle.schedule_text.specs.ReadFields.{Gives};
-ghost use Rattle.schedule_text.specs.ReadSteps.{call_at, release_at, read_or_release_at, made_at, look_at, set_at, again_at, phase_at, write_at, act_at};
+ghost use Rattle.schedule_text.specs.ReadSteps.{call_at, release_at, read_or_release_at, made_at, look_at, set_at, downgrade_at, clone_at, again_at, phase_at, write_at, act_at};
 
 use super::field::{after_word, first_byte, last_u32, last_u64, number_u32};
 use schedule_rules::{Act, Call};
@@ -50,6 +50,24 @@ fn release(text: &[u8]) -> Option<(Act, &[u8])>
 {
     let (guard, rest) = last_u32(after_word(text, b"release ")?)?;
     Some((Act::Release { guard }, rest))
+}
+
+/// `downgrade g`.
+#[tactic(auto, unfolding(crate::specs::ReadSteps::downgrade_at))]
+fn downgrade(text: &[u8]) -> Option<(Act, &[u8])>
+    ensures { Gives (λ found. (found.0, found.1.now)) result (downgrade_at text.now) }
+{
+    let (guard, rest) = last_u32(after_word(text, b"downgrade ")?)?;
+    Some((Act::Downgrade { guard }, rest))
+}
+
+/// `clone g`.
+#[tactic(auto, unfolding(crate::specs::ReadSteps::clone_at))]
+fn clone(text: &[u8]) -> Option<(Act, &[u8])>
+    ensures { Gives (λ found. (found.0, found.1.now)) result (clone_at text.now) }
+{
+    let (guard, rest) = last_u32(after_word(text, b"clone ")?)?;
+    Some((Act::Clone { guard }, rest))
 }
 
 /// `again`.
@@ -107,6 +125,8 @@ pub(super) fn act(text: &[u8]) -> Option<(Act, &[u8])>
         b'm' => made(text),
         b'l' => look(text),
         b's' => set(text),
+        b'd' => downgrade(text),
+        b'c' => clone(text),
         _ => None,
     }
 }

@@ -4,7 +4,7 @@ ghost use Rattle.std.specs.Prelude.{◌≡◌, ◌++◌, List, IfOk, IsTrue, ◌
 ghost use Rattle.std.specs.List.{flat_map, AllByRecursion};
 ghost use Rattle.schedule_text.specs.ScheduleText.{StepFits};
 ghost use Rattle.schedule_text.specs.ReadFields.{Gives};
-ghost use Rattle.schedule_text.specs.ReadSteps.{parties_at, cell_text, cell_at, step_text, step_at};
+ghost use Rattle.schedule_text.specs.ReadSteps.{parties_at, cell_text, place_at, cell_at, step_text, step_at};
 
 use super::act::act;
 use super::field::{after_word, last_u32, number_u32};
@@ -19,15 +19,26 @@ pub(super) fn parties(text: &[u8]) -> Option<(u32, &[u8])>
     last_u32(after_word(text, b"schedule 1\nparties ")?)
 }
 
+/// The place of a cell, `park` or else `spin`, which ends its line.
+#[tactic(auto, unfolding(crate::specs::ReadSteps::place_at, crate::specs::ReadSteps::spin_at))]
+fn place(text: &[u8]) -> Option<(Place, &[u8])>
+    ensures { Gives (λ found. (found.0, found.1.now)) result (place_at text.now) }
+{
+    match after_word(text, b"park\n") {
+        Some(rest) => Some((Place::Park, rest)),
+        None => Some((Place::Spin, after_word(text, b"spin\n")?)),
+    }
+}
+
 /// The line of a cell.
 #[tactic(auto, unfolding(crate::specs::ReadSteps::cell_at))]
 fn cell(text: &[u8]) -> Option<(CellPlan, &[u8])>
     ensures { Gives (λ found. (found.0, found.1.now)) result (cell_at text.now) }
 {
-    let rest = after_word(text, b"cell LockedLazy spin\n")?;
+    let (place, rest) = place(after_word(text, b"cell LockedLazy ")?)?;
     let cell = CellPlan {
         kind: Kind::LockedLazy,
-        place: Place::Spin,
+        place,
     };
     Some((cell, rest))
 }

@@ -20,6 +20,19 @@ steps
 end
 ";
 
+/// Two cells of both places, and guards that are cloned and downgraded.
+const BOTH_PLACES: &[u8] = b"schedule 1
+parties 2
+cell LockedLazy park
+cell LockedLazy spin
+steps
+1 write 0
+1 made 5
+1 downgrade 1
+0 clone 4294967295
+end
+";
+
 /// The largest numbers that are read, and the acts that the other texts leave out.
 const LARGEST: &[u8] = b"schedule 1
 parties 4294967295
@@ -29,10 +42,11 @@ steps
 0 made 18446744073709551615
 0 made_failed
 0 set 4294967295 18446744073709551615
+0 downgrade 4294967295
 end
 ";
 
-const BAD: [&[u8]; 36] = [
+const BAD: [&[u8]; 45] = [
     b"",
     b"schedule 2\nparties 0\nsteps\nend\n",
     b"schedule 01\nparties 0\nsteps\nend\n",
@@ -47,7 +61,10 @@ const BAD: [&[u8]; 36] = [
     b"schedule 1\n\nparties 1\nsteps\nend\n",
     b"schedule 1\r\nparties 1\r\nsteps\r\nend\r\n",
     b"schedule 1\nparties 1\ncell LockedLazyLocal spin\nsteps\nend\n",
-    b"schedule 1\nparties 1\ncell LockedLazy park\nsteps\nend\n",
+    b"schedule 1\nparties 1\ncell LockedLazy parks\nsteps\nend\n",
+    b"schedule 1\nparties 1\ncell LockedLazy par\nsteps\nend\n",
+    b"schedule 1\nparties 1\ncell LockedLazy park spin\nsteps\nend\n",
+    b"schedule 1\nparties 1\ncell LockedLazy  park\nsteps\nend\n",
     b"schedule 1\nparties 1\ncell LockedLazy spin once\nsteps\nend\n",
     b"schedule 1\nparties 1\ncell LockedLazy\nsteps\nend\n",
     b"schedule 1\nparties 1\nsteps\ncell LockedLazy spin\nend\n",
@@ -67,6 +84,12 @@ const BAD: [&[u8]; 36] = [
     b"schedule 1\nparties 1\nsteps\n0 made 18446744073709551616\nend\n",
     b"schedule 1\nparties 1\nsteps\n0 made 01\nend\n",
     b"schedule 1\nparties 1\nsteps\n0 look 4294967296\nend\n",
+    b"schedule 1\nparties 1\nsteps\n0 downgrade\nend\n",
+    b"schedule 1\nparties 1\nsteps\n0 downgrade 4294967296\nend\n",
+    b"schedule 1\nparties 1\nsteps\n0 downgrade 1 2\nend\n",
+    b"schedule 1\nparties 1\nsteps\n0 clone\nend\n",
+    b"schedule 1\nparties 1\nsteps\n0 clone 01\nend\n",
+    b"schedule 1\nparties 1\nsteps\n0 clones 1\nend\n",
     b"schedule 1\nparties 1\nsteps\n0 set 4\nend\n",
     b"schedule 1\nparties 1\nsteps\n0 read 0 0\nend\n",
 ];
@@ -112,6 +135,33 @@ fn reads_nine_steps(rt: HostRuntime) -> Result<(), Fail> {
 }
 
 #[test]
+fn reads_places_and_acts_on_guards(rt: HostRuntime) -> Result<(), Fail> {
+    let (plan, steps) = read(rt.alloc(), BOTH_PLACES)?;
+    let cell = |place| CellPlan {
+        kind: Kind::LockedLazy,
+        place,
+    };
+    let step = |party, act| Step { party, act };
+    let write = Act::Call {
+        cell: 0,
+        call: Call::Write,
+    };
+    let expected = [
+        step(1, write),
+        step(1, Act::Made { value: 5 }),
+        step(1, Act::Downgrade { guard: 1 }),
+        step(0, Act::Clone { guard: u32::MAX }),
+    ];
+    assert_eq!(rt; plan.parties, 2);
+    assert_eq!(rt;
+        plan.cells.as_slice(),
+        [cell(Place::Park), cell(Place::Spin)].as_slice()
+    );
+    assert_eq!(rt; steps.as_slice(), expected.as_slice());
+    Ok(())
+}
+
+#[test]
 fn reads_the_largest_numbers(rt: HostRuntime) -> Result<(), Fail> {
     let (plan, steps) = read(rt.alloc(), LARGEST)?;
     let acts = [
@@ -126,6 +176,7 @@ fn reads_the_largest_numbers(rt: HostRuntime) -> Result<(), Fail> {
             guard: u32::MAX,
             value: u64::MAX,
         },
+        Act::Downgrade { guard: u32::MAX },
     ];
     assert_eq!(rt; plan.parties, u32::MAX);
     assert_eq!(rt; plan.cells.len(), 0);
@@ -138,7 +189,7 @@ fn reads_the_largest_numbers(rt: HostRuntime) -> Result<(), Fail> {
 
 #[test]
 fn refuses_each_part_of_a_text(rt: HostRuntime) -> Result<(), Fail> {
-    for text in [NOTHING, NINE_STEPS, LARGEST] {
+    for text in [NOTHING, NINE_STEPS, BOTH_PLACES, LARGEST] {
         let _read = read(rt.alloc(), text)?;
         for end in 0..text.len() {
             let part = read(rt.alloc(), &text[..end]);
