@@ -1,6 +1,8 @@
 //! Cells whose calls park, and are handed the lock.
 
-ghost use Rattle.std.specs.Prelude.{[], ◌∷◌, ◌≡◌};
+ghost use Rattle.std.specs.Prelude.{[], ◌∷◌, ◌-◌, ◌^◌, ◌≡◌, true, false, Some};
+ghost use Rattle.schedule_rules.specs.Calls.{Reads, Writes};
+ghost use Rattle.schedule_rules.specs.Holds.{is_barred_by_readers};
 ghost use Rattle.schedule_rules.specs.Waits.{parked_readers, parked_writers, waits as waits_of};
 ghost use Rattle.schedule_examples.specs.Examples.{Goes, row, draining, early, history_of};
 ghost use Rattle.schedule_examples.specs.Words.{parking_cell, read, write, again, made, made_failed, put, look, release, readers, writer, giving, value, read_guard, write_guard, running, done, failed, waiting_read, waiting_write, waiting_drain, initialized_with};
@@ -97,12 +99,65 @@ pub fn a_share_that_does_not_fit_is_handed_on()
         ∷ row (write 2 0) waiting_write
         ∷ row (made_failed 0) (giving readers failed)
         ∷ early (row (again 1) (giving (writer 2) waiting_read))
+        ∷ row (write 3 0) waiting_write
         ∷ row (again 2) running
         ∷ row (made 2 4) write_guard
-        ∷ row (release 2 6) (giving readers done)
+        ∷ row (release 2 7) (giving readers done)
         ∷ row (again 1) read_guard
         ∷ [])
         (initialized_with 4 ∷ []) }
+{}
+
+/// A reader that was given a share keeps it beside a drain, which bars the readers that have none.
+pub fn a_share_is_kept_beside_a_drain()
+    ensures { Goes (parking_cell ∷ [])
+        (row (write 0 0) running
+        ∷ row (made 0 7) write_guard
+        ∷ row (read 1 0) waiting_read
+        ∷ row (release 0 1) (giving readers done)
+        ∷ draining (write 2 0) waiting_drain
+        ∷ row (again 1) read_guard
+        ∷ row (read 3 0) read_guard
+        ∷ row (release 1 5) done
+        ∷ row (release 3 6) done
+        ∷ row (read 3 0) waiting_read
+        ∷ row (again 2) write_guard
+        ∷ [])
+        (initialized_with 7 ∷ []) }
+{}
+
+/// What a step gives back and hands over is of one cell. A drain bars its own cell alone.
+pub fn cells_are_handed_over_apart()
+    ensures { Goes (parking_cell ∷ parking_cell ∷ [])
+        (row (write 0 0) running
+        ∷ row (write 1 1) running
+        ∷ row (made 0 4) write_guard
+        ∷ row (made 1 5) write_guard
+        ∷ row (read 2 0) waiting_read
+        ∷ row (read 3 1) waiting_read
+        ∷ row (write 4 1) waiting_write
+        ∷ row (release 0 2) (giving readers done)
+        ∷ row (again 3) waiting_read
+        ∷ row (again 2) read_guard
+        ∷ draining (write 0 0) waiting_drain
+        ∷ row (release 1 3) (giving (writer 4) done)
+        ∷ row (again 4) write_guard
+        ∷ row (release 4 12) (giving readers done)
+        ∷ row (again 3) read_guard
+        ∷ row (release 2 9) done
+        ∷ row (read 5 1) read_guard
+        ∷ row (again 0) write_guard
+        ∷ [])
+        (initialized_with 4 ∷ initialized_with 5 ∷ []) }
+{}
+
+/// Only a call that wants to write, and that readers alone bar, may drain in place of parking.
+pub fn readers_alone_are_drained()
+    ensures readers { is_barred_by_readers (Some Writes) (record { readers = 1; written = false; drained = false }) ≡ true }
+    ensures nobody { is_barred_by_readers (Some Writes) (record { readers = 0; written = false; drained = false }) ≡ false }
+    ensures writer { is_barred_by_readers (Some Writes) (record { readers = 0; written = true; drained = false }) ≡ false }
+    ensures drainer { is_barred_by_readers (Some Writes) (record { readers = 1; written = false; drained = true }) ≡ false }
+    ensures reader { is_barred_by_readers (Some Reads) (record { readers = 2 ^ 20 - 1; written = false; drained = false }) ≡ false }
 {}
 
 /// A parked call that steps before it is given anything parks again, as the last of its list.

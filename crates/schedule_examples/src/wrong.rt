@@ -2,7 +2,7 @@
 
 ghost use Rattle.std.specs.Prelude.{[], ◌∷◌};
 ghost use Rattle.schedule_examples.specs.Examples.{IsWrong, row, draining};
-ghost use Rattle.schedule_examples.specs.Words.{cell, parking_cell, read, write, again, made, release, clone, readers, writer, giving, read_guard, write_guard, running, done, borrowed, waiting_read, waiting_write, waiting_drain, not_waiting};
+ghost use Rattle.schedule_examples.specs.Words.{cell, parking_cell, read, write, again, made, made_failed, release, downgrade, clone, readers, writer, giving, read_guard, write_guard, running, done, failed, borrowed, waiting_read, waiting_write, waiting_drain, waits, not_waiting};
 
 /// A share for a party that does not park.
 pub fn nothing_is_given_to_a_party_that_is_not_parked()
@@ -55,6 +55,14 @@ pub fn nothing_is_given_beside_a_hold()
 
 /// A share while another that was given is not taken up, or while a call drains.
 pub fn nothing_is_given_beside_a_share_or_a_drain()
+    ensures first { IsWrong (parking_cell ∷ [])
+        (row (write 0 0) running
+        ∷ row (read 1 0) waiting_read
+        ∷ row (read 2 0) waiting_read
+        ∷ row (write 3 0) waiting_write
+        ∷ row (made_failed 0) (giving readers failed)
+        ∷ [])
+        (again 1) (giving (writer 3) waiting_read) }
     ensures share { IsWrong (parking_cell ∷ [])
         (row (write 0 0) running
         ∷ row (made 0 7) write_guard
@@ -85,13 +93,21 @@ pub fn nothing_is_given_where_calls_spin()
 
 /// A gift of a step that is refused, though readers are parked and nothing else stands on the cell.
 pub fn a_refused_step_gives_nothing()
-    ensures { IsWrong (parking_cell ∷ [])
+    ensures not_waiting { IsWrong (parking_cell ∷ [])
         (row (write 0 0) running
         ∷ row (made 0 7) write_guard
         ∷ row (read 1 0) waiting_read
         ∷ row (release 0 1) done
         ∷ [])
         (again 0) (giving readers not_waiting) }
+    ensures waits { IsWrong (parking_cell ∷ [])
+        (row (write 0 0) running
+        ∷ row (made 0 7) write_guard
+        ∷ row (read 1 0) waiting_read
+        ∷ row (write 2 0) waiting_write
+        ∷ row (release 0 1) done
+        ∷ [])
+        (read 2 0) (giving readers waits) }
 {}
 
 /// A gift to the party that steps, also where it was parked before, whether it then waits or gets in.
@@ -121,15 +137,90 @@ pub fn a_reader_does_not_wait_beside_a_reader()
         (read 1 0) waiting_read }
 {}
 
-/// A call that waits though it has a share which fits what it wants.
+/// A share that fits what its call wants is taken up: the call does not wait, and hands nothing on.
 pub fn a_share_is_taken_up()
-    ensures { IsWrong (parking_cell ∷ [])
+    ensures waits { IsWrong (parking_cell ∷ [])
         (row (write 0 0) running
         ∷ row (made 0 7) write_guard
         ∷ row (read 1 0) waiting_read
         ∷ row (release 0 1) (giving readers done)
         ∷ [])
         (again 1) waiting_read }
+    ensures reader_gives { IsWrong (parking_cell ∷ [])
+        (row (write 0 0) running
+        ∷ row (made 0 7) write_guard
+        ∷ row (read 1 0) waiting_read
+        ∷ row (write 2 0) waiting_write
+        ∷ row (release 0 1) (giving readers done)
+        ∷ [])
+        (again 1) (giving (writer 2) read_guard) }
+    ensures reader_gives_and_waits { IsWrong (parking_cell ∷ [])
+        (row (write 0 0) running
+        ∷ row (made 0 7) write_guard
+        ∷ row (read 1 0) waiting_read
+        ∷ row (write 2 0) waiting_write
+        ∷ row (release 0 1) (giving readers done)
+        ∷ [])
+        (again 1) (giving (writer 2) waiting_read) }
+    ensures writer_gives_and_waits { IsWrong (parking_cell ∷ [])
+        (row (write 0 0) running
+        ∷ row (made 0 7) write_guard
+        ∷ row (write 1 0) waiting_write
+        ∷ row (read 2 0) waiting_read
+        ∷ row (release 0 1) (giving (writer 1) done)
+        ∷ [])
+        (again 1) (giving readers waiting_write) }
+{}
+
+/// A drain that no reader is left beside becomes the lock: the call does not wait, and hands nothing on.
+pub fn a_drain_is_taken_up()
+    ensures waits { IsWrong (parking_cell ∷ [])
+        (row (read 0 0) running
+        ∷ row (made 0 7) read_guard
+        ∷ draining (write 1 0) waiting_drain
+        ∷ row (release 0 1) done
+        ∷ row (read 2 0) waiting_read
+        ∷ [])
+        (again 1) waiting_drain }
+    ensures gives_and_waits { IsWrong (parking_cell ∷ [])
+        (row (read 0 0) running
+        ∷ row (made 0 7) read_guard
+        ∷ draining (write 1 0) waiting_drain
+        ∷ row (release 0 1) done
+        ∷ row (read 2 0) waiting_read
+        ∷ [])
+        (again 1) (giving readers waiting_drain) }
+{}
+
+/// A share that does not fit is handed on to calls that are parked, and to no other.
+pub fn a_share_is_handed_on_to_parked_calls_alone()
+    ensures writer { IsWrong (parking_cell ∷ [])
+        (row (write 0 0) running
+        ∷ row (read 1 0) waiting_read
+        ∷ row (made_failed 0) (giving readers failed)
+        ∷ [])
+        (again 1) (giving (writer 2) waiting_read) }
+    ensures readers { IsWrong (parking_cell ∷ [])
+        (row (write 0 0) running
+        ∷ row (read 1 0) waiting_read
+        ∷ row (made_failed 0) (giving readers failed)
+        ∷ [])
+        (again 1) (giving readers running) }
+{}
+
+/// A downgrade, and a value made for a read, give to no writer: a reader stands on the cell then.
+pub fn a_downgrade_gives_no_writer()
+    ensures guard { IsWrong (parking_cell ∷ [])
+        (row (write 0 0) running
+        ∷ row (made 0 7) write_guard
+        ∷ row (write 1 0) waiting_write
+        ∷ [])
+        (downgrade 0 1) (giving (writer 1) read_guard) }
+    ensures run { IsWrong (parking_cell ∷ [])
+        (row (read 0 0) running
+        ∷ row (write 1 0) waiting_write
+        ∷ [])
+        (made 0 7) (giving (writer 1) read_guard) }
 {}
 
 /// A clone that is barred where readers alone stand on the cell, and one that waits.
