@@ -1,21 +1,24 @@
--- What the rows keep of a history: each row is a function of it.
-use Rattle.std.specs.Prelude.{ℕ, false, List, [], ◌∷◌, ◌==◌, ◌+◌, nat_lt, map, if◌then◌else◌}
-use Rattle.std.specs.List.{find}
+-- What the rows keep of a history: each row is a function of what stands open, and of what is published.
+use Rattle.std.specs.Prelude.{ℕ, List, [], ◌∷◌, ◌==◌, ◌+◌, ◌||◌, nat_lt, map, if◌then◌else◌}
+use Rattle.std.specs.List.{find, list_any}
 use Rattle.std.specs.declared.option.Option.{Option}
 use Rattle.std.specs.declared.option.Option.TheVariants.{None, Some}
 use Rattle.phase_bits.specs.declared.holders.Holders.{Holders}
 use Rattle.phase_bits.specs.Number.{phase_of}
+use Rattle.phase_locker.specs.declared.ways.LockerKind.{LockerKind}
+use Rattle.phase_locker.specs.declared.ways.LockerKind.TheVariants as kind
+use Rattle.phase_locker.specs.Natures.{read_ticket, write_ticket}
 use Rattle.schedule_rules.specs.declared.plan.Call.{Call}
 use Rattle.schedule_rules.specs.declared.plan.CellPlan.{CellPlan}
+use Rattle.schedule_rules.specs.declared.plan.Place.{Place}
+use Rattle.schedule_rules.specs.declared.plan.Place.TheVariants as place
 use Rattle.schedule_rules.specs.declared.transcript.Final.{Final}
-use Rattle.schedule_rules.specs.Kinds.{cell_at}
 use Rattle.schedule_rules.specs.Calls.{Want, Calls}
 use Rattle.schedule_rules.specs.Changes.{Content}
 use Rattle.schedule_rules.specs.History.{Event, count}
 use Rattle.schedule_rules.specs.Sections.{Section, innermost, runs_in, sections}
-use Rattle.schedule_rules.specs.Guards.{Guard, numbered, guards}
-use Rattle.schedule_rules.specs.Replay.{replay, inside}
-use Rattle.schedule_rules.specs.Waits.{Wait, wait_of, waits}
+use Rattle.schedule_rules.specs.Guards.{Guard, guards}
+use Rattle.schedule_rules.specs.Waits.{Wait, wait_of, parks_to_read, parks_to_write, shares_read, shares_write, drains_on, waits}
 use Rattle.schedule_rules.specs.Holds.{reads_cell, writes_cell}
 use Rattle.phase_schedule.specs.declared.rows.CellRow.{CellRow}
 use Rattle.phase_schedule.specs.declared.rows.Draft.{Draft}
@@ -25,8 +28,19 @@ use Rattle.phase_schedule.specs.declared.rows.OpenSection.{OpenSection}
 use Rattle.phase_schedule.specs.declared.rows.OpenSection.TheVariants as open_as
 use Rattle.phase_schedule.specs.declared.rows.PartyRow.{PartyRow}
 use Rattle.phase_schedule.specs.declared.rows.RunRow.{RunRow}
-use Rattle.phase_schedule.specs.declared.rows.Rows.{Rows}
 use Rattle.phase_schedule.specs.declared.rows.Target.{Target}
+
+-- what stands open: the calls that wait, the sections that run, and the guards
+pub record Open : Type 0 where
+  pub waits : List Wait
+  pub sections : List Section
+  pub guards : List Guard
+
+-- what stands open after a history
+abbrev pub open_after : List CellPlan → List Event → Open
+open_after cells h = record { waits = waits cells h; sections = sections h; guards = guards h }
+
+-- ---- the rows
 
 -- the call that is wanted
 abbrev pub call_of : Want → Call
@@ -48,7 +62,7 @@ run_in c (s ∷ ss) =
 -- the row of a section whose generator runs
 abbrev pub open_run : Option RunRow → Option OpenSection
 open_run None = None
-open_run (Some r) = Some (open_as.Generates r)
+open_run (Some r) = Some (open_as.Generates r write_ticket)
 
 -- what a holder sees, as a draft
 abbrev pub draft_of : Content → Draft
@@ -59,25 +73,15 @@ abbrev pub section_by : (Guard → Content) → Option Guard → Option RunRow �
 section_by within None r = open_run r
 section_by within (Some x) r = Some (open_as.Guarded (draft_of (within x)))
 
--- the holders of a cell, by its phase, its read guards and its write holds
-abbrev pub holders_by : ℕ → ℕ → ℕ → Holders
-holders_by phase readers writers =
-    record { phase = phase_of phase; readers = readers; locked = nat_lt 0 writers; read_waiters = false; write_waiters = false }
-
--- the row of a cell, by what is published, what the holder of a write guard sees, and what is open
-abbrev pub cell_row_by : CellPlan → ℕ → Content → (Guard → Content) → List Guard → List Section → CellRow
-cell_row_by x c y within gs ss =
-    record {
-      plan = x;
-      holders = holders_by y.phase (count (reads_cell c) gs) (count (writes_cell c) gs + count (runs_in c) ss);
-      value = y.value;
-      section = section_by within (find (writes_cell c) gs) (run_in c ss);
-    }
+-- the row of a cell, by what is published, what the holder of a write guard sees, and what stands open
+abbrev pub cell_row : CellPlan → ℕ → Content → (Guard → Content) → Open → CellRow
+cell_row x c y within o =
+    record { plan = x; value = y.value; section = section_by within (find (writes_cell c) o.guards) (run_in c o.sections) }
 
 -- the row of a guard
-abbrev pub guard_row_by : Option Guard → GuardRow
-guard_row_by None = guard.Free
-guard_row_by (Some x) = if x.writes then guard.Write x.party x.cell else guard.Read x.party x.cell
+abbrev pub guard_row : Option Guard → GuardRow
+guard_row None = guard.Free
+guard_row (Some x) = if x.writes then guard.Write x.party x.cell write_ticket else guard.Read x.party x.cell read_ticket
 
 -- the call that waits
 abbrev pub target_of : Option Wait → Option Target
@@ -85,38 +89,53 @@ target_of None = None
 target_of (Some w) = Some (record { cell = w.cell; call = call_of w.want })
 
 -- the row of a party
-abbrev pub party_row_by : ℕ → List Wait → List Section → PartyRow
-party_row_by p ws ss = record { waiting = target_of (wait_of p ws); innermost = cell_of (innermost p ss) }
+abbrev pub party_row : ℕ → Open → PartyRow
+party_row p o = record { waiting = target_of (wait_of p o.waits); innermost = cell_of (innermost p o.sections) }
 
--- the row of the step with this number
-abbrev pub guard_row : ℕ → List Event → GuardRow
-guard_row n h = guard_row_by (numbered n (guards h))
+-- ---- the record of each locker
 
-module _ (cells : List CellPlan) where
-  -- the row of the cell with this number
-  abbrev pub cell_row : ℕ → List Event → CellRow
-  cell_row c h = cell_row_by (cell_at cells c) c (replay cells c h) (inside cells h) (guards h) (sections h)
+-- who reads a cell: its read guards, and its read shares
+abbrev pub readers_in : ℕ → Open → ℕ
+readers_in c o = count (reads_cell c) o.guards + count (shares_read c) o.waits
 
-  -- the row of the party with this number
-  abbrev pub party_row : ℕ → List Event → PartyRow
-  party_row p h = party_row_by p (waits cells h) (sections h)
+-- who writes a cell: its write guards, its sections that run, and its write shares
+abbrev pub writers_in : ℕ → Open → ℕ
+writers_in c o = count (writes_cell c) o.guards + count (runs_in c) o.sections + count (shares_write c) o.waits
+
+-- who drains a cell
+abbrev pub drains_in : ℕ → Open → ℕ
+drains_in c o = count (drains_on c) o.waits
+
+-- the record of a cell's holders, by what is published and what stands open
+abbrev pub record_in : ℕ → ℕ → Open → Holders
+record_in c phase o =
+    record {
+      phase = phase_of phase;
+      readers = readers_in c o;
+      locked = nat_lt 0 (writers_in c o) || nat_lt 0 (drains_in c o);
+      read_waiters = list_any (parks_to_read c) o.waits;
+      write_waiters = list_any (parks_to_write c) o.waits;
+    }
+
+-- where the calls of a cell wait
+abbrev pub kind_at : Place → LockerKind
+kind_at place.Park = kind.Park
+kind_at place.Spin = kind.Spin
+
+-- ---- before the first step
 
 -- the cells as planned
 abbrev pub plans_in : List CellRow → List CellPlan
 plans_in rows = map (λ r. r.plan) rows
 
--- the cells of the plan that the rows were made for
-abbrev pub plans : Rows → List CellPlan
-plans rows = plans_in rows.cells.items
-
 -- the row of a cell before its first section
 abbrev pub fresh_cell : CellPlan → CellRow
-fresh_cell x = record { plan = x; holders = holders_by 0 0 0; value = None; section = None }
+fresh_cell x = record { plan = x; value = None; section = None }
 
 -- the row of a party before its first step
 abbrev pub idle_party : PartyRow
 idle_party = record { waiting = None; innermost = None }
 
 -- what a cell is left with
-abbrev pub last_of : CellRow → Final
-last_of row = record { phase = row.holders.phase; value = row.value }
+abbrev pub last_of : Holders → CellRow → Final
+last_of held row = record { phase = held.phase; value = row.value }

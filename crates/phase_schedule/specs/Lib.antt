@@ -1,9 +1,12 @@
 pub mod Errors
 pub mod Standing
+pub mod View
+pub mod Shown
 pub mod Kept
 pub mod Meets
 pub mod Tracks
 pub mod Ready
+pub mod Closing
 pub mod Progress
 pub mod Inside
 pub use Rattle.phase_bits.specs.Number
@@ -25,6 +28,7 @@ pub use Rattle.schedule_rules.specs.Answers
 pub use Rattle.schedule_rules.specs.Due
 pub use Rattle.schedule_rules.specs.Gifts
 pub use Rattle.schedule_rules.specs.Legal
+pub use Rattle.schedule_rules.specs.Core
 pub use Rattle.schedule_rules.specs.Transcripts
 pub use Rattle.schedule_text.specs.Lines
 pub use Rattle.schedule_text.specs.ScheduleText

@@ -1,11 +1,13 @@
--- What a step meets, by the rows.
-use Rattle.std.specs.Prelude.{ℕ, Bool, false, ◌==◌}
+-- What is read off single rows.
+use Rattle.std.specs.Prelude.{ℕ, Bool, false, ◌==◌, if◌then◌else◌}
 use Rattle.std.specs.declared.option.Option.{Option}
 use Rattle.std.specs.declared.option.Option.TheVariants.{None, Some}
-use Rattle.phase_bits.specs.Number.{number}
-use Rattle.schedule_rules.specs.Changes.{Content}
-use Rattle.schedule_rules.specs.Holds.{Holding}
-use Rattle.schedule_rules.specs.Answers.{Meeting}
+use Rattle.phase_locker.specs.declared.tickets.LockNature.{LockNature}
+use Rattle.phase_locker.specs.declared.tickets.LockNature.TheVariants as nature
+use Rattle.schedule_rules.specs.Calls.{Nature, Reads, Writes}
+use Rattle.schedule_rules.specs.Guards.{Guard}
+use Rattle.phase_schedule.specs.declared.look_up.Held.{Held}
+use Rattle.phase_schedule.specs.declared.look_up.Held.TheVariants as held
 use Rattle.phase_schedule.specs.declared.rows.CellRow.{CellRow}
 use Rattle.phase_schedule.specs.declared.rows.Draft.{Draft}
 use Rattle.phase_schedule.specs.declared.rows.GuardRow.{GuardRow}
@@ -17,13 +19,13 @@ use Rattle.phase_schedule.specs.declared.rows.RunRow.{RunRow}
 -- the section whose generator runs
 abbrev pub run_of : Option OpenSection → Option RunRow
 run_of None = None
-run_of (Some (open_as.Generates r)) = Some r
+run_of (Some (open_as.Generates r lock)) = Some r
 run_of (Some (open_as.Guarded d)) = None
 
 -- what the holder of a write guard sees
 abbrev pub drafted : Option OpenSection → Option Draft
 drafted None = None
-drafted (Some (open_as.Generates r)) = None
+drafted (Some (open_as.Generates r lock)) = None
 drafted (Some (open_as.Guarded d)) = Some d
 
 -- the party runs it
@@ -31,20 +33,57 @@ abbrev pub ran_by : ℕ → Option RunRow → Bool
 ran_by p None = false
 ran_by p (Some r) = r.party == p
 
--- what stands on the cell against a lock
-abbrev pub holding_of : CellRow → Holding
-holding_of row = record { readers = row.holders.readers; written = row.holders.locked }
+-- what a row holds for a party
+abbrev pub held_for : ℕ → GuardRow → Held
+held_for p guard.Free = held.Nothing
+held_for p (guard.Read q c lock) = if q == p then held.Read c else held.Nothing
+held_for p (guard.Write q c lock) = if q == p then held.Write c else held.Nothing
 
--- what is published
-abbrev pub content_of : CellRow → Content
-content_of row = record { phase = number row.holders.phase; value = row.value }
+-- what a guard holds
+abbrev pub held_by : Option Guard → Held
+held_by None = held.Nothing
+held_by (Some x) = if x.writes then held.Write x.cell else held.Read x.cell
 
--- what an attempt of the party meets
-abbrev pub meets : ℕ → CellRow → Meeting
-meets p row = record { own_run = ran_by p (run_of row.section); content = content_of row; holding = holding_of row }
+-- a nature to read or to write
+abbrev pub some_nature : Nature → LockNature
+some_nature Reads = nature.Read
+some_nature Writes = nature.Write
 
--- the row is that of an open guard of the party
-abbrev pub is_guard_of : ℕ → GuardRow → Bool
-is_guard_of p guard.Free = false
-is_guard_of p (guard.Read q c) = q == p
-is_guard_of p (guard.Write q c) = q == p
+-- the nature of a lock, as lockers name it
+abbrev pub lock_nature : Option Nature → LockNature
+lock_nature None = nature.None
+lock_nature (Some n) = some_nature n
+
+-- the row is that of an open read guard
+abbrev pub IsReading : GuardRow → Type 0
+IsReading guard.Free = ⊥
+IsReading (guard.Read q c lock) = Unit {0}
+IsReading (guard.Write q c lock) = ⊥
+
+-- the row is that of an open write guard
+abbrev pub IsWriting : GuardRow → Type 0
+IsWriting guard.Free = ⊥
+IsWriting (guard.Read q c lock) = ⊥
+IsWriting (guard.Write q c lock) = Unit {0}
+
+-- a write guard carries the section
+abbrev pub IsGuarded : Option OpenSection → Type 0
+IsGuarded None = ⊥
+IsGuarded (Some (open_as.Generates r lock)) = ⊥
+IsGuarded (Some (open_as.Guarded d)) = Unit {0}
+
+-- the section's generator runs
+abbrev pub IsGenerating : Option OpenSection → Type 0
+IsGenerating None = ⊥
+IsGenerating (Some (open_as.Generates r lock)) = Unit {0}
+IsGenerating (Some (open_as.Guarded d)) = ⊥
+
+-- the section after its holder set a value
+abbrev pub put_section : ℕ → Option OpenSection → Option OpenSection
+put_section v None = None
+put_section v (Some (open_as.Generates r lock)) = Some (open_as.Generates r lock)
+put_section v (Some (open_as.Guarded d)) = Some (open_as.Guarded (record { phase = d.phase; value = Some v }))
+
+-- the row after its holder set a value
+abbrev pub put_row : ℕ → CellRow → CellRow
+put_row v row = record { plan = row.plan; value = row.value; section = put_section v row.section }

@@ -1,42 +1,48 @@
 //! The engine: a run that keeps its own steps.
 
 ghost use Rattle.std.specs.Prelude.{◌≡◌, ◌<◌, ◌^◌, ◌∷◌, ◌++◌, [], length, None, IfOk, IfErr};
+ghost use Rattle.schedule_rules.specs.Core.{core};
 ghost use Rattle.schedule_rules.specs.Legal.{IsLegal};
 ghost use Rattle.schedule_rules.specs.Transcripts.{AreFinals, IsKnown};
+ghost use Rattle.schedule_rules.specs.Waits.{waits};
 ghost use Rattle.phase_schedule.specs.Errors.{cause_of_plan, IsCause};
 ghost use Rattle.phase_schedule.specs.Standing.{history};
+ghost use Rattle.phase_schedule.specs.Shown.{Shows};
+ghost use Rattle.phase_schedule.specs.Progress.{TakesPlaces};
 
 use crate::cause::plan_cause;
 use crate::error::RunError;
 use crate::progress::Progress;
+use phase_locker::{Parks, PhaseLocker};
 use schedule_rules::{Line, Plan, Step, Transcript};
 use std::alloc::Global;
 use std::marker::Model;
 
-/// A schedule that runs, step by step. It is spent by `finish`.
+/// A schedule that runs, step by step, over lockers of this type. It is spent by `finish`.
 ///
 /// A contract sees its parties, its cells, how many steps it has room for, and the steps so far with their lines.
-pub struct Engine {
-    progress: Progress,
+pub struct Engine<L: PhaseLocker> {
+    progress: Progress<L>,
     steps: Vec<Step>,
 }
 
-impl Model for Engine {
+impl<L: PhaseLocker> Model for Engine<L> {
     ghost use Rattle.phase_schedule.specs.Standing.{Standing};
 
     ghost Value = { Standing };
 
     ghost use Rattle.phase_schedule.specs.Inside.{standing_of, IsStanding};
 
-    ghost view = { standing_of };
+    ghost view = { standing_of L.held L.place };
 
-    ghost invariant = { IsStanding };
+    ghost invariant = { IsStanding L.held L.place };
 }
 
-impl Engine {
+impl<L: PhaseLocker> Engine<L> {
     /// An engine for this plan, with room for so many steps. All memory is taken here.
-    pub fn new(alloc: Global, plan: &Plan, count: u32) -> Result<Engine, RunError>
-        requires { length plan.now.cells.items < 2 ^ 32 }
+    pub fn new(alloc: Global, plan: &Plan, count: u32) -> Result<Engine<L>, RunError>
+        requires cells { length plan.now.cells.items < 2 ^ 32 }
+        requires places { TakesPlaces L.takes plan.now.cells.items }
         ensures parties { IfOk result (λ e. e.parties ≡ plan.now.parties) }
         ensures cells { IfOk result (λ e. e.cells ≡ plan.now.cells.items) }
         ensures count { IfOk result (λ e. e.count ≡ count) }
@@ -69,7 +75,24 @@ impl Engine {
         line
     }
 
-    /// The lines so far, and what each cell is left with. It takes no memory.
+    /// The locker of a cell, which holds the record of the cell's holders.
+    pub fn locker(&self, cell: u32) -> &L
+        requires { cell < length self.now.cells }
+        ensures { L.held result.now ≡ core self.now.cells cell (history self.now) }
+    {
+        &self.progress.rows.lockers[cell as usize]
+    }
+
+    /// How each party waits, and who is parked at each cell.
+    pub fn parks(&self) -> &Parks
+        ensures shows { Shows (waits self.now.cells (history self.now)) result.now }
+        ensures parties { length result.now.rows ≡ self.now.parties }
+        ensures cells { length result.now.readers ≡ length self.now.cells }
+    {
+        &self.progress.rows.parks
+    }
+
+    /// The lines so far, and what each cell is left with. What is still open is given back. It takes no memory.
     pub fn finish(self) -> Transcript
         ensures lines { result.lines.items ≡ self.lines }
         ensures finals { AreFinals result.finals.items self.cells (history self) }

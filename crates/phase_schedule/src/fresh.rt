@@ -1,14 +1,28 @@
 //! The rows before the first step.
 
-ghost use Rattle.std.specs.Prelude.{◌≡◌, [], IfOk, length, map, replicate};
-ghost use Rattle.phase_schedule.specs.Kept.{fresh_cell, idle_party, plans};
+ghost use Rattle.std.specs.Prelude.{◌≡◌, ◌<◌, ◌≤◌, ◌^◌, [], IfOk, length, map, replicate, vec_capacity, true};
+ghost use Rattle.phase_bits.specs.Number.{phase_of};
+ghost use Rattle.phase_bits.specs.Records.{unheld};
+ghost use Rattle.phase_schedule.specs.Kept.{fresh_cell, idle_party, kind_at};
 ghost use Rattle.phase_schedule.specs.declared.rows.GuardRow.TheVariants as guard;
-ghost use Rattle.phase_schedule.specs.Progress.{AreFresh};
+ghost use Rattle.phase_schedule.specs.View.{view};
+ghost use Rattle.phase_schedule.specs.Progress.{AreFresh, TakesPlaces};
 
 use crate::rows::{CellRow, GuardRow, PartyRow, Rows, Target};
-use phase_bits::{Holders, Phase};
-use schedule_rules::{CellPlan, Plan};
+use phase_bits::Phase;
+use phase_locker::{LockerKind, Parks, PhaseLocker};
+use schedule_rules::{CellPlan, Place, Plan};
 use std::alloc::{AllocError, Global};
+
+/// Where the calls of a cell wait.
+fn kind(place: Place) -> LockerKind
+    ensures { result ≡ kind_at place }
+{
+    match place {
+        Place::Park => LockerKind::Park,
+        Place::Spin => LockerKind::Spin,
+    }
+}
 
 impl CellRow {
     /// The row of a cell before its first section.
@@ -17,35 +31,32 @@ impl CellRow {
     {
         CellRow {
             plan,
-            holders: Holders {
-                phase: Phase::empty(),
-                readers: 0,
-                locked: false,
-                read_waiters: false,
-                write_waiters: false,
-            },
             value: None,
             section: None,
         }
     }
 }
 
-/// A row for each cell of a plan.
-fn fresh_cells(alloc: Global, plans: &[CellPlan]) -> Result<Vec<CellRow>, AllocError>
-    ensures { IfOk result (λ rows. rows.items ≡ map fresh_cell plans.now) }
+/// A row for each cell of a plan, in a list that has the room.
+fn fill_cells(rows: &mut Vec<CellRow>, plans: &[CellPlan])
+    requires empty { rows.old.items ≡ [] }
+    requires room { length plans.now ≤ vec_capacity rows.old }
+    ensures { rows.new.items ≡ map fresh_cell plans.now }
 {
-    let mut rows = Vec::with_capacity(alloc, plans.len())?;
     for plan in plans {
         rows.push_reserved(CellRow::fresh(*plan));
     }
-    Ok(rows)
 }
 
-/// A row for each step.
-fn fresh_guards(alloc: Global, count: u32) -> Result<Vec<GuardRow>, AllocError>
-    ensures { IfOk result (λ rows. rows.items ≡ replicate count guard.Free) }
+/// A row for each step, in a list that has the room.
+fn fill_guards(rows: &mut Vec<GuardRow>, count: u32)
+    requires empty { rows.old.items ≡ [] }
+    requires room { count ≤ vec_capacity rows.old }
+    ensures { rows.new.items ≡ replicate count guard.Free }
 {
-    vec![in alloc; GuardRow::Free; count as usize]
+    for _ in 0..count {
+        rows.push_reserved(GuardRow::Free);
+    }
 }
 
 /// A row for each party.
@@ -60,15 +71,46 @@ fn fresh_parties(alloc: Global, count: u32) -> Result<Vec<PartyRow>, AllocError>
     vec![in alloc; idle; count as usize]
 }
 
-impl Rows {
+/// A locker for each cell of a plan.
+fn fresh_lockers<L: PhaseLocker>(alloc: Global, plans: &[CellPlan]) -> Result<Vec<L>, AllocError>
+    requires { TakesPlaces L.takes plans.now }
+    ensures held { IfOk result (λ lockers. map L.held lockers.items ≡ replicate (length plans.now) (unheld (phase_of 0))) }
+    ensures places { IfOk result (λ lockers. map L.place lockers.items ≡ map (λ x. kind_at x.place) plans.now) }
+{
+    let mut lockers = Vec::with_capacity(alloc, plans.len())?;
+    for plan in plans {
+        lockers.push_reserved(L::new(kind(plan.place), Phase::empty()));
+    }
+    Ok(lockers)
+}
+
+impl<L: PhaseLocker> Rows<L> {
     /// The rows of a plan, with room for so many steps.
-    pub fn new(alloc: Global, plan: &Plan, count: u32) -> Result<Rows, AllocError>
-        ensures { IfOk result (AreFresh plan.now count) }
+    pub fn new(alloc: Global, plan: &Plan, count: u32) -> Result<Rows<L>, AllocError>
+        requires parties { plan.now.parties < 2 ^ 20 }
+        requires cells { length plan.now.cells.items < 2 ^ 32 }
+        requires places { TakesPlaces L.takes plan.now.cells.items }
+        ensures { IfOk result (λ rows. AreFresh plan.now count (view L.held L.place rows)) }
     {
+        let parties = fresh_parties(alloc, plan.parties)?;
+        let parks = Parks::new(alloc, plan.cells.len() as u32, plan.parties)?;
+        let lockers = fresh_lockers(alloc, &plan.cells)?;
+        let mut guards = Vec::with_capacity(alloc, count as usize)?;
+        let mut cells = match Vec::with_capacity(alloc, plan.cells.len()) {
+            Ok(cells) => cells,
+            Err(error) => {
+                guards.destroy_empty();
+                return Err(error);
+            },
+        };
+        fill_guards(&mut guards, count);
+        fill_cells(&mut cells, &plan.cells);
         Ok(Rows {
-            cells: fresh_cells(alloc, &plan.cells)?,
-            guards: fresh_guards(alloc, count)?,
-            parties: fresh_parties(alloc, plan.parties)?,
+            cells,
+            guards,
+            parties,
+            lockers,
+            parks,
         })
     }
 }

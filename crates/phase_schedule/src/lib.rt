@@ -1,12 +1,14 @@
-//! Runs schedules: an engine with one row for each cell, party and step, and whole runs.
+//! Runs schedules: an engine with one row for each cell, party and step over lockers of any type, and whole runs.
 #![tactic(auto)]
 
 mod attempt;
 mod cause;
+mod close;
 mod engine;
 mod error;
 mod fresh;
 mod held;
+mod line;
 mod look_up;
 mod outcome;
 mod perform;
@@ -15,9 +17,11 @@ mod rows;
 mod run;
 #[cfg(test)]
 mod tests;
+mod tickets;
 
 pub use engine::Engine;
 pub use error::RunError;
+pub use phase_locker::{HolderLocker, Parks, PhaseLocker, Waiting};
 pub use run::run_schedule;
 pub use schedule_rules::{
     Act, Answer, Call, CellPlan, Final, Given, How, Kind, Line, Place, Plan, Refusal, Step,

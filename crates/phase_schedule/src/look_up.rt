@@ -3,13 +3,26 @@
 ghost use Rattle.std.specs.Prelude.{◌≡◌, ℕ, List};
 ghost use Rattle.schedule_rules.specs.History.{Event};
 ghost use Rattle.schedule_rules.specs.Guards.{guard_of, guards};
-ghost use Rattle.phase_schedule.specs.Kept.{cell_row, guard_row_by, party_row, plans};
-ghost use Rattle.phase_schedule.specs.Meets.{drafted, is_guard_of, run_of};
-ghost use Rattle.phase_schedule.specs.Tracks.{Follows};
-ghost use Rattle.phase_schedule.specs.Ready.{HasCell, HasParty, HasWriter, IsDraft, IsInnermostOr};
+ghost use Rattle.phase_schedule.specs.View.{view};
+ghost use Rattle.phase_schedule.specs.Kept.{party_row, open_after};
+ghost use Rattle.phase_schedule.specs.Meets.{drafted, held_by, held_for, run_of};
+ghost use Rattle.phase_schedule.specs.Tracks.{Follows, plans};
+ghost use Rattle.phase_schedule.specs.Ready.{HasParty, HasWriter, IsDraft, IsInnermostOr};
 
 use crate::rows::{CellRow, Draft, GuardRow, OpenSection, PartyRow, Rows, RunRow};
+use phase_locker::PhaseLocker;
 use schedule_rules::Call;
+
+/// What an open guard of a party holds.
+#[derive(Clone, Copy, PartialEq, Eq, Debug)]
+pub enum Held {
+    /// There is no such guard.
+    Nothing,
+    /// It reads this cell.
+    Read { cell: u32 },
+    /// It writes this cell.
+    Write { cell: u32 },
+}
 
 /// The innermost section that a party runs.
 #[derive(Clone, Copy, PartialEq, Eq, Debug)]
@@ -25,8 +38,8 @@ impl CellRow {
     pub fn run(&self) -> Option<RunRow>
         ensures { result ≡ run_of self.now.section }
     {
-        match self.section {
-            Some(OpenSection::Generates(run)) => Some(run),
+        match &self.section {
+            Some(OpenSection::Generates(run, _)) => Some(*run),
             _ => None,
         }
     }
@@ -35,70 +48,64 @@ impl CellRow {
     fn draft(&self) -> Option<Draft>
         ensures { result ≡ drafted self.now.section }
     {
-        match self.section {
-            Some(OpenSection::Guarded(draft)) => Some(draft),
+        match &self.section {
+            Some(OpenSection::Guarded(draft)) => Some(*draft),
             _ => None,
         }
     }
 }
 
 impl GuardRow {
-    /// Whether it is an open guard of the party.
-    fn is_of(&self, party: u32) -> bool
-        ensures { result ≡ is_guard_of party self.now }
+    /// What it holds for the party.
+    fn held_by(&self, party: u32) -> Held
+        ensures { result ≡ held_for party self.now }
     {
         match self {
-            GuardRow::Free => false,
-            GuardRow::Read { party: owner, .. } => *owner == party,
-            GuardRow::Write { party: owner, .. } => *owner == party,
+            GuardRow::Read {
+                party: owner,
+                cell,
+                ..
+            } if *owner == party => Held::Read { cell: *cell },
+            GuardRow::Write {
+                party: owner,
+                cell,
+                ..
+            } if *owner == party => Held::Write { cell: *cell },
+            _ => Held::Nothing,
         }
     }
 }
 
-impl Rows {
-    /// The row of the cell.
-    pub fn cell(&self, cell: u32) -> CellRow
-        ghost h: { List Event }
-        requires { HasCell h self.now cell }
-        ensures { result ≡ cell_row (plans self.now) cell h }
-    {
-        self.cells[cell as usize]
-    }
-
+impl<L: PhaseLocker> Rows<L> {
     /// The row of the party.
     pub fn party(&self, party: u32) -> PartyRow
         ghost h: { List Event }
-        requires { HasParty h self.now party }
-        ensures { result ≡ party_row (plans self.now) party h }
+        requires { HasParty h (view L.held L.place self.now) party }
+        ensures { result ≡ party_row party (open_after (plans (view L.held L.place self.now)) h) }
     {
         self.parties[party as usize]
     }
 
-    /// The guard with this number, where it is open and the party's.
-    pub fn guard(&self, party: u32, guard: u32) -> GuardRow
+    /// What the guard with this number holds, where it is open and the party's.
+    pub fn guard(&self, party: u32, guard: u32) -> Held
         ghost h: { List Event }
-        requires { Follows h self.now }
-        ensures { result ≡ guard_row_by (guard_of guard party (guards h)) }
+        requires { Follows h (view L.held L.place self.now) }
+        ensures { result ≡ held_by (guard_of guard party (guards h)) }
     {
-        if guard as usize >= self.guards.len() {
-            return GuardRow::Free;
-        }
-        let row = self.guards[guard as usize];
-        if row.is_of(party) {
-            row
-        } else {
-            GuardRow::Free
+        match self.guards.get(guard as usize) {
+            Some(row) => row.held_by(party),
+            None => Held::Nothing,
         }
     }
 
     /// The innermost section that the party runs.
     pub fn innermost(&self, party: u32) -> Option<Run>
         ghost h: { List Event }
-        requires { HasParty h self.now party }
-        ensures { IsInnermostOr h self.now party result }
+        requires { HasParty h (view L.held L.place self.now) party }
+        ensures { IsInnermostOr h (view L.held L.place self.now) party result }
     {
         let cell = self.party(party).innermost?;
-        let Some(run) = self.cell(cell).run() else {
+        let Some(run) = self.cells[cell as usize].run() else {
             unreachable!();
         };
         Some(Run {
@@ -111,10 +118,10 @@ impl Rows {
     /// What the holder of the cell's write guard sees.
     pub fn draft(&self, cell: u32) -> Draft
         ghost h: { List Event }
-        requires { HasWriter h self.now cell }
-        ensures { IsDraft h self.now cell result }
+        requires { HasWriter h (view L.held L.place self.now) cell }
+        ensures { IsDraft h (view L.held L.place self.now) cell result }
     {
-        let Some(draft) = self.cell(cell).draft() else {
+        let Some(draft) = self.cells[cell as usize].draft() else {
             unreachable!();
         };
         draft

@@ -5,13 +5,17 @@ ghost use Rattle.std.specs.Int.RustNames.{bit_or};
 ghost use Rattle.phase_bits.specs.Flags.{initialization_panicked, initialization_skiped};
 ghost use Rattle.phase_bits.specs.Number.{phase_of};
 ghost use Rattle.schedule_rules.specs.History.{Event};
+ghost use Rattle.phase_schedule.specs.View.{view};
 ghost use Rattle.phase_schedule.specs.Tracks.{FollowsStep};
-ghost use Rattle.phase_schedule.specs.Ready.{IsActing, IsMadeToRead, IsMadeToWrite, IsNumbered};
+ghost use Rattle.phase_schedule.specs.Ready.{IsActing, IsFailing, IsMadeToRead, IsMadeToWrite, IsNumbered};
 
+use crate::line::{quiet, refused};
 use crate::look_up::Run;
 use crate::rows::{Draft, GuardRow, OpenSection, Rows};
 use phase_bits::Phase;
-use schedule_rules::{Act, Answer, Call, Refusal, Step};
+use phase_locker::PhaseLocker;
+use schedule_rules::{Act, Answer, Call, Line, Refusal, Step};
+use std::mem;
 
 /// The phase that a run leaves that failed.
 fn failed_phase() -> Phase
@@ -20,75 +24,88 @@ fn failed_phase() -> Phase
     Phase::INITIALIZATION_PANICKED.union(Phase::INITIALIZATION_SKIPED)
 }
 
-impl Rows {
+impl<L: PhaseLocker> Rows<L> {
     /// The generator of the party's innermost section made a value.
-    pub fn made(&mut self, n: u32, s: &Step, value: u64) -> Answer
+    pub fn made(&mut self, n: u32, s: &Step, value: u64) -> Line
         ghost h: { List Event }
-        requires { IsNumbered h self.old s.now n (Act.Made value) }
-        ensures { FollowsStep h s.now result self.old self.new }
+        requires { IsNumbered h (view L.held L.place self.old) s.now n (Act.Made value) }
+        ensures { FollowsStep h s.now result (view L.held L.place self.old) (view L.held L.place self.new) }
     {
         match self.innermost(s.party) {
             Some(run) => match run.call {
                 Call::Read => self.made_to_read(n, s, run, value),
                 _ => self.made_to_write(n, s, run, value),
             },
-            None => Answer::Refused(Refusal::NoSection),
+            None => refused(Refusal::NoSection),
         }
     }
 
     /// The section is given back with the value, and a read guard stays.
-    fn made_to_read(&mut self, n: u32, s: &Step, run: Run, value: u64) -> Answer
+    fn made_to_read(&mut self, n: u32, s: &Step, run: Run, value: u64) -> Line
         ghost h: { List Event }
-        requires { IsMadeToRead h self.old s.now n value run }
-        ensures { FollowsStep h s.now result self.old self.new }
+        requires { IsMadeToRead h (view L.held L.place self.old) s.now n value run }
+        ensures { FollowsStep h s.now result (view L.held L.place self.old) (view L.held L.place self.new) }
     {
         let row = &mut self.cells[run.cell as usize];
-        row.holders.phase = Phase::INITIALIZED;
-        row.holders.readers = 1;
-        row.holders.locked = false;
         row.value = Some(value);
-        row.section = None;
-        self.guards[n as usize] = GuardRow::Read {
-            party: s.party,
-            cell: run.cell,
-        };
+        let lock = row.end_run();
         self.parties[s.party as usize].innermost = run.outer;
-        Answer::ReadGuard
+        let locker = &mut self.lockers[run.cell as usize];
+        let (lock, given) = locker.downgrade(&mut self.parks, run.cell, lock, Phase::INITIALIZED);
+        self.open_reader(n, s.party, run.cell, lock);
+        Line {
+            answer: Answer::ReadGuard,
+            given,
+        }
     }
 
     /// The section goes on in a write guard.
-    fn made_to_write(&mut self, n: u32, s: &Step, run: Run, value: u64) -> Answer
+    fn made_to_write(&mut self, n: u32, s: &Step, run: Run, value: u64) -> Line
         ghost h: { List Event }
-        requires { IsMadeToWrite h self.old s.now n value run }
-        ensures { FollowsStep h s.now result self.old self.new }
+        requires { IsMadeToWrite h (view L.held L.place self.old) s.now n value run }
+        ensures { FollowsStep h s.now result (view L.held L.place self.old) (view L.held L.place self.new) }
     {
-        let draft = Draft {
+        let row = &mut self.cells[run.cell as usize];
+        let lock = row.end_run();
+        row.open(OpenSection::Guarded(Draft {
             phase: Phase::INITIALIZED,
             value: Some(value),
-        };
-        self.cells[run.cell as usize].section = Some(OpenSection::Guarded(draft));
-        self.guards[n as usize] = GuardRow::Write {
+        }));
+        let guard = GuardRow::Write {
             party: s.party,
             cell: run.cell,
+            lock,
         };
+        mem::replace(&mut self.guards[n as usize], guard).end();
         self.parties[s.party as usize].innermost = run.outer;
-        Answer::WriteGuard
+        quiet(Answer::WriteGuard)
     }
 
-    /// The generator of the party's innermost section failed: the section is given back.
-    pub fn made_failed(&mut self, s: &Step) -> Answer
+    /// The generator of the party's innermost section failed.
+    pub fn made_failed(&mut self, s: &Step) -> Line
         ghost h: { List Event }
-        requires { IsActing h self.old s.now Act.MadeFailed }
-        ensures { FollowsStep h s.now result self.old self.new }
+        requires { IsActing h (view L.held L.place self.old) s.now Act.MadeFailed }
+        ensures { FollowsStep h s.now result (view L.held L.place self.old) (view L.held L.place self.new) }
     {
-        let Some(run) = self.innermost(s.party) else {
-            return Answer::Refused(Refusal::NoSection);
-        };
-        let row = &mut self.cells[run.cell as usize];
-        row.holders.phase = failed_phase();
-        row.holders.locked = false;
-        row.section = None;
+        match self.innermost(s.party) {
+            Some(run) => self.fail(s, run),
+            None => refused(Refusal::NoSection),
+        }
+    }
+
+    /// The section is given back, and the value stays as it was.
+    fn fail(&mut self, s: &Step, run: Run) -> Line
+        ghost h: { List Event }
+        requires { IsFailing h (view L.held L.place self.old) s.now run }
+        ensures { FollowsStep h s.now result (view L.held L.place self.old) (view L.held L.place self.new) }
+    {
+        let lock = self.cells[run.cell as usize].end_run();
         self.parties[s.party as usize].innermost = run.outer;
-        Answer::Failed
+        let locker = &mut self.lockers[run.cell as usize];
+        let given = locker.release_write(&mut self.parks, run.cell, lock, failed_phase());
+        Line {
+            answer: Answer::Failed,
+            given,
+        }
     }
 }

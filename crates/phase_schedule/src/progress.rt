@@ -1,78 +1,82 @@
 //! A run so far.
 
-ghost use Rattle.std.specs.Prelude.{◌≡◌, ◌<◌, ◌≤◌, ◌^◌, ℕ, List, [], IfOk, length, map, vec_capacity};
+ghost use Rattle.std.specs.Prelude.{◌≡◌, ◌<◌, ◌≤◌, ◌^◌, ℕ, List, [], IfOk, length, vec_capacity};
 ghost use Rattle.schedule_rules.specs.History.{Event};
+ghost use Rattle.phase_schedule.specs.View.{view, seen};
+ghost use Rattle.phase_schedule.specs.Progress.{CanFinish, CanStep, HasStepped, IsNew, TakesPlaces, finals_of};
 
-use crate::rows::{CellRow, Rows};
-use schedule_rules::{Final, Given, Line, Plan, Step, Transcript};
+use crate::rows::Rows;
+use phase_locker::PhaseLocker;
+use schedule_rules::{Final, Line, Plan, Step, Transcript};
 use std::alloc::{AllocError, Global};
 
-/// A run so far: the rows and the lines. Whoever runs it keeps the steps.
-#[derive(Drop)]
-pub struct Progress {
-    pub rows: Rows,
+/// A run so far: the rows and the lines. Whoever runs it keeps the steps. It is spent by `finish`.
+pub struct Progress<L: PhaseLocker> {
+    pub rows: Rows<L>,
     pub lines: Vec<Line>,
     /// Empty, with room for what each cell is left with.
     pub finals: Vec<Final>,
 }
 
-impl Progress {
-    ghost use Rattle.phase_schedule.specs.Kept.{last_of};
-    ghost use Rattle.phase_schedule.specs.Progress.{CanStep, HasStepped, IsNew, IsFinishable};
-
+impl<L: PhaseLocker> Progress<L> {
     /// A run of this plan before its first step. All room is taken for so many steps.
-    pub fn new(alloc: Global, plan: &Plan, count: u32) -> Result<Progress, AllocError>
-        ensures { IfOk result (IsNew plan.now count) }
+    pub fn new(alloc: Global, plan: &Plan, count: u32) -> Result<Progress<L>, AllocError>
+        requires parties { plan.now.parties < 2 ^ 20 }
+        requires cells { length plan.now.cells.items < 2 ^ 32 }
+        requires places { TakesPlaces L.takes plan.now.cells.items }
+        ensures { IfOk result (λ p. IsNew plan.now count (seen L.held L.place p)) }
     {
+        let lines = Vec::with_capacity(alloc, count as usize)?;
+        let finals = Vec::with_capacity(alloc, plan.cells.len())?;
+        let rows = Rows::new(alloc, plan, count)?;
         Ok(Progress {
-            rows: Rows::new(alloc, plan, count)?,
-            lines: Vec::with_capacity(alloc, count as usize)?,
-            finals: Vec::with_capacity(alloc, plan.cells.len())?,
+            rows,
+            lines,
+            finals,
         })
     }
 
     /// Makes one step after these. It takes no memory.
     pub fn step(&mut self, steps: &[Step], s: &Step) -> Line
         ghost h: { List Event }
-        requires { CanStep h self.old steps.now s.now }
-        ensures { HasStepped self.old steps.now s.now result self.new }
+        requires { CanStep h (seen L.held L.place self.old) steps.now s.now }
+        ensures { HasStepped (seen L.held L.place self.old) steps.now s.now result (seen L.held L.place self.new) }
     {
-        let line = Line {
-            answer: self.rows.perform(steps.len() as u32, s),
-            given: Given::Nobody,
-        };
+        let line = self.rows.perform(steps.len() as u32, s);
         self.lines.push_reserved(line);
         line
     }
 
-    /// The lines, and what each cell is left with. It takes no memory.
+    /// The lines, and what each cell is left with. What is still open is given back. It takes no memory.
     pub fn finish(self) -> Transcript
-        requires { IsFinishable self }
+        requires { CanFinish (seen L.held L.place self) }
         ensures lines { result.lines.items ≡ self.lines.items }
-        ensures finals { result.finals.items ≡ map last_of self.rows.cells.items }
+        ensures finals { result.finals.items ≡ finals_of (view L.held L.place self.rows) }
     {
         let Progress {
             rows,
             lines,
             mut finals,
         } = self;
-        for row in &rows.cells {
-            finals.push_reserved(row.last());
-        }
+        rows.tell_finals(&mut finals);
+        rows.close();
         Transcript { lines, finals }
     }
 }
 
-impl CellRow {
-    ghost use Rattle.phase_schedule.specs.Kept.{last_of};
-
-    /// What the cell is left with.
-    fn last(&self) -> Final
-        ensures { result ≡ last_of self.now }
+impl<L: PhaseLocker> Rows<L> {
+    /// What each cell is left with, in a list that has the room.
+    fn tell_finals(&self, finals: &mut Vec<Final>)
+        requires empty { finals.old.items ≡ [] }
+        requires room { length self.now.cells.items ≤ vec_capacity finals.old }
+        requires lockers { length self.now.lockers.items ≡ length self.now.cells.items }
+        ensures { finals.new.items ≡ finals_of (view L.held L.place self.now) }
     {
-        Final {
-            phase: self.holders.phase,
-            value: self.value,
+        for (cell, row) in self.cells.iter().enumerate() {
+            finals.push_reserved(Final {
+                phase: self.lockers[cell].phase(),
+                value: row.value,
+            });
         }
     }
 }

@@ -1,6 +1,7 @@
-//! The rows that a run keeps: one for each cell, each step and each party.
+//! The rows that a run keeps: one for each cell, each step and each party, the lockers of the cells, and who is parked.
 
-use phase_bits::{Holders, Phase};
+use phase_bits::Phase;
+use phase_locker::{Parks, PhaseLocker, ReadTicket, WriteTicket};
 use schedule_rules::{Call, CellPlan};
 
 /// A section whose generator runs.
@@ -22,35 +23,38 @@ pub struct Draft {
 }
 
 /// The open section of a cell.
-#[derive(Clone, Copy, PartialEq, Eq, Debug)]
 pub enum OpenSection {
-    /// Its generator runs.
-    Generates(RunRow),
-    /// An open write guard carries it.
+    /// Its generator runs, under this lock.
+    Generates(RunRow, WriteTicket),
+    /// An open write guard carries it, and its lock.
     Guarded(Draft),
 }
 
 /// What is kept of a cell.
-#[derive(Clone, Copy, PartialEq, Eq, Debug)]
 pub struct CellRow {
     pub plan: CellPlan,
-    /// Who holds the cell, and the published phase. No call parks yet, so no waiter is ever noted.
-    pub holders: Holders,
     /// The published value.
     pub value: Option<u64>,
     /// The open section. There is at most one, since a section keeps every other hold out.
     pub section: Option<OpenSection>,
 }
 
-/// What is kept of a step: the guard that it opened, while that is open.
-#[derive(Clone, Copy, PartialEq, Eq, Debug)]
+/// What is kept of a step: the guard that it opened, with its lock, while that is open.
 pub enum GuardRow {
     /// No guard.
     Free,
     /// A read guard of the party on the cell.
-    Read { party: u32, cell: u32 },
+    Read {
+        party: u32,
+        cell: u32,
+        lock: ReadTicket,
+    },
     /// A write guard of the party on the cell. The draft stands in the cell's row.
-    Write { party: u32, cell: u32 },
+    Write {
+        party: u32,
+        cell: u32,
+        lock: WriteTicket,
+    },
 }
 
 /// A call at a cell.
@@ -60,7 +64,7 @@ pub struct Target {
     pub call: Call,
 }
 
-/// What is kept of a party.
+/// What is kept of a party. Whether it waits, and how, the parked rows say.
 #[derive(Clone, Copy, PartialEq, Eq, Debug)]
 pub struct PartyRow {
     /// The call that waits.
@@ -69,10 +73,14 @@ pub struct PartyRow {
     pub innermost: Option<u32>,
 }
 
-/// All rows. The guard that a step opened stands at the number of that step.
-#[derive(Drop)]
-pub struct Rows {
+/// All rows. The guard that a step opened stands at the number of that step. Sections and guards hold locks, so rows
+/// are spent by giving these back.
+pub struct Rows<L: PhaseLocker> {
     pub cells: Vec<CellRow>,
     pub guards: Vec<GuardRow>,
     pub parties: Vec<PartyRow>,
+    /// The locker of each cell: its published phase, and who holds it.
+    pub lockers: Vec<L>,
+    /// How each party waits, and who is parked at each cell.
+    pub parks: Parks,
 }

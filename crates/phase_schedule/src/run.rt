@@ -1,14 +1,16 @@
 //! Whole runs.
 
-ghost use Rattle.std.specs.Prelude.{◌≡◌, ◌<◌, ◌^◌, length, IfOk, IfErr, IsOkUnless};
+ghost use Rattle.std.specs.Prelude.{◌≡◌, ◌<◌, ◌^◌, length, None, IfOk, IfErr, IsOkUnless};
 ghost use Rattle.schedule_rules.specs.Transcripts.{schedule_of, account_of, IsValid, IsLegalTranscript};
 ghost use Rattle.phase_schedule.specs.Errors.{cause_of, IsCause};
+ghost use Rattle.phase_schedule.specs.Progress.{TakesPlaces};
 
 use crate::cause::cause;
 use crate::error::RunError;
 use crate::progress::Progress;
+use phase_locker::{HolderLocker, PhaseLocker};
 use schedule_rules::{Plan, Step, Transcript};
-use std::alloc::Global;
+use std::alloc::{AllocError, Global};
 
 /// Runs a schedule. All memory is taken before the first step, and every cause but want of memory is looked for before
 /// any memory is taken.
@@ -24,7 +26,22 @@ pub fn run_schedule(alloc: Global, plan: &Plan, steps: &[Step]) -> Result<Transc
     if let Some(error) = cause(plan, steps) {
         return Err(error);
     }
-    let mut progress = Progress::new(alloc, plan, steps.len() as u32)?;
+    Ok(run_on::<HolderLocker>(alloc, plan, steps)?)
+}
+
+/// Runs a schedule without a cause over lockers of this type.
+fn run_on<L: PhaseLocker>(
+    alloc: Global,
+    plan: &Plan,
+    steps: &[Step],
+) -> Result<Transcript, AllocError>
+    requires cells { length plan.now.cells.items < 2 ^ 32 }
+    requires steps { length steps.now < 2 ^ 32 }
+    requires places { TakesPlaces L.takes plan.now.cells.items }
+    requires known { cause_of (schedule_of plan.now steps.now) ≡ None }
+    ensures { IfOk result (λ t. IsLegalTranscript (schedule_of plan.now steps.now) (account_of t)) }
+{
+    let mut progress = Progress::<L>::new(alloc, plan, steps.len() as u32)?;
     for (i, s) in steps.iter().enumerate() {
         let _line = progress.step(&steps[..i], s);
     }

@@ -5,17 +5,30 @@ ghost use Rattle.schedule_rules.specs.Transcripts.{schedule_of, IsValid};
 
 use crate::engine::Engine;
 use crate::error::RunError;
+use crate::line::quiet;
 use crate::run::run_schedule;
 use phase_bits::Phase;
+use phase_locker::{HolderLocker, Parks, PhaseLocker, Waiting};
 use schedule_rules::{
-    Act, Answer, Call, CellPlan, How, Kind, Place, Plan, Refusal, Step, Transcript,
+    Act, Answer, Call, CellPlan, Given, How, Kind, Line, Place, Plan, Refusal, Step, Transcript,
 };
 use std::alloc::{AllocError, Global};
 use std::process::Abort;
 use std::test::Fail;
 
-/// A step and the answer that it is to have.
-type Row = (Step, Answer);
+/// A step and the line that it is to have.
+type Row = (Step, Line);
+
+/// A step whose line gives nothing.
+fn row(step: Step, answer: Answer) -> Row {
+    (step, quiet(answer))
+}
+
+/// A step that is done, and gives this.
+fn gives(step: Step, given: Given) -> Row {
+    let answer = Answer::Done;
+    (step, Line { answer, given })
+}
 
 fn call(party: u32, cell: u32, call: Call) -> Step {
     Step {
@@ -52,17 +65,37 @@ fn release(party: u32, guard: u32) -> Step {
     }
 }
 
-/// A plan of cells that spin.
-fn plan(alloc: Global, parties: u32, cells: usize) -> Result<Plan, AllocError>
-    ensures { IfOk result (λ p. length p.cells.items ≡ cells) }
+fn again(party: u32) -> Step {
+    let act = Act::Again;
+    Step { party, act }
+}
+
+fn downgrade(party: u32, guard: u32) -> Step {
+    Step {
+        party,
+        act: Act::Downgrade { guard },
+    }
+}
+
+fn clone(party: u32, guard: u32) -> Step {
+    Step {
+        party,
+        act: Act::Clone { guard },
+    }
+}
+
+/// A plan of cells whose calls wait so.
+fn plan(alloc: Global, parties: u32, cells: usize, place: Place) -> Result<Plan, AllocError>
+    ensures cells { IfOk result (λ p. length p.cells.items ≡ cells) }
+    ensures parties { IfOk result (λ p. p.parties ≡ parties) }
 {
-    let spin = CellPlan {
+    let cell = CellPlan {
         kind: Kind::LockedLazy,
-        place: Place::Spin,
+        place,
     };
     Ok(Plan {
         parties,
-        cells: vec![in alloc; spin; cells]?,
+        cells: vec![in alloc; cell; cells]?,
     })
 }
 
@@ -79,33 +112,82 @@ fn steps_of(alloc: Global, rows: &[Row]) -> Result<Vec<Step>, AllocError> {
 fn run_steps(alloc: Global, plan: &Plan, steps: &[Step]) -> Result<Transcript, RunError>
     requires { IsValid (schedule_of plan.now steps.now) }
 {
-    let mut engine = Engine::new(alloc, plan, steps.len() as u32)?;
+    let mut engine = Engine::<HolderLocker>::new(alloc, plan, steps.len() as u32)?;
     for s in steps {
         let _line = engine.step(s);
     }
     Ok(engine.finish())
 }
 
-/// Expects the answers of a table, of a whole run and step by step.
-fn expect_rows(
-    rt: &impl Abort,
-    alloc: Global,
-    parties: u32,
-    cells: usize,
-    rows: &[Row],
-) -> Result<(), Fail> {
-    let plan = plan(alloc, parties, cells)?;
+/// Expects the lines of a table, of a whole run and step by step.
+fn expect_rows(rt: &impl Abort, alloc: Global, plan: &Plan, rows: &[Row]) -> Result<(), Fail> {
     let steps = steps_of(alloc, rows)?;
-    assert!(rt; cells < 10 && steps.len() < 100);
-    let whole = run_schedule(alloc, &plan, &steps)?;
-    let single = run_steps(alloc, &plan, &steps)?;
+    assert!(rt; plan.cells.len() < 10 && steps.len() < 100);
+    let whole = run_schedule(alloc, plan, &steps)?;
+    let single = run_steps(alloc, plan, &steps)?;
     assert!(rt; whole.lines.len() == rows.len());
     assert!(rt; single.lines.len() == rows.len());
-    for (i, (_, answer)) in rows.iter().enumerate() {
-        assert!(rt; whole.lines[i].answer == *answer, "at {i}");
-        assert!(rt; single.lines[i] == whole.lines[i], "at {i}");
+    for (i, (_, line)) in rows.iter().enumerate() {
+        assert!(rt; whole.lines[i] == *line, "at {i}");
+        assert!(rt; single.lines[i] == *line, "at {i}");
     }
     assert!(rt; single.finals == whole.finals);
+    Ok(())
+}
+
+/// How a party waits, and at which cell; cell 0 where it does not wait.
+fn wait_in(parks: &Parks, party: u32) -> (Waiting, u32)
+    requires { party < length parks.now.rows }
+{
+    let waiting = parks.waiting(party);
+    if waiting == Waiting::Free {
+        (waiting, 0)
+    } else {
+        (waiting, parks.cell_of(party))
+    }
+}
+
+/// The phase that the locker of cell 0 has after these steps, and how a party waits then.
+fn seen_after(
+    alloc: Global,
+    plan: &Plan,
+    steps: &[Step],
+    party: u32,
+) -> Result<(Phase, (Waiting, u32)), RunError>
+    requires valid { IsValid (schedule_of plan.now steps.now) }
+    requires party { party < plan.now.parties }
+    requires cell { 0 < length plan.now.cells.items }
+{
+    let mut engine = Engine::<HolderLocker>::new(alloc, plan, steps.len() as u32)?;
+    for s in steps {
+        let _line = engine.step(s);
+    }
+    let phase = engine.locker(0).phase();
+    let wait = wait_in(engine.parks(), party);
+    let _transcript = engine.finish();
+    Ok((phase, wait))
+}
+
+/// Expects this phase after the first steps of a table, so many, and how each party waits then, at cell 0.
+fn expect_waits(
+    rt: &impl Abort,
+    alloc: Global,
+    plan: &Plan,
+    rows: &[Row],
+    phase: Phase,
+    waits: &[Waiting],
+) -> Result<(), Fail> {
+    let steps = steps_of(alloc, rows)?;
+    assert!(rt; plan.cells.len() == 1 && steps.len() < 100);
+    let _whole = run_schedule(alloc, plan, &steps)?;
+    for party in 0..plan.parties {
+        assert!(rt; (party as usize) < waits.len());
+        let seen = seen_after(alloc, plan, &steps, party)?;
+        assert!(rt;
+            seen == (phase, (waits[party as usize], 0)),
+            "party {party}"
+        );
+    }
     Ok(())
 }
 
@@ -113,75 +195,132 @@ fn expect_rows(
 fn answers_are_those_known(rt: HostRuntime) -> Result<(), Fail> {
     let alloc = rt.alloc();
     let one_party = [
-        (call(0, 0, Call::Read), Answer::Running),
-        (made(0, 22), Answer::ReadGuard),
-        (look(0, 1), Answer::Value(22)),
-        (release(0, 1), Answer::Done),
-        (call(0, 0, Call::Write), Answer::WriteGuard),
-        (set(0, 4, 33), Answer::Done),
-        (release(0, 4), Answer::Done),
-        (call(0, 0, Call::Read), Answer::ReadGuard),
-        (look(0, 7), Answer::Value(33)),
+        row(call(0, 0, Call::Read), Answer::Running),
+        row(made(0, 22), Answer::ReadGuard),
+        row(look(0, 1), Answer::Value(22)),
+        row(release(0, 1), Answer::Done),
+        row(call(0, 0, Call::Write), Answer::WriteGuard),
+        row(set(0, 4, 33), Answer::Done),
+        row(release(0, 4), Answer::Done),
+        row(call(0, 0, Call::Read), Answer::ReadGuard),
+        row(look(0, 7), Answer::Value(33)),
     ];
-    expect_rows(&rt, alloc, 1, 1, &one_party)?;
+    let one = plan(alloc, 1, 1, Place::Spin)?;
+    expect_rows(&rt, alloc, &one, &one_party)?;
     let two_parties = [
-        (call(0, 0, Call::Write), Answer::Running),
-        (made(0, 7), Answer::WriteGuard),
-        (call(1, 0, Call::Phase), Answer::Phase(Phase::empty())),
-        (look(0, 1), Answer::Value(7)),
-        (release(0, 1), Answer::Done),
-        (call(1, 0, Call::Phase), Answer::Phase(Phase::INITIALIZED)),
+        row(call(0, 0, Call::Write), Answer::Running),
+        row(made(0, 7), Answer::WriteGuard),
+        row(call(1, 0, Call::Phase), Answer::Phase(Phase::empty())),
+        row(look(0, 1), Answer::Value(7)),
+        row(release(0, 1), Answer::Done),
+        row(call(1, 0, Call::Phase), Answer::Phase(Phase::INITIALIZED)),
     ];
-    expect_rows(&rt, alloc, 2, 1, &two_parties)?;
+    let two = plan(alloc, 2, 1, Place::Spin)?;
+    expect_rows(&rt, alloc, &two, &two_parties)?;
     let nested = [
-        (call(0, 0, Call::Read), Answer::Running),
-        (call(0, 1, Call::Read), Answer::Running),
-        (call(0, 0, Call::Read), Answer::Cyclic),
-        (made(0, 4), Answer::ReadGuard),
-        (made(0, 5), Answer::ReadGuard),
-        (look(0, 3), Answer::Value(4)),
-        (look(0, 4), Answer::Value(5)),
+        row(call(0, 0, Call::Read), Answer::Running),
+        row(call(0, 1, Call::Read), Answer::Running),
+        row(call(0, 0, Call::Read), Answer::Cyclic),
+        row(made(0, 4), Answer::ReadGuard),
+        row(made(0, 5), Answer::ReadGuard),
+        row(look(0, 3), Answer::Value(4)),
+        row(look(0, 4), Answer::Value(5)),
     ];
-    expect_rows(&rt, alloc, 1, 2, &nested)
+    let nest = plan(alloc, 1, 2, Place::Spin)?;
+    expect_rows(&rt, alloc, &nest, &nested)
 }
 
 #[test]
 fn steps_are_refused(rt: HostRuntime) -> Result<(), Fail> {
-    let again = Step {
-        party: 1,
-        act: Act::Again,
-    };
     let failed = Step {
         party: 0,
         act: Act::MadeFailed,
     };
     let rows = [
-        (again, Answer::Refused(Refusal::NotWaiting)),
-        (failed, Answer::Refused(Refusal::NoSection)),
-        (call(0, 0, Call::Read), Answer::Running),
-        (failed, Answer::Failed),
-        (call(0, 0, Call::Read), Answer::Running),
-        (call(1, 0, Call::Write), Answer::Waiting(How::Spin)),
-        (call(1, 0, Call::Phase), Answer::Refused(Refusal::Waits)),
-        (made(0, 5), Answer::ReadGuard),
-        (again, Answer::Waiting(How::Spin)),
-        (set(0, 7, 6), Answer::Refused(Refusal::NotWriter)),
-        (set(0, 6, 6), Answer::Refused(Refusal::NoGuard)),
-        (look(0, 99), Answer::Refused(Refusal::NoGuard)),
-        (release(0, 7), Answer::Done),
-        (release(0, 7), Answer::Refused(Refusal::NoGuard)),
-        (again, Answer::WriteGuard),
-        (look(0, 14), Answer::Refused(Refusal::NoGuard)),
-        (made(1, 5), Answer::Refused(Refusal::NoSection)),
+        row(again(1), Answer::Refused(Refusal::NotWaiting)),
+        row(failed, Answer::Refused(Refusal::NoSection)),
+        row(call(0, 0, Call::Read), Answer::Running),
+        row(failed, Answer::Failed),
+        row(call(0, 0, Call::Read), Answer::Running),
+        row(call(1, 0, Call::Write), Answer::Waiting(How::Spin)),
+        row(call(1, 0, Call::Phase), Answer::Refused(Refusal::Waits)),
+        row(made(0, 5), Answer::ReadGuard),
+        row(again(1), Answer::Waiting(How::Spin)),
+        row(set(0, 7, 6), Answer::Refused(Refusal::NotWriter)),
+        row(set(0, 6, 6), Answer::Refused(Refusal::NoGuard)),
+        row(look(0, 99), Answer::Refused(Refusal::NoGuard)),
+        row(release(0, 7), Answer::Done),
+        row(release(0, 7), Answer::Refused(Refusal::NoGuard)),
+        row(again(1), Answer::WriteGuard),
+        row(look(0, 14), Answer::Refused(Refusal::NoGuard)),
+        row(made(1, 5), Answer::Refused(Refusal::NoSection)),
     ];
-    expect_rows(&rt, rt.alloc(), 2, 1, &rows)
+    let plan = plan(rt.alloc(), 2, 1, Place::Spin)?;
+    expect_rows(&rt, rt.alloc(), &plan, &rows)
+}
+
+#[test]
+fn locks_are_handed_over(rt: HostRuntime) -> Result<(), Fail> {
+    let alloc = rt.alloc();
+    let plan = plan(alloc, 3, 1, Place::Park)?;
+    let rows = [
+        row(call(0, 0, Call::Write), Answer::Running),
+        row(made(0, 7), Answer::WriteGuard),
+        row(call(1, 0, Call::Write), Answer::Waiting(How::ParkedWrite)),
+        row(call(2, 0, Call::Read), Answer::Waiting(How::ParkedRead)),
+        gives(release(0, 1), Given::Readers),
+        row(again(2), Answer::ReadGuard),
+        gives(release(2, 5), Given::Writer(1)),
+        row(again(1), Answer::WriteGuard),
+    ];
+    expect_rows(&rt, alloc, &plan, &rows)?;
+    let parked = [Waiting::Free, Waiting::ParkedWrite, Waiting::ParkedRead];
+    expect_waits(&rt, alloc, &plan, &rows[..4], Phase::empty(), &parked)?;
+    let shared = [Waiting::Free, Waiting::ParkedWrite, Waiting::ShareRead];
+    expect_waits(&rt, alloc, &plan, &rows[..5], Phase::INITIALIZED, &shared)?;
+    let reads = [Waiting::Free, Waiting::ParkedWrite, Waiting::Free];
+    expect_waits(&rt, alloc, &plan, &rows[..6], Phase::INITIALIZED, &reads)?;
+    let handed = [Waiting::Free, Waiting::ShareWrite, Waiting::Free];
+    expect_waits(&rt, alloc, &plan, &rows[..7], Phase::INITIALIZED, &handed)?;
+    let free = [Waiting::Free, Waiting::Free, Waiting::Free];
+    expect_waits(&rt, alloc, &plan, &rows, Phase::INITIALIZED, &free)
+}
+
+#[test]
+fn readers_and_writers_park(rt: HostRuntime) -> Result<(), Fail> {
+    let alloc = rt.alloc();
+    let plan = plan(alloc, 4, 1, Place::Park)?;
+    let rows = [
+        row(call(0, 0, Call::Write), Answer::Running),
+        row(made(0, 7), Answer::WriteGuard),
+        row(call(1, 0, Call::Read), Answer::Waiting(How::ParkedRead)),
+        row(again(1), Answer::Waiting(How::ParkedRead)),
+        row(call(2, 0, Call::Write), Answer::Waiting(How::ParkedWrite)),
+        row(downgrade(0, 1), Answer::ReadGuard),
+        row(clone(0, 5), Answer::ReadGuard),
+        row(again(1), Answer::ReadGuard),
+        row(again(2), Answer::Waiting(How::ParkedWrite)),
+        row(release(0, 5), Answer::Done),
+        row(release(1, 7), Answer::Done),
+        row(call(3, 0, Call::Read), Answer::ReadGuard),
+        row(release(0, 6), Answer::Done),
+        gives(release(3, 11), Given::Writer(2)),
+        row(again(2), Answer::WriteGuard),
+        row(set(2, 14, 9), Answer::Done),
+        row(clone(2, 14), Answer::Refused(Refusal::NoGuard)),
+        row(release(2, 14), Answer::Done),
+        row(call(0, 0, Call::Read), Answer::ReadGuard),
+        row(look(0, 18), Answer::Value(9)),
+        row(downgrade(0, 18), Answer::Refused(Refusal::NotWriter)),
+    ];
+    expect_rows(&rt, alloc, &plan, &rows)
 }
 
 #[test]
 fn causes_are_found(rt: HostRuntime) -> Result<(), Fail> {
     let alloc = rt.alloc();
-    let many = plan(alloc, 1 << 20, 1)?;
-    let one = plan(alloc, 1, 1)?;
+    let many = plan(alloc, 1 << 20, 1, Place::Park)?;
+    let one = plan(alloc, 1, 1, Place::Park)?;
     let stranger = [call(5, 9, Call::Read)];
     let far = [call(0, 0, Call::Read), call(0, 9, Call::Read)];
     let is_found = matches!(

@@ -1,10 +1,11 @@
 use Rattle.std.proofs.Common.{subst}
 use Rattle.schedule_rules.specs.Transcripts.{AreFinals}
 use Rattle.phase_schedule.specs.Standing.{history}
-use Rattle.phase_schedule.proofs.Told.{finals_are}
+use Rattle.phase_schedule.specs.View.{view}
+use Rattle.phase_schedule.proofs.RunTold.{finals_are}
 use Rattle.phase_schedule.proofs.engine.Engine.finish.Goals as goal
 
 pub returns-clause-finals : goal.returns-clause-finals
-returns-clause-finals c =
+returns-clause-finals g c =
     subst (λ v. AreFinals c.finish.result.finals.items v.cells (history v)) c.self.view_is
-    (finals_are _ c.self.inside.progress.rows _ c.self.invariant.made.follows c.finish.ensures.finals)
+    (finals_are _ (view g.L.PhaseLocker.held g.L.PhaseLocker.place c.self.inside.progress.rows) _ c.self.invariant.made.follows c.finish.ensures.finals)

@@ -1,7 +1,7 @@
 use Rattle.phase_schedule.proofs.rows.Rows.begin.Given as goal
 
-abbrev pub ghost-attempt : goal.ghost-attempt
-ghost-attempt g a = g.h
+abbrev pub ghost-first : goal.ghost-first
+ghost-first g a = g.h
 
 abbrev pub ghost-made : goal.ghost-made
 ghost-made g a = g.h
@@ -17,3 +17,9 @@ ghost-set g a = g.h
 
 abbrev pub ghost-release : goal.ghost-release
 ghost-release g a = g.h
+
+abbrev pub ghost-downgrade : goal.ghost-downgrade
+ghost-downgrade g a = g.h
+
+abbrev pub ghost-clone_guard : goal.ghost-clone_guard
+ghost-clone_guard g a = g.h

@@ -1,4 +1,4 @@
 use Rattle.phase_schedule.proofs.rows.Rows.go_on.Given as goal
 
-abbrev pub ghost-attempt : goal.ghost-attempt
-ghost-attempt g a = g.h
+abbrev pub ghost-again : goal.ghost-again
+ghost-again g a = g.h

@@ -1,18 +1,11 @@
-use Rattle.std.proofs.Common.{◌≤◌, ◌<◌, length, sym, ◌∙◌, arith}
-use Rattle.phase_schedule.proofs.Holding.{none_past, own_shown, other_shown}
+use Rattle.std.proofs.Common.{◌≡◌, ◌≤◌, length, sym, ap, arith, None}
+use Rattle.schedule_rules.specs.Guards.{numbered, own, guards}
+use Rattle.phase_schedule.specs.Meets.{held_by}
+use Rattle.phase_schedule.proofs.RowOpens.{numbered_above}
 use Rattle.phase_schedule.proofs.rows.Rows.guard.Goals as goal
 
-pub returns-then-guard-len : goal.returns-then-guard-len
-returns-then-guard-len g c =
+pub returns-in-None : goal.returns-in-None
+returns-in-None g c =
     let past : length c.args.self.now.guards.items ≤ c.args.guard = grind arith in
-    none_past _ g.h _ _ _ c.requires c.args.party c.args.guard past
-
-pub returns-then-is_of : goal.returns-then-is_of
-returns-then-is_of g c =
-    let lt : c.args.guard < length c.args.self.now.guards.items = grind arith in
-    own_shown _ g.h _ _ _ c.requires c.args.party c.args.guard _ c.index.ensures lt (sym c.is_of.ensures ∙ c.if-is_of.true)
-
-pub returns-else-is_of : goal.returns-else-is_of
-returns-else-is_of g c =
-    let lt : c.args.guard < length c.args.self.now.guards.items = grind arith in
-    other_shown _ g.h _ _ _ c.requires c.args.party c.args.guard _ c.index.ensures lt (sym c.is_of.ensures ∙ c.if-is_of.false)
+    let none : numbered c.args.guard (guards g.h) ≡ None = numbered_above (length g.h) c.args.guard (guards g.h) c.requires.1.steady.numbers (let room : _ = c.requires.1.room in omega arith) in
+    sym (ap (λ o. held_by (own c.args.party o)) none)

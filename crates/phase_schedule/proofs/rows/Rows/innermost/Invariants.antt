@@ -2,6 +2,3 @@ use Rattle.phase_schedule.proofs.rows.Rows.innermost.Given as goal
 
 abbrev pub ghost-party : goal.ghost-party
 ghost-party g a = g.h
-
-abbrev pub ghost-cell : goal.ghost-cell
-ghost-cell g a = g.h

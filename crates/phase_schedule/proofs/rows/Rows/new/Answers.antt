@@ -1,7 +1,15 @@
-use Rattle.std.proofs.Common.{◌∙◌, ap, map}
-use Rattle.phase_schedule.specs.Kept.{fresh_cell}
-use Rattle.phase_schedule.proofs.Begun.{begun}
+use Rattle.std.proofs.Common.{◌∙◌, ap, length, map, replicate}
+use Rattle.phase_bits.specs.Number.{phase_of}
+use Rattle.phase_bits.specs.Records.{unheld}
+use Rattle.phase_locker.specs.Rows.{no_rows}
+use Rattle.schedule_rules.specs.declared.plan.CellPlan.{CellPlan}
+use Rattle.phase_schedule.specs.Kept.{fresh_cell, kind_at}
+use Rattle.phase_schedule.proofs.RunFresh.{begun}
 use Rattle.phase_schedule.proofs.rows.Rows.new.Goals as goal
 
 pub returns : goal.returns
-returns c = begun c.args.plan.now c.args.count _ (c.in_ok-fresh_cells.ensures ∙ ap (λ xs. map fresh_cell xs) c.deref.ensures.value) c.in_ok-fresh_guards.ensures c.in_ok-fresh_parties.ensures
+returns g c =
+    begun c.args.plan.now c.args.count _ c.requires.parties (c.fill_cells.ensures ∙ ap (λ xs. map fresh_cell xs) c.deref-2.ensures.value) c.fill_guards.ensures c.in_ok-parties.ensures
+    (c.in_ok-lockers.ensures.held ∙ ap (λ xs. replicate (length xs) (unheld (phase_of 0))) c.deref.ensures.value)
+    (c.in_ok-lockers.ensures.places ∙ ap (λ xs. map (λ (x : CellPlan). kind_at x.place) xs) c.deref.ensures.value)
+    (c.in_ok-parks.ensures ∙ ap (λ n. no_rows n c.args.plan.now.parties) (c.len.ensures ∙ c.args.plan.now.cells.ok.0))

@@ -1,12 +1,11 @@
-use Rattle.std.proofs.Common.{refl, length-set}
-use Rattle.phase_schedule.proofs.Tried.{tried_run}
+use Rattle.phase_schedule.specs.View.{view}
+use Rattle.phase_schedule.proofs.RowAnswered.{runs, section_idle}
 use Rattle.phase_schedule.proofs.rows.Rows.open_run.Goals as goal
+
+pub open-requires : goal.open-requires
+open-requires g c = section_idle g.h (view g.L.PhaseLocker.held g.L.PhaseLocker.place c.args.self.now) c.args.s.now c.args.n c.args.target c.args.given c.index_mut.result.now c.index_mut.ensures.value c.requires.1
 
 pub returns : goal.returns
 returns g c =
-    record {
-      follows = tried_run _ g.h _ _ _ c.requires.try.ready.follows c.args.s.now c.args.target c.requires.try.tries c.requires.try.cell c.requires.try.ready.party c.requires.try.ready.room _ _
-          c.index_mut-row.ensures.value c.index_mut-party.ensures.value c.requires.due;
-      guards = refl;
-      parties = length-set _ _ _;
-    }
+    runs g.h (view g.L.PhaseLocker.held g.L.PhaseLocker.place c.args.self.now) c.args.s.now c.args.n c.args.target c.args.given c.index_mut-party.result.now c.index_mut-party.ensures.value
+    c.index_mut.result.now c.open.new.self c.index_mut.ensures.value c.requires.1 c.open.ensures

@@ -1,0 +1,172 @@
+-- A call of a party that does not wait, once its locker answered.
+use Rattle.std.proofs.Common.{◌≡◌, ℕ, suc, ◌<◌, List, [], ◌∷◌, length, set, refl, arith, Bool, true, false, None, ◌∙◌, ap, sym, subst, ◌&&◌}
+use Rattle.std.proofs.lemmas.List.{length-map}
+use Rattle.phase_bits.specs.declared.holders.Holders.{Holders}
+use Rattle.phase_bits.specs.Number.{number}
+use Rattle.phase_locker.specs.declared.tickets.LockNature.{LockNature}
+use Rattle.phase_locker.specs.declared.tickets.Attempt.{Attempt}
+use Rattle.phase_locker.specs.declared.ways.Given.TheVariants.{Nobody}
+use Rattle.phase_locker.specs.declared.ways.LockerKind.{LockerKind}
+use Rattle.phase_locker.specs.Rows.{Rows as Parking, SameSize}
+use Rattle.phase_locker.specs.Fits.{Fits}
+use Rattle.phase_locker.specs.Others.{OthersStay}
+use Rattle.phase_locker.specs.Attempts.{Judged}
+use Rattle.schedule_rules.specs.declared.plan.CellPlan.{CellPlan}
+use Rattle.schedule_rules.specs.declared.step.Act.{Act}
+use Rattle.schedule_rules.specs.declared.step.Act.TheVariants as act
+use Rattle.schedule_rules.specs.declared.step.Step.{Step}
+use Rattle.schedule_rules.specs.declared.line.Answer.{Answer}
+use Rattle.schedule_rules.specs.declared.line.Answer.TheVariants as answer
+use Rattle.schedule_rules.specs.declared.line.Line.{Line}
+use Rattle.schedule_rules.specs.Kinds.{cell_at}
+use Rattle.schedule_rules.specs.Calls.{Calls, rule, waking_nature, call_initializes}
+use Rattle.schedule_rules.specs.History.{Event}
+use Rattle.schedule_rules.specs.Sections.{Section, runs, sections, sections_ended}
+use Rattle.schedule_rules.specs.Guards.{Guard, guards}
+use Rattle.schedule_rules.specs.Replay.{replay, phase_at, inside}
+use Rattle.schedule_rules.specs.Waits.{waits, other_waits}
+use Rattle.schedule_rules.specs.Holds.{keeps, readers}
+use Rattle.schedule_rules.specs.Due.{keeps_own, due_attempt}
+use Rattle.schedule_rules.specs.Legal.{IsLegalLine, Last, answer_of, due_at, may_give}
+use Rattle.schedule_rules.proofs.Opened.{wait_removed}
+use Rattle.phase_schedule.specs.declared.rows.Target.{Target}
+use Rattle.phase_schedule.specs.View.{View}
+use Rattle.phase_schedule.specs.Kept.{Open, open_after, record_in, kind_at}
+use Rattle.phase_schedule.specs.Meets.{some_nature, lock_nature}
+use Rattle.phase_schedule.specs.Tracks.{NumbersBelow, IsSteady, Kept, Locked, Tracks, FollowsStep, event, plans}
+use Rattle.phase_schedule.specs.Ready.{Tries, is_try, IsFirst, IsAnswered, answer_by}
+use Rattle.phase_schedule.proofs.After.{IsSteadyWith, tracks_after}
+use Rattle.phase_schedule.proofs.Counted.{none_without}
+use Rattle.phase_schedule.proofs.LockBarred.{open_with}
+use Rattle.phase_schedule.proofs.LockDue.{chosen_by, tried, judged_due, is_cyclic}
+use Rattle.phase_schedule.proofs.LockRun.{due_try}
+use Rattle.phase_schedule.proofs.LockCells.{locked_at}
+use Rattle.phase_schedule.proofs.LockOpened.{opened_at, opened_is, opens_judged}
+
+-- ---- lines
+
+module _ (cells : List CellPlan) (h : List Event) (s : Step) (t : Target) (is : Tries cells h s t) where
+  -- a line that gives nothing is legal where its answer is due
+  pub legal_quiet : (a : Answer) (chosen : Bool) → a ≡ due_attempt cells h s.party (tried t) (other_waits cells h s) chosen → IsLegalLine cells h s (record { answer = a; given = Nobody })
+  legal_quiet a chosen e =
+      record {
+        moment = Last;
+        chosen = chosen;
+        answered = e ∙ sym (due_try cells h s t (other_waits cells h s) chosen is) ∙ sym (ap (λ r. answer_of r (due_at cells Last h s Nobody chosen)) is.free);
+        gave = ap (λ r. may_give cells r Last h s (record { answer = a; given = Nobody })) is.free;
+      }
+
+-- ---- the rows besides the records
+
+-- the rows with another record at one cell
+abbrev pub view_with : View → ℕ → Holders → LockerKind → Parking → View
+view_with v c x k parks = record { cells = v.cells; guards = v.guards; parties = v.parties; held = set v.held c x; places = set v.places c k; parks = parks }
+
+pub kept_with : (cells : List CellPlan) (content : _) (within : _) (o : Open) (v : View) (c : ℕ) (x : Holders) (k : LockerKind) (parks : Parking) → SameSize v.parks parks → Kept cells content within o v → Kept cells content within o (view_with v c x k parks)
+kept_with cells content within o v c x k parks size a =
+    record {
+      planned = a.planned;
+      cell = a.cell;
+      slot = a.slot;
+      party = a.party;
+      parties = size.parties ∙ a.parties;
+      section_cell = a.section_cell;
+      guard_cell = a.guard_cell;
+      wait_cell = a.wait_cell;
+    }
+
+-- a cell of the rows is one of the plan
+pub inside_plan : (v : View) (c : ℕ) → c < length v.cells → c < length (plans v)
+inside_plan v c lt = rw length-map lt
+
+-- ---- a call of a party that does not wait
+
+module _ (h : List Event) (v : View) (s : Step) (n : ℕ) (t : Target) (is : IsFirst h v s n t) where
+  -- nothing is kept by a party that does not wait
+  keeps_none : keeps_own (plans v) h s.party (tried t) ≡ false
+  keeps_none = ap (λ o. keeps o (rule (cell_at (plans v) t.cell) (Calls t.call) (phase_at (plans v) t.cell h)) (readers (plans v) t.cell h)) is.idle
+
+  -- the waits of others are all waits
+  others_all : other_waits (plans v) h s ≡ waits (plans v) h
+  others_all = none_without s.party (waits (plans v) h) is.idle
+
+  module _ (k k' : LockerKind) (x x' : Holders) (parks' : Parking) (a : Attempt) (wake nature : LockNature) where
+    -- what the locker answered is due, and the records and rows are as told
+    pub first_answered : x ≡ record_in t.cell (phase_at (plans v) t.cell h) (open_after (plans v) h) → k ≡ kind_at (cell_at (plans v) t.cell).place → (call_initializes t.call && runs s.party t.cell h) ≡ false
+        → nature ≡ lock_nature (rule (cell_at (plans v) t.cell) (Calls t.call) (number x.phase)) → wake ≡ some_nature (waking_nature (Calls t.call))
+        → Judged k true (record { cell = t.cell; party = s.party }) wake nature x v.parks a x' parks' → k' ≡ k → Fits k' x' parks' t.cell → OthersStay t.cell v.parks parks' → SameSize v.parks parks'
+        → IsAnswered h (view_with v t.cell x' k' parks') s n t a Nobody
+    first_answered ex ek calm en ew j ek' fits others size =
+        let track : Tracks (plans v) h v = is.attempt.ready.follows in
+        let locked : Locked (plans v) (λ c. replay (plans v) c h) (open_with h (other_waits (plans v) h s)) v.held v.places v.parks = subst (λ ws. Locked (plans v) (λ c. replay (plans v) c h) (open_with h ws) v.held v.places v.parks) (sym others_all) track.locked in
+        let ex' : x ≡ record_in t.cell (phase_at (plans v) t.cell h) (open_with h (other_waits (plans v) h s)) = ex ∙ ap (λ ws. record_in t.cell (phase_at (plans v) t.cell h) (open_with h ws)) (sym others_all) in
+        let en' : nature ≡ lock_nature (rule (cell_at (plans v) t.cell) (Calls t.call) (phase_at (plans v) t.cell h)) = en ∙ ap (λ (y : Holders). lock_nature (rule (cell_at (plans v) t.cell) (Calls t.call) (number y.phase))) ex in
+        let j' : Judged (kind_at (cell_at (plans v) t.cell).place) true (record { cell = t.cell; party = s.party }) wake nature (record_in t.cell (phase_at (plans v) t.cell h) (open_with h (other_waits (plans v) h s))) v.parks a x' parks' =
+        subst (λ q. Judged q true (record { cell = t.cell; party = s.party }) wake nature (record_in t.cell (phase_at (plans v) t.cell h) (open_with h (other_waits (plans v) h s))) v.parks a x' parks') ek (subst (λ y. Judged k true (record { cell = t.cell; party = s.party }) wake nature y v.parks a x' parks') ex' j) in
+        let known : t.cell < length (plans v) = inside_plan v t.cell is.attempt.cell in
+        let rc = track.locked.readers_count in
+        let wc = track.locked.writers_count in
+        let pc = track.kept.parties in
+        let party = is.attempt.ready.party in
+        let opens = opens_judged (plans v) h s t (other_waits (plans v) h s) v.parks parks' x' (locked.apart t.cell) locked.single locked.shows (kind_at (cell_at (plans v) t.cell).place) true wake nature a (wait_removed s.party (waits (plans v) h)) (omega (arith, pc, party)) (omega (arith, rc, known)) (omega (arith, wc, known)) j' in
+        record {
+          legal = track.legal;
+          steady = track.steady;
+          locked = subst (λ o. Locked (plans v) (λ c. replay (plans v) c h) o (set v.held t.cell x') (set v.places t.cell k') parks') (sym (opened_is (plans v) h s t a Nobody))
+              (locked_at (plans v) (λ c. replay (plans v) c h) (open_with h (other_waits (plans v) h s)) (opened_at (plans v) h s t (other_waits (plans v) h s) a) v.held v.places v.parks parks' t.cell x' k'
+              locked known opens.held (ek' ∙ ek) opens.before opens.apart fits others size opens.writers opens.shows opens.single);
+          kept = kept_with (plans v) (λ c. replay (plans v) c h) (inside (plans v) h) (open_after (plans v) h) v t.cell x' k' parks' size track.kept;
+          room = is.attempt.ready.room;
+          party = party;
+          cell = is.attempt.cell;
+          number = is.attempt.number;
+          tries = is.attempt.tries;
+          line = legal_quiet (plans v) h s t is.attempt.tries (answer_by (plans v) h s t a) (chosen_by a)
+              (judged_due (plans v) h s t (other_waits (plans v) h s) calm keeps_none (locked.apart t.cell) true (record { cell = t.cell; party = s.party }) wake nature v.parks a x' parks' en' ew j');
+        }
+
+  -- ---- a cyclic call
+
+  try_ends : (b : Act) (p : ℕ) (ss : List Section) → is_try b ≡ true → sections_ended b p ss ≡ ss
+  try_ends (act.Call c k) p ss e = refl
+  try_ends act.Again p ss e = refl
+  try_ends (act.Made y) p ss e = absurd (cc)
+  try_ends act.MadeFailed p ss e = absurd (cc)
+  try_ends (act.Look g) p ss e = refl
+  try_ends (act.Set g y) p ss e = refl
+  try_ends (act.Release g) p ss e = refl
+  try_ends (act.Downgrade g) p ss e = refl
+  try_ends (act.Clone g) p ss e = refl
+
+  below_more : (m : ℕ) (gs : List Guard) → NumbersBelow m gs → NumbersBelow (suc m) gs
+  below_more m [] b = tt
+  below_more m (x ∷ gs) b = let lt = b.0 in (omega (arith, lt), b.1)
+
+  steady_none : IsSteady (plans v) h → IsSteadyWith (plans v) h (open_after (plans v) h) None
+  steady_none a =
+      record {
+        numbers = below_more (length h) (guards h) a.numbers;
+        guard_started = λ c x q. let early = a.guard_started c x q in omega (arith, early);
+        guard = a.guard;
+        section_started = λ c x q. let early = a.section_started c x q in omega (arith, early);
+        section = a.section;
+      }
+
+  -- the rows stay for a call that is cyclic
+  pub cyclic_follows : (l : Line) → l ≡ record { answer = answer.Cyclic; given = Nobody } → (call_initializes t.call && runs s.party t.cell h) ≡ true → FollowsStep h s l v v
+  cyclic_follows l e cyclic =
+      let track : Tracks (plans v) h v = is.attempt.ready.follows in
+      let room = is.attempt.ready.room in
+      rw e (record {
+        follows = tracks_after (plans v) h (event s (record { answer = answer.Cyclic; given = Nobody })) (open_after (plans v) h) None
+            (record {
+              opened = λ i. record { waits = others_all i; sections = try_ends s.act s.party (sections h) is.attempt.tries.tries i; guards = guards h };
+              back = refl;
+            })
+            v track.legal
+            (legal_quiet (plans v) h s t is.attempt.tries answer.Cyclic false
+            (sym (is_cyclic (call_initializes t.call && runs s.party t.cell h) answer.Cyclic _ cyclic)))
+            (steady_none track.steady) track.locked track.kept (omega (arith, room));
+        guards = refl;
+        parties = refl;
+      })

@@ -1,0 +1,196 @@
+-- After what its locker answered is kept, the rows stand for the longer history.
+use Rattle.std.proofs.Common.{◌≡◌, ℕ, ◌<◌, List, length, set, get_or, refl, sym, ◌∙◌, ap, subst, arith, true, false, None, Some, length-set}
+use Rattle.std.specs.Prelude.{Bool, if◌then◌else◌}
+use Rattle.std.proofs.lemmas.List.{length-map}
+use Rattle.phase_bits.specs.declared.phase.Phase.{Phase}
+use Rattle.phase_bits.specs.Number.{phase_of}
+use Rattle.phase_locker.specs.declared.tickets.Attempt.TheVariants.{Got, Wait}
+use Rattle.phase_locker.specs.declared.tickets.LockResult.TheVariants as got
+use Rattle.phase_locker.specs.declared.ways.Given.{Given}
+use Rattle.phase_locker.specs.declared.ways.How.{How}
+use Rattle.phase_locker.specs.Natures.{read_ticket, write_ticket}
+use Rattle.schedule_rules.specs.declared.step.Step.{Step}
+use Rattle.schedule_rules.specs.declared.line.Answer.TheVariants as answer
+use Rattle.schedule_rules.specs.Calls.{Calls}
+use Rattle.schedule_rules.specs.History.{Event, count}
+use Rattle.schedule_rules.specs.Sections.{runs_in, sections}
+use Rattle.schedule_rules.specs.Guards.{guards, reader, writer}
+use Rattle.schedule_rules.specs.Replay.{replay}
+use Rattle.schedule_rules.specs.Holds.{writes_cell}
+use Rattle.schedule_rules.specs.Legal.{IsLegalLine}
+use Rattle.phase_schedule.specs.declared.rows.CellRow.{CellRow}
+use Rattle.phase_schedule.specs.declared.rows.GuardRow.{GuardRow}
+use Rattle.phase_schedule.specs.declared.rows.GuardRow.TheVariants as guard
+use Rattle.phase_schedule.specs.declared.rows.OpenSection.TheVariants as open_as
+use Rattle.phase_schedule.specs.declared.rows.PartyRow.{PartyRow}
+use Rattle.phase_schedule.specs.declared.rows.Target.{Target}
+use Rattle.phase_schedule.specs.View.{View}
+use Rattle.phase_schedule.specs.Tracks.{FollowsStep, Locked, event, plans}
+use Rattle.phase_schedule.specs.Ready.{IsAnswered, IsOpening, waits_left, with_section, with_guard}
+use Rattle.phase_schedule.proofs.After.{tracks_after}
+use Rattle.phase_schedule.proofs.Places.{same_number}
+use Rattle.phase_schedule.proofs.Within.{within_with}
+use Rattle.phase_schedule.proofs.RowTries.{becomes_wait, becomes_told, becomes_read, becomes_write, becomes_run, steady_same, steady_read, steady_write, steady_run}
+use Rattle.phase_schedule.proofs.RowKept.{with_open, planned_set, within_left, inner_is, party_got, party_waits, party_runs, slot_opened, guard_known, section_known, cell_is, section_none, cell_written, cell_runs}
+
+-- a cell that has a row is one of the plan
+planned : (v : View) (c : ℕ) → c < length v.cells → c < length (plans v)
+planned v c lt = let same : length (plans v) ≡ length v.cells = length-map v.cells (λ r. r.plan) in omega arith
+
+-- of the lock to write
+module _ (h : List Event) (v : View) (s : Step) (n : ℕ) (t : Target) (g : Given) where
+  -- the records of the lockers, where a guard has the lock
+  locked_guard : IsOpening h v s n t false g → Locked (plans v) (λ c. replay (plans v) c h) (with_guard (plans v) h s t (writer (length h) s.party t.cell) (waits_left (plans v) h s t g)) v.held v.places v.parks
+  locked_guard o =
+      subst (λ b. Locked (plans v) (λ c. replay (plans v) c h) (if b then with_section (plans v) h s t (waits_left (plans v) h s t g) else with_guard (plans v) h s t (writer (length h) s.party t.cell) (waits_left (plans v) h s t g)) v.held v.places v.parks) o.asks o.answered.locked
+
+  -- and where a section has it
+  locked_section : IsOpening h v s n t true g → Locked (plans v) (λ c. replay (plans v) c h) (with_section (plans v) h s t (waits_left (plans v) h s t g)) v.held v.places v.parks
+  locked_section o =
+      subst (λ b. Locked (plans v) (λ c. replay (plans v) c h) (if b then with_section (plans v) h s t (waits_left (plans v) h s t g) else with_guard (plans v) h s t (writer (length h) s.party t.cell) (waits_left (plans v) h s t g)) v.held v.places v.parks) o.asks o.answered.locked
+
+  -- no other hold stands on its cell
+  pub guard_alone : IsOpening h v s n t false g → (count (writes_cell t.cell) (guards h) ≡ 0) × (count (runs_in t.cell) (sections h) ≡ 0)
+  guard_alone o =
+      let one = rw (same_number t.cell) at ((locked_guard o).apart t.cell).one in
+      (omega arith, omega arith)
+
+  pub section_alone : IsOpening h v s n t true g → (count (writes_cell t.cell) (guards h) ≡ 0) × (count (runs_in t.cell) (sections h) ≡ 0)
+  section_alone o =
+      let one = rw (same_number t.cell) at ((locked_section o).apart t.cell).one in
+      (omega arith, omega arith)
+
+  line_by : {asked : Bool} (o : IsOpening h v s n t asked g) → IsLegalLine (plans v) h s (record { answer = if asked then answer.Running else answer.WriteGuard; given = g })
+  line_by o = subst (λ b. IsLegalLine (plans v) h s (record { answer = if b then answer.Running else answer.WriteGuard; given = g })) o.asks o.answered.line
+
+  -- the cell has no section
+  pub guard_idle : (row : CellRow) → row ≡ get_or v.cells t.cell row → IsOpening h v s n t false g → row.section ≡ None
+  guard_idle row at o =
+      section_none (plans v) h v o.answered.kept s t g row (cell_is (plans v) h v o.answered.kept s t g row at o.answered.cell) (guard_alone o).0 (guard_alone o).1
+
+  pub section_idle : (row : CellRow) → row ≡ get_or v.cells t.cell row → IsOpening h v s n t true g → row.section ≡ None
+  section_idle row at o =
+      section_none (plans v) h v o.answered.kept s t g row (cell_is (plans v) h v o.answered.kept s t g row at o.answered.cell) (section_alone o).0 (section_alone o).1
+
+module _ (h : List Event) (v : View) (s : Step) (n : ℕ) (t : Target) (g : Given) (party : PartyRow) (party_at : party ≡ get_or v.parties s.party party) where
+  -- the call waits
+  pub waited : (way : How) → IsAnswered h v s n t (Wait way) g →
+      FollowsStep h s (record { answer = answer.Waiting way; given = g }) v (record { cells = v.cells; guards = v.guards; parties = set v.parties s.party (record { waiting = Some t; innermost = party.innermost }); held = v.held; places = v.places; parks = v.parks })
+  waited way a =
+      record {
+        follows =
+            tracks_after (plans v) h (event s (record { answer = answer.Waiting way; given = g })) _ None (becomes_wait (plans v) h s t a.tries g way) (record { cells = v.cells; guards = v.guards; parties = set v.parties s.party (record { waiting = Some t; innermost = party.innermost }); held = v.held; places = v.places; parks = v.parks }) a.legal a.line
+            (steady_same (plans v) h a.steady _)
+            a.locked
+            (record {
+              planned = a.kept.planned;
+              cell = a.kept.cell;
+              slot = a.kept.slot;
+              party = party_waits (plans v) h v a.kept s t g party.innermost (inner_is (plans v) h v a.kept s t g party party_at a.party) way;
+              parties = a.kept.parties ∙ sym (length-set _ _ _);
+              section_cell = a.kept.section_cell;
+              guard_cell = a.kept.guard_cell;
+              wait_cell = within_with (length (plans v)) s.party way (record { cell = t.cell; want = Calls t.call }) (waits_left (plans v) h s t g) (planned v t.cell a.cell) (within_left (plans v) h s g (length (plans v)) a.kept.wait_cell);
+            })
+            (let room : _ = a.room in omega arith);
+        guards = refl;
+        parties = length-set _ _ _;
+      }
+
+  -- the call gets the phase alone
+  pub told : (q : Phase) → IsAnswered h v s n t (Got (got.None q)) g →
+      FollowsStep h s (record { answer = answer.Phase q; given = g }) v (record { cells = v.cells; guards = v.guards; parties = set v.parties s.party (record { waiting = None; innermost = party.innermost }); held = v.held; places = v.places; parks = v.parks })
+  told q a =
+      record {
+        follows =
+            tracks_after (plans v) h (event s (record { answer = answer.Phase q; given = g })) _ None (becomes_told (plans v) h s t a.tries g q) (record { cells = v.cells; guards = v.guards; parties = set v.parties s.party (record { waiting = None; innermost = party.innermost }); held = v.held; places = v.places; parks = v.parks }) a.legal a.line
+            (steady_same (plans v) h a.steady _)
+            a.locked
+            (record {
+              planned = a.kept.planned;
+              cell = a.kept.cell;
+              slot = a.kept.slot;
+              party = party_got (plans v) h v a.kept s t g party.innermost (inner_is (plans v) h v a.kept s t g party party_at a.party);
+              parties = a.kept.parties ∙ sym (length-set _ _ _);
+              section_cell = a.kept.section_cell;
+              guard_cell = a.kept.guard_cell;
+              wait_cell = within_left (plans v) h s g (length (plans v)) a.kept.wait_cell;
+            })
+            (let room : _ = a.room in omega arith);
+        guards = refl;
+        parties = length-set _ _ _;
+      }
+
+  module _ (slot : GuardRow) where
+    -- the call gets a read guard
+    pub reads : IsAnswered h v s n t (Got (got.Read read_ticket)) g → slot ≡ guard.Read s.party t.cell read_ticket →
+        FollowsStep h s (record { answer = answer.ReadGuard; given = g }) v (record { cells = v.cells; guards = set v.guards n slot; parties = set v.parties s.party (record { waiting = None; innermost = party.innermost }); held = v.held; places = v.places; parks = v.parks })
+    reads a is =
+        record {
+          follows =
+              tracks_after (plans v) h (event s (record { answer = answer.ReadGuard; given = g })) _ None (becomes_read (plans v) h s t a.tries g) (record { cells = v.cells; guards = set v.guards n slot; parties = set v.parties s.party (record { waiting = None; innermost = party.innermost }); held = v.held; places = v.places; parks = v.parks }) a.legal a.line
+              (steady_read (plans v) h a.steady _ s.party t.cell)
+              a.locked
+              (record {
+                planned = a.kept.planned;
+                cell = a.kept.cell;
+                slot = slot_opened (plans v) h v a.kept s t g n (reader (length h) s.party t.cell) slot (sym a.number) is;
+                party = party_got (plans v) h v a.kept s t g party.innermost (inner_is (plans v) h v a.kept s t g party party_at a.party);
+                parties = a.kept.parties ∙ sym (length-set _ _ _);
+                section_cell = a.kept.section_cell;
+                guard_cell = guard_known (plans v) h v a.kept s t g (reader (length h) s.party t.cell) (planned v t.cell a.cell);
+                wait_cell = within_left (plans v) h s g (length (plans v)) a.kept.wait_cell;
+              })
+              (let room : _ = a.room in omega (arith, length-set {A = GuardRow}));
+          guards = length-set _ _ _;
+          parties = length-set _ _ _;
+        }
+
+    module _ (row new : CellRow) (row_at : row ≡ get_or v.cells t.cell row) where
+      -- the call gets a write guard
+      pub writes : (p : Phase) (a : IsOpening h v s n t false g) → p ≡ phase_of (replay (plans v) t.cell h).phase → slot ≡ guard.Write s.party t.cell write_ticket → new ≡ with_open (open_as.Guarded (record { phase = p; value = row.value })) row →
+          FollowsStep h s (record { answer = answer.WriteGuard; given = g }) v (record { cells = set v.cells t.cell new; guards = set v.guards n slot; parties = set v.parties s.party (record { waiting = None; innermost = party.innermost }); held = v.held; places = v.places; parks = v.parks })
+      writes p o p_is is new_is =
+          record {
+            follows =
+                tracks_after (plans v) h (event s (record { answer = answer.WriteGuard; given = g })) _ None (becomes_write (plans v) h s t o.answered.tries g) (record { cells = set v.cells t.cell new; guards = set v.guards n slot; parties = set v.parties s.party (record { waiting = None; innermost = party.innermost }); held = v.held; places = v.places; parks = v.parks }) o.answered.legal (line_by h v s n t g o)
+                (steady_write (plans v) h o.answered.steady _ s.party t.cell)
+                (locked_guard h v s n t g o)
+                (record {
+                  planned = planned_set v.cells t.cell new row row_at (ap (λ r. r.plan) new_is) ∙ o.answered.kept.planned;
+                  cell = rw new_is (cell_written (plans v) h v o.answered.kept s t g row (cell_is (plans v) h v o.answered.kept s t g row row_at o.answered.cell) (guard_alone h v s n t g o).0 (waits_left (plans v) h s t g) p p_is);
+                  slot = slot_opened (plans v) h v o.answered.kept s t g n (writer (length h) s.party t.cell) slot (sym o.answered.number) is;
+                  party = party_got (plans v) h v o.answered.kept s t g party.innermost (inner_is (plans v) h v o.answered.kept s t g party party_at o.answered.party);
+                  parties = o.answered.kept.parties ∙ sym (length-set _ _ _);
+                  section_cell = o.answered.kept.section_cell;
+                  guard_cell = guard_known (plans v) h v o.answered.kept s t g (writer (length h) s.party t.cell) (planned v t.cell o.answered.cell);
+                  wait_cell = within_left (plans v) h s g (length (plans v)) o.answered.kept.wait_cell;
+                })
+                (let room : _ = o.answered.room in omega (arith, length-set {A = GuardRow}));
+            guards = length-set _ _ _;
+            parties = length-set _ _ _;
+          }
+
+  -- the call runs the generator
+  pub runs : (row new : CellRow) → row ≡ get_or v.cells t.cell row → IsOpening h v s n t true g → new ≡ with_open (open_as.Generates (record { party = s.party; call = t.call; outer = party.innermost }) write_ticket) row →
+      FollowsStep h s (record { answer = answer.Running; given = g }) v (record { cells = set v.cells t.cell new; guards = v.guards; parties = set v.parties s.party (record { waiting = None; innermost = Some t.cell }); held = v.held; places = v.places; parks = v.parks })
+  runs row new row_at o new_is =
+      record {
+        follows =
+            tracks_after (plans v) h (event s (record { answer = answer.Running; given = g })) _ None (becomes_run (plans v) h s t o.answered.tries g) (record { cells = set v.cells t.cell new; guards = v.guards; parties = set v.parties s.party (record { waiting = None; innermost = Some t.cell }); held = v.held; places = v.places; parks = v.parks }) o.answered.legal (line_by h v s n t g o)
+            (steady_run (plans v) h o.answered.steady _ s.party t.cell t.call)
+            (locked_section h v s n t g o)
+            (record {
+              planned = planned_set v.cells t.cell new row row_at (ap (λ r. r.plan) new_is) ∙ o.answered.kept.planned;
+              cell = rw new_is (cell_runs (plans v) h v o.answered.kept s t g row (cell_is (plans v) h v o.answered.kept s t g row row_at o.answered.cell) (section_alone h v s n t g o).0 (waits_left (plans v) h s t g) party.innermost (inner_is (plans v) h v o.answered.kept s t g party party_at o.answered.party));
+              slot = o.answered.kept.slot;
+              party = party_runs (plans v) h v o.answered.kept s t g;
+              parties = o.answered.kept.parties ∙ sym (length-set _ _ _);
+              section_cell = section_known (plans v) h v o.answered.kept s t g (length h) (planned v t.cell o.answered.cell);
+              guard_cell = o.answered.kept.guard_cell;
+              wait_cell = within_left (plans v) h s g (length (plans v)) o.answered.kept.wait_cell;
+            })
+            (let room : _ = o.answered.room in omega arith);
+        guards = refl;
+        parties = length-set _ _ _;
+      }

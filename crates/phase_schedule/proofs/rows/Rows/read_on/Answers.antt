@@ -1,0 +1,46 @@
+use Rattle.std.proofs.Common.{◌<◌, length, arith, refl, sym, subst, true}
+use Rattle.schedule_rules.specs.declared.step.Act.TheVariants as act
+use Rattle.phase_schedule.specs.View.{view}
+use Rattle.phase_schedule.specs.Meets.{IsWriting}
+use Rattle.phase_schedule.proofs.GuardSeen.{slot_inside, writing, guarded, has_writer, draft_known, locker_fits, held_shown, write_open, next_free_then}
+use Rattle.phase_schedule.proofs.GuardDowns.{did_read_on}
+use Rattle.phase_schedule.proofs.rows.Rows.read_on.Goals as goal
+
+pub draft-draft-requires : goal.draft-draft-requires
+draft-draft-requires g c κs within = (within, has_writer g.h _ c.args.s.now (act.Downgrade c.args.guard) c.args.guard c.args.cell c.requires.1.holding)
+
+pub publish-requires : goal.publish-requires
+publish-requires g c = guarded g.h _ c.args.s.now (act.Downgrade c.args.guard) c.args.guard c.args.cell c.requires.1.holding c.index_mut.result.now c.index_mut.ensures.value
+
+pub index_mut-requires-2 : goal.index_mut-requires-2
+index_mut-requires-2 g c =
+    let lt : c.args.guard < length c.args.self.now.guards.items = slot_inside g.h _ c.args.s.now (act.Downgrade c.args.guard) c.args.guard c.args.cell true c.requires.1.holding in
+    grind arith
+
+pub into_write-lock-requires : goal.into_write-lock-requires
+into_write-lock-requires g c =
+    subst IsWriting (sym c.replace.ensures.value) (writing g.h _ c.args.s.now (act.Downgrade c.args.guard) c.args.guard c.args.cell c.requires.1.holding c.index_mut-2.result.now c.index_mut-2.ensures.value)
+
+pub downgrade-given-requires-clause-known : goal.downgrade-given-requires-clause-known
+downgrade-given-requires-clause-known g c = draft_known g.h _ c.args.s.now (act.Downgrade c.args.guard) c.args.guard c.args.cell c.requires.1.holding c.draft-draft.result c.draft-draft.ensures
+
+pub downgrade-given-requires-clause-fits : goal.downgrade-given-requires-clause-fits
+downgrade-given-requires-clause-fits g c =
+    locker_fits g.h (view g.L.PhaseLocker.held g.L.PhaseLocker.place c.args.self.now) c.args.s.now (act.Downgrade c.args.guard) c.args.guard c.args.cell true c.requires.1.holding
+    g.L.PhaseLocker.held g.L.PhaseLocker.place c.args.self.now.lockers.items c.index_mut-locker.result.now c.index_mut-locker.ensures.value refl refl
+
+pub downgrade-given-requires-clause-open : goal.downgrade-given-requires-clause-open
+downgrade-given-requires-clause-open g c =
+    write_open g.h (view g.L.PhaseLocker.held g.L.PhaseLocker.place c.args.self.now) c.args.s.now (act.Downgrade c.args.guard) c.args.guard c.args.cell c.requires.1.holding (g.L.PhaseLocker.held c.index_mut-locker.result.now)
+    (held_shown g.h (view g.L.PhaseLocker.held g.L.PhaseLocker.place c.args.self.now) c.args.s.now (act.Downgrade c.args.guard) c.args.guard c.args.cell true c.requires.1.holding
+    g.L.PhaseLocker.held g.L.PhaseLocker.place c.args.self.now.lockers.items c.index_mut-locker.result.now c.index_mut-locker.ensures.value refl refl)
+
+pub open_reader-requires : goal.open_reader-requires
+open_reader-requires g c = rw c.replace.ensures.after (next_free_then g.h (view g.L.PhaseLocker.held g.L.PhaseLocker.place c.args.self.now) c.args.s.now c.args.n (act.Downgrade c.args.guard) c.args.guard c.args.cell true c.requires.1)
+
+pub returns : goal.returns
+returns g c =
+    rw (c.open_reader.ensures, c.replace.ensures.after, c.publish.ensures)
+    (did_read_on g.L.PhaseLocker.held g.L.PhaseLocker.place g.h c.args.self.now c.args.s.now c.args.n c.args.guard c.args.cell c.requires.1 c.index_mut-locker.result.now c.downgrade-given.new.self c.downgrade-given.result.1 c.downgrade-given.new.parks
+    c.draft-draft.result c.index_mut.result.now c.index_mut-locker.ensures.value c.index_mut.ensures.value c.draft-draft.ensures
+    c.downgrade-given.ensures.downgrades c.downgrade-given.ensures.others c.downgrade-given.ensures.fits c.downgrade-given.ensures.place c.downgrade-given.ensures.same)

@@ -1,0 +1,4 @@
+use Rattle.phase_schedule.proofs.rows.Rows.read_on.Given as goal
+
+abbrev pub ghost-draft : goal.ghost-draft
+ghost-draft g a = g.h

@@ -1,0 +1,83 @@
+-- The locks that rows hold, and what is left when they are given back.
+use Rattle.std.specs.Prelude.{ℕ, ◌≡◌, ◌≢◌, ◌≤◌, ◌<◌, ◌+◌, ◌^◌, ◌==◌, All, Bool, false, List, length, slice_get, count_by}
+use Rattle.std.specs.declared.option.Option.{Option}
+use Rattle.std.specs.declared.option.Option.TheVariants.{None, Some}
+use Rattle.phase_bits.specs.declared.holders.Holders.{Holders}
+use Rattle.phase_locker.specs.declared.ways.LockerKind.{LockerKind}
+use Rattle.phase_locker.specs.Fits.{Fits, IsWriteOpen, open_reads}
+use Rattle.phase_schedule.specs.declared.rows.CellRow.{CellRow}
+use Rattle.phase_schedule.specs.declared.rows.GuardRow.{GuardRow}
+use Rattle.phase_schedule.specs.declared.rows.GuardRow.TheVariants as guard
+use Rattle.phase_schedule.specs.declared.rows.OpenSection.{OpenSection}
+use Rattle.phase_schedule.specs.declared.rows.OpenSection.TheVariants as open_as
+use Rattle.phase_schedule.specs.View.{View}
+
+-- the row is that of a read guard on the cell
+abbrev pub reads_row : ℕ → GuardRow → Bool
+reads_row c guard.Free = false
+reads_row c (guard.Read q d lock) = d == c
+reads_row c (guard.Write q d lock) = false
+
+-- the row is that of a write guard on the cell
+abbrev pub writes_row : ℕ → GuardRow → Bool
+writes_row c guard.Free = false
+writes_row c (guard.Read q d lock) = false
+writes_row c (guard.Write q d lock) = d == c
+
+-- how many write locks an open section holds of itself: that of a generator's section
+abbrev pub locks_of : Option OpenSection → ℕ
+locks_of None = 0
+locks_of (Some (open_as.Generates r lock)) = 1
+locks_of (Some (open_as.Guarded d)) = 0
+
+-- the locks of the cell that the rows hold are open at its locker
+pub record HoldsAt (v : View) (c : ℕ) : Type 0 where
+  pub row : CellRow
+  pub record_of : Holders
+  pub kind : LockerKind
+  pub row_is : slice_get v.cells c ≡ Some row
+  pub record_is : slice_get v.held c ≡ Some record_of
+  pub kind_is : slice_get v.places c ≡ Some kind
+  pub fits : Fits kind record_of v.parks c
+  pub reads : count_by (reads_row c) v.guards ≤ open_reads record_of v.parks c
+  pub one : count_by (writes_row c) v.guards + locks_of row.section ≤ 1
+  pub writes : 0 < count_by (writes_row c) v.guards + locks_of row.section → IsWriteOpen record_of v.parks c
+
+-- the cell of a guard's row
+abbrev pub IsOfCell : ℕ → GuardRow → Type 0
+IsOfCell n guard.Free = Unit {0}
+IsOfCell n (guard.Read q d lock) = d < n
+IsOfCell n (guard.Write q d lock) = d < n
+
+-- the locks that the rows hold are open at their lockers
+pub record HoldsLocks (v : View) : Type 0 where
+  pub at : (c : ℕ) → c < length v.cells → HoldsAt v c
+  pub guards : All (IsOfCell (length v.cells)) v.guards
+  pub few : length v.cells < 2 ^ 32
+  pub lockers : length v.held ≡ length v.cells
+  pub places : length v.places ≡ length v.cells
+  pub parks : length v.parks.readers ≡ length v.cells
+
+-- the row of no guard
+abbrev pub IsFree : GuardRow → Type 0
+IsFree r = r ≡ guard.Free
+
+-- the row of a cell without an open section
+abbrev pub IsIdle : CellRow → Type 0
+IsIdle r = r.section ≡ None
+
+-- no guard is open
+abbrev pub AreFree : List GuardRow → Type 0
+AreFree rows = All IsFree rows
+
+-- no section is open
+abbrev pub AreIdle : List CellRow → Type 0
+AreIdle rows = All IsIdle rows
+
+-- of the rows of cells, this one has no open section, and the others are as they were
+pub record IsClosedAt (c : ℕ) (old new : List CellRow) : Type 0 where
+  pub row : CellRow
+  pub row_is : slice_get new c ≡ Some row
+  pub idle : IsIdle row
+  pub others : (d : ℕ) → d ≢ c → slice_get new d ≡ slice_get old d
+  pub count : length new ≡ length old

@@ -1,0 +1,104 @@
+//! The end of a run: what is still open is given back.
+
+ghost use Rattle.std.specs.Prelude.{◌≡◌, ◌<◌, length, slice_set};
+ghost use Rattle.phase_schedule.specs.View.{view};
+ghost use Rattle.phase_schedule.specs.Closing.{HoldsLocks, AreFree, AreIdle, IsClosedAt};
+ghost use Rattle.phase_schedule.specs.declared.rows.GuardRow.TheVariants.{Free};
+
+use crate::rows::{CellRow, GuardRow, OpenSection, Rows};
+use phase_locker::PhaseLocker;
+use std::mem;
+
+impl<L: PhaseLocker> Rows<L> {
+    /// Gives back what is still open, and ends the rows. It takes no memory.
+    pub fn close(mut self)
+        requires { HoldsLocks (view L.held L.place self) }
+    {
+        for guard in 0..self.guards.len() {
+            self.close_guard(guard);
+        }
+        for cell in 0..self.cells.len() {
+            self.close_run(cell);
+        }
+        let Rows {
+            cells,
+            guards,
+            parties: _,
+            lockers: _,
+            parks: _,
+        } = self;
+        end_guards(guards);
+        end_cells(cells);
+    }
+
+    /// Gives the guard of this row back, where there is one.
+    fn close_guard(&mut self, guard: usize)
+        requires holds { HoldsLocks (view L.held L.place self.old) }
+        requires inside { guard < length self.old.guards.items }
+        ensures holds { HoldsLocks (view L.held L.place self.new) }
+        ensures guards { self.new.guards.items ≡ slice_set self.old.guards.items guard Free }
+        ensures cells { self.new.cells.items ≡ self.old.cells.items }
+    {
+        match mem::replace(&mut self.guards[guard], GuardRow::Free) {
+            GuardRow::Free => {},
+            GuardRow::Read {
+                party: _,
+                cell,
+                lock,
+            } => {
+                let locker = &mut self.lockers[cell as usize];
+                let _given = locker.release_read(&mut self.parks, cell, lock);
+            },
+            GuardRow::Write {
+                party: _,
+                cell,
+                lock,
+            } => {
+                let locker = &mut self.lockers[cell as usize];
+                let phase = locker.phase();
+                let _given = locker.release_write(&mut self.parks, cell, lock, phase);
+            },
+        }
+    }
+
+    /// Gives the lock of a section whose generator runs back, where there is one.
+    fn close_run(&mut self, cell: usize)
+        requires holds { HoldsLocks (view L.held L.place self.old) }
+        requires inside { cell < length self.old.cells.items }
+        ensures holds { HoldsLocks (view L.held L.place self.new) }
+        ensures guards { self.new.guards.items ≡ self.old.guards.items }
+        ensures cells { IsClosedAt cell self.old.cells.items self.new.cells.items }
+    {
+        let Some(section) = self.cells[cell].section.take() else {
+            return;
+        };
+        match section {
+            OpenSection::Generates(_, lock) => {
+                let locker = &mut self.lockers[cell];
+                let phase = locker.phase();
+                let _given = locker.release_write(&mut self.parks, cell as u32, lock, phase);
+            },
+            OpenSection::Guarded(_) => {},
+        }
+    }
+}
+
+/// Ends the rows of steps, none of which is that of a guard.
+fn end_guards(mut rows: Vec<GuardRow>)
+    requires { AreFree rows.items }
+{
+    while let Some(row) = rows.pop() {
+        row.end();
+    }
+    rows.destroy_empty();
+}
+
+/// Ends the rows of cells, none of which has an open section.
+fn end_cells(mut rows: Vec<CellRow>)
+    requires { AreIdle rows.items }
+{
+    while let Some(row) = rows.pop() {
+        row.end();
+    }
+    rows.destroy_empty();
+}
