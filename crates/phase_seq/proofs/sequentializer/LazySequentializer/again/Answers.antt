@@ -1,0 +1,15 @@
+use Rattle.std.proofs.Common.{◌≡◌, false, rules, ◌∙◌, sym}
+use Rattle.phase_seq.specs.Begins.{is_cyclic}
+use Rattle.phase_seq.proofs.Answered.{begun_by_stands}
+use Rattle.phase_seq.proofs.Resumed.{resumed}
+use Rattle.phase_seq.proofs.sequentializer.LazySequentializer.again.Goals as goal
+
+pub returns-clause-resumes : goal.returns-clause-resumes
+returns-clause-resumes g c =
+    let apart : is_cyclic c.args.ask.want c.args.who.party c.args.self.now.running ≡ false = sym c.is_cyclic.ensures ∙ c.if-is_cyclic.false in
+    rw c.begun_by.ensures.locker (resumed _ _ c.args.who c.args.ask c.args.self.now.running _ _ _ c.again-attempt.result c.begun_by.result _ _ apart c.wake.ensures.wake (λ n e. search rules) c.again-attempt.ensures.again (rw (← c.phase-phase.ensures.phase) c.begun_by.ensures.begun))
+
+pub returns-clause-stands : goal.returns-clause-stands
+returns-clause-stands g c =
+    rw (c.begun_by.ensures.running, c.begun_by.ensures.locker, c.begun_by.ensures.begun)
+    (begun_by_stands c.args.who c.args.ask c.phase-phase.result c.again-attempt.result.0 c.args.self.now.running _ _ c.again-attempt.ensures.stands)

@@ -1,0 +1,17 @@
+use Rattle.phase_seq.proofs.Answered.{begun_by_stands, tried_stands, tried_reads}
+use Rattle.phase_seq.proofs.sequentializer.LazySequentializer.begin.Goals as goal
+
+pub returns-then-ask-clause-stands : goal.returns-then-ask-clause-stands
+returns-then-ask-clause-stands g c =
+    rw (c.begun_tried.ensures.running, c.begun_tried.ensures.locker, c.begun_tried.ensures.begun, c.phase-phase.ensures.phase)
+    (tried_stands (g.L.PhaseLocker.place c.args.self.now.locker) c.args.who c.args.ask c.args.self.now.running _ _ c.args.parks.now _ _ c.requires.fits c.requires.free c.try_lock-got.ensures.tries)
+
+pub returns-then-ask-clause-reads : goal.returns-then-ask-clause-reads
+returns-then-ask-clause-reads g c =
+    rw (c.begun_tried.ensures.locker, c.begun_tried.ensures.begun, c.phase-phase.ensures.phase)
+    (tried_reads (g.L.PhaseLocker.place c.args.self.now.locker) c.args.who c.args.ask _ _ c.args.parks.now _ _ c.requires.fits c.try_lock-got.ensures.tries)
+
+pub returns-clause-stands : goal.returns-clause-stands
+returns-clause-stands g c =
+    rw (c.begun_by.ensures.running, c.begun_by.ensures.locker, c.begun_by.ensures.begun)
+    (begun_by_stands c.args.who c.args.ask c.phase-phase.result c.lock-attempt.result.0 c.args.self.now.running _ _ c.lock-attempt.ensures.stands)

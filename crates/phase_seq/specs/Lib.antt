@@ -1,0 +1,7 @@
+pub mod Asks
+pub mod Generators
+pub mod Phases
+pub mod Begins
+pub mod Finishes
+pub mod Stands
+pub mod Lending
