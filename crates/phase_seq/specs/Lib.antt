@@ -4,4 +4,5 @@ pub mod Phases
 pub mod Begins
 pub mod Finishes
 pub mod Stands
+pub mod Exactly
 pub mod Lending

@@ -56,35 +56,3 @@ reads_finished (finished.Phase p) = 0
 reads_finished (finished.Read t p) = 1
 reads_finished (finished.Write t p) = 0
 reads_finished (finished.Failed p) = 0
-
--- ---- answers
-
--- the call is barred
-abbrev pub is_barred : Begun → Bool
-is_barred (begun.Wait how) = true
-is_barred begun.Missed = true
-is_barred begun.Cyclic = false
-is_barred (begun.Nothing p) = false
-is_barred (begun.Read t p) = false
-is_barred (begun.Write t p) = false
-is_barred (begun.Run section) = false
-
--- the answer is Cyclic
-abbrev pub is_cyclic_answer : Begun → Bool
-is_cyclic_answer (begun.Wait how) = false
-is_cyclic_answer begun.Missed = false
-is_cyclic_answer begun.Cyclic = true
-is_cyclic_answer (begun.Nothing p) = false
-is_cyclic_answer (begun.Read t p) = false
-is_cyclic_answer (begun.Write t p) = false
-is_cyclic_answer (begun.Run section) = false
-
--- the generator is to be run
-abbrev pub is_run : Begun → Bool
-is_run (begun.Wait how) = false
-is_run begun.Missed = false
-is_run begun.Cyclic = false
-is_run (begun.Nothing p) = false
-is_run (begun.Read t p) = false
-is_run (begun.Write t p) = false
-is_run (begun.Run section) = true

@@ -4,14 +4,20 @@
 
 mod ask;
 mod generator;
+mod init_error;
+mod laws;
 mod once;
 mod phases;
 mod section;
 mod sequentializer;
+#[cfg(test)]
+mod tests;
 mod tolerance;
 
 pub use ask::{Ask, Want};
 pub use generator::{DefaultGenerator, Generator, GeneratorTolerance, InitFault};
+pub use init_error::InitError;
+pub use laws::{promised_faults_come, promised_values_come};
 pub use once::OnceGenerator;
 pub use section::{Begun, Finished, Section};
 pub use sequentializer::LazySequentializer;

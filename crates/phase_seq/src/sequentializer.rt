@@ -1,21 +1,22 @@
 //! The sequentializer of a cell.
 
-ghost use Rattle.std.specs.Prelude.{◌≡◌, ◌≢◌, ◌+◌, ◌<◌, true, false, length};
+ghost use Rattle.std.specs.Prelude.{◌≡◌, ◌≢◌, ◌+◌, ◌<◌, ◌&&◌, true, false, length};
 ghost use Rattle.std.specs.Borrow.{sem};
 ghost use Rattle.phase_locker.specs.Rows.{row_of, HasFree, SameSize};
 ghost use Rattle.phase_locker.specs.Fits.{Fits, IsWriteOpen, open_reads};
 ghost use Rattle.phase_locker.specs.Others.{OthersStay, RowsStay, RowsStayBeside};
 ghost use Rattle.phase_locker.specs.declared.ways.Waiting.TheVariants.{Free};
-ghost use Rattle.phase_seq.specs.Asks.{nature_of};
+ghost use Rattle.phase_seq.specs.Asks.{nature_of, asks_run};
 ghost use Rattle.phase_seq.specs.Begins.{Begins, Resumes, is_cyclic, begun_of, begun_by, begun_tried, running_after};
 ghost use Rattle.phase_seq.specs.Finishes.{Finishes, goes_on_reading};
 ghost use Rattle.phase_seq.specs.Stands.{BegunStands, FinishedStands, IsRunning, reads_begun, reads_finished};
+ghost use Rattle.phase_seq.specs.Exactly.{is_wait, is_missed, is_turned, is_run, is_admitted, shall_wait, shall_miss, shall_run};
 ghost use Rattle.phase_seq.specs.Lending.{lends_locker};
 
 use crate::ask::{Ask, Want};
 use crate::phases::reached;
 use crate::section::{Begun, Finished, Section};
-use phase_bits::Phase;
+use phase_bits::{Phase, Phased};
 use phase_locker::{
     Attempt, Given, LockNature, LockResult, Parks, PhaseLocker, ReadTicket, Who, WriteTicket,
 };
@@ -70,6 +71,10 @@ impl<L: PhaseLocker, G> LazySequentializer<L, G> {
         requires free { (row_of parks.old who.party).waiting ≡ Free }
         requires fits { Fits (L.place (self.old).locker) (L.held (self.old).locker) parks.old who.cell }
         ensures begins { Begins (L.place (self.old).locker) who ask (self.old).running (L.held (self.old).locker) parks.old result (L.held (self.new).locker) parks.new }
+        ensures waits { is_wait result.0 ≡ shall_wait who ask (self.old).running (L.held (self.old).locker) }
+        ensures missed { is_missed result.0 ≡ shall_miss who ask (self.old).running (L.held (self.old).locker) }
+        ensures cyclic { is_turned result.0 ≡ is_cyclic ask.want who.party (self.old).running }
+        ensures runs { is_run result.0 ≡ shall_run who ask (self.old).running (L.held (self.old).locker) }
         ensures running { (self.new).running ≡ running_after result.0 (self.old).running }
         ensures others { OthersStay who.cell parks.old parks.new }
         ensures rows { RowsStayBeside who.party who.cell parks.old parks.new }
@@ -105,6 +110,8 @@ impl<L: PhaseLocker, G> LazySequentializer<L, G> {
         requires slow { ask.fast ≡ false }
         requires fits { Fits (L.place (self.old).locker) (L.held (self.old).locker) parks.old who.cell }
         ensures resumes { Resumes (L.place (self.old).locker) who ask (self.old).running (L.held (self.old).locker) parks.old result (L.held (self.new).locker) parks.new }
+        ensures cyclic { is_turned result.0 ≡ is_cyclic ask.want who.party (self.old).running }
+        ensures runs { is_run result.0 ≡ (is_admitted result.0 && asks_run ask (L.held (self.old).locker).phase) }
         ensures running { (self.new).running ≡ running_after result.0 (self.old).running }
         ensures others { OthersStay who.cell parks.old parks.new }
         ensures rows { RowsStayBeside who.party who.cell parks.old parks.new }
@@ -230,5 +237,13 @@ impl<L: PhaseLocker, G> LazySequentializer<L, G> {
                 }
             }
         }
+    }
+}
+
+impl<L: PhaseLocker, G> Phased for LazySequentializer<L, G> {
+    ghost phase = { λ s. (L.held s.locker).phase };
+
+    fn phase(this: &Self) -> Phase {
+        this.locker.phase()
     }
 }

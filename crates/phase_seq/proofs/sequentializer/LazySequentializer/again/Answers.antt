@@ -1,6 +1,7 @@
 use Rattle.std.proofs.Common.{◌≡◌, false, rules, ◌∙◌, sym}
 use Rattle.phase_seq.specs.Begins.{is_cyclic}
 use Rattle.phase_seq.proofs.Answered.{begun_by_stands}
+use Rattle.phase_seq.proofs.Exactness.{again_runs}
 use Rattle.phase_seq.proofs.Resumed.{resumed}
 use Rattle.phase_seq.proofs.sequentializer.LazySequentializer.again.Goals as goal
 
@@ -13,3 +14,8 @@ pub returns-clause-stands : goal.returns-clause-stands
 returns-clause-stands g c =
     rw (c.begun_by.ensures.running, c.begun_by.ensures.locker, c.begun_by.ensures.begun)
     (begun_by_stands c.args.who c.args.ask c.phase-phase.result c.again-attempt.result.0 c.args.self.now.running _ _ c.again-attempt.ensures.stands)
+
+pub returns-clause-runs : goal.returns-clause-runs
+returns-clause-runs g c =
+    rw (c.begun_by.ensures.begun, c.phase-phase.ensures.phase)
+    (again_runs _ (g.L.PhaseLocker.place c.args.self.now.locker) c.args.who c.args.ask _ _ c.args.parks.now c.again-attempt.result _ _ (λ n e. search rules) c.again-attempt.ensures.again)

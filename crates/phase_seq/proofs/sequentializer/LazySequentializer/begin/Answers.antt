@@ -1,3 +1,6 @@
+use Rattle.std.proofs.Common.{◌≡◌, Bool, false, not, ◌&&◌, rules, sym, ◌∙◌}
+use Rattle.phase_seq.specs.Begins.{is_cyclic}
+use Rattle.phase_seq.proofs.Exactness.{tried_runs, locks_runs, by_attempt, waits_instead}
 use Rattle.phase_seq.proofs.Answered.{begun_by_stands, tried_stands, tried_reads}
 use Rattle.phase_seq.proofs.sequentializer.LazySequentializer.begin.Goals as goal
 
@@ -15,3 +18,19 @@ pub returns-clause-stands : goal.returns-clause-stands
 returns-clause-stands g c =
     rw (c.begun_by.ensures.running, c.begun_by.ensures.locker, c.begun_by.ensures.begun)
     (begun_by_stands c.args.who c.args.ask c.phase-phase.result c.lock-attempt.result.0 c.args.self.now.running _ _ c.lock-attempt.ensures.stands)
+
+pub returns-then-ask-clause-runs : goal.returns-then-ask-clause-runs
+returns-then-ask-clause-runs g c =
+    let apart : is_cyclic c.args.ask.want c.args.who.party c.args.self.now.running ≡ false = sym c.is_cyclic.ensures ∙ c.if-is_cyclic.false in
+    rw (apart, c.begun_tried.ensures.begun, c.phase-phase.ensures.phase)
+    (tried_runs c.args.who c.args.ask _ _ _ _ (λ n e. search rules) c.try_lock-got.ensures.tries)
+
+pub returns-clause-missed : goal.returns-clause-missed
+returns-clause-missed g c =
+    rw c.begun_by.ensures.begun (by_attempt c.args.who c.args.ask c.phase-phase.result c.lock-attempt.result.0 ∙ sym (waits_instead _ _ c.args.ask.fast c.if-ask.false))
+
+pub returns-clause-runs : goal.returns-clause-runs
+returns-clause-runs g c =
+    let apart : is_cyclic c.args.ask.want c.args.who.party c.args.self.now.running ≡ false = sym c.is_cyclic.ensures ∙ c.if-is_cyclic.false in
+    rw (apart, c.begun_by.ensures.begun, c.phase-phase.ensures.phase)
+    (locks_runs _ (g.L.PhaseLocker.place c.args.self.now.locker) c.args.who c.args.ask _ _ c.args.parks.now c.lock-attempt.result _ _ (λ n e. search rules) c.lock-attempt.ensures.locks)
