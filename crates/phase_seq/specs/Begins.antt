@@ -67,26 +67,26 @@ running_after (begun.Write t p) running = running
 -- ---- the call
 
 -- no lock is tried, and nothing changes
-pub record Turns (h : Holders) (s : Rows) (r : Begun × Given) (h' : Holders) (s' : Rows) : Type 0 where
+pub record TurnsBack (h : Holders) (s : Rows) (r : Begun × Given) (h' : Holders) (s' : Rows) : Type 0 where
   pub answer : r ≡ (begun.Cyclic, Nobody)
   pub held : h' ≡ h
   pub rows : s' ≡ s
 
 -- the call takes a lock where it is not barred, and does not wait
-pub record Snatches (who : Who) (ask : Ask) (h : Holders) (s : Rows) (r : Begun × Given) (h' : Holders) (s' : Rows) : Type 0 where
+pub record TriesLock (who : Who) (ask : Ask) (h : Holders) (s : Rows) (r : Begun × Given) (h' : Holders) (s' : Rows) : Type 0 where
   pub got : Option (LockResult ReadTicket WriteTicket)
   pub tries : Tries (rule ask) h got h'
   pub answer : r ≡ (begun_tried who ask h.phase got, Nobody)
   pub rows : s' ≡ s
 
 -- the call is one attempt that may wait
-pub record Asks (k : LockerKind) (who : Who) (ask : Ask) (h : Holders) (s : Rows) (r : Begun × Given) (h' : Holders) (s' : Rows) : Type 0 where
+pub record MakesAttempt (k : LockerKind) (who : Who) (ask : Ask) (h : Holders) (s : Rows) (r : Begun × Given) (h' : Holders) (s' : Rows) : Type 0 where
   pub attempt : Attempt
   pub locks : Locks (rule ask) k who (wake_of ask.want) h s (attempt, r.1) h' s'
   pub answer : r.0 ≡ begun_by who ask h.phase attempt
 
 -- the call is one more attempt of a party that waits
-pub record AsksAgain (k : LockerKind) (who : Who) (ask : Ask) (h : Holders) (s : Rows) (r : Begun × Given) (h' : Holders) (s' : Rows) : Type 0 where
+pub record MakesAnother (k : LockerKind) (who : Who) (ask : Ask) (h : Holders) (s : Rows) (r : Begun × Given) (h' : Holders) (s' : Rows) : Type 0 where
   pub attempt : Attempt
   pub again : Again (rule ask) k who (wake_of ask.want) h s (attempt, r.1) h' s'
   pub answer : r.0 ≡ begun_by who ask h.phase attempt
@@ -94,10 +94,10 @@ pub record AsksAgain (k : LockerKind) (who : Who) (ask : Ask) (h : Holders) (s :
 -- a call of a party that does not wait
 abbrev pub Begins : LockerKind → Who → Ask → Option ℕ → Holders → Rows → Begun × Given → Holders → Rows → Type 0
 Begins k who ask running h s r h' s' =
-    MatchBool (is_cyclic ask.want who.party running) (Turns h s r h' s')
-    (MatchBool ask.fast (Snatches who ask h s r h' s') (Asks k who ask h s r h' s'))
+    MatchBool (is_cyclic ask.want who.party running) (TurnsBack h s r h' s')
+    (MatchBool ask.fast (TriesLock who ask h s r h' s') (MakesAttempt k who ask h s r h' s'))
 
 -- a call of a party that waits
 abbrev pub Resumes : LockerKind → Who → Ask → Option ℕ → Holders → Rows → Begun × Given → Holders → Rows → Type 0
 Resumes k who ask running h s r h' s' =
-    MatchBool (is_cyclic ask.want who.party running) (Turns h s r h' s') (AsksAgain k who ask h s r h' s')
+    MatchBool (is_cyclic ask.want who.party running) (TurnsBack h s r h' s') (MakesAnother k who ask h s r h' s')

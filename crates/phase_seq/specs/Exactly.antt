@@ -29,14 +29,14 @@ is_missed (Read t p) = false
 is_missed (Write t p) = false
 is_missed (Run section) = false
 
-abbrev pub is_turned : Begun → Bool
-is_turned (Wait how) = false
-is_turned Missed = false
-is_turned Cyclic = true
-is_turned (Nothing p) = false
-is_turned (Read t p) = false
-is_turned (Write t p) = false
-is_turned (Run section) = false
+abbrev pub is_turned_back : Begun → Bool
+is_turned_back (Wait how) = false
+is_turned_back Missed = false
+is_turned_back Cyclic = true
+is_turned_back (Nothing p) = false
+is_turned_back (Read t p) = false
+is_turned_back (Write t p) = false
+is_turned_back (Run section) = false
 
 abbrev pub is_run : Begun → Bool
 is_run (Wait how) = false

@@ -15,14 +15,6 @@ use Rattle.phase_seq.specs.declared.section.Finished.{Finished}
 use Rattle.phase_seq.specs.declared.section.Finished.TheVariants as finished
 use Rattle.phase_seq.specs.Phases.{reached, unregistered}
 
--- a call with this want reads on when its run has made a value
-abbrev pub goes_on_reading : Want → Bool
-goes_on_reading Init = false
-goes_on_reading Read = true
-goes_on_reading Write = false
-goes_on_reading ReadOnly = false
-goes_on_reading WriteOnly = false
-
 -- the lock is given back with this phase, and handed on
 pub record GivesBack (answer : Finished) (c : ℕ) (p : Phase) (h : Holders) (s : Rows) (r : Finished × Given) (h' : Holders) (s' : Rows) : Type 0 where
   pub finished : r.0 ≡ answer

@@ -4,6 +4,8 @@
 
 mod ask;
 mod generator;
+#[cfg(test)]
+mod generator_tests;
 mod init_error;
 mod laws;
 mod once;

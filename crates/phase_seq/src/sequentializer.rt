@@ -8,9 +8,9 @@ ghost use Rattle.phase_locker.specs.Others.{OthersStay, RowsStay, RowsStayBeside
 ghost use Rattle.phase_locker.specs.declared.ways.Waiting.TheVariants.{Free};
 ghost use Rattle.phase_seq.specs.Asks.{nature_of, asks_run};
 ghost use Rattle.phase_seq.specs.Begins.{Begins, Resumes, is_cyclic, begun_of, begun_by, begun_tried, running_after};
-ghost use Rattle.phase_seq.specs.Finishes.{Finishes, goes_on_reading};
+ghost use Rattle.phase_seq.specs.Finishes.{Finishes};
 ghost use Rattle.phase_seq.specs.Stands.{BegunStands, FinishedStands, IsRunning, reads_begun, reads_finished};
-ghost use Rattle.phase_seq.specs.Exactly.{is_wait, is_missed, is_turned, is_run, is_admitted, shall_wait, shall_miss, shall_run};
+ghost use Rattle.phase_seq.specs.Exactly.{is_wait, is_missed, is_turned_back, is_run, is_admitted, shall_wait, shall_miss, shall_run};
 ghost use Rattle.phase_seq.specs.Lending.{lends_locker};
 
 use crate::ask::{Ask, Want};
@@ -73,7 +73,7 @@ impl<L: PhaseLocker, G> LazySequentializer<L, G> {
         ensures begins { Begins (L.place (self.old).locker) who ask (self.old).running (L.held (self.old).locker) parks.old result (L.held (self.new).locker) parks.new }
         ensures waits { is_wait result.0 ≡ shall_wait who ask (self.old).running (L.held (self.old).locker) }
         ensures missed { is_missed result.0 ≡ shall_miss who ask (self.old).running (L.held (self.old).locker) }
-        ensures cyclic { is_turned result.0 ≡ is_cyclic ask.want who.party (self.old).running }
+        ensures cyclic { is_turned_back result.0 ≡ is_cyclic ask.want who.party (self.old).running }
         ensures runs { is_run result.0 ≡ shall_run who ask (self.old).running (L.held (self.old).locker) }
         ensures running { (self.new).running ≡ running_after result.0 (self.old).running }
         ensures others { OthersStay who.cell parks.old parks.new }
@@ -110,7 +110,7 @@ impl<L: PhaseLocker, G> LazySequentializer<L, G> {
         requires slow { ask.fast ≡ false }
         requires fits { Fits (L.place (self.old).locker) (L.held (self.old).locker) parks.old who.cell }
         ensures resumes { Resumes (L.place (self.old).locker) who ask (self.old).running (L.held (self.old).locker) parks.old result (L.held (self.new).locker) parks.new }
-        ensures cyclic { is_turned result.0 ≡ is_cyclic ask.want who.party (self.old).running }
+        ensures cyclic { is_turned_back result.0 ≡ is_cyclic ask.want who.party (self.old).running }
         ensures runs { is_run result.0 ≡ (is_admitted result.0 && asks_run ask (L.held (self.old).locker).phase) }
         ensures running { (self.new).running ≡ running_after result.0 (self.old).running }
         ensures others { OthersStay who.cell parks.old parks.new }
@@ -140,7 +140,7 @@ impl<L: PhaseLocker, G> LazySequentializer<L, G> {
         requires cell { section.who.cell < length parks.old.readers }
         requires running { IsRunning section (self.old).running (L.held (self.old).locker) parks.old }
         requires fits { Fits (L.place (self.old).locker) (L.held (self.old).locker) parks.old section.who.cell }
-        requires room { goes_on_reading section.want ≡ true → HasFree parks.old }
+        requires room { section.want ≡ Want.Read → HasFree parks.old }
         ensures finishes { Finishes section made (L.held (self.old).locker) parks.old result (L.held (self.new).locker) parks.new }
         ensures running { (self.new).running ≡ None }
         ensures others { OthersStay section.who.cell parks.old parks.new }

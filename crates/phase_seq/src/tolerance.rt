@@ -6,7 +6,7 @@ ghost use Rattle.phase_seq.specs.Asks.{shall_init};
 use crate::generator::GeneratorTolerance;
 use phase_bits::Phase;
 
-/// What a cell puts up with. It is static_init's `Tolerance`.
+/// What a cell puts up with: the two constants of `GeneratorTolerance` as a value. This project's own.
 #[derive(Clone, Copy, PartialEq, Eq, Debug)]
 pub struct Tolerance {
     /// A failed run is followed by another one, at the next call that asks for it.
