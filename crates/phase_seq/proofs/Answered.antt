@@ -1,5 +1,5 @@
 -- How a party stands after its call, by what the locker gave.
-use Rattle.std.proofs.Common.{◌≡◌, ℕ, ◌+◌, ◌<◌, Bool, true, false, ◌&&◌, if◌then◌else◌, Option, Some, None, refl, arith, sym, ◌∙◌, ap}
+use Rattle.std.proofs.Common.{◌≡◌, ℕ, ◌+◌, Bool, true, false, ◌&&◌, if◌then◌else◌, Option, Some, None, refl, arith, sym, ◌∙◌, ap}
 use Rattle.phase_bits.specs.declared.phase.Phase.{Phase}
 use Rattle.phase_bits.specs.declared.holders.Holders.{Holders}
 use Rattle.phase_locker.specs.declared.tickets.LockNature.{LockNature}
@@ -11,20 +11,18 @@ use Rattle.phase_locker.specs.declared.tickets.WriteTicket.{WriteTicket}
 use Rattle.phase_locker.specs.declared.tickets.Attempt.{Attempt}
 use Rattle.phase_locker.specs.declared.tickets.Attempt.TheVariants as attempt
 use Rattle.phase_locker.specs.declared.ways.Who.{Who}
-use Rattle.phase_locker.specs.declared.ways.Waiting.TheVariants as way
 use Rattle.phase_locker.specs.declared.ways.LockerKind.{LockerKind}
 use Rattle.phase_locker.specs.Natures.{bars, admitted, got as got_by, Tries}
-use Rattle.phase_locker.specs.Rows.{Rows, row_of}
+use Rattle.phase_locker.specs.Rows.{Rows}
 use Rattle.phase_locker.specs.Fits.{Fits, IsWriteOpen, open_reads}
 use Rattle.phase_locker.specs.Stands.{IsOpen, Stands, reads_got}
 use Rattle.phase_locker.proofs.Judging.{unheld}
 use Rattle.phase_locker.proofs.Standing.{admitted_reads}
 use Rattle.phase_seq.specs.declared.ask.Want.{Want}
 use Rattle.phase_seq.specs.declared.ask.Ask.{Ask}
-use Rattle.phase_seq.specs.declared.section.Begun.{Begun}
 use Rattle.phase_seq.specs.declared.section.Begun.TheVariants as begun
 use Rattle.phase_seq.specs.Asks.{initializes, asks_run}
-use Rattle.phase_seq.specs.Begins.{rule, begun_of, begun_by, begun_tried, running_after}
+use Rattle.phase_seq.specs.Begins.{begun_of, begun_by, begun_tried, running_after}
 use Rattle.phase_seq.specs.Stands.{BegunStands, IsFree, reads_begun}
 
 both_left : (a b : Bool) → (a && b) ≡ true → a ≡ true

@@ -1,5 +1,5 @@
 -- When a call gets which answer.
-use Rattle.std.proofs.Common.{◌≡◌, ℕ, Bool, true, false, ◌&&◌, not, Option, Some, None, inl, inr, refl, sym, ◌∙◌, ap, subst, if◌then◌else◌}
+use Rattle.std.proofs.Common.{◌≡◌, Bool, true, false, ◌&&◌, not, Option, Some, None, inl, inr, refl, subst, if◌then◌else◌}
 use Rattle.phase_bits.specs.declared.phase.Phase.{Phase}
 use Rattle.phase_bits.specs.declared.holders.Holders.{Holders}
 use Rattle.phase_locker.specs.declared.tickets.LockNature.{LockNature}
@@ -39,7 +39,7 @@ run_where who want.ReadOnly fast tol p q due e = refl
 run_where who want.WriteOnly fast tol p q due e = refl
 
 -- it is to run the generator where it asks for a run
-run_of : (who : Who) (ask : Ask) (p q : Phase) → is_run (begun_of who ask p (got_by (nature_of ask p) q)) ≡ asks_run ask p
+pub run_of : (who : Who) (ask : Ask) (p q : Phase) → is_run (begun_of who ask p (got_by (nature_of ask p) q)) ≡ asks_run ask p
 run_of who ask p q = run_where who ask.want ask.fast ask.tol p q (shall_init ask.tol p) refl
 
 written : (run : Bool) (who : Who) (w : Want) (t : WriteTicket) (p : Phase) → let b : Begun = if run then begun.Run (record { who = who; want = w; ticket = t }) else begun.Write t p in (is_admitted b ≡ true) × (is_missed b ≡ false)

@@ -1,5 +1,5 @@
 -- One more attempt, by the rule of the call.
-use Rattle.std.proofs.Common.{◌≡◌, ℕ, Bool, false, Option, refl, sym}
+use Rattle.std.proofs.Common.{◌≡◌, ℕ, false, Option}
 use Rattle.phase_bits.specs.declared.phase.Phase.{Phase}
 use Rattle.phase_bits.specs.declared.holders.Holders.{Holders}
 use Rattle.phase_locker.specs.declared.tickets.LockNature.{LockNature}

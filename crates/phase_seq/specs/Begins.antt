@@ -18,7 +18,6 @@ use Rattle.phase_locker.specs.Rows.{Rows}
 use Rattle.phase_locker.specs.Attempts.{Locks, Again}
 use Rattle.phase_seq.specs.declared.ask.Want.{Want}
 use Rattle.phase_seq.specs.declared.ask.Ask.{Ask}
-use Rattle.phase_seq.specs.declared.section.Section.{Section}
 use Rattle.phase_seq.specs.declared.section.Begun.{Begun}
 use Rattle.phase_seq.specs.declared.section.Begun.TheVariants as begun
 use Rattle.phase_seq.specs.Asks.{initializes, asks_run, nature_of, wake_of}

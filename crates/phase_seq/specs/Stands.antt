@@ -1,5 +1,5 @@
 -- How a party stands after its call, and which locks are open then.
-use Rattle.std.specs.Prelude.{◌≡◌, ℕ, ◌<◌, Bool, true, false, Option, Some}
+use Rattle.std.specs.Prelude.{◌≡◌, ℕ, ◌<◌, true, Option, Some}
 use Rattle.phase_bits.specs.declared.holders.Holders.{Holders}
 use Rattle.phase_locker.specs.declared.ways.Who.{Who}
 use Rattle.phase_locker.specs.declared.ways.Waiting.TheVariants.{Free}

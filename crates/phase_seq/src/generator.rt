@@ -1,6 +1,6 @@
 //! Generators of a cell's value.
 
-ghost use Rattle.std.specs.Prelude.{◌≡◌, Bool, true, false, Ok, Err, Result, IfOk};
+ghost use Rattle.std.specs.Prelude.{◌≡◌, Bool, true, false, Result};
 ghost use Rattle.phase_seq.specs.declared.generator.InitFault.{InitFault};
 
 /// A generator failed. This project's own: a generator of static_init panics.

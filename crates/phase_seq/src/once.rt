@@ -1,6 +1,6 @@
 //! A generator that is called once.
 
-ghost use Rattle.std.specs.Prelude.{◌≡◌, true, false, Some, None, IsErr, MatchOption};
+ghost use Rattle.std.specs.Prelude.{◌≡◌, false, Some, None, IsErr, MatchOption};
 ghost use Rattle.std.specs.Option.{ForSome};
 
 use crate::generator::{Generator, GeneratorTolerance, InitFault};

@@ -17,14 +17,14 @@ pub struct Section {
 impl Section {
     /// The cell, and the party that runs its generator.
     pub fn who(&self) -> Who
-        ensures { result ≡ (self.now).who }
+        ensures { result ≡ self.now.who }
     {
         self.who
     }
 
     /// What the call wants that opened the section.
     pub fn want(&self) -> Want
-        ensures { result ≡ (self.now).want }
+        ensures { result ≡ self.now.want }
     {
         self.want
     }

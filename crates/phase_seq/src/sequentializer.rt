@@ -1,11 +1,12 @@
 //! The sequentializer of a cell.
 
-ghost use Rattle.std.specs.Prelude.{◌≡◌, ◌≢◌, ◌+◌, ◌<◌, ◌&&◌, true, false, length};
+ghost use Rattle.std.specs.Prelude.{◌≡◌, ◌≢◌, ◌+◌, ◌<◌, ◌&&◌, false, length};
 ghost use Rattle.std.specs.Borrow.{sem};
 ghost use Rattle.phase_locker.specs.Rows.{row_of, HasFree, SameSize};
 ghost use Rattle.phase_locker.specs.Fits.{Fits, IsWriteOpen, open_reads};
 ghost use Rattle.phase_locker.specs.Others.{OthersStay, RowsStay, RowsStayBeside};
 ghost use Rattle.phase_locker.specs.declared.ways.Waiting.TheVariants.{Free};
+ghost use Rattle.phase_seq.specs.declared.section.Section.{Section};
 ghost use Rattle.phase_seq.specs.Asks.{nature_of, asks_run};
 ghost use Rattle.phase_seq.specs.Begins.{Begins, Resumes, is_cyclic, begun_of, begun_by, begun_tried, running_after};
 ghost use Rattle.phase_seq.specs.Finishes.{Finishes};
@@ -49,7 +50,7 @@ impl<L: PhaseLocker, G> LazySequentializer<L, G> {
 
     /// The locker of the cell.
     pub fn locker(&self) -> &L
-        ensures { result.now ≡ (self.now).locker }
+        ensures { result.now ≡ self.now.locker }
     {
         &self.locker
     }
@@ -57,7 +58,7 @@ impl<L: PhaseLocker, G> LazySequentializer<L, G> {
     /// The locker of the cell, by which tickets are given back, downgraded and cloned. The party that runs stays.
     pub fn locker_mut(&mut self) -> &mut L
         ensures* lends { sem 𝓛 (lends_locker L.row G.row self.entry result) }
-        ensures locker { result.now ≡ (self.old).locker }
+        ensures locker { result.now ≡ self.old.locker }
     {
         &mut self.locker
     }
@@ -69,20 +70,21 @@ impl<L: PhaseLocker, G> LazySequentializer<L, G> {
         requires cell { who.cell < length parks.old.readers }
         requires party { who.party < length parks.old.rows }
         requires free { (row_of parks.old who.party).waiting ≡ Free }
-        requires fits { Fits (L.place (self.old).locker) (L.held (self.old).locker) parks.old who.cell }
-        ensures begins { Begins (L.place (self.old).locker) who ask (self.old).running (L.held (self.old).locker) parks.old result (L.held (self.new).locker) parks.new }
-        ensures waits { is_wait result.0 ≡ shall_wait who ask (self.old).running (L.held (self.old).locker) }
-        ensures missed { is_missed result.0 ≡ shall_miss who ask (self.old).running (L.held (self.old).locker) }
-        ensures cyclic { is_turned_back result.0 ≡ is_cyclic ask.want who.party (self.old).running }
-        ensures runs { is_run result.0 ≡ shall_run who ask (self.old).running (L.held (self.old).locker) }
-        ensures running { (self.new).running ≡ running_after result.0 (self.old).running }
+        requires fits { Fits (L.place self.old.locker) (L.held self.old.locker) parks.old who.cell }
+        ensures begins { Begins (L.place self.old.locker) who ask self.old.running (L.held self.old.locker) parks.old result (L.held self.new.locker) parks.new }
+        ensures waits { is_wait result.0 ≡ shall_wait who ask self.old.running (L.held self.old.locker) }
+        ensures missed { is_missed result.0 ≡ shall_miss who ask self.old.running (L.held self.old.locker) }
+        ensures cyclic { is_turned_back result.0 ≡ is_cyclic ask.want who.party self.old.running }
+        ensures runs { is_run result.0 ≡ shall_run who ask self.old.running (L.held self.old.locker) }
+        ensures running { self.new.running ≡ running_after result.0 self.old.running }
         ensures others { OthersStay who.cell parks.old parks.new }
         ensures rows { RowsStayBeside who.party who.cell parks.old parks.new }
-        ensures stands { BegunStands who result.0 (self.new).running (L.held (self.new).locker) parks.new }
-        ensures reads { open_reads (L.held (self.new).locker) parks.new who.cell ≡ open_reads (L.held (self.old).locker) parks.old who.cell + reads_begun result.0 }
-        ensures writes { IsWriteOpen (L.held (self.old).locker) parks.old who.cell → IsWriteOpen (L.held (self.new).locker) parks.new who.cell }
-        ensures fits { Fits (L.place (self.new).locker) (L.held (self.new).locker) parks.new who.cell }
-        ensures place { L.place (self.new).locker ≡ L.place (self.old).locker }
+        ensures stands { BegunStands who result.0 self.new.running (L.held self.new.locker) parks.new }
+        ensures reads { open_reads (L.held self.new.locker) parks.new who.cell ≡ open_reads (L.held self.old.locker) parks.old who.cell + reads_begun result.0 }
+        ensures writes { IsWriteOpen (L.held self.old.locker) parks.old who.cell → IsWriteOpen (L.held self.new.locker) parks.new who.cell }
+        ensures sections { (o : Section) → o.who.cell ≡ who.cell → IsRunning o self.old.running (L.held self.old.locker) parks.old → IsRunning o self.new.running (L.held self.new.locker) parks.new }
+        ensures fits { Fits (L.place self.new.locker) (L.held self.new.locker) parks.new who.cell }
+        ensures place { L.place self.new.locker ≡ L.place self.old.locker }
         ensures same { SameSize parks.old parks.new }
     {
         if self.is_cyclic(who, ask) {
@@ -108,18 +110,19 @@ impl<L: PhaseLocker, G> LazySequentializer<L, G> {
         requires waits { (row_of parks.old who.party).waiting ≢ Free }
         requires here { (row_of parks.old who.party).cell ≡ who.cell }
         requires slow { ask.fast ≡ false }
-        requires fits { Fits (L.place (self.old).locker) (L.held (self.old).locker) parks.old who.cell }
-        ensures resumes { Resumes (L.place (self.old).locker) who ask (self.old).running (L.held (self.old).locker) parks.old result (L.held (self.new).locker) parks.new }
-        ensures cyclic { is_turned_back result.0 ≡ is_cyclic ask.want who.party (self.old).running }
-        ensures runs { is_run result.0 ≡ (is_admitted result.0 && asks_run ask (L.held (self.old).locker).phase) }
-        ensures running { (self.new).running ≡ running_after result.0 (self.old).running }
+        requires fits { Fits (L.place self.old.locker) (L.held self.old.locker) parks.old who.cell }
+        ensures resumes { Resumes (L.place self.old.locker) who ask self.old.running (L.held self.old.locker) parks.old result (L.held self.new.locker) parks.new }
+        ensures cyclic { is_turned_back result.0 ≡ is_cyclic ask.want who.party self.old.running }
+        ensures runs { is_run result.0 ≡ (is_admitted result.0 && asks_run ask (L.held self.old.locker).phase) }
+        ensures running { self.new.running ≡ running_after result.0 self.old.running }
         ensures others { OthersStay who.cell parks.old parks.new }
         ensures rows { RowsStayBeside who.party who.cell parks.old parks.new }
-        ensures stands { BegunStands who result.0 (self.new).running (L.held (self.new).locker) parks.new }
-        ensures reads { open_reads (L.held (self.new).locker) parks.new who.cell ≡ open_reads (L.held (self.old).locker) parks.old who.cell + reads_begun result.0 }
-        ensures writes { IsWriteOpen (L.held (self.old).locker) parks.old who.cell → IsWriteOpen (L.held (self.new).locker) parks.new who.cell }
-        ensures fits { Fits (L.place (self.new).locker) (L.held (self.new).locker) parks.new who.cell }
-        ensures place { L.place (self.new).locker ≡ L.place (self.old).locker }
+        ensures stands { BegunStands who result.0 self.new.running (L.held self.new.locker) parks.new }
+        ensures reads { open_reads (L.held self.new.locker) parks.new who.cell ≡ open_reads (L.held self.old.locker) parks.old who.cell + reads_begun result.0 }
+        ensures writes { IsWriteOpen (L.held self.old.locker) parks.old who.cell → IsWriteOpen (L.held self.new.locker) parks.new who.cell }
+        ensures sections { (o : Section) → o.who.cell ≡ who.cell → IsRunning o self.old.running (L.held self.old.locker) parks.old → IsRunning o self.new.running (L.held self.new.locker) parks.new }
+        ensures fits { Fits (L.place self.new.locker) (L.held self.new.locker) parks.new who.cell }
+        ensures place { L.place self.new.locker ≡ L.place self.old.locker }
         ensures same { SameSize parks.old parks.new }
     {
         if self.is_cyclic(who, ask) {
@@ -138,17 +141,17 @@ impl<L: PhaseLocker, G> LazySequentializer<L, G> {
     /// that wants to write keeps its lock, and the phase is published when that is given back.
     pub fn finish(&mut self, parks: &mut Parks, section: Section, made: bool) -> (Finished, Given)
         requires cell { section.who.cell < length parks.old.readers }
-        requires running { IsRunning section (self.old).running (L.held (self.old).locker) parks.old }
-        requires fits { Fits (L.place (self.old).locker) (L.held (self.old).locker) parks.old section.who.cell }
+        requires running { IsRunning section self.old.running (L.held self.old.locker) parks.old }
+        requires fits { Fits (L.place self.old.locker) (L.held self.old.locker) parks.old section.who.cell }
         requires room { section.want ≡ Want.Read → HasFree parks.old }
-        ensures finishes { Finishes section made (L.held (self.old).locker) parks.old result (L.held (self.new).locker) parks.new }
-        ensures running { (self.new).running ≡ None }
+        ensures finishes { Finishes section made (L.held self.old.locker) parks.old result (L.held self.new.locker) parks.new }
+        ensures running { self.new.running ≡ None }
         ensures others { OthersStay section.who.cell parks.old parks.new }
         ensures rows { RowsStay section.who.cell parks.old parks.new }
-        ensures stands { FinishedStands section.who.cell result.0 (L.held (self.new).locker) parks.new }
-        ensures reads { open_reads (L.held (self.new).locker) parks.new section.who.cell ≡ reads_finished result.0 }
-        ensures fits { Fits (L.place (self.new).locker) (L.held (self.new).locker) parks.new section.who.cell }
-        ensures place { L.place (self.new).locker ≡ L.place (self.old).locker }
+        ensures stands { FinishedStands section.who.cell result.0 (L.held self.new.locker) parks.new }
+        ensures reads { open_reads (L.held self.new.locker) parks.new section.who.cell ≡ reads_finished result.0 }
+        ensures fits { Fits (L.place self.new.locker) (L.held self.new.locker) parks.new section.who.cell }
+        ensures place { L.place self.new.locker ≡ L.place self.old.locker }
         ensures same { SameSize parks.old parks.new }
     {
         let Section { who, want, ticket } = section;
@@ -174,7 +177,7 @@ impl<L: PhaseLocker, G> LazySequentializer<L, G> {
 
     /// Whether a call asks for a run of the generator that its own party is running.
     fn is_cyclic(&self, who: Who, ask: Ask) -> bool
-        ensures { result ≡ is_cyclic ask.want who.party (self.now).running }
+        ensures { result ≡ is_cyclic ask.want who.party self.now.running }
     {
         ask.want.initializes() && self.running == Some(who.party)
     }
@@ -182,8 +185,8 @@ impl<L: PhaseLocker, G> LazySequentializer<L, G> {
     /// What an attempt begins.
     fn begun_by(&mut self, who: Who, ask: Ask, phase: Phase, attempt: Attempt) -> Begun
         ensures begun { result ≡ begun_by who ask phase attempt }
-        ensures running { (self.new).running ≡ running_after result (self.old).running }
-        ensures locker { (self.new).locker ≡ (self.old).locker }
+        ensures running { self.new.running ≡ running_after result self.old.running }
+        ensures locker { self.new.locker ≡ self.old.locker }
     {
         match attempt {
             Attempt::Wait(how) => Begun::Wait(how),
@@ -200,8 +203,8 @@ impl<L: PhaseLocker, G> LazySequentializer<L, G> {
         got: Option<LockResult<ReadTicket, WriteTicket>>,
     ) -> Begun
         ensures begun { result ≡ begun_tried who ask phase got }
-        ensures running { (self.new).running ≡ running_after result (self.old).running }
-        ensures locker { (self.new).locker ≡ (self.old).locker }
+        ensures running { self.new.running ≡ running_after result self.old.running }
+        ensures locker { self.new.locker ≡ self.old.locker }
     {
         match got {
             None => Begun::Missed,
@@ -218,8 +221,8 @@ impl<L: PhaseLocker, G> LazySequentializer<L, G> {
         got: LockResult<ReadTicket, WriteTicket>,
     ) -> Begun
         ensures begun { result ≡ begun_of who ask phase got }
-        ensures running { (self.new).running ≡ running_after result (self.old).running }
-        ensures locker { (self.new).locker ≡ (self.old).locker }
+        ensures running { self.new.running ≡ running_after result self.old.running }
+        ensures locker { self.new.locker ≡ self.old.locker }
     {
         match got {
             LockResult::None(p) => Begun::Nothing(p),
