@@ -1,0 +1,82 @@
+-- How a party stands after its call, by what the locker gave.
+use Rattle.std.proofs.Common.{◌≡◌, ℕ, ◌+◌, Bool, true, false, ◌&&◌, if◌then◌else◌, Option, Some, None, refl, arith, sym, ◌∙◌, ap}
+use Rattle.phase_bits.specs.declared.phase.Phase.{Phase}
+use Rattle.phase_bits.specs.declared.holders.Holders.{Holders}
+use Rattle.phase_locker.specs.declared.tickets.LockNature.{LockNature}
+use Rattle.phase_locker.specs.declared.tickets.LockNature.TheVariants as nature
+use Rattle.phase_locker.specs.declared.tickets.LockResult.{LockResult}
+use Rattle.phase_locker.specs.declared.tickets.LockResult.TheVariants as got
+use Rattle.phase_locker.specs.declared.tickets.ReadTicket.{ReadTicket}
+use Rattle.phase_locker.specs.declared.tickets.WriteTicket.{WriteTicket}
+use Rattle.phase_locker.specs.declared.tickets.Attempt.{Attempt}
+use Rattle.phase_locker.specs.declared.tickets.Attempt.TheVariants as attempt
+use Rattle.phase_locker.specs.declared.ways.Who.{Who}
+use Rattle.phase_locker.specs.declared.ways.LockerKind.{LockerKind}
+use Rattle.phase_locker.specs.Natures.{bars, admitted, got as got_by, Tries}
+use Rattle.phase_locker.specs.Rows.{Rows}
+use Rattle.phase_locker.specs.Fits.{Fits, IsWriteOpen, open_reads}
+use Rattle.phase_locker.specs.Stands.{IsOpen, Stands, reads_got}
+use Rattle.phase_locker.proofs.Judging.{unheld}
+use Rattle.phase_locker.proofs.Standing.{admitted_reads}
+use Rattle.phase_seq.specs.declared.ask.Want.{Want}
+use Rattle.phase_seq.specs.declared.ask.Ask.{Ask}
+use Rattle.phase_seq.specs.declared.section.Begun.TheVariants as begun
+use Rattle.phase_seq.specs.Asks.{initializes, asks_run}
+use Rattle.phase_seq.specs.Begins.{begun_of, begun_by, begun_tried, running_after}
+use Rattle.phase_seq.specs.Stands.{BegunStands, IsFree, reads_begun}
+
+both_left : (a b : Bool) → (a && b) ≡ true → a ≡ true
+both_left true b e = refl
+both_left false b e = cc
+
+-- ---- what was got
+
+write_stands : (run : Bool) (who : Who) (want : Want) (t : WriteTicket) (p : Phase) (running : Option ℕ) (h : Holders) (s : Rows) → (run ≡ true → initializes want ≡ true) → IsFree who s → IsWriteOpen h s who.cell →
+    BegunStands who (if run then begun.Run (record { who = who; want = want; ticket = t }) else begun.Write t p) (running_after (if run then begun.Run (record { who = who; want = want; ticket = t }) else begun.Write t p) running) h s
+write_stands true who want t p running h s asked free held = (free, refl, record { party = refl; asked = asked refl; locked = held })
+write_stands false who want t p running h s asked free held = (free, held)
+
+pub begun_of_stands : (who : Who) (ask : Ask) (p : Phase) (g : LockResult ReadTicket WriteTicket) (running : Option ℕ) (h : Holders) (s : Rows) → IsFree who s → IsOpen g h s who.cell → BegunStands who (begun_of who ask p g) (running_after (begun_of who ask p g) running) h s
+begun_of_stands who ask p (got.None q) running h s free held = free
+begun_of_stands who ask p (got.Read t) running h s free held = (free, held)
+begun_of_stands who ask p (got.Write t) running h s free held = write_stands (asks_run ask p) who ask.want t p running h s (both_left _ _) free held
+
+write_reads : (run : Bool) (who : Who) (want : Want) (t : WriteTicket) (p : Phase) → reads_begun (if run then begun.Run (record { who = who; want = want; ticket = t }) else begun.Write t p) ≡ 0
+write_reads true who want t p = refl
+write_reads false who want t p = refl
+
+pub begun_of_reads : (who : Who) (ask : Ask) (p : Phase) (g : LockResult ReadTicket WriteTicket) → reads_begun (begun_of who ask p g) ≡ reads_got g
+begun_of_reads who ask p (got.None q) = refl
+begun_of_reads who ask p (got.Read t) = refl
+begun_of_reads who ask p (got.Write t) = write_reads (asks_run ask p) who ask.want t p
+
+-- ---- an attempt
+
+pub begun_by_stands : (who : Who) (ask : Ask) (p : Phase) (a : Attempt) (running : Option ℕ) (h : Holders) (s : Rows) → Stands who a h s → BegunStands who (begun_by who ask p a) (running_after (begun_by who ask p a) running) h s
+begun_by_stands who ask p (attempt.Wait how) running h s stands = stands
+begun_by_stands who ask p (attempt.Got g) running h s stands = begun_of_stands who ask p g running h s stands.0 stands.1
+
+-- ---- a call that does not wait
+
+admitted_is_open : (n : LockNature) (k : LockerKind) (c : ℕ) (h : Holders) (s : Rows) → Fits k h s c → bars h n ≡ false → IsOpen (got_by n h.phase) (admitted h n) s c
+admitted_is_open nature.Read k c h s fits free = omega (arith, fits.shared)
+admitted_is_open nature.Write k c h s fits free = record { locked = refl; unclaimed = fits.locked (unheld h free).0 }
+admitted_is_open nature.None k c h s fits free = tt
+
+tried_at : (barred : Bool) (n : LockNature) (k : LockerKind) (who : Who) (ask : Ask) (running : Option ℕ) (h : Holders) (s : Rows) → bars h n ≡ barred → Fits k h s who.cell → IsFree who s →
+    BegunStands who (begun_tried who ask h.phase (if barred then None else Some (got_by n h.phase))) (running_after (begun_tried who ask h.phase (if barred then None else Some (got_by n h.phase))) running) (if barred then h else admitted h n) s
+tried_at true n k who ask running h s e fits free = free
+tried_at false n k who ask running h s e fits free = begun_of_stands who ask h.phase (got_by n h.phase) running (admitted h n) s free (admitted_is_open n k who.cell h s fits e)
+
+pub tried_stands : (k : LockerKind) (who : Who) (ask : Ask) (running : Option ℕ) (post : Phase → LockNature → Type 0) (h : Holders) (s : Rows) (g : Option (LockResult ReadTicket WriteTicket)) (h' : Holders) → Fits k h s who.cell → IsFree who s → Tries post h g h' →
+    BegunStands who (begun_tried who ask h.phase g) (running_after (begun_tried who ask h.phase g) running) h' s
+tried_stands k who ask running post h s g h' fits free tries = rw (tries.answer, tries.held) (tried_at (bars h tries.nature) tries.nature k who ask running h s refl fits free)
+
+reads_at : (barred : Bool) (n : LockNature) (k : LockerKind) (who : Who) (ask : Ask) (h : Holders) (s : Rows) → Fits k h s who.cell →
+    open_reads (if barred then h else admitted h n) s who.cell ≡ open_reads h s who.cell + reads_begun (begun_tried who ask h.phase (if barred then None else Some (got_by n h.phase)))
+reads_at true n k who ask h s fits = omega arith
+reads_at false n k who ask h s fits = admitted_reads n k who.cell h s fits ∙ ap (λ m. open_reads h s who.cell + m) (sym (begun_of_reads who ask h.phase (got_by n h.phase)))
+
+pub tried_reads : (k : LockerKind) (who : Who) (ask : Ask) (post : Phase → LockNature → Type 0) (h : Holders) (s : Rows) (g : Option (LockResult ReadTicket WriteTicket)) (h' : Holders) → Fits k h s who.cell → Tries post h g h' →
+    open_reads h' s who.cell ≡ open_reads h s who.cell + reads_begun (begun_tried who ask h.phase g)
+tried_reads k who ask post h s g h' fits tries = rw (tries.answer, tries.held) (reads_at (bars h tries.nature) tries.nature k who ask h s fits)

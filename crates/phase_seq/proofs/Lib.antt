@@ -1,0 +1,4 @@
+pub mod Answered
+pub mod Resumed
+pub mod Exactness
+pub mod Sections

@@ -1,0 +1,76 @@
+-- When a call gets which answer.
+use Rattle.std.specs.Prelude.{ℕ, Bool, true, false, ◌&&◌, not, Option}
+use Rattle.phase_bits.specs.declared.holders.Holders.{Holders}
+use Rattle.phase_locker.specs.declared.ways.Who.{Who}
+use Rattle.phase_locker.specs.Natures.{bars}
+use Rattle.phase_seq.specs.declared.ask.Ask.{Ask}
+use Rattle.phase_seq.specs.declared.section.Begun.{Begun}
+use Rattle.phase_seq.specs.declared.section.Begun.TheVariants.{Wait, Missed, Cyclic, Nothing, Read, Write, Run}
+use Rattle.phase_seq.specs.Asks.{asks_run, nature_of}
+use Rattle.phase_seq.specs.Begins.{is_cyclic}
+
+-- ---- the answers
+
+abbrev pub is_wait : Begun → Bool
+is_wait (Wait how) = true
+is_wait Missed = false
+is_wait Cyclic = false
+is_wait (Nothing p) = false
+is_wait (Read t p) = false
+is_wait (Write t p) = false
+is_wait (Run section) = false
+
+abbrev pub is_missed : Begun → Bool
+is_missed (Wait how) = false
+is_missed Missed = true
+is_missed Cyclic = false
+is_missed (Nothing p) = false
+is_missed (Read t p) = false
+is_missed (Write t p) = false
+is_missed (Run section) = false
+
+abbrev pub is_turned_back : Begun → Bool
+is_turned_back (Wait how) = false
+is_turned_back Missed = false
+is_turned_back Cyclic = true
+is_turned_back (Nothing p) = false
+is_turned_back (Read t p) = false
+is_turned_back (Write t p) = false
+is_turned_back (Run section) = false
+
+abbrev pub is_run : Begun → Bool
+is_run (Wait how) = false
+is_run Missed = false
+is_run Cyclic = false
+is_run (Nothing p) = false
+is_run (Read t p) = false
+is_run (Write t p) = false
+is_run (Run section) = true
+
+-- the call is admitted
+abbrev pub is_admitted : Begun → Bool
+is_admitted (Wait how) = false
+is_admitted Missed = false
+is_admitted Cyclic = false
+is_admitted (Nothing p) = true
+is_admitted (Read t p) = true
+is_admitted (Write t p) = true
+is_admitted (Run section) = true
+
+-- ---- when they come
+
+-- the lock that the call wants is barred
+abbrev pub is_barred : Ask → Holders → Bool
+is_barred ask h = bars h (nature_of ask h.phase)
+
+-- the call waits: it tries the lock, is barred, and may wait
+abbrev pub shall_wait : Who → Ask → Option ℕ → Holders → Bool
+shall_wait who ask running h = not (is_cyclic ask.want who.party running) && (is_barred ask h && not ask.fast)
+
+-- the call gets nothing: it tries the lock, is barred, and does not wait
+abbrev pub shall_miss : Who → Ask → Option ℕ → Holders → Bool
+shall_miss who ask running h = not (is_cyclic ask.want who.party running) && (is_barred ask h && ask.fast)
+
+-- the call is to run the generator: it tries the lock, is admitted, and asks for a run
+abbrev pub shall_run : Who → Ask → Option ℕ → Holders → Bool
+shall_run who ask running h = not (is_cyclic ask.want who.party running) && (not (is_barred ask h) && asks_run ask h.phase)

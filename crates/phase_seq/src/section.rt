@@ -1,0 +1,61 @@
+//! What a call begins, and what the end of a run gives. All of it is this project's own: a call of static_init runs the
+//! generator itself and returns a guard.
+
+ghost use Rattle.std.specs.Prelude.{◌≡◌};
+
+use crate::ask::Want;
+use phase_bits::Phase;
+use phase_locker::{How, ReadTicket, Who, WriteTicket};
+
+/// An open section in which the generator of a cell is to be run. It is spent by `finish`.
+pub struct Section {
+    pub(crate) who: Who,
+    pub(crate) want: Want,
+    pub(crate) ticket: WriteTicket,
+}
+
+impl Section {
+    /// The cell, and the party that runs its generator.
+    pub fn who(&self) -> Who
+        ensures { result ≡ self.now.who }
+    {
+        self.who
+    }
+
+    /// What the call wants that opened the section.
+    pub fn want(&self) -> Want
+        ensures { result ≡ self.now.want }
+    {
+        self.want
+    }
+}
+
+/// The answer to a call.
+pub enum Begun {
+    /// The call is barred, and waits in this way until its party calls again.
+    Wait(How),
+    /// The call is barred, and does not wait.
+    Missed,
+    /// The call asks for a run of the generator that its own party is running.
+    Cyclic,
+    /// No run is due, and no lock is wanted: the phase of the cell.
+    Nothing(Phase),
+    /// A read lock, and the phase of the cell.
+    Read(ReadTicket, Phase),
+    /// A write lock, and the phase of the cell.
+    Write(WriteTicket, Phase),
+    /// The generator is to be run, and `finish` to be told its outcome.
+    Run(Section),
+}
+
+/// The answer to the end of a run, with the phase that the run reached.
+pub enum Finished {
+    /// The call has what it wants. No lock is left.
+    Phase(Phase),
+    /// A read lock. The phase is published.
+    Read(ReadTicket, Phase),
+    /// A write lock. The phase is to be published by giving it back with this phase.
+    Write(WriteTicket, Phase),
+    /// The run failed. No lock is left.
+    Failed(Phase),
+}
