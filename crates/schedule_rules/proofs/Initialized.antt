@@ -1,8 +1,9 @@
--- INITIALIZED is never cleared, and a generator runs only where it is not there.
+-- INITIALIZED is never cleared, and a generator runs only where a run is wanted.
 use Rattle.std.proofs.Common.{◌≡◌, ◌≢◌, ◌<◌, ℕ, List, [], ◌∷◌, length, refl, sym, ◌∙◌, ap, subst, arith, Bool, true, false, not, ◌&&◌, cond, None, Some}
 use Rattle.std.specs.Prelude.{◌==◌, is_some, if◌then◌else◌}
 use Rattle.std.specs.List.{find, AllByRecursion}
 use Rattle.std.specs.declared.option.Option.{Option}
+use Rattle.phase_bits.specs.Number.{phase_of}
 use Rattle.phase_bits.specs.Flags.{has, initialized}
 use Rattle.schedule_rules.specs.declared.plan.Call.{Call}
 use Rattle.schedule_rules.specs.declared.plan.Call.TheVariants as call
@@ -18,6 +19,7 @@ use Rattle.schedule_rules.specs.declared.line.Answer.TheVariants as answer
 use Rattle.schedule_rules.specs.declared.line.Refusal.{Refusal}
 use Rattle.schedule_rules.specs.declared.line.Refusal.TheVariants as refusals
 use Rattle.schedule_rules.specs.Kinds.{cell_at}
+use Rattle.schedule_rules.specs.Phases.{shall_init}
 use Rattle.schedule_rules.specs.Calls.{Want, Calls, Reads, rule, initializes}
 use Rattle.schedule_rules.specs.Changes.{Content, Ran, effect}
 use Rattle.schedule_rules.specs.History.{Event, act_of, latest_act, count}
@@ -43,6 +45,22 @@ same_number m = grind arith
 other_number : (m n : ℕ) → (m == n) ≡ false → (n == m) ≡ false
 other_number m n e = grind arith
 
+-- where a run is wanted, INITIALIZED is not there
+pub wanted-lacks : (retry : Bool) (p : ℕ) → shall_init retry p ≡ true → has p initialized ≡ false
+wanted-lacks true p e = by (has p initialized) e
+  where
+    by : (b : Bool) → not b ≡ true → b ≡ false
+    by false f = refl
+    by true f = absurd (cc)
+wanted-lacks false p e = let empty : p ≡ 0 = grind arith in subst (λ q. has q initialized ≡ false) (sym empty) refl
+
+-- an attempt, by whether it is cyclic or barred
+pub in_turn : (P : Answer → Type 0) (own barred : Bool) (w : How) (r : Answer) → P answer.Cyclic → ((way : How) → P (answer.Waiting way)) → P r
+    → P (if own then answer.Cyclic else if barred then answer.Waiting w else r)
+in_turn P true barred w r x y z = x
+in_turn P false true w r x y z = y w
+in_turn P false false w r x y z = z
+
 -- 1 where the test holds
 abbrev pub one_if : Bool → ℕ
 one_if b = cond b 1 0
@@ -55,17 +73,17 @@ module _ (cells : List CellPlan) (h : List Event) where
   abbrev pub content_with : Option Back → ℕ → Content
   content_with b c = content_after_back cells c b (replay cells c h)
 
-  -- the section's generator runs where the value is not there
-  abbrev pub IsUnready : Option Back → Section → Type 0
-  IsUnready b s = has (content_with b s.cell).phase initialized ≡ false
+  -- the section's generator runs where a run is wanted
+  abbrev pub IsWanted : Option Back → Section → Type 0
+  IsWanted b s = shall_init (cell_at cells s.cell).retry (content_with b s.cell).phase ≡ true
 
   -- the holder of a write guard sees a value
   abbrev pub IsReady : Option Back → Guard → Type 0
   IsReady b x = x.writes ≡ true → has (effect (cell_at cells x.cell) x.changes (content_with b x.cell)).phase initialized ≡ true
 
-  -- each generator runs where no value is there, and each holder of a write guard sees one
+  -- each generator runs where a run is wanted, and each holder of a write guard sees a value
   pub record IsSound (b : Option Back) (ss : List Section) (gs : List Guard) : Type 0 where
-    pub unready : AllByRecursion (IsUnready b) ss
+    pub wanted : AllByRecursion (IsWanted b) ss
     pub ready : AllByRecursion (IsReady b) gs
 
   -- no value is lost
@@ -88,7 +106,7 @@ module _ (cells : List CellPlan) (h : List Event) where
     quiet e a b c = record {
       back = None;
       backed = c;
-      sound = record { unready = subst (AllByRecursion (IsUnready None)) (sym a) k.unready; ready = subst (AllByRecursion (IsReady None)) (sym b) k.ready };
+      sound = record { wanted = subst (AllByRecursion (IsWanted None)) (sym a) k.wanted; ready = subst (AllByRecursion (IsReady None)) (sym b) k.ready };
       kept = λ d r. r;
     }
 
@@ -117,8 +135,8 @@ module _ (cells : List CellPlan) (h : List Event) where
         omega (arith, (alone s.cell).one_writer, count_ended (runs_in s.cell) p (sections h) s e, one)
 
     -- what is given back of one cell leaves the sections of others
-    unready_elsewhere : (b : Back) (s : Section) → runs_in b.cell s ≡ false → IsUnready None s → IsUnready (Some b) s
-    unready_elsewhere b s e u = rw (other_number s.cell b.cell e) u
+    wanted_elsewhere : (b : Back) (s : Section) → runs_in b.cell s ≡ false → IsWanted None s → IsWanted (Some b) s
+    wanted_elsewhere b s e u = rw (other_number s.cell b.cell e) u
 
     -- and the write guards of others
     ready_elsewhere : (b : Back) (x : Guard) → writes_cell b.cell x ≡ false → IsReady None x → IsReady (Some b) x
@@ -130,7 +148,7 @@ module _ (cells : List CellPlan) (h : List Event) where
       back = Some b;
       backed = ap (λ o. back_of_run (Some v) o) e;
       sound = record {
-        unready = each_else (runs_in t.cell) (IsUnready None) (IsUnready (Some b)) (without_innermost p (sections h)) (no_run_left p t e) (unready_elsewhere b) (each_ended (IsUnready None) p (sections h) k.unready);
+        wanted = each_else (runs_in t.cell) (IsWanted None) (IsWanted (Some b)) (without_innermost p (sections h)) (no_run_left p t e) (wanted_elsewhere b) (each_ended (IsWanted None) p (sections h) k.wanted);
         ready = rw e ((λ w. absurd (cc)), each_else (writes_cell t.cell) (IsReady None) (IsReady (Some b)) (guards h) (no_writer_beside t.cell (λ s. s.party == p) t e refl) (ready_elsewhere b) k.ready);
       };
       kept = λ c r. by c (t.cell == c) r;
@@ -146,7 +164,7 @@ module _ (cells : List CellPlan) (h : List Event) where
       back = None;
       backed = refl;
       sound = record {
-        unready = each_ended (IsUnready None) p (sections h) k.unready;
+        wanted = each_ended (IsWanted None) p (sections h) k.wanted;
         ready = rw e ((λ w. refl), k.ready);
       };
       kept = λ c r. r;
@@ -158,14 +176,14 @@ module _ (cells : List CellPlan) (h : List Event) where
       back = Some b;
       backed = ap (λ o. back_of_run None o) e;
       sound = record {
-        unready = each_else (runs_in t.cell) (IsUnready None) (IsUnready (Some b)) (without_innermost p (sections h)) (no_run_left p t e) (unready_elsewhere b) (each_ended (IsUnready None) p (sections h) k.unready);
+        wanted = each_else (runs_in t.cell) (IsWanted None) (IsWanted (Some b)) (without_innermost p (sections h)) (no_run_left p t e) (wanted_elsewhere b) (each_ended (IsWanted None) p (sections h) k.wanted);
         ready = each_else (writes_cell t.cell) (IsReady None) (IsReady (Some b)) (guards h) (no_writer_beside t.cell (λ s. s.party == p) t e refl) (ready_elsewhere b) k.ready;
       };
       kept = λ c r. by c (t.cell == c) refl r;
     }
       where
         no_value : has (phase_at cells t.cell h) initialized ≡ false
-        no_value = each_found (λ s. s.party == p) (IsUnready None) (sections h) t e k.unready
+        no_value = wanted-lacks (cell_at cells t.cell).retry (phase_at cells t.cell h) (each_found (λ s. s.party == p) (IsWanted None) (sections h) t e k.wanted)
 
         clash : (c : ℕ) → (t.cell == c) ≡ true → has (phase_at cells c h) initialized ≡ true → ⊥
         clash c same r = let s : t.cell ≡ c = grind arith in let n : has (phase_at cells c h) initialized ≡ false = subst (λ d. has (phase_at cells d h) initialized ≡ false) s no_value in apart (sym r ∙ n)
@@ -182,7 +200,7 @@ module _ (cells : List CellPlan) (h : List Event) where
     set p g v i = record {
       back = None;
       backed = refl;
-      sound = record { unready = k.unready; ready = each_put (IsReady None) g v (guards h) (λ x r. r) k.ready };
+      sound = record { wanted = k.wanted; ready = each_put (IsReady None) g v (guards h) (λ x r. r) k.ready };
       kept = λ c r. r;
     }
 
@@ -191,7 +209,7 @@ module _ (cells : List CellPlan) (h : List Event) where
     released_reader p g i x e w = record {
       back = None;
       backed = rw e (rw w refl);
-      sound = record { unready = k.unready; ready = each_removed (IsReady None) g (guards h) k.ready };
+      sound = record { wanted = k.wanted; ready = each_removed (IsReady None) g (guards h) k.ready };
       kept = λ c r. r;
     }
 
@@ -201,7 +219,7 @@ module _ (cells : List CellPlan) (h : List Event) where
       back = Some b;
       backed = rw e (rw w refl);
       sound = record {
-        unready = each_else (runs_in x.cell) (IsUnready None) (IsUnready (Some b)) (sections h) (no_run_beside g x e w) (unready_elsewhere b) k.unready;
+        wanted = each_else (runs_in x.cell) (IsWanted None) (IsWanted (Some b)) (sections h) (no_run_beside g x e w) (wanted_elsewhere b) k.wanted;
         ready = each_else (writes_cell x.cell) (IsReady None) (IsReady (Some b)) (without_guard g (guards h)) (no_writer_left g x e w) (ready_elsewhere b) (each_removed (IsReady None) g (guards h) k.ready);
       };
       kept = λ c r. by c (x.cell == c) refl r;
@@ -220,7 +238,7 @@ module _ (cells : List CellPlan) (h : List Event) where
       back = k.back;
       backed = k.backed;
       sound = record {
-        unready = k.sound.unready;
+        wanted = k.sound.wanted;
         ready = rw e ((λ d. absurd (cc)), k.sound.ready);
       };
       kept = k.kept;
@@ -231,7 +249,7 @@ module _ (cells : List CellPlan) (h : List Event) where
     downgraded_reader p g i x e w = record {
       back = None;
       backed = rw e (rw w refl);
-      sound = record { unready = k.unready; ready = rw e ((λ d. absurd (cc)), each_removed (IsReady None) g (guards h) k.ready) };
+      sound = record { wanted = k.wanted; ready = rw e ((λ d. absurd (cc)), each_removed (IsReady None) g (guards h) k.ready) };
       kept = λ c r. r;
     }
 
@@ -263,13 +281,17 @@ module _ (cells : List CellPlan) (h : List Event) where
     phased p act.Again y i t = quiet _ refl refl refl
     phased p _ y i t = absurd t
 
+    -- a call that may not access the value
+    denied : (p : ℕ) (a : Act) (n : ℕ) (i : Given) → Grows (event (record { party = p; act = a }) (answer.Access (phase_of n)) i)
+    denied p a n i = quiet _ refl refl refl
+
     module _ (p c : ℕ) (a : Act) (j : Call) (i : Given) (calls : IsCalling a) (does : act_of h (record { party = p; act = a }) ≡ act.Call c j) where
       -- a call whose generator runs
-      running : has (phase_at cells c h) initialized ≡ false → Grows (event (record { party = p; act = a }) answer.Running i)
+      running : shall_init (cell_at cells c).retry (phase_at cells c h) ≡ true → Grows (event (record { party = p; act = a }) answer.Running i)
       running u = record {
         back = None;
         backed = refl;
-        sound = record { unready = subst (λ b. AllByRecursion (IsUnready None) (with_run b p (length h) (sections h))) (sym does) (u, k.unready); ready = k.ready };
+        sound = record { wanted = subst (λ b. AllByRecursion (IsWanted None) (with_run b p (length h) (sections h))) (sym does) (u, k.wanted); ready = k.ready };
         kept = λ d r. r;
       }
 
@@ -278,13 +300,13 @@ module _ (cells : List CellPlan) (h : List Event) where
     reading p c (act.Call d m) j i t does = record {
       back = None;
       backed = refl;
-      sound = record { unready = k.unready; ready = ((λ w. absurd (cc)), k.ready) };
+      sound = record { wanted = k.wanted; ready = ((λ w. absurd (cc)), k.ready) };
       kept = λ e r. r;
     }
     reading p c act.Again j i t does = record {
       back = None;
       backed = refl;
-      sound = record { unready = k.unready; ready = subst (λ b. AllByRecursion (IsReady None) (with_reader h p b (guards h))) (sym does) ((λ w. absurd (cc)), k.ready) };
+      sound = record { wanted = k.wanted; ready = subst (λ b. AllByRecursion (IsReady None) (with_reader h p b (guards h))) (sym does) ((λ w. absurd (cc)), k.ready) };
       kept = λ e r. r;
     }
     reading p c _ j i t does = absurd t
@@ -295,38 +317,35 @@ module _ (cells : List CellPlan) (h : List Event) where
       back = None;
       backed = refl;
       sound = record {
-        unready = by a t;
+        wanted = by a t;
         ready = subst (λ b. AllByRecursion (IsReady None) (with_writer h p b (guards h))) (sym does) ((λ w. u), k.ready);
       };
       kept = λ e r. r;
     }
       where
-        by : (a : Act) → IsCalling a → AllByRecursion (IsUnready None) (sections (event (record { party = p; act = a }) answer.WriteGuard i ∷ h))
-        by (act.Call d m) t = k.unready
-        by act.Again t = k.unready
+        by : (a : Act) → IsCalling a → AllByRecursion (IsWanted None) (sections (event (record { party = p; act = a }) answer.WriteGuard i ∷ h))
+        by (act.Call d m) t = k.wanted
+        by act.Again t = k.wanted
         by _ t = absurd t
-
-    -- an attempt, by whether it is cyclic or barred
-    in_turn : (P : Answer → Type 0) (own barred : Bool) (w : How) (r : Answer) → P answer.Cyclic → ((way : How) → P (answer.Waiting way)) → P r
-        → P (if own then answer.Cyclic else if barred then answer.Waiting w else r)
-    in_turn P true barred w r x y z = x
-    in_turn P false true w r x y z = y w
-    in_turn P false false w r x y z = z
 
     -- a call that is admitted
     admitted : (p c : ℕ) (a : Act) (j : Call) (i : Given) → IsCalling a → act_of h (record { party = p; act = a }) ≡ act.Call c j
         → Grows (event (record { party = p; act = a }) (answer_admitted (cell_at cells c) (Calls j) (replay cells c h)) i)
     admitted p c a call.Phase i t does = phased p a (replay cells c h) i t
-    admitted p c a call.Read i t does = by (has (phase_at cells c h) initialized) refl
+    admitted p c a call.Read i t does = by (shall_init (cell_at cells c).retry (phase_at cells c h)) (has (phase_at cells c h) initialized) refl refl
       where
-        by : (b : Bool) → has (phase_at cells c h) initialized ≡ b → Grows (event (record { party = p; act = a }) (answer_admitted (cell_at cells c) (Calls call.Read) (replay cells c h)) i)
-        by true e = rw e (reading p c a call.Read i t does)
-        by false e = rw (e, e) (running p c a call.Read i t does e)
-    admitted p c a call.Write i t does = by (has (phase_at cells c h) initialized) refl
+        by : (wanted ready : Bool) → shall_init (cell_at cells c).retry (phase_at cells c h) ≡ wanted → has (phase_at cells c h) initialized ≡ ready
+            → Grows (event (record { party = p; act = a }) (answer_admitted (cell_at cells c) (Calls call.Read) (replay cells c h)) i)
+        by true ready e f = rw (e, e) (running p c a call.Read i t does e)
+        by false true e f = rw (e, f) (reading p c a call.Read i t does)
+        by false false e f = rw (e, f) (denied p a (phase_at cells c h) i)
+    admitted p c a call.Write i t does = by (shall_init (cell_at cells c).retry (phase_at cells c h)) (has (phase_at cells c h) initialized) refl refl
       where
-        by : (b : Bool) → has (phase_at cells c h) initialized ≡ b → Grows (event (record { party = p; act = a }) (answer_admitted (cell_at cells c) (Calls call.Write) (replay cells c h)) i)
-        by true e = rw e (writing p c a call.Write i t does e)
-        by false e = rw e (running p c a call.Write i t does e)
+        by : (wanted ready : Bool) → shall_init (cell_at cells c).retry (phase_at cells c h) ≡ wanted → has (phase_at cells c h) initialized ≡ ready
+            → Grows (event (record { party = p; act = a }) (answer_admitted (cell_at cells c) (Calls call.Write) (replay cells c h)) i)
+        by true ready e f = rw e (running p c a call.Write i t does e)
+        by false true e f = rw (e, f) (writing p c a call.Write i t does f)
+        by false false e f = rw (e, f) (denied p a (phase_at cells c h) i)
 
     -- an attempt
     attempted : (p c : ℕ) (a : Act) (w : Want) (i : Given) (ws : List Wait) (chosen : Bool) → IsCalling a → ((j : Call) → w ≡ Calls j → act_of h (record { party = p; act = a }) ≡ act.Call c j)
@@ -367,7 +386,7 @@ module _ (cells : List CellPlan) (h : List Event) where
     released p g i None e = record {
       back = None;
       backed = rw e refl;
-      sound = record { unready = k.unready; ready = each_removed (IsReady None) g (guards h) k.ready };
+      sound = record { wanted = k.wanted; ready = each_removed (IsReady None) g (guards h) k.ready };
       kept = λ c r. r;
     }
     released p g i (Some x) e = by x.writes refl
@@ -381,7 +400,7 @@ module _ (cells : List CellPlan) (h : List Event) where
     downgraded p g i None e = record {
       back = None;
       backed = rw e refl;
-      sound = record { unready = k.unready; ready = rw e (each_removed (IsReady None) g (guards h) k.ready) };
+      sound = record { wanted = k.wanted; ready = rw e (each_removed (IsReady None) g (guards h) k.ready) };
       kept = λ c r. r;
     }
     downgraded p g i (Some x) e = by x.writes refl
@@ -400,7 +419,7 @@ module _ (cells : List CellPlan) (h : List Event) where
         by false = record {
           back = None;
           backed = refl;
-          sound = record { unready = k.unready; ready = rw e ((λ d. absurd (cc)), k.ready) };
+          sound = record { wanted = k.wanted; ready = rw e ((λ d. absurd (cc)), k.ready) };
           kept = λ c r. r;
         }
 
@@ -456,12 +475,12 @@ module _ (cells : List CellPlan) where
 
   -- what a legal history goes on by
   pub sound : (h : List Event) → IsLegal cells h → IsSound cells h None (sections h) (guards h)
-  sound [] k = record { unready = tt; ready = tt }
+  sound [] k = record { wanted = tt; ready = tt }
   sound (e ∷ h) k = longer (legal cells h (sound h k.2) (alone h k.2) e.step e.line k.0)
     where
       longer : Grows cells h e → IsSound cells (e ∷ h) None (sections (e ∷ h)) (guards (e ∷ h))
       longer g = let s : IsSound cells h (back_of_step h e.step e.line.answer) (sections (e ∷ h)) (guards (e ∷ h)) = subst (λ b. IsSound cells h b (sections (e ∷ h)) (guards (e ∷ h))) (sym g.backed) g.sound
-          in record { unready = s.unready; ready = s.ready }
+          in record { wanted = s.wanted; ready = s.ready }
 
   -- INITIALIZED stays
   pub initialized-stays : (h : List Event) (e : Event) (c : ℕ) → IsLegal cells (e ∷ h) → has (phase_at cells c h) initialized ≡ true → has (phase_at cells c (e ∷ h)) initialized ≡ true

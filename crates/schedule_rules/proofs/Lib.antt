@@ -8,3 +8,4 @@ pub mod OneSuccess
 pub mod Bars
 mod OneTranscript
 mod Waiting
+mod Access
