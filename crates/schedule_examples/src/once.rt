@@ -61,6 +61,19 @@ pub fn what_is_denied_hands_on()
         (left_failed ∷ []) }
 {}
 
+/// The lock comes first: a read waits for a write share that was given, and is denied once it has its own.
+pub fn a_call_that_will_be_denied_waits_for_its_lock()
+    ensures { Goes (parking_once_cell ∷ [])
+        (row (write 0 0) running
+        ∷ row (write 1 0) waiting_write
+        ∷ row (made_failed 0) (giving (writer 1) failed)
+        ∷ row (read 2 0) waiting_read
+        ∷ row (again 1) (giving readers failed_access)
+        ∷ row (again 2) failed_access
+        ∷ [])
+        (left_failed ∷ []) }
+{}
+
 /// With retry, and before a run, no value is denied. After the only run failed each is, and no run is tried again.
 pub fn a_value_is_denied_after_the_only_run_alone()
     ensures with_retry { IsWrong (cell ∷ [])
