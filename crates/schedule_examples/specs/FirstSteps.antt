@@ -1,8 +1,8 @@
--- The steps of a first schedule, for its texts.
+-- The steps of first schedules, for their texts.
 use Rattle.std.specs.Prelude.{List, [], ◌∷◌}
 use Rattle.schedule_rules.specs.Transcripts.{Schedule, Account}
 use Rattle.schedule_rules.specs.declared.transcript.Final.{Final}
-use Rattle.schedule_examples.specs.Words.{cell, read, write, made, look, put, release, value, read_guard, write_guard, running, done, initialized_with}
+use Rattle.schedule_examples.specs.Words.{cell, once_cell, phase, read, write, made, made_failed, look, put, release, failed_phase, failed_access, value, read_guard, write_guard, running, done, failed, initialized_with, left_failed}
 use Rattle.schedule_examples.specs.Examples.{Row, row, steps_of, lines_of}
 
 -- a schedule without parties, cells and steps
@@ -38,3 +38,25 @@ first_schedule = record { parties = 1; cells = cell ∷ []; steps = steps_of fir
 -- its transcript
 abbrev pub first_account : Account
 first_account = record { lines = lines_of first_rows; finals = first_finals }
+
+-- a run that fails in a cell without retry, and a read and a write after it
+abbrev pub once_rows : List Row
+once_rows =
+    row (read 0 0) running
+    ∷ row (made_failed 0) failed
+    ∷ row (read 0 0) failed_access
+    ∷ row (write 0 0) failed_access
+    ∷ row (phase 0 0) failed_phase
+    ∷ []
+
+-- what the cell is left with
+abbrev pub once_finals : List Final
+once_finals = left_failed ∷ []
+
+-- the schedule of these steps
+abbrev pub once_schedule : Schedule
+once_schedule = record { parties = 1; cells = once_cell ∷ []; steps = steps_of once_rows }
+
+-- its transcript
+abbrev pub once_account : Account
+once_account = record { lines = lines_of once_rows; finals = once_finals }

@@ -1,5 +1,5 @@
 -- Short words for steps, lines and cells.
-use Rattle.std.specs.Prelude.{ℕ}
+use Rattle.std.specs.Prelude.{ℕ, true, false}
 use Rattle.std.specs.declared.option.Option.TheVariants.{None, Some}
 use Rattle.phase_bits.specs.Number.{phase_of}
 use Rattle.schedule_rules.specs.declared.plan.Kind.TheVariants as kind
@@ -21,11 +21,18 @@ use Rattle.schedule_rules.specs.declared.transcript.Final.{Final}
 
 -- a cell whose calls spin
 abbrev pub cell : CellPlan
-cell = record { kind = kind.LockedLazy; place = place.Spin }
+cell = record { kind = kind.LockedLazy; retry = true; place = place.Spin }
 
 -- a cell whose calls park
 abbrev pub parking_cell : CellPlan
-parking_cell = record { kind = kind.LockedLazy; place = place.Park }
+parking_cell = record { kind = kind.LockedLazy; retry = true; place = place.Park }
+
+-- the same without retry
+abbrev pub once_cell : CellPlan
+once_cell = record { kind = kind.LockedLazy; retry = false; place = place.Spin }
+
+abbrev pub parking_once_cell : CellPlan
+parking_once_cell = record { kind = kind.LockedLazy; retry = false; place = place.Park }
 
 -- the steps, with their party first
 abbrev pub step : ℕ → Act → Step
@@ -105,6 +112,12 @@ running = line answer.Running
 
 abbrev pub done : Line
 done = line answer.Done
+
+abbrev pub empty_access : Line
+empty_access = line (answer.Access (phase_of 0))
+
+abbrev pub failed_access : Line
+failed_access = line (answer.Access (phase_of 6))
 
 abbrev pub failed : Line
 failed = line answer.Failed

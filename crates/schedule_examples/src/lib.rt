@@ -7,6 +7,7 @@ pub mod first;
 pub mod guards;
 pub mod legality;
 pub mod nesting;
+pub mod once;
 pub mod parking;
 pub mod refusals;
 pub mod texts;

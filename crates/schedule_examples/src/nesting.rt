@@ -43,6 +43,20 @@ pub fn cyclic_while_the_generator_runs()
         (untouched ∷ initialized_with 1 ∷ []) }
 {}
 
+/// A read whose cell runs its generator further out is cyclic, and the generators around it go on.
+pub fn a_cyclic_read_leaves_the_generators()
+    ensures { Goes (cell ∷ cell ∷ [])
+        (row (read 0 0) running
+        ∷ row (read 0 1) running
+        ∷ row (read 0 0) cyclic
+        ∷ row (made 0 4) read_guard
+        ∷ row (made 0 5) read_guard
+        ∷ row (look 0 3) (value 4)
+        ∷ row (look 0 4) (value 5)
+        ∷ [])
+        (initialized_with 5 ∷ initialized_with 4 ∷ []) }
+{}
+
 /// An outcome ends a section of its own party, also where another party opened one later.
 pub fn each_party_ends_its_own_section()
     ensures { Goes (cell ∷ cell ∷ [])

@@ -3,9 +3,9 @@ pub mod Opened
 pub mod Earlier
 pub mod GoesOn
 pub mod Each
-pub mod Grows
 pub mod Initialized
 pub mod OneSuccess
 pub mod Bars
 mod OneTranscript
 mod Waiting
+mod Access

@@ -17,6 +17,7 @@ use Rattle.schedule_rules.specs.declared.line.Refusal.TheVariants as refusals
 use Rattle.schedule_rules.specs.declared.line.Answer.{Answer}
 use Rattle.schedule_rules.specs.declared.line.Answer.TheVariants as answer
 use Rattle.schedule_rules.specs.Kinds.{cell_at}
+use Rattle.schedule_rules.specs.Phases.{shall_init}
 use Rattle.schedule_rules.specs.Changes.{effect}
 use Rattle.schedule_rules.specs.History.{Event, act_of, latest_act, count}
 use Rattle.schedule_rules.specs.Sections.{Section, innermost, runs_in, sections}
@@ -34,8 +35,7 @@ use Rattle.schedule_rules.proofs.Opened.{count_removed, writes_put}
 use Rattle.schedule_rules.proofs.GoesOn.{Agrees, wait-agrees}
 use Rattle.schedule_rules.proofs.Waiting.{due_at-judged}
 use Rattle.schedule_rules.proofs.Each.{each_found}
-use Rattle.schedule_rules.proofs.Grows.{IsReady, IsUnready, one_if}
-use Rattle.schedule_rules.proofs.Initialized.{alone, sound, initialized-stays}
+use Rattle.schedule_rules.proofs.Initialized.{IsReady, IsWanted, wanted-lacks, alone, sound, initialized-stays, one_if}
 
 -- what is not found is not counted
 none_counted : {X : Type 0} (p : X → Bool) (xs : List X) → find p xs ≡ None → count p xs ≡ 0
@@ -93,7 +93,8 @@ module _ (cells : List CellPlan) where
       by (Some s) e =
           let same : (s.cell == c) ≡ true = found_passes (runs_in c) (sections h) s e in
           let here : s.cell ≡ c = grind arith in
-          let lacks : has (phase_at cells s.cell h) initialized ≡ false = each_found (runs_in c) (IsUnready cells h None) (sections h) s e (sound cells h k).unready in
+          let wanted : shall_init (cell_at cells s.cell).retry (phase_at cells s.cell h) ≡ true = each_found (runs_in c) (IsWanted cells h None) (sections h) s e (sound cells h k).wanted in
+          let lacks : has (phase_at cells s.cell h) initialized ≡ false = wanted-lacks (cell_at cells s.cell).retry (phase_at cells s.cell h) wanted in
           absurd (apart (sym r ∙ subst (λ d. has (phase_at cells d h) initialized ≡ false) here lacks))
         where
           apart : true ≡ false → ⊥

@@ -3,6 +3,7 @@ use Rattle.std.proofs.Common.{◌≡◌, ℕ, List, Bool, true, false, not, ◌&
 use Rattle.std.specs.Prelude.{if◌then◌else◌, is_none}
 use Rattle.std.specs.declared.option.Option.{Option}
 use Rattle.std.specs.declared.option.Option.TheVariants.{None, Some}
+use Rattle.phase_bits.specs.Number.{phase_of}
 use Rattle.phase_locker.specs.declared.ways.How.{How}
 use Rattle.phase_locker.specs.declared.ways.Given.{Given}
 use Rattle.phase_locker.specs.declared.ways.Given.TheVariants as given
@@ -16,6 +17,7 @@ use Rattle.schedule_rules.specs.declared.line.Line.{Line}
 use Rattle.schedule_rules.specs.declared.line.Answer.{Answer}
 use Rattle.schedule_rules.specs.declared.line.Answer.TheVariants as answer
 use Rattle.schedule_rules.specs.declared.line.Refusal.{Refusal}
+use Rattle.schedule_rules.specs.Phases.{is_accessible}
 use Rattle.schedule_rules.specs.Calls.{Want, Calls, Nature, Reads, Writes, rule, asks, initializes}
 use Rattle.schedule_rules.specs.Changes.{Content}
 use Rattle.schedule_rules.specs.History.{Event}
@@ -25,7 +27,7 @@ use Rattle.schedule_rules.specs.Replay.{phase_at}
 use Rattle.schedule_rules.specs.Waits.{Attempt, attempt, Wait, wait_of, waits, attempt_of_wait}
 use Rattle.schedule_rules.specs.Holds.{is_barred, holding_with}
 use Rattle.schedule_rules.specs.Refusals.{refusal}
-use Rattle.schedule_rules.specs.Answers.{Meeting, call_answer_admitted, answer_admitted}
+use Rattle.schedule_rules.specs.Answers.{if_accessible, Meeting, call_answer_admitted, answer_admitted}
 use Rattle.schedule_rules.specs.Due.{answer_of_made, keeps_own, due_attempt, due_tried, due_made, due_look, due_clone, due_answer, meeting}
 use Rattle.schedule_rules.specs.Kinds.{cell_at}
 use Rattle.schedule_rules.specs.Legal.{Moment, First, Last, IsLegalLine, answer_of, due_at, may_give}
@@ -45,6 +47,7 @@ record Tests (t : Answer → Bool) (waiting borrowed : Bool) : Type 0 where
   pub write_guard : t answer.WriteGuard ≡ false
   pub running : t answer.Running ≡ false
   pub done : t answer.Done ≡ false
+  pub access : (p : _) → t (answer.Access p) ≡ false
   pub failed : t answer.Failed ≡ false
   pub cyclic : t answer.Cyclic ≡ false
   pub borrowed_one : t answer.Borrowed ≡ borrowed
@@ -58,6 +61,7 @@ tests_waiting = record {
   write_guard = refl;
   running = refl;
   done = refl;
+  access = λ p. refl;
   failed = refl;
   cyclic = refl;
   borrowed_one = refl;
@@ -72,6 +76,7 @@ tests_borrowed = record {
   write_guard = refl;
   running = refl;
   done = refl;
+  access = λ p. refl;
   failed = refl;
   cyclic = refl;
   borrowed_one = refl;
@@ -86,6 +91,7 @@ tests_refused = record {
   write_guard = refl;
   running = refl;
   done = refl;
+  access = λ p. refl;
   failed = refl;
   cyclic = refl;
   borrowed_one = refl;
@@ -98,11 +104,16 @@ module _ (t : Answer → Bool) (waiting borrowed : Bool) (is : Tests t waiting b
   one_of_two true x y p q = p
   one_of_two false x y p q = q
 
+  -- an answer that does not pass, where the value may be accessed
+  accessed : (x : CellPlan) (y : Content) (a : Answer) → t a ≡ false → t (if_accessible x y a) ≡ false
+  accessed x y a e = one_of_two (is_accessible x.kind y.phase) a (answer.Access (phase_of y.phase)) e (is.access _)
+
   -- a call that is not barred
   admitted_call : (n : Option Nature) (x : CellPlan) (k : Call) (y : Content) → t (call_answer_admitted n x k y) ≡ false
   admitted_call None x k y = is.phase _
-  admitted_call (Some Reads) x k y = is.read_guard
-  admitted_call (Some Writes) x k y = one_of_two (asks x (Calls k) y.phase) answer.Running answer.WriteGuard is.running is.write_guard
+  admitted_call (Some Reads) x k y = accessed x y answer.ReadGuard is.read_guard
+  admitted_call (Some Writes) x k y =
+      one_of_two (asks x (Calls k) y.phase) answer.Running (if_accessible x y answer.WriteGuard) is.running (accessed x y answer.WriteGuard is.write_guard)
 
   -- the same for whatever is attempted
   admitted : (x : CellPlan) (w : Want) (y : Content) → t (answer_admitted x w y) ≡ false

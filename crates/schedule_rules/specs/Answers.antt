@@ -12,22 +12,27 @@ use Rattle.schedule_rules.specs.declared.line.Answer.{Answer}
 use Rattle.schedule_rules.specs.declared.line.Answer.TheVariants as answer
 use Rattle.phase_locker.specs.declared.ways.How.{How}
 use Rattle.phase_locker.specs.declared.ways.How.TheVariants as how
+use Rattle.schedule_rules.specs.Phases.{is_accessible}
 use Rattle.schedule_rules.specs.Calls.{Want, Calls, Nature, Reads, Writes, rule, asks, initializes, waking_nature, way_of_nature}
 use Rattle.schedule_rules.specs.Changes.{Content}
 use Rattle.schedule_rules.specs.Holds.{Holding, is_barred, is_barred_by_readers}
 
--- the value, which every cell has that answers by it
+-- this answer where the value may be accessed, and else that it may not
+abbrev pub if_accessible : CellPlan → Content → Answer → Answer
+if_accessible x y a = if is_accessible x.kind y.phase then a else answer.Access (phase_of y.phase)
+
+-- the value. Every cell has one that answers by it, so that the 0 is never shown
 abbrev pub answer_of_value : Content → Answer
 answer_of_value y = answer.Value (unwrap_or y.value 0)
 
 -- the answer of a call that gets the lock to write
 abbrev pub call_answer_written : CellPlan → Call → Content → Answer
-call_answer_written x k y = if asks x (Calls k) y.phase then answer.Running else answer.WriteGuard
+call_answer_written x k y = if asks x (Calls k) y.phase then answer.Running else if_accessible x y answer.WriteGuard
 
 -- the answer of a call that is not barred, by its rule
 abbrev pub call_answer_admitted : Option Nature → CellPlan → Call → Content → Answer
 call_answer_admitted None x k y = answer.Phase (phase_of y.phase)
-call_answer_admitted (Some Reads) x k y = answer.ReadGuard
+call_answer_admitted (Some Reads) x k y = if_accessible x y answer.ReadGuard
 call_answer_admitted (Some Writes) x k y = call_answer_written x k y
 
 -- the answer of an attempt that is not barred, by what the cell holds

@@ -7,7 +7,6 @@ use Rattle.phase_locker.specs.declared.ways.How.TheVariants as how
 use Rattle.schedule_rules.specs.declared.plan.Call.{Call}
 use Rattle.schedule_rules.specs.declared.plan.Call.TheVariants as call
 use Rattle.schedule_rules.specs.declared.plan.CellPlan.{CellPlan}
-use Rattle.schedule_rules.specs.Kinds.{retries}
 use Rattle.schedule_rules.specs.Phases.{shall_init}
 
 -- what a step attempts on a cell: a call
@@ -31,11 +30,11 @@ initializes (Calls k) = call_initializes k
 
 -- a run is asked at this phase
 abbrev pub asks : CellPlan → Want → ℕ → Bool
-asks x w p = initializes w && shall_init (retries x) p
+asks x w p = initializes w && shall_init x.retry p
 
 -- a write where a run is wanted, and else this rule
 abbrev pub rule_to_init : CellPlan → ℕ → Option Nature → Option Nature
-rule_to_init x p n = if shall_init (retries x) p then Some Writes else n
+rule_to_init x p n = if shall_init x.retry p then Some Writes else n
 
 -- the rule of each call
 abbrev pub call_rule : CellPlan → Call → ℕ → Option Nature

@@ -23,7 +23,8 @@ use Rattle.schedule_rules.specs.Answers.{answer_of_value, Meeting, answer_of_att
 -- what a generator's value leaves
 abbrev pub call_answer_of_made : Call → Answer
 call_answer_of_made call.Read = answer.ReadGuard
-call_answer_of_made _ = answer.WriteGuard
+call_answer_of_made call.Write = answer.WriteGuard
+call_answer_of_made call.Phase = answer.WriteGuard  -- does not occur: the call asks for no run
 
 -- the same for whatever was attempted
 abbrev pub answer_of_made : Want → Answer
@@ -54,17 +55,18 @@ module _ (cells : List CellPlan) where
   due_tried h p None ws chosen = answer.Done
   due_tried h p (Some a) ws chosen = due_attempt h p a ws chosen
 
-  -- the answer of a value made, by the section that it ends
+  -- the answer of a value made, by the section that it ends. None does not occur: without a section it is refused
   abbrev pub due_made : List Event → ℕ → Option Section → Answer
   due_made h v None = answer.Done
   due_made h v (Some s) = answer_of_made s.want
 
-  -- a write guard shows what its holder sees, a read guard what is published
+  -- a write guard shows what its holder sees, a read guard what is published. None does not occur: without its guard a
+  -- look is refused
   abbrev pub due_look : List Event → Option Guard → Answer
   due_look h None = answer.Done
   due_look h (Some x) = answer_of_value (if x.writes then inside cells h x else replay cells x.cell h)
 
-  -- a clone is barred as a call that reads
+  -- a clone is barred as a call that reads. None does not occur: without its guard it is refused
   abbrev pub due_clone : List Event → List Wait → Option Guard → Answer
   due_clone h ws None = answer.Done
   due_clone h ws (Some x) = if is_barred (Some Reads) (holding_with x.cell h ws) then answer.Borrowed else answer.ReadGuard

@@ -55,23 +55,23 @@ reader n p c = record { number = n; party = p; cell = c; writes = false; start =
 abbrev pub writer : ℕ → ℕ → ℕ → Guard
 writer n p c = record { number = n; party = p; cell = c; writes = true; start = n; changes = [] }
 
--- the read guard that a run leaves
+-- the read guard that a run leaves. None does not occur: without a section an outcome is refused
 abbrev pub reader_made : ℕ → ℕ → Option Section → List Guard → List Guard
 reader_made n p None gs = gs
 reader_made n p (Some s) gs = reader n p s.cell ∷ gs
 
--- the write guard that a run leaves carries its section
+-- the write guard that a run leaves carries its section. None does not occur, as above
 abbrev pub writer_made : ℕ → ℕ → ℕ → Option Section → List Guard → List Guard
 writer_made n p v None gs = gs
 writer_made n p v (Some s) gs =
     record { number = n; party = p; cell = s.cell; writes = true; start = s.start; changes = Ran (Some v) ∷ [] } ∷ gs
 
--- a read guard on the cell of another guard
+-- a read guard on the cell of another guard. None does not occur: without that guard the step is refused
 abbrev pub reader_beside : ℕ → ℕ → Option Guard → List Guard → List Guard
 reader_beside n p None gs = gs
 reader_beside n p (Some x) gs = reader n p x.cell ∷ gs
 
--- a read guard more, by the act that gets it
+-- a read guard more, by the act that gets it. No other act gets one
 abbrev pub with_reader : List Event → ℕ → Act → List Guard → List Guard
 with_reader h p (act.Call c k) gs = reader (length h) p c ∷ gs
 with_reader h p (act.Made v) gs = reader_made (length h) p (innermost p (sections h)) gs
@@ -79,7 +79,7 @@ with_reader h p (act.Downgrade g) gs = reader_beside (length h) p (numbered g gs
 with_reader h p (act.Clone g) gs = reader_beside (length h) p (numbered g gs) gs
 with_reader h p _ gs = gs
 
--- a write guard more, by the act that gets it
+-- a write guard more, by the act that gets it. No other act gets one
 abbrev pub with_writer : List Event → ℕ → Act → List Guard → List Guard
 with_writer h p (act.Call c k) gs = writer (length h) p c ∷ gs
 with_writer h p (act.Made v) gs = writer_made (length h) p v (innermost p (sections h)) gs
@@ -96,7 +96,15 @@ abbrev pub guards_after : List Event → Step → Answer → List Guard → List
 guards_after h s answer.ReadGuard gs = with_reader h s.party (act_of h s) gs
 guards_after h s answer.WriteGuard gs = with_writer h s.party (act_of h s) gs
 guards_after h s answer.Done gs = guards_done s.act gs
-guards_after h s _ gs = gs
+guards_after h s (answer.Phase p) gs = gs
+guards_after h s (answer.Value v) gs = gs
+guards_after h s answer.Running gs = gs
+guards_after h s (answer.Access p) gs = gs
+guards_after h s answer.Failed gs = gs
+guards_after h s answer.Cyclic gs = gs
+guards_after h s answer.Borrowed gs = gs
+guards_after h s (answer.Waiting way) gs = gs
+guards_after h s (answer.Refused r) gs = gs
 
 -- the open guards, the latest of which stands first
 abbrev pub guards : List Event → List Guard

@@ -7,7 +7,7 @@ use Rattle.schedule_rules.specs.declared.plan.Place.TheVariants as place
 
 -- a cell that no plan has
 abbrev pub no_cell : CellPlan
-no_cell = record { kind = kind.LockedLazy; place = place.Spin }
+no_cell = record { kind = kind.LockedLazy; retry = true; place = place.Spin }
 
 -- the cell with this number
 abbrev pub cell_at : List CellPlan → ℕ → CellPlan
@@ -17,7 +17,3 @@ cell_at cells c = slice_index_or cells c no_cell
 abbrev pub is_parking : Place → Bool
 is_parking place.Park = true
 is_parking place.Spin = false
-
--- a run that failed is tried again
-abbrev pub retries : CellPlan → Bool
-retries x = true

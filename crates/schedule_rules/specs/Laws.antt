@@ -1,5 +1,5 @@
 -- What laws about all histories say.
-use Rattle.std.specs.Prelude.{ℕ, Bool, true, false, not, List, [], ◌∷◌, ◌≡◌, ◌==◌, ◌+◌, ◌&&◌, All, is_none, if◌then◌else◌}
+use Rattle.std.specs.Prelude.{ℕ, Bool, true, false, not, List, [], ◌∷◌, ◌≡◌, ◌≢◌, ◌==◌, ◌+◌, ◌&&◌, All, is_none, if◌then◌else◌}
 use Rattle.std.specs.declared.option.Option.{Option}
 use Rattle.std.specs.declared.option.Option.TheVariants.{None, Some}
 use Rattle.schedule_rules.specs.declared.line.Answer.{Answer}
@@ -8,6 +8,9 @@ use Rattle.schedule_rules.specs.declared.step.Act.{Act}
 use Rattle.schedule_rules.specs.declared.step.Act.TheVariants as act
 use Rattle.schedule_rules.specs.declared.step.Step.{Step}
 use Rattle.schedule_rules.specs.declared.plan.CellPlan.{CellPlan}
+use Rattle.phase_bits.specs.declared.phase.Phase.{Phase}
+use Rattle.phase_bits.specs.Number.{phase_of}
+use Rattle.phase_bits.specs.Flags.{has, initialized}
 use Rattle.phase_locker.specs.declared.ways.Given.{Given}
 use Rattle.schedule_rules.specs.Kinds.{cell_at, is_parking}
 use Rattle.schedule_rules.specs.Calls.{Reads, rule, initializes}
@@ -27,6 +30,20 @@ pub record ChangesNothing (cells : List CellPlan) (h : List Event) (e : Event) :
   pub guards_stay : guards (e ∷ h) ≡ guards h
   pub waits_stay : waits cells (e ∷ h) ≡ waits cells h
   pub published_stays : (c : ℕ) → replay cells c (e ∷ h) ≡ replay cells c h
+
+-- the event leaves what is open, and every published phase and value
+pub record IsWithoutEffect (cells : List CellPlan) (h : List Event) (e : Event) : Type 0 where
+  pub sections_stay : sections (e ∷ h) ≡ sections h
+  pub guards_stay : guards (e ∷ h) ≡ guards h
+  pub published_stays : (c : ℕ) → replay cells c (e ∷ h) ≡ replay cells c h
+
+-- this phase is shown, and the value of the cell may not be accessed: the cell has no retry, its phase lacks INITIALIZED,
+-- and it is not empty
+pub record IsDenied (cells : List CellPlan) (h : List Event) (c : ℕ) (shows : Phase) : Type 0 where
+  pub shown : shows ≡ phase_of (phase_at cells c h)
+  pub once : (cell_at cells c).retry ≡ false
+  pub lacks : has (phase_at cells c h) initialized ≡ false
+  pub ended : phase_at cells c h ≢ 0
 
 -- the answer says that a call waits
 abbrev pub is_waiting : Answer → Bool

@@ -2,12 +2,17 @@
 use Rattle.std.specs.Prelude.{ℕ, Bool, true, false, not, ◌==◌}
 use Rattle.std.specs.Int.RustNames.{bit_or}
 use Rattle.phase_bits.specs.Flags.{has, initialized, initialization_panicked, initialization_skiped}
+use Rattle.schedule_rules.specs.declared.plan.Kind.{Kind}
 use Rattle.schedule_rules.specs.declared.plan.CellPlan.{CellPlan}
 
 -- a run is wanted: with retry until one succeeded, without it on the empty phase alone
 abbrev pub shall_init : Bool → ℕ → Bool
 shall_init true p = not (has p initialized)
 shall_init false p = p == 0
+
+-- the value of a cell of this kind may be accessed
+abbrev pub is_accessible : Kind → ℕ → Bool
+is_accessible k p = has p initialized
 
 -- how a run ended
 pub data Outcome : Type 0 where

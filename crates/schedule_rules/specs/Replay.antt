@@ -19,12 +19,12 @@ pub record Back : Type 0 where
   pub cell : ℕ
   pub changes : List Change
 
--- a generator's section
+-- a generator's section. None does not occur: without a section an outcome is refused
 abbrev pub back_of_run : Option ℕ → Option Section → Option Back
 back_of_run made None = None
 back_of_run made (Some s) = Some (record { cell = s.cell; changes = Ran made ∷ [] })
 
--- a write guard's section
+-- a write guard's section. None does not occur: without its guard the step is refused
 abbrev pub back_of_guard : Option Guard → Option Back
 back_of_guard None = None
 back_of_guard (Some x) = if x.writes then Some (record { cell = x.cell; changes = x.changes }) else None
@@ -45,12 +45,21 @@ abbrev pub back_done : List Event → Act → Option Back
 back_done h (act.Release g) = back_of_guard (numbered g (guards h))
 back_done h _ = None
 
--- the section that a step with this answer gives back
+-- the section that a step with this answer gives back, where something happened in it. A call that may not access the
+-- value gives its lock back in the same step, without effect
 abbrev pub back_of_step : List Event → Step → Answer → Option Back
 back_of_step h s answer.ReadGuard = back_read h s.party s.act
 back_of_step h s answer.Done = back_done h s.act
 back_of_step h s answer.Failed = back_failed h s.party s.act
-back_of_step h s _ = None
+back_of_step h s (answer.Phase p) = None
+back_of_step h s (answer.Value v) = None
+back_of_step h s answer.WriteGuard = None
+back_of_step h s answer.Running = None
+back_of_step h s (answer.Access p) = None
+back_of_step h s answer.Cyclic = None
+back_of_step h s answer.Borrowed = None
+back_of_step h s (answer.Waiting way) = None
+back_of_step h s (answer.Refused r) = None
 
 module _ (cells : List CellPlan) where
   -- what the section given back makes of the cell's content

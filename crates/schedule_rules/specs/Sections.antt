@@ -27,7 +27,7 @@ abbrev pub without_innermost : ℕ → List Section → List Section
 without_innermost p [] = []
 without_innermost p (s ∷ ss) = if s.party == p then ss else s ∷ without_innermost p ss
 
--- one section more, whose generator runs
+-- one section more, whose generator runs. What opens it is a call, and no other act
 abbrev pub with_run : Act → ℕ → ℕ → List Section → List Section
 with_run (act.Call c k) p n ss = record { party = p; cell = c; want = Calls k; start = n } ∷ ss
 with_run _ p n ss = ss
@@ -38,11 +38,21 @@ sections_ended (act.Made v) p ss = without_innermost p ss
 sections_ended act.MadeFailed p ss = without_innermost p ss
 sections_ended _ p ss = ss
 
--- the sections that run after a step with this answer
+-- the sections that run after a step with this answer: an outcome ends one, unless it is refused, and what may not
+-- access the value leaves all
 abbrev pub sections_after : List Event → Step → Answer → List Section → List Section
-sections_after h s (answer.Refused r) ss = ss
 sections_after h s answer.Running ss = with_run (act_of h s) s.party (length h) ss
-sections_after h s _ ss = sections_ended s.act s.party ss
+sections_after h s (answer.Phase p) ss = sections_ended s.act s.party ss
+sections_after h s (answer.Value v) ss = sections_ended s.act s.party ss
+sections_after h s answer.ReadGuard ss = sections_ended s.act s.party ss
+sections_after h s answer.WriteGuard ss = sections_ended s.act s.party ss
+sections_after h s answer.Done ss = sections_ended s.act s.party ss
+sections_after h s (answer.Access p) ss = ss
+sections_after h s answer.Failed ss = sections_ended s.act s.party ss
+sections_after h s answer.Cyclic ss = sections_ended s.act s.party ss
+sections_after h s answer.Borrowed ss = sections_ended s.act s.party ss
+sections_after h s (answer.Waiting way) ss = sections_ended s.act s.party ss
+sections_after h s (answer.Refused r) ss = ss
 
 -- the sections that run, the latest of which stands first
 abbrev pub sections : List Event → List Section

@@ -2,6 +2,7 @@
 
 ghost use Rattle.std.specs.Prelude.{ℕ, Bool, List, ◌∷◌, ◌≡◌, ◌≤◌, ◌<◌, true, false};
 ghost use Rattle.std.specs.declared.option.Option.TheVariants.{Some};
+ghost use Rattle.phase_bits.specs.declared.phase.Phase.{Phase};
 ghost use Rattle.phase_bits.specs.Records.{bars_read, bars_write};
 ghost use Rattle.phase_locker.specs.declared.ways.Given.{Given};
 ghost use Rattle.phase_locker.specs.declared.ways.Given.TheVariants as given;
@@ -12,7 +13,9 @@ ghost use Rattle.schedule_rules.specs.declared.line.Refusal.{Refusal};
 ghost use Rattle.schedule_rules.specs.declared.line.Answer.TheVariants as answer;
 ghost use Rattle.schedule_rules.specs.Calls.{Reads, Writes};
 ghost use Rattle.schedule_rules.specs.History.{Event};
-ghost use Rattle.schedule_rules.specs.Waits.{Attempt, Wait};
+ghost use Rattle.schedule_rules.specs.Kinds.{cell_at};
+ghost use Rattle.schedule_rules.specs.Sections.{runs};
+ghost use Rattle.schedule_rules.specs.Waits.{Attempt, Wait, cell_concerned};
 ghost use Rattle.schedule_rules.specs.Holds.{readers_with, writers_with, holding, holding_with, is_barred};
 ghost use Rattle.schedule_rules.specs.Core.{core, core_with};
 ghost use Rattle.schedule_rules.specs.Due.{keeps_own, due_attempt};
@@ -21,6 +24,8 @@ ghost use Rattle.schedule_rules.specs.Replay.{phase_at};
 ghost use Rattle.phase_bits.specs.Flags.{has, initialized};
 ghost use Rattle.schedule_rules.specs.Laws.{
   ChangesNothing,
+  IsWithoutEffect,
+  IsDenied,
   is_waiting,
   is_borrowed,
   is_barred_step,
@@ -86,6 +91,25 @@ pub fn records_bar_what_rules_bar()
 pub fn initialized_stays()
     ensures { (cells : List CellPlan) (h : List Event) (e : Event) (c : ℕ) → IsLegal cells (e ∷ h) →
         has (phase_at cells c h) initialized ≡ true → has (phase_at cells c (e ∷ h)) initialized ≡ true }
+{}
+
+/// Without retry a run begins only on the empty phase, and while it goes on the phase stays empty. So a cell without
+/// retry whose phase is not empty never runs its generator.
+pub fn without_retry_one_run()
+    ensures begins { (cells : List CellPlan) (h : List Event) (s : Step) (l : Line) (c : ℕ) → IsLegalLine cells h s l →
+        l.answer ≡ answer.Running → cell_concerned cells h s ≡ Some c → (cell_at cells c).retry ≡ false →
+        phase_at cells c h ≡ 0 }
+    ensures runs { (cells : List CellPlan) (h : List Event) (p c : ℕ) → IsLegal cells h → runs p c h ≡ true →
+        (cell_at cells c).retry ≡ false → phase_at cells c h ≡ 0 }
+{}
+
+/// A call that answers Access leaves all sections and guards, and every published phase and value, as they were. Where
+/// its line is legal, it shows the published phase of a cell without retry, whose only run has failed.
+pub fn access_changes_nothing()
+    ensures changes { (cells : List CellPlan) (h : List Event) (s : Step) (p : Phase) (g : Given) →
+        IsWithoutEffect cells h (record { step = s; line = record { answer = answer.Access p; given = g } }) }
+    ensures denies { (cells : List CellPlan) (h : List Event) (s : Step) (l : Line) (c : ℕ) (p : Phase) →
+        IsLegalLine cells h s l → l.answer ≡ answer.Access p → cell_concerned cells h s ≡ Some c → IsDenied cells h c p }
 {}
 
 /// A generator of a cell succeeds at most once.

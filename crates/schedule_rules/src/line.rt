@@ -33,6 +33,9 @@ pub enum Answer {
     Running,
     /// A value was set, or a guard was given back.
     Done,
+    /// The call was not barred, and at this published phase the value may not be accessed: the
+    /// `AccessError` of static_init. Nothing is left open.
+    Access(Phase),
     /// The generator that this step ended failed.
     Failed,
     /// The party asked for a run of the generator that it is running.

@@ -31,6 +31,10 @@ pub enum Call {
 #[derive(Clone, Copy, PartialEq, Eq, Debug)]
 pub struct CellPlan {
     pub kind: Kind,
+    /// Whether the generator is run again after it failed: `GeneratorTolerance::INIT_FAILURE` of
+    /// static_init, which its `try_init_once` takes away. Without it the generator runs once, and
+    /// what reads or writes the cell after a failure is told that the value may not be accessed.
+    pub retry: bool,
     pub place: Place,
 }
 

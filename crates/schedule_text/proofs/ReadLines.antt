@@ -1,5 +1,5 @@
 -- Steps and cells: what is read is spelled so, and what is spelled so is read as that one.
-use Rattle.std.proofs.Common.{◌≡◌, ℕ, ◌<◌, List, [], ◌∷◌, ◌++◌, length, Option, Some, None, refl, sym, ap, ◌∙◌, append_assoc, arith}
+use Rattle.std.proofs.Common.{◌≡◌, ℕ, ◌<◌, Bool, true, false, not, List, [], ◌∷◌, ◌++◌, length, Option, Some, None, refl, sym, ap, ◌∙◌, append_assoc, arith}
 use Rattle.std.specs.Prelude.{codes}
 use Rattle.std.specs.Fmt.{decimal}
 use Rattle.std.specs.List.{flat_map, AllByRecursion}
@@ -13,10 +13,10 @@ use Rattle.schedule_rules.specs.declared.plan.CellPlan.{CellPlan}
 use Rattle.schedule_rules.specs.declared.step.Act.{Act}
 use Rattle.schedule_rules.specs.declared.step.Act.TheVariants as act
 use Rattle.schedule_rules.specs.declared.step.Step.{Step}
-use Rattle.schedule_text.specs.Lines.{line_rest, line_text}
-use Rattle.schedule_text.specs.ScheduleText.{place_words, act_words, StepFits}
+use Rattle.schedule_text.specs.Lines.{Word, line_rest}
+use Rattle.schedule_text.specs.ScheduleText.{act_words, StepFits}
 use Rattle.schedule_text.specs.ReadFields.{◌>>=◌, bytes_after, name_at}
-use Rattle.schedule_text.specs.ReadSteps.{act_text, act_at, step_text, step_at, cell_text, spin_at, park_else, place_at, cell_at}
+use Rattle.schedule_text.specs.ReadSteps.{act_text, act_at, step_text, step_at, cell_text, spin_at, park_else, place_at, option_else, option_at, cell_at}
 use Rattle.schedule_text.proofs.ReadWords.{bind_some, carry, word_takes}
 use Rattle.schedule_text.proofs.ReadNumbers.{name_takes, name_again}
 use Rattle.schedule_text.proofs.ReadActs.{act_takes, act_again}
@@ -81,58 +81,87 @@ step_shortens bytes s rest e =
 
 -- ---- cells
 
--- a cell of this place
-abbrev cell_with : Place → CellPlan
-cell_with p = record { kind = kind.LockedLazy; place = p }
-
-abbrev made : Place × List ℕ → Option (CellPlan × List ℕ)
-made p = Some (cell_with p.0, p.1)
-
-only_cell : (k : Kind) (p : Place) (more : List ℕ) → let c : CellPlan = record { kind = k; place = p } in cell_at (cell_text c ++ more) ≡ Some (c, more)
-unfolding cell_at place_at spin_at cell_text bytes_after
-only_cell kind.LockedLazy place.Park more = refl
-only_cell kind.LockedLazy place.Spin more = refl
+only_cell : (k : Kind) (retry : Bool) (p : Place) (more : List ℕ) → let c : CellPlan = record { kind = k; retry = retry; place = p } in cell_at (cell_text c ++ more) ≡ Some (c, more)
+unfolding cell_at place_at spin_at option_at cell_text bytes_after
+only_cell kind.LockedLazy true place.Park more = refl
+only_cell kind.LockedLazy true place.Spin more = refl
+only_cell kind.LockedLazy false place.Park more = refl
+only_cell kind.LockedLazy false place.Spin more = refl
 
 pub cell_again : (c : CellPlan) (more : List ℕ) → cell_at (cell_text c ++ more) ≡ Some (c, more)
-cell_again c more = only_cell c.kind c.place more
+cell_again c more = only_cell c.kind c.retry c.place more
 
--- the text of a place, up to the end of its line
+-- the text of a place
 abbrev place_text : Place → List ℕ
-place_text p = line_text (place_words p)
+place_text place.Park = codes "park"
+place_text place.Spin = codes "spin"
 
-place_takes : (bytes : List ℕ) (o : Option (List ℕ)) (p : Place) (rest : List ℕ) → bytes_after (codes "park\n") bytes ≡ o → park_else o bytes ≡ Some (p, rest) → bytes ≡ place_text p ++ rest
+place_takes : (bytes : List ℕ) (o : Option (List ℕ)) (p : Place) (rest : List ℕ) → bytes_after (codes "park") bytes ≡ o → park_else o bytes ≡ Some (p, rest) → bytes ≡ place_text p ++ rest
 unfolding spin_at
 place_takes bytes (Some start) p rest at e =
-    carry (λ (x : Place) (rest : List ℕ). bytes ≡ place_text x ++ rest) place.Park p start rest e (word_takes (codes "park\n") bytes start at)
+    carry (λ (x : Place) (rest : List ℕ). bytes ≡ place_text x ++ rest) place.Park p start rest e (word_takes (codes "park") bytes start at)
 place_takes bytes None p rest at e =
-    let s = bind_some (bytes_after (codes "spin\n") bytes) (λ rest. Some (place.Spin, rest)) (p, rest) e in
-    carry (λ (x : Place) (rest : List ℕ). bytes ≡ place_text x ++ rest) place.Spin p s.0 rest s.2 (word_takes (codes "spin\n") bytes s.0 s.1)
+    let s = bind_some (bytes_after (codes "spin") bytes) (λ rest. Some (place.Spin, rest)) (p, rest) e in
+    carry (λ (x : Place) (rest : List ℕ). bytes ≡ place_text x ++ rest) place.Spin p s.0 rest s.2 (word_takes (codes "spin") bytes s.0 s.1)
 
-cell_is : (p : Place) → cell_text (record { kind = kind.LockedLazy; place = p }) ≡ codes "cell LockedLazy " ++ place_text p
+-- the text of an option
+abbrev option_text : Word → Bool → List ℕ
+option_text word true = word
+option_text word false = []
+
+option_takes : (word : Word) (bytes : List ℕ) → bytes ≡ option_text word (option_at word bytes).0 ++ (option_at word bytes).1
+unfolding option_at
+option_takes word bytes = by (bytes_after word bytes) refl
+  where
+    by : (o : Option (List ℕ)) → bytes_after word bytes ≡ o → bytes ≡ option_text word (option_else o bytes).0 ++ (option_else o bytes).1
+    by (Some rest) e = word_takes word bytes rest e
+    by None e = refl
+
+-- a cell of this place, with this option
+abbrev cell_with : Place → Bool → CellPlan
+cell_with p once = record { kind = kind.LockedLazy; retry = not once; place = p }
+
+cell_is : (p : Place) (once : Bool) (rest : List ℕ) → codes "cell LockedLazy " ++ (place_text p ++ (option_text (codes " once") once ++ (codes "\n" ++ rest))) ≡ cell_text (cell_with p once) ++ rest
 unfolding cell_text
-cell_is place.Park = refl
-cell_is place.Spin = refl
+cell_is place.Park true rest = refl
+cell_is place.Park false rest = refl
+cell_is place.Spin true rest = refl
+cell_is place.Spin false rest = refl
+
+-- the end of the line, behind the option
+abbrev ended : Place → Bool × List ℕ → Option (CellPlan × List ℕ)
+ended p o = bytes_after (codes "\n") o.1 >>= λ rest. Some (cell_with p o.0, rest)
 
 pub cell_takes : (bytes : List ℕ) (c : CellPlan) (rest : List ℕ) → cell_at bytes ≡ Some (c, rest) → bytes ≡ cell_text c ++ rest
 unfolding cell_at place_at
 cell_takes bytes c rest e =
-    let s = bind_some (bytes_after (codes "cell LockedLazy ") bytes) (λ start. place_at start >>= made) (c, rest) e in
-    let p = bind_some (place_at s.0) made (c, rest) s.2 in
-    let w = word_takes (codes "cell LockedLazy ") bytes s.0 s.1 in
-    let t = place_takes s.0 (bytes_after (codes "park\n") s.0) p.0.0 p.0.1 refl p.1 in
-    let spelling : bytes ≡ cell_text (cell_with p.0.0) ++ p.0.1 =
-    w ∙ ap (λ (x : List ℕ). codes "cell LockedLazy " ++ x) t ∙ ap (λ (x : List ℕ). x ++ p.0.1) (sym (cell_is p.0.0)) in
-    carry (λ (x : CellPlan) (rest : List ℕ). bytes ≡ cell_text x ++ rest) (cell_with p.0.0) c p.0.1 rest p.2 spelling
+    let s = bind_some (bytes_after (codes "cell LockedLazy ") bytes) (λ start. place_at start >>= λ p. ended p.0 (option_at (codes " once") p.1)) (c, rest) e in
+    let p = bind_some (place_at s.0) (λ p. ended p.0 (option_at (codes " once") p.1)) (c, rest) s.2 in
+    let o : Bool × List ℕ = option_at (codes " once") p.0.1 in
+    let n = bind_some (bytes_after (codes "\n") o.1) (λ rest. Some (cell_with p.0.0 o.0, rest)) (c, rest) p.2 in
+    let word = word_takes (codes "cell LockedLazy ") bytes s.0 s.1 in
+    let place = place_takes s.0 (bytes_after (codes "park") s.0) p.0.0 p.0.1 refl p.1 in
+    let once = option_takes (codes " once") p.0.1 in
+    let feed = word_takes (codes "\n") o.1 n.0 n.1 in
+    let spelling : bytes ≡ cell_text (cell_with p.0.0 o.0) ++ n.0 =
+    word
+    ∙ ap (λ (x : List ℕ). codes "cell LockedLazy " ++ x) place
+    ∙ ap (λ (x : List ℕ). codes "cell LockedLazy " ++ (place_text p.0.0 ++ x)) once
+    ∙ ap (λ (x : List ℕ). codes "cell LockedLazy " ++ (place_text p.0.0 ++ (option_text (codes " once") o.0 ++ x))) feed
+    ∙ cell_is p.0.0 o.0 n.0 in
+    carry (λ (x : CellPlan) (rest : List ℕ). bytes ≡ cell_text x ++ rest) (cell_with p.0.0 o.0) c n.0 rest n.2 spelling
 
-filled : (k : Kind) (p : Place) → let c : CellPlan = record { kind = k; place = p } in 0 < length (cell_text c)
+filled : (k : Kind) (retry : Bool) (p : Place) → let c : CellPlan = record { kind = k; retry = retry; place = p } in 0 < length (cell_text c)
 unfolding cell_text
-filled kind.LockedLazy place.Park = omega arith
-filled kind.LockedLazy place.Spin = omega arith
+filled kind.LockedLazy true place.Park = omega arith
+filled kind.LockedLazy true place.Spin = omega arith
+filled kind.LockedLazy false place.Park = omega arith
+filled kind.LockedLazy false place.Spin = omega arith
 
 pub cell_shortens : (bytes : List ℕ) (c : CellPlan) (rest : List ℕ) → bytes ≡ cell_text c ++ rest → length rest < length bytes
 cell_shortens bytes c rest e =
     let n = ap length e in
-    let m = filled c.kind c.place in
+    let m = filled c.kind c.retry c.place in
     omega (arith, n, m, length-append (cell_text c) rest)
 
 -- ---- one after another

@@ -1,5 +1,5 @@
 -- What a reader of a text's front answers: acts, steps and cells, each up to the end of its line.
-use Rattle.std.specs.Prelude.{ℕ, List, [], ◌∷◌, Option, Some, None, ◌==◌, if◌then◌else◌, codes}
+use Rattle.std.specs.Prelude.{ℕ, Bool, true, false, not, List, [], ◌∷◌, Option, Some, None, ◌==◌, if◌then◌else◌, codes}
 use Rattle.schedule_rules.specs.declared.plan.Kind.TheVariants as kind
 use Rattle.schedule_rules.specs.declared.plan.Place.{Place}
 use Rattle.schedule_rules.specs.declared.plan.Place.TheVariants as place
@@ -9,7 +9,7 @@ use Rattle.schedule_rules.specs.declared.plan.CellPlan.{CellPlan}
 use Rattle.schedule_rules.specs.declared.step.Act.{Act}
 use Rattle.schedule_rules.specs.declared.step.Act.TheVariants as act
 use Rattle.schedule_rules.specs.declared.step.Step.{Step}
-use Rattle.schedule_text.specs.Lines.{line_text}
+use Rattle.schedule_text.specs.Lines.{Word, line_text}
 use Rattle.schedule_text.specs.ScheduleText.{act_words, step_words, cell_words}
 use Rattle.schedule_text.specs.ReadFields.{Field, ◌>>=◌, bytes_after, number_at, name_at}
 
@@ -140,10 +140,10 @@ step_at bytes = do
   a ← act_at rest
   Some (record { party = p.0; act = a.0 }, a.1)
 
--- a place that ends a line
+-- the place of a cell that spins
 unfoldable pub spin_at : List ℕ → Field Place
 spin_at bytes = do
-  rest ← bytes_after (codes "spin\n") bytes
+  rest ← bytes_after (codes "spin") bytes
   Some (place.Spin, rest)
 
 -- a cell that parks, or else one that spins
@@ -152,13 +152,23 @@ park_else (Some rest) bytes = Some (place.Park, rest)
 park_else None bytes = spin_at bytes
 
 unfoldable pub place_at : List ℕ → Field Place
-place_at bytes = park_else (bytes_after (codes "park\n") bytes) bytes
+place_at bytes = park_else (bytes_after (codes "park") bytes) bytes
+
+-- an option that stands at the front, or else none
+abbrev pub option_else : Option (List ℕ) → List ℕ → Bool × List ℕ
+option_else (Some rest) bytes = (true, rest)
+option_else None bytes = (false, bytes)
+
+-- whether the option with this word stands at the front, and the bytes after it
+unfoldable pub option_at : Word → List ℕ → Bool × List ℕ
+option_at word bytes = option_else (bytes_after word bytes) bytes
 
 unfoldable pub cell_at : List ℕ → Field CellPlan
 cell_at bytes = do
   start ← bytes_after (codes "cell LockedLazy ") bytes
   p ← place_at start
-  Some (record { kind = kind.LockedLazy; place = p.0 }, p.1)
+  rest ← bytes_after (codes "\n") (option_at (codes " once") p.1).1
+  Some (record { kind = kind.LockedLazy; retry = not (option_at (codes " once") p.1).0; place = p.0 }, rest)
 
 -- how many parties there are, behind the version of the text
 unfoldable pub parties_at : List ℕ → Field ℕ

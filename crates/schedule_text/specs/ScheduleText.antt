@@ -1,5 +1,5 @@
 -- The text of a schedule.
-use Rattle.std.specs.Prelude.{ℕ, ◌<◌, ◌^◌, ◌≡◌, List, [], ◌∷◌, ◌++◌, map, codes}
+use Rattle.std.specs.Prelude.{ℕ, Bool, true, false, ◌<◌, ◌^◌, ◌≡◌, List, [], ◌∷◌, ◌++◌, map, codes}
 use Rattle.std.specs.List.{AllByRecursion}
 use Rattle.std.specs.Fmt.{decimal}
 use Rattle.schedule_rules.specs.declared.plan.Kind.{Kind}
@@ -24,6 +24,11 @@ abbrev pub place_words : Place → List Word
 place_words place.Park = codes "park" ∷ []
 place_words place.Spin = codes "spin" ∷ []
 
+-- the option of a cell that runs its generator once
+abbrev pub once_words : Bool → List Word
+once_words true = []
+once_words false = codes "once" ∷ []
+
 -- the name of a call
 abbrev pub call_name : Call → Word
 call_name call.Phase = codes "phase"
@@ -44,7 +49,7 @@ act_words (act.Clone g) = codes "clone" ∷ decimal g ∷ []
 
 -- the line of a cell
 abbrev pub cell_words : CellPlan → List Word
-cell_words x = codes "cell" ∷ kind_name x.kind ∷ place_words x.place
+cell_words x = codes "cell" ∷ kind_name x.kind ∷ (place_words x.place ++ once_words x.retry)
 
 -- the line of a step
 abbrev pub step_words : Step → List Word

@@ -24,6 +24,7 @@ pub fn push_answer(alloc: Global, text: &mut Vec<u8>, answer: Answer) -> Result<
         Answer::WriteGuard => text.extend_from_slice(b"write-guard\n"),
         Answer::Running => text.extend_from_slice(b"running\n"),
         Answer::Done => text.extend_from_slice(b"done\n"),
+        Answer::Access(phase) => push_access(alloc, text, phase),
         Answer::Failed => text.extend_from_slice(b"failed\n"),
         Answer::Cyclic => text.extend_from_slice(b"cyclic\n"),
         Answer::Borrowed => text.extend_from_slice(b"borrowed\n"),
@@ -38,6 +39,16 @@ fn push_phase_answer(alloc: Global, text: &mut Vec<u8>, phase: Phase) -> Result<
         ≡ text.old.items ++ line_text (codes "phase" ∷ phase_text (number phase) ∷ [])) }
 {
     text.extend_from_slice(b"phase ")?;
+    push_phase(alloc, text, phase)?;
+    text.extend_from_slice(b"\n")
+}
+
+/// Appends that a value may not be accessed at a phase, and ends the line.
+fn push_access(alloc: Global, text: &mut Vec<u8>, phase: Phase) -> Result<(), AllocError>
+    ensures { OnOk result (text.new.items
+        ≡ text.old.items ++ line_text (codes "access" ∷ phase_text (number phase) ∷ [])) }
+{
+    text.extend_from_slice(b"access ")?;
     push_phase(alloc, text, phase)?;
     text.extend_from_slice(b"\n")
 }

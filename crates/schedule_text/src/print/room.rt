@@ -15,22 +15,22 @@ use schedule_rules::{Answer, Final, Given, Line, Transcript};
 const FRAME_ROOM: usize = 17;
 
 /// At least as many bytes as the text of a transcript has, or nothing where no number
-/// holds the sum. A line takes at most 220.
+/// holds the sum. A line takes at most 221.
 pub fn transcript_room(t: &Transcript) -> Option<usize>
     ensures enough { IfSome result (λ room. length (transcript_text (account_of t.now)) ≤ room) }
-    ensures none { IfNone result (2 ^ 64 ≤ 220 * length t.now.lines.items + 220 * length t.now.finals.items + 17) }
-    ensures most { IfSome result (λ room. room ≤ 220 * length t.now.lines.items + 220 * length t.now.finals.items + 17) }
+    ensures none { IfNone result (2 ^ 64 ≤ 221 * length t.now.lines.items + 221 * length t.now.finals.items + 17) }
+    ensures most { IfSome result (λ room. room ≤ 221 * length t.now.lines.items + 221 * length t.now.finals.items + 17) }
 {
     let steps = steps_room(&t.lines)?;
     let finals = finals_room(&t.finals)?;
     steps.checked_add(finals)?.checked_add(FRAME_ROOM)
 }
 
-/// At least as many bytes as the lines of steps have, at most 220 for each.
+/// At least as many bytes as the lines of steps have, at most 221 for each.
 fn steps_room(lines: &[Line]) -> Option<usize>
     ensures enough { IfSome result (λ room. length (lines_text (step_lines 0 lines.now)) ≤ room) }
-    ensures none { IfNone result (2 ^ 64 ≤ 220 * length lines.now) }
-    ensures most { IfSome result (λ room. room ≤ 220 * length lines.now) }
+    ensures none { IfNone result (2 ^ 64 ≤ 221 * length lines.now) }
+    ensures most { IfSome result (λ room. room ≤ 221 * length lines.now) }
 {
     let digits = digit_count(lines.len() as u64);
     let mut room = 0usize;
@@ -40,11 +40,11 @@ fn steps_room(lines: &[Line]) -> Option<usize>
     Some(room)
 }
 
-/// At least as many bytes as the lines of cells have, at most 220 for each.
+/// At least as many bytes as the lines of cells have, at most 221 for each.
 fn finals_room(finals: &[Final]) -> Option<usize>
     ensures enough { IfSome result (λ room. length (lines_text (final_lines 0 finals.now)) ≤ room) }
-    ensures none { IfNone result (2 ^ 64 ≤ 220 * length finals.now) }
-    ensures most { IfSome result (λ room. room ≤ 220 * length finals.now) }
+    ensures none { IfNone result (2 ^ 64 ≤ 221 * length finals.now) }
+    ensures most { IfSome result (λ room. room ≤ 221 * length finals.now) }
 {
     let digits = digit_count(finals.len() as u64);
     let mut room = 0usize;
@@ -70,7 +70,7 @@ fn digit_count(number: u64) -> usize
 /// At least as many bytes as the line of a step has behind its number, with the space between.
 fn line_room(line: &Line) -> usize
     ensures enough { length (line_text (answer_words line.now.answer ++ given_words line.now.given)) < result }
-    ensures small { result ≤ 200 }
+    ensures small { result ≤ 201 }
 {
     answer_room(line.answer) + given_room(line.given)
 }
@@ -101,10 +101,11 @@ fn party_digits(party: u32) -> usize
 /// At least as many bytes as an answer has behind the number of its step, with the space before it.
 fn answer_room(answer: Answer) -> usize
     ensures enough { length (line_text (answer_words answer)) < result }
-    ensures small { result ≤ 176 }
+    ensures small { result ≤ 177 }
 {
     match answer {
         Answer::Phase(phase) => phase_room(phase) + 8,
+        Answer::Access(phase) => phase_room(phase) + 9,
         Answer::Value(value) => digit_count(value) + 8,
         Answer::Waiting(_) => 15,
         Answer::Refused(_) => 22,

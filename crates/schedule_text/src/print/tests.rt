@@ -50,6 +50,9 @@ const OTHERS: &[u8] = b"transcript 1
 9 refused 6 NotWriter
 10 refused 7 NoSection
 11 value 18446744073709551615
+12 access Phase (Initialization panicked | Initialization skiped)
+13 access Phase (not initialized)
+14 access Phase (Initialized | Registered)
 cell 0 Phase (not initialized) none
 cell 1 Phase (Initialization panicked | Initialization skiped) none
 end
@@ -70,6 +73,8 @@ const GIFTS: &[u8] = b"transcript 1
 11 phase Phase (Initialized) gives readers
 12 value 18446744073709551615 gives writer 10
 13 refused 7 NoSection
+14 access Phase (Initialization panicked | Initialization skiped) gives readers
+15 access Phase (not initialized) gives writer 4294967295
 cell 0 Phase (Initialized) 1
 end
 ";
@@ -102,6 +107,9 @@ fn transcripts_are_printed(rt: HostRuntime) -> Result<(), Fail> {
         Answer::Refused(Refusal::NotWriter),
         Answer::Refused(Refusal::NoSection),
         Answer::Value(18446744073709551615),
+        Answer::Access(failed),
+        Answer::Access(Phase::empty()),
+        Answer::Access(Phase::INITIALIZED_AND_REGISTERED),
     ];
     let left = |phase, value| Final { phase, value };
     let set = left(Phase::INITIALIZED, Some(33));
@@ -118,6 +126,7 @@ fn transcripts_are_printed(rt: HostRuntime) -> Result<(), Fail> {
 #[test]
 fn gifts_are_printed(rt: HostRuntime) -> Result<(), Fail> {
     let line = |answer, given| Line { answer, given };
+    let failed = Phase::INITIALIZATION_PANICKED.union(Phase::INITIALIZATION_SKIPED);
     let lines = [
         line(Answer::Waiting(How::ParkedRead), Given::Nobody),
         line(Answer::Waiting(How::ParkedWrite), Given::Nobody),
@@ -133,6 +142,8 @@ fn gifts_are_printed(rt: HostRuntime) -> Result<(), Fail> {
         line(Answer::Phase(Phase::INITIALIZED), Given::Readers),
         line(Answer::Value(u64::MAX), Given::Writer(10)),
         line(Answer::Refused(Refusal::NoSection), Given::Nobody),
+        line(Answer::Access(failed), Given::Readers),
+        line(Answer::Access(Phase::empty()), Given::Writer(u32::MAX)),
     ];
     let set = Final {
         phase: Phase::INITIALIZED,

@@ -4,7 +4,7 @@ ghost use Rattle.std.specs.Prelude.{◌≡◌, ◌++◌, List, IfOk, IsTrue, ◌
 ghost use Rattle.std.specs.List.{flat_map, AllByRecursion};
 ghost use Rattle.schedule_text.specs.ScheduleText.{StepFits};
 ghost use Rattle.schedule_text.specs.ReadFields.{Gives};
-ghost use Rattle.schedule_text.specs.ReadSteps.{parties_at, cell_text, place_at, cell_at, step_text, step_at};
+ghost use Rattle.schedule_text.specs.ReadSteps.{parties_at, cell_text, place_at, option_at, cell_at, step_text, step_at};
 
 use super::act::act;
 use super::field::{after_word, last_u32, number_u32};
@@ -19,14 +19,25 @@ pub(super) fn parties(text: &[u8]) -> Option<(u32, &[u8])>
     last_u32(after_word(text, b"schedule 1\nparties ")?)
 }
 
-/// The place of a cell, `park` or else `spin`, which ends its line.
+/// The place of a cell, `park` or else `spin`.
 #[tactic(auto, unfolding(crate::specs::ReadSteps::place_at, crate::specs::ReadSteps::spin_at))]
 fn place(text: &[u8]) -> Option<(Place, &[u8])>
     ensures { Gives (λ found. (found.0, found.1.now)) result (place_at text.now) }
 {
-    match after_word(text, b"park\n") {
+    match after_word(text, b"park") {
         Some(rest) => Some((Place::Park, rest)),
-        None => Some((Place::Spin, after_word(text, b"spin\n")?)),
+        None => Some((Place::Spin, after_word(text, b"spin")?)),
+    }
+}
+
+/// Whether this option stands at the front, and the bytes after it.
+#[tactic(auto, unfolding(crate::specs::ReadSteps::option_at))]
+fn option<'a>(text: &'a [u8], word: &[u8]) -> (bool, &'a [u8])
+    ensures { (result.0, result.1.now) ≡ option_at word.now text.now }
+{
+    match after_word(text, word) {
+        Some(rest) => (true, rest),
+        None => (false, text),
     }
 }
 
@@ -36,8 +47,11 @@ fn cell(text: &[u8]) -> Option<(CellPlan, &[u8])>
     ensures { Gives (λ found. (found.0, found.1.now)) result (cell_at text.now) }
 {
     let (place, rest) = place(after_word(text, b"cell LockedLazy ")?)?;
+    let (once, rest) = option(rest, b" once");
+    let rest = after_word(rest, b"\n")?;
     let cell = CellPlan {
         kind: Kind::LockedLazy,
+        retry: !once,
         place,
     };
     Some((cell, rest))

@@ -20,11 +20,13 @@ steps
 end
 ";
 
-/// Two cells of both places, and guards that are cloned and downgraded.
-const BOTH_PLACES: &[u8] = b"schedule 1
+/// Cells of both places, with and without retry, and guards that are cloned and downgraded.
+const EACH_CELL: &[u8] = b"schedule 1
 parties 2
 cell LockedLazy park
 cell LockedLazy spin
+cell LockedLazy park once
+cell LockedLazy spin once
 steps
 1 write 0
 1 made 5
@@ -46,7 +48,7 @@ steps
 end
 ";
 
-const BAD: [&[u8]; 45] = [
+const BAD: [&[u8]; 53] = [
     b"",
     b"schedule 2\nparties 0\nsteps\nend\n",
     b"schedule 01\nparties 0\nsteps\nend\n",
@@ -65,7 +67,15 @@ const BAD: [&[u8]; 45] = [
     b"schedule 1\nparties 1\ncell LockedLazy par\nsteps\nend\n",
     b"schedule 1\nparties 1\ncell LockedLazy park spin\nsteps\nend\n",
     b"schedule 1\nparties 1\ncell LockedLazy  park\nsteps\nend\n",
-    b"schedule 1\nparties 1\ncell LockedLazy spin once\nsteps\nend\n",
+    b"schedule 1\nparties 1\ncell LockedLazy spin  once\nsteps\nend\n",
+    b"schedule 1\nparties 1\ncell LockedLazy spin twice\nsteps\nend\n",
+    b"schedule 1\nparties 1\ncell LockedLazy once spin\nsteps\nend\n",
+    b"schedule 1\nparties 1\ncell LockedLazy once\nsteps\nend\n",
+    b"schedule 1\nparties 1\ncell LockedLazy park once once\nsteps\nend\n",
+    b"schedule 1\nparties 1\ncell LockedLazy park once \nsteps\nend\n",
+    b"schedule 1\nparties 1\ncell LockedLazy park \nsteps\nend\n",
+    b"schedule 1\nparties 1\ncell LockedLazy parkonce\nsteps\nend\n",
+    b"schedule 1\nparties 1\ncell LockedLazy spin retry\nsteps\nend\n",
     b"schedule 1\nparties 1\ncell LockedLazy\nsteps\nend\n",
     b"schedule 1\nparties 1\nsteps\ncell LockedLazy spin\nend\n",
     b"schedule 1\nparties 1\nend\n",
@@ -107,6 +117,7 @@ fn reads_nine_steps(rt: HostRuntime) -> Result<(), Fail> {
     let (plan, steps) = read(rt.alloc(), NINE_STEPS)?;
     let cell = CellPlan {
         kind: Kind::LockedLazy,
+        retry: true,
         place: Place::Spin,
     };
     let call = |call| Act::Call { cell: 0, call };
@@ -135,12 +146,19 @@ fn reads_nine_steps(rt: HostRuntime) -> Result<(), Fail> {
 }
 
 #[test]
-fn reads_places_and_acts_on_guards(rt: HostRuntime) -> Result<(), Fail> {
-    let (plan, steps) = read(rt.alloc(), BOTH_PLACES)?;
-    let cell = |place| CellPlan {
+fn reads_cells_and_acts_on_guards(rt: HostRuntime) -> Result<(), Fail> {
+    let (plan, steps) = read(rt.alloc(), EACH_CELL)?;
+    let cell = |place, retry| CellPlan {
         kind: Kind::LockedLazy,
+        retry,
         place,
     };
+    let cells = [
+        cell(Place::Park, true),
+        cell(Place::Spin, true),
+        cell(Place::Park, false),
+        cell(Place::Spin, false),
+    ];
     let step = |party, act| Step { party, act };
     let write = Act::Call {
         cell: 0,
@@ -153,10 +171,7 @@ fn reads_places_and_acts_on_guards(rt: HostRuntime) -> Result<(), Fail> {
         step(0, Act::Clone { guard: u32::MAX }),
     ];
     assert_eq!(rt; plan.parties, 2);
-    assert_eq!(rt;
-        plan.cells.as_slice(),
-        [cell(Place::Park), cell(Place::Spin)].as_slice()
-    );
+    assert_eq!(rt; plan.cells.as_slice(), cells.as_slice());
     assert_eq!(rt; steps.as_slice(), expected.as_slice());
     Ok(())
 }
@@ -189,7 +204,7 @@ fn reads_the_largest_numbers(rt: HostRuntime) -> Result<(), Fail> {
 
 #[test]
 fn refuses_each_part_of_a_text(rt: HostRuntime) -> Result<(), Fail> {
-    for text in [NOTHING, NINE_STEPS, BOTH_PLACES, LARGEST] {
+    for text in [NOTHING, NINE_STEPS, EACH_CELL, LARGEST] {
         let _read = read(rt.alloc(), text)?;
         for end in 0..text.len() {
             let part = read(rt.alloc(), &text[..end]);

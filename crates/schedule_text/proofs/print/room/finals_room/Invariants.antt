@@ -9,5 +9,5 @@ invariant-loop-cell l =
     record {
       enough : length (lines_text (final_lines 0 l.finals))
           ≤ l.room + length (lines_text (final_lines l.cell-index (drop l.cell-index l.finals)));
-      most : l.room ≤ 220 * l.cell-index;
+      most : l.room ≤ 221 * l.cell-index;
     }

@@ -9,5 +9,5 @@ invariant-loop-line l =
     record {
       enough : length (lines_text (step_lines 0 l.lines))
           ≤ l.room + length (lines_text (step_lines l.line-index (drop l.line-index l.lines)));
-      most : l.room ≤ 220 * l.line-index;
+      most : l.room ≤ 221 * l.line-index;
     }

@@ -1,0 +1,8 @@
+use Rattle.schedule_rules.proofs.Access.{begins_on_empty, runs_on_empty}
+use Rattle.schedule_rules.proofs.laws.without_retry_one_run.Goals as goal
+
+pub returns-clause-begins : goal.returns-clause-begins
+returns-clause-begins c = begins_on_empty
+
+pub returns-clause-runs : goal.returns-clause-runs
+returns-clause-runs c = runs_on_empty
