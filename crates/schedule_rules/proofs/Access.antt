@@ -32,7 +32,8 @@ use Rattle.schedule_rules.specs.Laws.{waits_judged, IsDenied}
 use Rattle.schedule_rules.proofs.Found.{found_passes}
 use Rattle.schedule_rules.proofs.Each.{each_found}
 use Rattle.schedule_rules.proofs.Waiting.{due_at-judged}
-use Rattle.schedule_rules.proofs.Initialized.{in_turn, IsWanted, sound}
+use Rattle.schedule_rules.proofs.Grows.{IsWanted}
+use Rattle.schedule_rules.proofs.Initialized.{in_turn, sound}
 
 -- an answer fits the cell: a run is wanted where one begins, and where the value may not be accessed, none is
 abbrev Fits : CellPlan → ℕ → Answer → Type 0

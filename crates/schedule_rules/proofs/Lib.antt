@@ -3,6 +3,7 @@ pub mod Opened
 pub mod Earlier
 pub mod GoesOn
 pub mod Each
+pub mod Grows
 pub mod Initialized
 pub mod OneSuccess
 pub mod Bars

@@ -35,7 +35,8 @@ use Rattle.schedule_rules.proofs.Opened.{count_removed, writes_put}
 use Rattle.schedule_rules.proofs.GoesOn.{Agrees, wait-agrees}
 use Rattle.schedule_rules.proofs.Waiting.{due_at-judged}
 use Rattle.schedule_rules.proofs.Each.{each_found}
-use Rattle.schedule_rules.proofs.Initialized.{IsReady, IsWanted, wanted-lacks, alone, sound, initialized-stays, one_if}
+use Rattle.schedule_rules.proofs.Grows.{IsReady, IsWanted, wanted-lacks, one_if}
+use Rattle.schedule_rules.proofs.Initialized.{alone, sound, initialized-stays}
 
 -- what is not found is not counted
 none_counted : {X : Type 0} (p : X → Bool) (xs : List X) → find p xs ≡ None → count p xs ≡ 0
