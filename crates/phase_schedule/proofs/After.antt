@@ -1,12 +1,14 @@
 -- Rows stand for a history with one more event where they fit what stands open after it.
-use Rattle.std.proofs.Common.{◌≡◌, ℕ, suc, ◌≤◌, List, ◌∷◌, length, refl, ap, arith, None, Some}
+use Rattle.std.proofs.Common.{◌≡◌, ℕ, suc, ◌+◌, ◌<◌, ◌≤◌, List, ◌∷◌, length, refl, sym, ◌∙◌, ap, subst, arith, None, Some}
+use Rattle.std.specs.Prelude.{slice_get}
 use Rattle.std.specs.List.{find}
 use Rattle.std.specs.declared.option.Option.{Option}
 use Rattle.schedule_rules.specs.declared.plan.CellPlan.{CellPlan}
-use Rattle.schedule_rules.specs.Changes.{Content}
+use Rattle.schedule_rules.specs.Kinds.{cell_at}
+use Rattle.schedule_rules.specs.Changes.{Content, effect}
 use Rattle.schedule_rules.specs.History.{Event, before}
 use Rattle.schedule_rules.specs.Sections.{Section, runs_in, sections}
-use Rattle.schedule_rules.specs.Guards.{Guard, guards}
+use Rattle.schedule_rules.specs.Guards.{Guard, numbered, guards}
 use Rattle.schedule_rules.specs.Replay.{Back, back_of_step, content_after_back, replay, inside}
 use Rattle.schedule_rules.specs.Holds.{writes_cell}
 use Rattle.schedule_rules.specs.Legal.{IsLegal, IsLegalLine, IsExclusive}
@@ -14,12 +16,12 @@ use Rattle.schedule_rules.proofs.Earlier.{before_more}
 use Rattle.phase_schedule.specs.declared.rows.RunRow.{RunRow}
 use Rattle.phase_schedule.specs.View.{View}
 use Rattle.phase_schedule.specs.Kept.{Open, open_after, run_in, section_by}
-use Rattle.phase_schedule.specs.Tracks.{NumbersBelow, IsApart, IsSteady, Kept, Locked, Tracks}
+use Rattle.phase_schedule.specs.Tracks.{NumbersBelow, IsApart, IsSteady, Kept, Locked, RunBy, Tracks}
 
 -- the section of a cell as its row shows it is the same after one more event
-section_more : (cells : List CellPlan) (h : List Event) (e : Event) (o : Option Guard) (r : Option RunRow) → ((x : Guard) → o ≡ Some x → x.start ≤ length h) → section_by (inside cells (e ∷ h)) o r ≡ section_by (inside cells h) o r
-section_more cells h e None r early = refl
-section_more cells h e (Some x) r early = rw (before_more x.start e h (early x refl)) refl
+section_more : (cells : List CellPlan) (h : List Event) (e : Event) (c : ℕ) (o : Option Guard) (r : Option RunRow) → ((x : Guard) → o ≡ Some x → x.start ≤ length h) → section_by c (inside cells (e ∷ h)) o r ≡ section_by c (inside cells h) o r
+section_more cells h e c None r early = refl
+section_more cells h e c (Some x) r early = rw (before_more x.start e h (early x refl)) refl
 
 -- apart holds exclude each other
 pub exclusive : (cells : List CellPlan) (h : List Event) (c : ℕ) → IsApart (open_after cells h) c → IsExclusive cells h c
@@ -89,7 +91,7 @@ module _ (cells : List CellPlan) where
     kept_after v a k =
         rw is.opened (record {
           planned = k.planned;
-          cell = λ c lt. rw (replay_after c, section_more cells h e (find (writes_cell c) o.guards) (run_in c o.sections) (a.guard_started c)) (k.cell c lt);
+          cell = λ c lt. rw (replay_after c, section_more cells h e c (find (writes_cell c) o.guards) (run_in c o.sections) (a.guard_started c)) (k.cell c lt);
           slot = k.slot;
           party = k.party;
           parties = k.parties;
@@ -99,13 +101,14 @@ module _ (cells : List CellPlan) where
         })
 
     -- the rows stand for the longer history
-    pub tracks_after : (v : View) → IsLegal cells h → IsLegalLine cells h e.step e.line → IsSteadyWith h o b → Locked cells (content_with h b) o v.held v.places v.parks → Kept cells (content_with h b) (inside cells h) o v → suc (length h) ≤ length v.guards → Tracks cells (e ∷ h) v
-    tracks_after v old line a locked kept room =
+    pub tracks_after : (v : View) → IsLegal cells h → IsLegalLine cells h e.step e.line → IsSteadyWith h o b → Locked cells (content_with h b) o v.held v.places v.parks → RunBy cells o.sections v.running → Kept cells (content_with h b) (inside cells h) o v → suc (length h) ≤ length v.guards → Tracks cells (e ∷ h) v
+    tracks_after v old line a locked run_by kept room =
         let now : Locked cells (λ c. replay cells c (e ∷ h)) (open_after cells (e ∷ h)) v.held v.places v.parks = locked_after v locked in
         record {
           legal = (line, (λ c. exclusive cells (e ∷ h) c (now.apart c)), old);
           steady = steady_after a;
           locked = now;
+          run_by = rw sections_after run_by;
           kept = kept_after v a kept;
           room = room;
         }

@@ -59,7 +59,7 @@ module _ (cells : List CellPlan) (h : List Event) (v : View) (t : Tracks cells h
   set_concerns = ap (λ a. cell_concerned_with cells (waits cells h) h s.party a) acts ∙ ap cell_of_guard k.found ∙ ap Some k.cell
 
   -- the draft of the guard changes
-  pub value_set : Tracks cells (told s answer.Done given.Nobody ∷ h) (record { cells = set v.cells c (put_row value row); guards = v.guards; parties = v.parties; held = v.held; places = v.places; parks = v.parks })
+  pub value_set : Tracks cells (told s answer.Done given.Nobody ∷ h) (record { cells = set v.cells c (put_row value row); guards = v.guards; parties = v.parties; held = v.held; places = v.places; running = v.running; parks = v.parks })
   value_set =
       quiet_step cells h v t s answer.Done c lt idle set_concerns refl (put_in g value (guards h)) set_sections (ap (λ a. guards_done a (guards h)) acts) (ap (λ a. back_done h a) acts)
       (λ d. reads_put d g value (guards h)) (λ d. writes_put d g value (guards h)) (set v.cells c (put_row value row)) v.guards
@@ -90,7 +90,7 @@ module _ (h : List Event) (v : View) (s : Step) (g c : ℕ) where
 
   -- a value is set
   pub did_set : (value : ℕ) → IsHolding h v s (act.Set g value) g c true → (row : CellRow) → row ≡ get_or v.cells c row
-      → FollowsStep h s (record { answer = answer.Done; given = given.Nobody }) v (record { cells = set v.cells c (put_row value row); guards = v.guards; parties = v.parties; held = v.held; places = v.places; parks = v.parks })
+      → FollowsStep h s (record { answer = answer.Done; given = given.Nobody }) v (record { cells = set v.cells c (put_row value row); guards = v.guards; parties = v.parties; held = v.held; places = v.places; running = v.running; parks = v.parks })
   did_set value k row at = record {
     follows = value_set (plans v) h v k.acting.ready.follows s g c k.held value k.acting.acts (in_plan h v s (act.Set g value) g c true k) k.acting.idle k.acting.ready.room row at k.inside;
     guards = refl;

@@ -181,7 +181,7 @@ module _ (cells : List CellPlan) (h : List Event) (v : View) (t : Tracks cells h
 
   -- a write guard becomes a read guard
   pub read_on : (x' : Holders) (parks' : Parking) → Downgrades c draft.phase (core cells c h) v.parks l x' parks' → HasFree v.parks → Fits (kind_at (cell_at cells c).place) x' parks' c → OthersStay c v.parks parks' → SameSize v.parks parks'
-      → Tracks cells (downgraded ∷ h) (record { cells = set v.cells c (record { plan = row.plan; value = draft.value; section = None }); guards = set (set v.guards g guard.Free) (length h) (guard.Read s.party c read_ticket); parties = v.parties; held = set v.held c x'; places = v.places; parks = parks' })
+      → Tracks cells (downgraded ∷ h) (record { cells = set v.cells c (record { plan = row.plan; value = draft.value; section = None }); guards = set (set v.guards g guard.Free) (length h) (guard.Read s.party c read_ticket); parties = v.parties; held = set v.held c x'; places = v.places; running = v.running; parks = parks' })
   read_on x' parks' moves free fits others size =
       handed_over cells h v t s answer.ReadGuard l c lt idle concerned refl guards_now back_now sections_are guards_are back_is
       (set v.cells c (record { plan = row.plan; value = draft.value; section = None })) (set (set v.guards g guard.Free) (length h) (guard.Read s.party c read_ticket)) x' parks' size (downgrade draft.phase (core cells c h))

@@ -8,6 +8,7 @@ use Rattle.phase_locker.specs.Rows.{Rows as Parking, SameSize}
 use Rattle.phase_locker.specs.Fits.{Fits}
 use Rattle.phase_locker.specs.Gifts.{Downgrades}
 use Rattle.phase_locker.specs.Others.{OthersStay}
+use Rattle.phase_seq.specs.declared.sequentializer.LazySequentializer.{LazySequentializer}
 use Rattle.schedule_rules.specs.declared.step.Act.TheVariants as act
 use Rattle.schedule_rules.specs.declared.step.Step.{Step}
 use Rattle.schedule_rules.specs.declared.line.Answer.TheVariants as answer
@@ -24,27 +25,28 @@ use Rattle.phase_schedule.proofs.GuardDowngraded.{read_on}
 
 -- a write guard becomes a read guard
 pub did_read_on : {L : Type 0} (held : L → Holders) (place : L → LockerKind) (h : List Event) (rows : Rows L) (s : Step) (n g c : ℕ) → IsHoldingNumbered h (view held place rows) s n (act.Downgrade g) g c true
-    → (l l' : L) (given : Given) (parks' : Parking) (draft : Draft) (row : CellRow) → l ≡ get_or rows.lockers.items c l → row ≡ get_or rows.cells.items c row → IsDraft h (view held place rows) c draft
-    → Downgrades c draft.phase (held l) rows.parks given (held l') parks' → OthersStay c rows.parks parks' → Fits (place l') (held l') parks' c → place l' ≡ place l → SameSize rows.parks parks'
+    → (l l' : LazySequentializer L (Unit {0})) (given : Given) (parks' : Parking) (draft : Draft) (row : CellRow) → l ≡ get_or rows.sequentializers.items c l → row ≡ get_or rows.cells.items c row → IsDraft h (view held place rows) c draft
+    → Downgrades c draft.phase (held l.locker) rows.parks given (held l'.locker) parks' → OthersStay c rows.parks parks' → Fits (place l'.locker) (held l'.locker) parks' c → place l'.locker ≡ place l.locker → l'.running ≡ l.running → SameSize rows.parks parks'
     → FollowsStep h s (record { answer = answer.ReadGuard; given = given }) (view held place rows)
     (record (view held place rows) {
       cells = set rows.cells.items c (record { plan = row.plan; value = draft.value; section = None });
       guards = set (set rows.guards.items g guard.Free) n (guard.Read s.party c read_ticket);
-      held = map held (set rows.lockers.items c l');
-      places = map place (set rows.lockers.items c l');
+      held = map (λ q. held q.locker) (set rows.sequentializers.items c l');
+      places = map (λ q. place q.locker) (set rows.sequentializers.items c l');
+      running = map (λ q. q.running) (set rows.sequentializers.items c l');
       parks = parks';
     })
-did_read_on held place h rows s n g c k l l' given parks' draft row at row_at drafts moves others fits same size =
-    seen_locker held place rows.lockers.items c l l' at same
-    (λ hs ks. FollowsStep h s (record { answer = answer.ReadGuard; given = given }) (view held place rows)
-    (record (view held place rows) { cells = set rows.cells.items c (record { plan = row.plan; value = draft.value; section = None }); guards = set (set rows.guards.items g guard.Free) n (guard.Read s.party c read_ticket); held = hs; places = ks; parks = parks' }))
+did_read_on held place h rows s n g c k l l' given parks' draft row at row_at drafts moves others fits same runs size =
+    seen_locker (λ q. held q.locker) (λ q. place q.locker) (λ q. q.running) rows.sequentializers.items c l l' at same runs
+    (λ hs ks rs. FollowsStep h s (record { answer = answer.ReadGuard; given = given }) (view held place rows)
+    (record (view held place rows) { cells = set rows.cells.items c (record { plan = row.plan; value = draft.value; section = None }); guards = set (set rows.guards.items g guard.Free) n (guard.Read s.party c read_ticket); held = hs; places = ks; running = rs; parks = parks' }))
     (record {
       follows = rw k.number
           (read_on (plans (view held place rows)) h (view held place rows) k.holding.acting.ready.follows s g c k.holding.held k.holding.acting.acts (in_plan h (view held place rows) s (act.Downgrade g) g c true k.holding) k.holding.acting.idle k.holding.acting.ready.room given
-          draft (drafts k.holding.held.guard (writer_shown h (view held place rows) s (act.Downgrade g) g c k.holding)) row row_at k.holding.inside (held l') parks'
-          (subst (λ (x : Holders). Downgrades c draft.phase x rows.parks given (held l') parks') (held_shown h (view held place rows) s (act.Downgrade g) g c true k.holding held place rows.lockers.items l at refl refl) moves)
+          draft (drafts k.holding.held.guard (writer_shown h (view held place rows) s (act.Downgrade g) g c k.holding)) row row_at k.holding.inside (held l'.locker) parks'
+          (subst (λ (x : Holders). Downgrades c draft.phase x rows.parks given (held l'.locker) parks') (held_shown h (view held place rows) s (act.Downgrade g) g c true k.holding (λ q. held q.locker) (λ q. place q.locker) rows.sequentializers.items l at refl refl) moves)
           (has_free h (view held place rows) s (act.Downgrade g) g c true k.holding)
-          (subst (λ (kind : LockerKind). Fits kind (held l') parks' c) (same ∙ place_shown h (view held place rows) s (act.Downgrade g) g c true k.holding held place rows.lockers.items l at refl refl) fits) others size);
+          (subst (λ (kind : LockerKind). Fits kind (held l'.locker) parks' c) (same ∙ place_shown h (view held place rows) s (act.Downgrade g) g c true k.holding (λ q. held q.locker) (λ q. place q.locker) rows.sequentializers.items l at refl refl) fits) others size);
       guards = length-set _ _ _ ∙ length-set _ _ _;
       parties = refl;
     })

@@ -166,5 +166,5 @@ module _ (cells : List CellPlan) (h : List Event) (v : View) (t : Tracks cells h
         let none : _ = no_writer_left in
         let row_is : row ≡ cell_row (cell_at cells c) c (replay cells c h) (inside cells h) (open_after cells h) = row_at v.cells c row _ found in_rows (t.kept.cell c in_rows) in
         let value : draft.value ≡ (content_after_back cells c back_given (replay cells c h)).value = ap (λ (d : Draft). d.value) drafts ∙ ap (λ (y : Content). y.value) (sym content_here) in
-        let gone : None ≡ section_by (inside cells h) (find (writes_cell c) (without_guard g (guards h))) (run_in c (sections h)) = rw (none_found (writes_cell c) (without_guard g (guards h)) none.0, no_run c (sections h) none.1) refl in
+        let gone : None ≡ section_by c (inside cells h) (find (writes_cell c) (without_guard g (guards h))) (run_in c (sections h)) = rw (none_found (writes_cell c) (without_guard g (guards h)) none.0, no_run c (sections h) none.1) refl in
         λ i. record { plan = (row_is i).plan; value = value i; section = gone i }

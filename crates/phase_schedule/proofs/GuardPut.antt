@@ -91,11 +91,11 @@ module _ (cells : List CellPlan) (h : List Event) (v : View) (t : Tracks cells h
     row_put : put_row value row ≡ cell_row (cell_at cells c) c (replay cells c h) (inside cells h) (open_put ws)
     row_put =
         let row_is : row ≡ cell_row (cell_at cells c) c (replay cells c h) (inside cells h) (open_after cells h) = row_at v.cells c row _ found in_rows (t.kept.cell c in_rows) in
-        let shown : put_section value (section_by (inside cells h) (find (writes_cell c) (guards h)) (run_in c (sections h))) ≡ section_by (inside cells h) (find (writes_cell c) guards_put) (run_in c (sections h)) =
-        ap (λ o. put_section value (section_by (inside cells h) o (run_in c (sections h)))) writer_before ∙ ap (λ o. section_by (inside cells h) o (run_in c (sections h))) (sym writer_after) in
+        let shown : put_section value (section_by c (inside cells h) (find (writes_cell c) (guards h)) (run_in c (sections h))) ≡ section_by c (inside cells h) (find (writes_cell c) guards_put) (run_in c (sections h)) =
+        ap (λ o. put_section value (section_by c (inside cells h) o (run_in c (sections h)))) writer_before ∙ ap (λ o. section_by c (inside cells h) o (run_in c (sections h))) (sym writer_after) in
         ap (put_row value) row_is ∙ (λ i. record { plan = cell_at cells c; value = (replay cells c h).value; section = shown i })
 
     pub cell_put : (d : ℕ) → d < length (set v.cells c (put_row value row)) → slice_get (set v.cells c (put_row value row)) d ≡ Some (cell_row (cell_at cells d) d (replay cells d h) (inside cells h) (open_put ws))
     cell_put =
         set_view v.cells c (put_row value row) (λ d. cell_row (cell_at cells d) d (replay cells d h) (inside cells h) (open_after cells h)) (λ d. cell_row (cell_at cells d) d (replay cells d h) (inside cells h) (open_put ws)) t.kept.cell
-        (λ d ne. ap (λ o. record { plan = cell_at cells d; value = (replay cells d h).value; section = section_by (inside cells h) o (run_in d (sections h)) }) (writer_other d ne)) row_put
+        (λ d ne. ap (λ o. record { plan = cell_at cells d; value = (replay cells d h).value; section = section_by d (inside cells h) o (run_in d (sections h)) }) (writer_other d ne)) row_put

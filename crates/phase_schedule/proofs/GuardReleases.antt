@@ -8,6 +8,7 @@ use Rattle.phase_locker.specs.Rows.{Rows as Parking, SameSize}
 use Rattle.phase_locker.specs.Fits.{Fits}
 use Rattle.phase_locker.specs.Gifts.{Hands}
 use Rattle.phase_locker.specs.Others.{OthersStay}
+use Rattle.phase_seq.specs.declared.sequentializer.LazySequentializer.{LazySequentializer}
 use Rattle.schedule_rules.specs.declared.step.Act.TheVariants as act
 use Rattle.schedule_rules.specs.declared.step.Step.{Step}
 use Rattle.schedule_rules.specs.declared.line.Answer.TheVariants as answer
@@ -24,36 +25,36 @@ use Rattle.phase_schedule.proofs.GuardReleased.{released_read, released_write}
 
 module _ {L : Type 0} (held : L → Holders) (place : L → LockerKind) (h : List Event) (rows : Rows L) (s : Step) (g c : ℕ) where
   -- a read guard
-  pub did_release_read : IsHolding h (view held place rows) s (act.Release g) g c false → (l l' : L) (given : Given) (parks' : Parking) → l ≡ get_or rows.lockers.items c l
-      → Hands c (leave_read (held l)) rows.parks given (held l') parks' → OthersStay c rows.parks parks' → Fits (place l') (held l') parks' c → place l' ≡ place l → SameSize rows.parks parks'
+  pub did_release_read : IsHolding h (view held place rows) s (act.Release g) g c false → (l l' : LazySequentializer L (Unit {0})) (given : Given) (parks' : Parking) → l ≡ get_or rows.sequentializers.items c l
+      → Hands c (leave_read (held l.locker)) rows.parks given (held l'.locker) parks' → OthersStay c rows.parks parks' → Fits (place l'.locker) (held l'.locker) parks' c → place l'.locker ≡ place l.locker → l'.running ≡ l.running → SameSize rows.parks parks'
       → FollowsStep h s (record { answer = answer.Done; given = given }) (view held place rows)
-      (record (view held place rows) { guards = set rows.guards.items g guard.Free; held = map held (set rows.lockers.items c l'); places = map place (set rows.lockers.items c l'); parks = parks' })
-  did_release_read k l l' given parks' at hands others fits same size =
-      seen_locker held place rows.lockers.items c l l' at same
-      (λ hs ks. FollowsStep h s (record { answer = answer.Done; given = given }) (view held place rows) (record (view held place rows) { guards = set rows.guards.items g guard.Free; held = hs; places = ks; parks = parks' }))
+      (record (view held place rows) { guards = set rows.guards.items g guard.Free; held = map (λ q. held q.locker) (set rows.sequentializers.items c l'); places = map (λ q. place q.locker) (set rows.sequentializers.items c l'); running = map (λ q. q.running) (set rows.sequentializers.items c l'); parks = parks' })
+  did_release_read k l l' given parks' at hands others fits same runs size =
+      seen_locker (λ q. held q.locker) (λ q. place q.locker) (λ q. q.running) rows.sequentializers.items c l l' at same runs
+      (λ hs ks rs. FollowsStep h s (record { answer = answer.Done; given = given }) (view held place rows) (record (view held place rows) { guards = set rows.guards.items g guard.Free; held = hs; places = ks; running = rs; parks = parks' }))
       (record {
-        follows = released_read (plans (view held place rows)) h (view held place rows) k.acting.ready.follows s g c k.held k.acting.acts (in_plan h (view held place rows) s (act.Release g) g c false k) k.acting.idle k.acting.ready.room given (held l') parks'
-            (subst (λ (x : Holders). Hands c (leave_read x) rows.parks given (held l') parks') (held_shown h (view held place rows) s (act.Release g) g c false k held place rows.lockers.items l at refl refl) hands)
-            (subst (λ (kind : LockerKind). Fits kind (held l') parks' c) (same ∙ place_shown h (view held place rows) s (act.Release g) g c false k held place rows.lockers.items l at refl refl) fits) others size;
+        follows = released_read (plans (view held place rows)) h (view held place rows) k.acting.ready.follows s g c k.held k.acting.acts (in_plan h (view held place rows) s (act.Release g) g c false k) k.acting.idle k.acting.ready.room given (held l'.locker) parks'
+            (subst (λ (x : Holders). Hands c (leave_read x) rows.parks given (held l'.locker) parks') (held_shown h (view held place rows) s (act.Release g) g c false k (λ q. held q.locker) (λ q. place q.locker) rows.sequentializers.items l at refl refl) hands)
+            (subst (λ (kind : LockerKind). Fits kind (held l'.locker) parks' c) (same ∙ place_shown h (view held place rows) s (act.Release g) g c false k (λ q. held q.locker) (λ q. place q.locker) rows.sequentializers.items l at refl refl) fits) others size;
         guards = length-set _ _ _;
         parties = refl;
       })
 
   -- a write guard
-  pub did_release_write : IsHolding h (view held place rows) s (act.Release g) g c true → (l l' : L) (given : Given) (parks' : Parking) (draft : Draft) (row : CellRow) → l ≡ get_or rows.lockers.items c l → row ≡ get_or rows.cells.items c row
+  pub did_release_write : IsHolding h (view held place rows) s (act.Release g) g c true → (l l' : LazySequentializer L (Unit {0})) (given : Given) (parks' : Parking) (draft : Draft) (row : CellRow) → l ≡ get_or rows.sequentializers.items c l → row ≡ get_or rows.cells.items c row
       → IsDraft h (view held place rows) c draft
-      → Hands c (leave_write draft.phase (held l)) rows.parks given (held l') parks' → OthersStay c rows.parks parks' → Fits (place l') (held l') parks' c → place l' ≡ place l → SameSize rows.parks parks'
+      → Hands c (leave_write draft.phase (held l.locker)) rows.parks given (held l'.locker) parks' → OthersStay c rows.parks parks' → Fits (place l'.locker) (held l'.locker) parks' c → place l'.locker ≡ place l.locker → l'.running ≡ l.running → SameSize rows.parks parks'
       → FollowsStep h s (record { answer = answer.Done; given = given }) (view held place rows)
-      (record (view held place rows) { cells = set rows.cells.items c (record { plan = row.plan; value = draft.value; section = None }); guards = set rows.guards.items g guard.Free; held = map held (set rows.lockers.items c l'); places = map place (set rows.lockers.items c l'); parks = parks' })
-  did_release_write k l l' given parks' draft row at row_at drafts hands others fits same size =
-      seen_locker held place rows.lockers.items c l l' at same
-      (λ hs ks. FollowsStep h s (record { answer = answer.Done; given = given }) (view held place rows)
-      (record (view held place rows) { cells = set rows.cells.items c (record { plan = row.plan; value = draft.value; section = None }); guards = set rows.guards.items g guard.Free; held = hs; places = ks; parks = parks' }))
+      (record (view held place rows) { cells = set rows.cells.items c (record { plan = row.plan; value = draft.value; section = None }); guards = set rows.guards.items g guard.Free; held = map (λ q. held q.locker) (set rows.sequentializers.items c l'); places = map (λ q. place q.locker) (set rows.sequentializers.items c l'); running = map (λ q. q.running) (set rows.sequentializers.items c l'); parks = parks' })
+  did_release_write k l l' given parks' draft row at row_at drafts hands others fits same runs size =
+      seen_locker (λ q. held q.locker) (λ q. place q.locker) (λ q. q.running) rows.sequentializers.items c l l' at same runs
+      (λ hs ks rs. FollowsStep h s (record { answer = answer.Done; given = given }) (view held place rows)
+      (record (view held place rows) { cells = set rows.cells.items c (record { plan = row.plan; value = draft.value; section = None }); guards = set rows.guards.items g guard.Free; held = hs; places = ks; running = rs; parks = parks' }))
       (record {
         follows = released_write (plans (view held place rows)) h (view held place rows) k.acting.ready.follows s g c k.held k.acting.acts (in_plan h (view held place rows) s (act.Release g) g c true k) k.acting.idle k.acting.ready.room given
-            draft (drafts k.held.guard (writer_shown h (view held place rows) s (act.Release g) g c k)) row row_at k.inside (held l') parks'
-            (subst (λ (x : Holders). Hands c (leave_write draft.phase x) rows.parks given (held l') parks') (held_shown h (view held place rows) s (act.Release g) g c true k held place rows.lockers.items l at refl refl) hands)
-            (subst (λ (kind : LockerKind). Fits kind (held l') parks' c) (same ∙ place_shown h (view held place rows) s (act.Release g) g c true k held place rows.lockers.items l at refl refl) fits) others size;
+            draft (drafts k.held.guard (writer_shown h (view held place rows) s (act.Release g) g c k)) row row_at k.inside (held l'.locker) parks'
+            (subst (λ (x : Holders). Hands c (leave_write draft.phase x) rows.parks given (held l'.locker) parks') (held_shown h (view held place rows) s (act.Release g) g c true k (λ q. held q.locker) (λ q. place q.locker) rows.sequentializers.items l at refl refl) hands)
+            (subst (λ (kind : LockerKind). Fits kind (held l'.locker) parks' c) (same ∙ place_shown h (view held place rows) s (act.Release g) g c true k (λ q. held q.locker) (λ q. place q.locker) rows.sequentializers.items l at refl refl) fits) others size;
         guards = length-set _ _ _;
         parties = refl;
       })

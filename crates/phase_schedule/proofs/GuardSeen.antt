@@ -39,13 +39,16 @@ use Rattle.phase_schedule.proofs.GuardGone.{found_writer, reads_here, writes_her
 pub mapped_at : {X Y : Type 0} (f : X → Y) (xs : List X) (i : ℕ) (x : X) (y : Y) → x ≡ get_or xs i x → i < length xs → slice_get (map f xs) i ≡ Some y → f x ≡ y
 mapped_at f xs i x y at lt q = row_at (map f xs) i (f x) y (ap f at ∙ sym (get_or-map f xs i x (f x) lt)) (rw length-map lt) q
 
--- the records and kinds after a locker is written that keeps its kind
-pub seen_locker : {L : Type 0} (held : L → Holders) (place : L → LockerKind) (ls : List L) (c : ℕ) (l l' : L) → l ≡ get_or ls c l → place l' ≡ place l
-    → (P : List Holders → List LockerKind → Type 0) → P (set (map held ls) c (held l')) (map place ls) → P (map held (set ls c l')) (map place (set ls c l'))
-seen_locker held place ls c l l' at same P p =
+-- the records, kinds and runs after a sequentializer is written that keeps its kind and who runs
+pub seen_locker : {L R : Type 0} (held : L → Holders) (place : L → LockerKind) (runner : L → R) (ls : List L) (c : ℕ) (l l' : L) → l ≡ get_or ls c l → place l' ≡ place l → runner l' ≡ runner l
+    → (P : List Holders → List LockerKind → List R → Type 0) → P (set (map held ls) c (held l')) (map place ls) (map runner ls) → P (map held (set ls c l')) (map place (set ls c l')) (map runner (set ls c l'))
+seen_locker {R = R} held place runner ls c l l' at same runs P p =
     let records : map held (set ls c l') ≡ set (map held ls) c (held l') = map-set held ls c l' in
     let kinds : map place (set ls c l') ≡ map place ls = map-set_same place ls c l' l (same ∙ ap place at) in
-    subst (λ (hs : List Holders). P hs (map place (set ls c l'))) (sym records) (subst (λ (ks : List LockerKind). P (set (map held ls) c (held l')) ks) (sym kinds) p)
+    let runners : map runner (set ls c l') ≡ map runner ls = map-set_same runner ls c l' l (runs ∙ ap runner at) in
+    subst (λ (hs : List Holders). P hs (map place (set ls c l')) (map runner (set ls c l'))) (sym records)
+    (subst (λ (ks : List LockerKind). P (set (map held ls) c (held l')) ks (map runner (set ls c l'))) (sym kinds)
+    (subst (λ (rs : List R). P (set (map held ls) c (held l')) (map place ls) rs) (sym runners) p))
 
 module _ (h : List Event) (v : View) (s : Step) (a : Act) (g c : ℕ) (w : Bool) (k : IsHolding h v s a g c w) where
   -- its cell is in the plan
@@ -158,4 +161,4 @@ module _ (h : List Event) (v : View) (s : Step) (a : Act) (g c : ℕ) (k : IsHol
   pub guarded : (row : CellRow) → row ≡ get_or v.cells c row → IsGuarded row.section
   guarded row at =
       subst (λ (r : CellRow). IsGuarded r.section) (sym (cell_shown h v s a g c true k row at))
-      (subst (λ o. IsGuarded (section_by (inside (plans v) h) o (run_in c (open_after (plans v) h).sections))) (sym writer_shown) tt)
+      (subst (λ o. IsGuarded (section_by c (inside (plans v) h) o (run_in c (open_after (plans v) h).sections))) (sym writer_shown) tt)

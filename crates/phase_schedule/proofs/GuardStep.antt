@@ -87,7 +87,7 @@ module _ (cells : List CellPlan) (h : List Event) (v : View) (t : Tracks cells h
     module _ (rows : List CellRow) (slots : List GuardRow) (x' : Holders) (parks' : Parking) (size : SameSize v.parks parks') where
       -- what the rows hold then
       abbrev pub view_now : View
-      view_now = record { cells = rows; guards = slots; parties = v.parties; held = set v.held c x'; places = v.places; parks = parks' }
+      view_now = record { cells = rows; guards = slots; parties = v.parties; held = set v.held c x'; places = v.places; running = v.running; parks = parks' }
 
       -- the rows keep what stands open
       pub kept_now : plans_in rows ≡ cells → ((d : ℕ) → d < length rows → slice_get rows d ≡ Some (cell_row (cell_at cells d) d (content_with cells h b d) (inside cells h) opened_now))
@@ -112,7 +112,7 @@ module _ (cells : List CellPlan) (h : List Event) (v : View) (t : Tracks cells h
           → parks' ≡ rows_handed c l v.parks → x' ≡ flagged c parks' (held_handed c l v.parks x) → Fits (kind_at (cell_at cells c).place) x' parks' c → OthersStay c v.parks parks'
           → IsSteadyWith cells h opened_now b → Kept cells (content_with cells h b) (inside cells h) opened_now view_now → suc (length h) ≤ length slots → Tracks cells (told s a l ∷ h) view_now
       handed_over x line agrees stay listed may apart rows_are held_are fits others steady kept room =
-          tracks_after cells h (told s a l) opened_now b becomes_now view_now t.legal line steady locked kept room
+          tracks_after cells h (told s a l) opened_now b becomes_now view_now t.legal line steady locked t.run_by kept room
         where
           now : Locked cells (λ d. replay cells d (told s a l ∷ h)) (open_after cells (told s a l ∷ h)) (set v.held c x') v.places parks'
           now =

@@ -1,5 +1,5 @@
 -- One more attempt of a call that waits, once its locker answered.
-use Rattle.std.proofs.Common.{◌≡◌, ℕ, ◌<◌, List, length, refl, arith, Bool, true, false, None, Some, ◌∙◌, ap, sym, subst, not, ◌&&◌, inl, inr}
+use Rattle.std.proofs.Common.{◌≡◌, ℕ, ◌<◌, List, length, set, refl, arith, Bool, true, false, None, Some, ◌∙◌, ap, sym, subst, not, ◌&&◌, inl, inr}
 use Rattle.std.specs.Prelude.{MatchBool}
 use Rattle.std.specs.declared.option.Option.{Option}
 use Rattle.phase_bits.specs.declared.holders.Holders.{Holders}
@@ -16,6 +16,7 @@ use Rattle.phase_locker.specs.Others.{OthersStay}
 use Rattle.phase_locker.specs.Attempts.{keeps as row_keeps, given_up, Judged, Keeps, GivesUp}
 use Rattle.phase_locker.specs.Gifts.{Hands}
 use Rattle.phase_locker.proofs.Judging.{by_bool}
+use Rattle.schedule_rules.specs.declared.plan.Call.{Call}
 use Rattle.schedule_rules.specs.declared.plan.CellPlan.{CellPlan}
 use Rattle.schedule_rules.specs.declared.step.Act.{Act}
 use Rattle.schedule_rules.specs.declared.step.Act.TheVariants as act
@@ -26,7 +27,7 @@ use Rattle.schedule_rules.specs.Calls.{Calls, Want, rule, waking_nature, initial
 use Rattle.schedule_rules.specs.History.{Event}
 use Rattle.schedule_rules.specs.Sections.{runs}
 use Rattle.schedule_rules.specs.Replay.{replay, phase_at, inside}
-use Rattle.schedule_rules.specs.Waits.{Wait as WaitingCall, wait_of, waits, other_waits, cell_concerned, cell_concerned_with, cell_of_attempt, attempt_with}
+use Rattle.schedule_rules.specs.Waits.{Wait as WaitingCall, attempt, wait_of, waits, other_waits, cell_concerned, cell_concerned_with, cell_of_attempt, attempt_with}
 use Rattle.schedule_rules.specs.Holds.{has_own, keeps, readers, is_free_with}
 use Rattle.schedule_rules.specs.Due.{keeps_own, due_attempt}
 use Rattle.schedule_rules.specs.Gifts.{reaches, is_freed_first, may_give_first}
@@ -35,7 +36,7 @@ use Rattle.phase_schedule.specs.declared.rows.Target.{Target}
 use Rattle.phase_schedule.specs.View.{View}
 use Rattle.phase_schedule.specs.Kept.{open_after, record_in, kind_at, target_of, call_of}
 use Rattle.phase_schedule.specs.Meets.{some_nature, lock_nature}
-use Rattle.phase_schedule.specs.Tracks.{Tracks, plans}
+use Rattle.phase_schedule.specs.Tracks.{RunBy, Tracks, plans}
 use Rattle.phase_schedule.specs.Ready.{Tries, is_try, IsAgain, IsAnswered, answer_by, opened_by, waits_left}
 use Rattle.phase_schedule.proofs.KeptShares.{row_kept}
 use Rattle.phase_schedule.proofs.GivenOn.{given_on, given_concerned, listed_hand, reaches_given}
@@ -115,7 +116,7 @@ module _ (h : List Event) (v : View) (s : Step) (n : ℕ) (t : Target) (is : IsA
   record_is = record_in t.cell (phase_at (plans v) t.cell h) (open_after (plans v) h)
 
   -- the call is not cyclic
-  calm : (initializes (Calls t.call) && runs s.party t.cell h) ≡ false
+  pub calm : (initializes (Calls t.call) && runs s.party t.cell h) ≡ false
   calm = rw (at.cell, at.want) at (waits_calm (plans v) s.party h at.wait track.legal at.is)
 
   sound : IsSound v.parks
@@ -130,16 +131,17 @@ module _ (h : List Event) (v : View) (s : Step) (n : ℕ) (t : Target) (is : IsA
       ap (λ m. row_keeps (row_of v.parks s.party).waiting m record_is) en
       ∙ row_kept s.party (rule (cell_at (plans v) t.cell) (Calls t.call) (phase_at (plans v) t.cell h)) (waits (plans v) h) v.parks record_is track.locked.shows
 
-  module _ (k' : LockerKind) (x' : Holders) (parks' : Parking) (a : Attempt) (g : Given) (ek : k' ≡ kind_at (cell_at (plans v) t.cell).place) (fits : Fits k' x' parks' t.cell) (others : OthersStay t.cell v.parks parks') (size : SameSize v.parks parks') where
+  module _ (k' : LockerKind) (x' : Holders) (r' : Option ℕ) (parks' : Parking) (a : Attempt) (g : Given) (ek : k' ≡ kind_at (cell_at (plans v) t.cell).place) (fits : Fits k' x' parks' t.cell) (others : OthersStay t.cell v.parks parks') (size : SameSize v.parks parks') (run_by : RunBy (plans v) (opened_by (plans v) h s t a g).sections (set v.running t.cell r')) where
     -- from what stands open and a legal line
-    answered : Opens t.cell (phase_at (plans v) t.cell h) (open_after (plans v) h) (opened_by (plans v) h s t a g) v.parks parks' x' → IsLegalLine (plans v) h s (record { answer = answer_by (plans v) h s t a; given = g }) → IsAnswered h (view_with v t.cell x' k' parks') s n t a g
+    answered : Opens t.cell (phase_at (plans v) t.cell h) (open_after (plans v) h) (opened_by (plans v) h s t a g) v.parks parks' x' → IsLegalLine (plans v) h s (record { answer = answer_by (plans v) h s t a; given = g }) → IsAnswered h (view_with v t.cell x' k' r' parks') s n t a g
     answered opens line =
         record {
           legal = track.legal;
           steady = track.steady;
           locked = locked_at (plans v) (λ c. replay (plans v) c h) (open_after (plans v) h) (opened_by (plans v) h s t a g) v.held v.places v.parks parks' t.cell x' k'
               track.locked (inside_plan v t.cell is.attempt.cell) opens.held ek opens.before opens.apart fits others size opens.writers opens.shows opens.single;
-          kept = kept_with (plans v) (λ c. replay (plans v) c h) (inside (plans v) h) (open_after (plans v) h) v t.cell x' k' parks' size track.kept;
+          run_by = run_by;
+          kept = kept_with (plans v) (λ c. replay (plans v) c h) (inside (plans v) h) (open_after (plans v) h) v t.cell x' k' r' parks' size track.kept;
           room = is.attempt.ready.room;
           party = is.attempt.ready.party;
           cell = is.attempt.cell;
@@ -150,7 +152,7 @@ module _ (h : List Event) (v : View) (s : Step) (n : ℕ) (t : Target) (is : IsA
 
     -- a call that keeps what it has
     kept_answered : (nature : LockNature) → nature ≡ lock_nature (rule (cell_at (plans v) t.cell) (Calls t.call) (phase_at (plans v) t.cell h)) → row_keeps (row_of v.parks s.party).waiting nature record_is ≡ true
-        → Keeps (record { cell = t.cell; party = s.party }) nature record_is v.parks (a, g) x' parks' → IsAnswered h (view_with v t.cell x' k' parks') s n t a g
+        → Keeps (record { cell = t.cell; party = s.party }) nature record_is v.parks (a, g) x' parks' → IsAnswered h (view_with v t.cell x' k' r' parks') s n t a g
     kept_answered nature en kept q =
         let own : keeps_own (plans v) h s.party (tried t) ≡ true = sym (kept_same nature en) ∙ kept in
         let way = sym (ap (λ o. keeps o (rule (cell_at (plans v) t.cell) (Calls t.call) (phase_at (plans v) t.cell h)) (readers (plans v) t.cell h)) at.is) ∙ own in
@@ -163,7 +165,7 @@ module _ (h : List Event) (v : View) (s : Step) (n : ℕ) (t : Target) (is : IsA
     -- a call that gives up what it has
     gave_answered : (fresh : Bool) (wake nature : LockNature) (between : Holders) (rows : Parking) → nature ≡ lock_nature (rule (cell_at (plans v) t.cell) (Calls t.call) (phase_at (plans v) t.cell h)) → wake ≡ some_nature (waking_nature (Calls t.call)) → row_keeps (row_of v.parks s.party).waiting nature record_is ≡ false
         → Hands t.cell (given_up (row_of v.parks s.party).waiting record_is) (freed s.party v.parks) g between rows → Judged (kind_at (cell_at (plans v) t.cell).place) fresh (record { cell = t.cell; party = s.party }) wake nature between rows a x' parks'
-        → IsAnswered h (view_with v t.cell x' k' parks') s n t a g
+        → IsAnswered h (view_with v t.cell x' k' r' parks') s n t a g
     gave_answered fresh wake nature between rows en ew gone hands j =
         let apart = track.locked.apart t.cell in
         let single = track.locked.single in
@@ -202,7 +204,7 @@ module _ (h : List Event) (v : View) (s : Step) (n : ℕ) (t : Target) (is : IsA
     -- what the locker answered is due, and the records and rows are as told
     pub again_answered : (k : LockerKind) (x : Holders) (wake nature : LockNature) → x ≡ record_is → k ≡ kind_at (cell_at (plans v) t.cell).place → nature ≡ lock_nature (rule (cell_at (plans v) t.cell) (Calls t.call) (number x.phase)) → wake ≡ some_nature (waking_nature (Calls t.call))
         → MatchBool (row_keeps (row_of v.parks s.party).waiting nature x) (Keeps (record { cell = t.cell; party = s.party }) nature x v.parks (a, g) x' parks') (GivesUp k (record { cell = t.cell; party = s.party }) wake nature x v.parks (a, g) x' parks')
-        → IsAnswered h (view_with v t.cell x' k' parks') s n t a g
+        → IsAnswered h (view_with v t.cell x' k' r' parks') s n t a g
     again_answered k x wake nature ex ek0 en ew steps =
         let en' : nature ≡ lock_nature (rule (cell_at (plans v) t.cell) (Calls t.call) (phase_at (plans v) t.cell h)) = en ∙ ap (λ (y : Holders). lock_nature (rule (cell_at (plans v) t.cell) (Calls t.call) (number y.phase))) ex in
         let steps' : MatchBool (row_keeps (row_of v.parks s.party).waiting nature record_is) (Keeps (record { cell = t.cell; party = s.party }) nature record_is v.parks (a, g) x' parks') (GivesUp k (record { cell = t.cell; party = s.party }) wake nature record_is v.parks (a, g) x' parks') =

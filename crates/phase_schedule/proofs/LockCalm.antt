@@ -99,7 +99,7 @@ module _ (cells : List CellPlan) where
     attempt_left : attempt_of_wait (wait_of p (waits_given_with cells ws h s g (without_wait s.party ws))) ≡ attempt_of_wait (wait_of p ws)
     attempt_left = attempt_given cells ws h s g p (without_wait s.party ws) ∙ ap attempt_of_wait (wait_kept s.party p ws (λ e. ne (sym e)))
 
-    attempt_beside : (a : Answer) → attempt_of_wait (wait_of p (waits_answered cells h s g a ws)) ≡ attempt_of_wait (wait_of p ws)
+    pub attempt_beside : (a : Answer) → attempt_of_wait (wait_of p (waits_answered cells h s g a ws)) ≡ attempt_of_wait (wait_of p ws)
     attempt_beside (answer.Refused r) = refl
     attempt_beside (answer.Waiting way) =
         ap attempt_of_wait (wait_beside s.party p way (attempt_with cells ws h s.party s.act) (waits_given_with cells ws h s g (without_wait s.party ws)) (λ e. ne (sym e))) ∙ attempt_left
@@ -107,6 +107,7 @@ module _ (cells : List CellPlan) where
 
     calm_sections : (a : Answer) (ss : List Section) (o : Option Attempt) → Calm p ss o → Calm p (sections_after h s a ss) o
     calm_sections (answer.Refused r) ss o k = k
+    calm_sections (answer.Access q) ss o k = k
     calm_sections answer.Running ss o k = calm_run p s.party _ _ ss o ne k
     calm_sections _ ss o k = calm_ended p s.party s.act ss o k
 
@@ -114,7 +115,7 @@ module _ (cells : List CellPlan) where
 
   -- a call that waits is not cyclic
   module _ (h : List Event) (s : Step) (way : How) (a : Attempt) (has : attempt cells h s ≡ Some a) where
-    due_by : (ws : List Wait) (chosen : Bool) (b : Act) → attempt_with cells (waits cells h) h s.party b ≡ Some a → due_act cells h s ws chosen b ≡ due_tried cells h s.party (attempt cells h s) ws chosen
+    pub due_by : (ws : List Wait) (chosen : Bool) (b : Act) → attempt_with cells (waits cells h) h s.party b ≡ Some a → due_act cells h s ws chosen b ≡ due_tried cells h s.party (attempt cells h s) ws chosen
     due_by ws chosen (act.Call c k) e = refl
     due_by ws chosen act.Again e = refl
     due_by ws chosen (act.Made v) e = absurd (cc)
@@ -129,7 +130,7 @@ module _ (cells : List CellPlan) where
     never true z e = absurd (cc)
     never false z e = refl
 
-    not_refused : (r : Option Refusal) (z : Answer) → answer.Waiting way ≡ answer_of r z → answer.Waiting way ≡ z
+    pub not_refused : (r : Option Refusal) (z : Answer) → answer.Waiting way ≡ answer_of r z → answer.Waiting way ≡ z
     not_refused None z e = e
     not_refused (Some r) z e = absurd (cc)
 

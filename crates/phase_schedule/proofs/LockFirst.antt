@@ -1,8 +1,10 @@
 -- A call of a party that does not wait, once its locker answered.
-use Rattle.std.proofs.Common.{◌≡◌, ℕ, suc, ◌<◌, List, [], ◌∷◌, length, set, refl, arith, Bool, true, false, None, ◌∙◌, ap, sym, subst, ◌&&◌}
+use Rattle.std.proofs.Common.{◌≡◌, ℕ, suc, ◌<◌, List, [], ◌∷◌, length, set, refl, arith, Bool, true, false, None, ◌∙◌, ap, sym, subst, not, ◌&&◌}
+use Rattle.std.specs.Prelude.{if◌then◌else◌}
+use Rattle.std.specs.declared.option.Option.{Option}
 use Rattle.std.proofs.lemmas.List.{length-map}
 use Rattle.phase_bits.specs.declared.holders.Holders.{Holders}
-use Rattle.phase_bits.specs.Number.{number}
+use Rattle.phase_bits.specs.Number.{number, phase_of}
 use Rattle.phase_locker.specs.declared.tickets.LockNature.{LockNature}
 use Rattle.phase_locker.specs.declared.tickets.Attempt.{Attempt}
 use Rattle.phase_locker.specs.declared.ways.Given.TheVariants.{Nobody}
@@ -11,9 +13,9 @@ use Rattle.phase_locker.specs.Rows.{Rows as Parking, SameSize}
 use Rattle.phase_locker.specs.Fits.{Fits}
 use Rattle.phase_locker.specs.Others.{OthersStay}
 use Rattle.phase_locker.specs.Attempts.{Judged}
+use Rattle.schedule_rules.specs.declared.plan.Call.{Call}
+use Rattle.schedule_rules.specs.declared.plan.Call.TheVariants as call
 use Rattle.schedule_rules.specs.declared.plan.CellPlan.{CellPlan}
-use Rattle.schedule_rules.specs.declared.step.Act.{Act}
-use Rattle.schedule_rules.specs.declared.step.Act.TheVariants as act
 use Rattle.schedule_rules.specs.declared.step.Step.{Step}
 use Rattle.schedule_rules.specs.declared.line.Answer.{Answer}
 use Rattle.schedule_rules.specs.declared.line.Answer.TheVariants as answer
@@ -21,21 +23,23 @@ use Rattle.schedule_rules.specs.declared.line.Line.{Line}
 use Rattle.schedule_rules.specs.Kinds.{cell_at}
 use Rattle.schedule_rules.specs.Calls.{Calls, rule, waking_nature, call_initializes}
 use Rattle.schedule_rules.specs.History.{Event}
-use Rattle.schedule_rules.specs.Sections.{Section, runs, sections, sections_ended}
-use Rattle.schedule_rules.specs.Guards.{Guard, guards}
-use Rattle.schedule_rules.specs.Replay.{replay, phase_at, inside}
-use Rattle.schedule_rules.specs.Waits.{waits, other_waits}
+use Rattle.schedule_rules.specs.Sections.{runs, sections, sections_after}
+use Rattle.schedule_rules.specs.Guards.{guards, guards_after}
+use Rattle.schedule_rules.specs.Replay.{replay, phase_at, inside, back_of_step}
+use Rattle.schedule_rules.specs.Waits.{waits, waits_answered, other_waits}
 use Rattle.schedule_rules.specs.Holds.{keeps, readers}
-use Rattle.schedule_rules.specs.Due.{keeps_own, due_attempt}
+use Rattle.schedule_rules.specs.Answers.{Meeting, answer_barred, answer_of_attempt}
+use Rattle.schedule_rules.specs.Due.{keeps_own, due_attempt, meeting}
 use Rattle.schedule_rules.specs.Legal.{IsLegalLine, Last, answer_of, due_at, may_give}
 use Rattle.schedule_rules.proofs.Opened.{wait_removed}
 use Rattle.phase_schedule.specs.declared.rows.Target.{Target}
 use Rattle.phase_schedule.specs.View.{View}
 use Rattle.phase_schedule.specs.Kept.{Open, open_after, record_in, kind_at}
 use Rattle.phase_schedule.specs.Meets.{some_nature, lock_nature}
-use Rattle.phase_schedule.specs.Tracks.{NumbersBelow, IsSteady, Kept, Locked, Tracks, FollowsStep, event, plans}
-use Rattle.phase_schedule.specs.Ready.{Tries, is_try, IsFirst, IsAnswered, answer_by}
-use Rattle.phase_schedule.proofs.After.{IsSteadyWith, tracks_after}
+use Rattle.phase_schedule.specs.Tracks.{Kept, Locked, RunBy, Tracks, FollowsStep, event, plans}
+use Rattle.phase_schedule.specs.Ready.{Tries, IsFirst, IsAnswered, answer_by, opened_by}
+use Rattle.phase_schedule.proofs.After.{tracks_after}
+use Rattle.phase_schedule.proofs.RowTries.{try_ends, steady_same}
 use Rattle.phase_schedule.proofs.Counted.{none_without}
 use Rattle.phase_schedule.proofs.LockBarred.{open_with}
 use Rattle.phase_schedule.proofs.LockDue.{chosen_by, tried, judged_due, is_cyclic}
@@ -58,12 +62,12 @@ module _ (cells : List CellPlan) (h : List Event) (s : Step) (t : Target) (is : 
 
 -- ---- the rows besides the records
 
--- the rows with another record at one cell
-abbrev pub view_with : View → ℕ → Holders → LockerKind → Parking → View
-view_with v c x k parks = record { cells = v.cells; guards = v.guards; parties = v.parties; held = set v.held c x; places = set v.places c k; parks = parks }
+-- the rows with another record at one cell, and another party that runs its generator
+abbrev pub view_with : View → ℕ → Holders → LockerKind → Option ℕ → Parking → View
+view_with v c x k r parks = record { cells = v.cells; guards = v.guards; parties = v.parties; held = set v.held c x; places = set v.places c k; running = set v.running c r; parks = parks }
 
-pub kept_with : (cells : List CellPlan) (content : _) (within : _) (o : Open) (v : View) (c : ℕ) (x : Holders) (k : LockerKind) (parks : Parking) → SameSize v.parks parks → Kept cells content within o v → Kept cells content within o (view_with v c x k parks)
-kept_with cells content within o v c x k parks size a =
+pub kept_with : (cells : List CellPlan) (content : _) (within : _) (o : Open) (v : View) (c : ℕ) (x : Holders) (k : LockerKind) (r : Option ℕ) (parks : Parking) → SameSize v.parks parks → Kept cells content within o v → Kept cells content within o (view_with v c x k r parks)
+kept_with cells content within o v c x k r parks size a =
     record {
       planned = a.planned;
       cell = a.cell;
@@ -90,13 +94,14 @@ module _ (h : List Event) (v : View) (s : Step) (n : ℕ) (t : Target) (is : IsF
   others_all : other_waits (plans v) h s ≡ waits (plans v) h
   others_all = none_without s.party (waits (plans v) h) is.idle
 
-  module _ (k k' : LockerKind) (x x' : Holders) (parks' : Parking) (a : Attempt) (wake nature : LockNature) where
+  module _ (k k' : LockerKind) (x x' : Holders) (r' : Option ℕ) (parks' : Parking) (a : Attempt) (wake nature : LockNature) where
     -- what the locker answered is due, and the records and rows are as told
     pub first_answered : x ≡ record_in t.cell (phase_at (plans v) t.cell h) (open_after (plans v) h) → k ≡ kind_at (cell_at (plans v) t.cell).place → (call_initializes t.call && runs s.party t.cell h) ≡ false
         → nature ≡ lock_nature (rule (cell_at (plans v) t.cell) (Calls t.call) (number x.phase)) → wake ≡ some_nature (waking_nature (Calls t.call))
         → Judged k true (record { cell = t.cell; party = s.party }) wake nature x v.parks a x' parks' → k' ≡ k → Fits k' x' parks' t.cell → OthersStay t.cell v.parks parks' → SameSize v.parks parks'
-        → IsAnswered h (view_with v t.cell x' k' parks') s n t a Nobody
-    first_answered ex ek calm en ew j ek' fits others size =
+        → RunBy (plans v) (opened_by (plans v) h s t a Nobody).sections (set v.running t.cell r')
+        → IsAnswered h (view_with v t.cell x' k' r' parks') s n t a Nobody
+    first_answered ex ek calm en ew j ek' fits others size run_by =
         let track : Tracks (plans v) h v = is.attempt.ready.follows in
         let locked : Locked (plans v) (λ c. replay (plans v) c h) (open_with h (other_waits (plans v) h s)) v.held v.places v.parks = subst (λ ws. Locked (plans v) (λ c. replay (plans v) c h) (open_with h ws) v.held v.places v.parks) (sym others_all) track.locked in
         let ex' : x ≡ record_in t.cell (phase_at (plans v) t.cell h) (open_with h (other_waits (plans v) h s)) = ex ∙ ap (λ ws. record_in t.cell (phase_at (plans v) t.cell h) (open_with h ws)) (sym others_all) in
@@ -115,7 +120,8 @@ module _ (h : List Event) (v : View) (s : Step) (n : ℕ) (t : Target) (is : IsF
           locked = subst (λ o. Locked (plans v) (λ c. replay (plans v) c h) o (set v.held t.cell x') (set v.places t.cell k') parks') (sym (opened_is (plans v) h s t a Nobody))
               (locked_at (plans v) (λ c. replay (plans v) c h) (open_with h (other_waits (plans v) h s)) (opened_at (plans v) h s t (other_waits (plans v) h s) a) v.held v.places v.parks parks' t.cell x' k'
               locked known opens.held (ek' ∙ ek) opens.before opens.apart fits others size opens.writers opens.shows opens.single);
-          kept = kept_with (plans v) (λ c. replay (plans v) c h) (inside (plans v) h) (open_after (plans v) h) v t.cell x' k' parks' size track.kept;
+          run_by = run_by;
+          kept = kept_with (plans v) (λ c. replay (plans v) c h) (inside (plans v) h) (open_after (plans v) h) v t.cell x' k' r' parks' size track.kept;
           room = is.attempt.ready.room;
           party = party;
           cell = is.attempt.cell;
@@ -125,48 +131,41 @@ module _ (h : List Event) (v : View) (s : Step) (n : ℕ) (t : Target) (is : IsF
               (judged_due (plans v) h s t (other_waits (plans v) h s) calm keeps_none (locked.apart t.cell) true (record { cell = t.cell; party = s.party }) wake nature v.parks a x' parks' en' ew j');
         }
 
-  -- ---- a cyclic call
+  -- ---- a call that gets no lock
 
-  try_ends : (b : Act) (p : ℕ) (ss : List Section) → is_try b ≡ true → sections_ended b p ss ≡ ss
-  try_ends (act.Call c k) p ss e = refl
-  try_ends act.Again p ss e = refl
-  try_ends (act.Made y) p ss e = absurd (cc)
-  try_ends act.MadeFailed p ss e = absurd (cc)
-  try_ends (act.Look g) p ss e = refl
-  try_ends (act.Set g y) p ss e = refl
-  try_ends (act.Release g) p ss e = refl
-  try_ends (act.Downgrade g) p ss e = refl
-  try_ends (act.Clone g) p ss e = refl
-
-  below_more : (m : ℕ) (gs : List Guard) → NumbersBelow m gs → NumbersBelow (suc m) gs
-  below_more m [] b = tt
-  below_more m (x ∷ gs) b = let lt = b.0 in (omega (arith, lt), b.1)
-
-  steady_none : IsSteady (plans v) h → IsSteadyWith (plans v) h (open_after (plans v) h) None
-  steady_none a =
-      record {
-        numbers = below_more (length h) (guards h) a.numbers;
-        guard_started = λ c x q. let early = a.guard_started c x q in omega (arith, early);
-        guard = a.guard;
-        section_started = λ c x q. let early = a.section_started c x q in omega (arith, early);
-        section = a.section;
-      }
-
-  -- the rows stay for a call that is cyclic
-  pub cyclic_follows : (l : Line) → l ≡ record { answer = answer.Cyclic; given = Nobody } → (call_initializes t.call && runs s.party t.cell h) ≡ true → FollowsStep h s l v v
-  cyclic_follows l e cyclic =
+  -- the rows stay
+  stay_follows : (a : Answer) → sections_after h s a (sections h) ≡ sections h → guards_after h s a (guards h) ≡ guards h → back_of_step h s a ≡ None → waits_answered (plans v) h s Nobody a (waits (plans v) h) ≡ other_waits (plans v) h s
+      → IsLegalLine (plans v) h s (record { answer = a; given = Nobody }) → (l : Line) → l ≡ record { answer = a; given = Nobody } → FollowsStep h s l v v
+  stay_follows a same held back left line l e =
       let track : Tracks (plans v) h v = is.attempt.ready.follows in
       let room = is.attempt.ready.room in
       rw e (record {
-        follows = tracks_after (plans v) h (event s (record { answer = answer.Cyclic; given = Nobody })) (open_after (plans v) h) None
+        follows = tracks_after (plans v) h (event s (record { answer = a; given = Nobody })) (open_after (plans v) h) None
             (record {
-              opened = λ i. record { waits = others_all i; sections = try_ends s.act s.party (sections h) is.attempt.tries.tries i; guards = guards h };
-              back = refl;
+              opened = λ i. record { waits = (left ∙ others_all) i; sections = same i; guards = held i };
+              back = back;
             })
-            v track.legal
-            (legal_quiet (plans v) h s t is.attempt.tries answer.Cyclic false
-            (sym (is_cyclic (call_initializes t.call && runs s.party t.cell h) answer.Cyclic _ cyclic)))
-            (steady_none track.steady) track.locked track.kept (omega (arith, room));
+            v track.legal line (steady_same (plans v) h track.steady (waits (plans v) h)) track.locked track.run_by track.kept (omega (arith, room));
         guards = refl;
         parties = refl;
       })
+
+  -- a call that is cyclic
+  pub cyclic_follows : (l : Line) → l ≡ record { answer = answer.Cyclic; given = Nobody } → (call_initializes t.call && runs s.party t.cell h) ≡ true → FollowsStep h s l v v
+  cyclic_follows l e cyclic =
+      stay_follows answer.Cyclic (try_ends s.act s.party (sections h) is.attempt.tries.tries) refl refl refl
+      (legal_quiet (plans v) h s t is.attempt.tries answer.Cyclic false
+      (sym (is_cyclic (call_initializes t.call && runs s.party t.cell h) answer.Cyclic _ cyclic))) l e
+
+  -- the answer of the call for the phase
+  phase_due : (k : Call) → k ≡ call.Phase → (m : Meeting) → m.kept ≡ false → answer.Phase (phase_of m.content.phase) ≡ answer_of_attempt (cell_at (plans v) t.cell) (Calls k) m false
+  phase_due call.Phase e m none = ap (λ b. if not b && false then answer_barred (cell_at (plans v) t.cell) (Calls call.Phase) m false else answer.Phase (phase_of m.content.phase)) (sym none)
+  phase_due call.Read e m none = absurd (cc)
+  phase_due call.Write e m none = absurd (cc)
+
+  -- a call for the phase
+  pub told_follows : (l : Line) (x : Holders) → x ≡ record_in t.cell (phase_at (plans v) t.cell h) (open_after (plans v) h) → l ≡ record { answer = answer.Phase x.phase; given = Nobody } → t.call ≡ call.Phase → FollowsStep h s l v v
+  told_follows l x ex e only =
+      stay_follows (answer.Phase (phase_of (phase_at (plans v) t.cell h))) (try_ends s.act s.party (sections h) is.attempt.tries.tries) refl refl refl
+      (legal_quiet (plans v) h s t is.attempt.tries (answer.Phase (phase_of (phase_at (plans v) t.cell h))) false
+      (phase_due t.call only (meeting (plans v) h s.party (tried t) (other_waits (plans v) h s)) keeps_none)) l (e ∙ ap (λ (y : Holders). record { answer = answer.Phase y.phase; given = Nobody }) ex)

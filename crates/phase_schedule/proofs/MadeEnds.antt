@@ -5,6 +5,7 @@ use Rattle.std.proofs.lemmas.Option.{slice_get-map, slice_get_read}
 use Rattle.std.proofs.Math.Seq.{map-set_same}
 use Rattle.std.specs.Prelude.{◌||◌, ◌⊎◌, nat_lt, slice_get}
 use Rattle.std.specs.List.{list_any}
+use Rattle.std.specs.declared.option.Option.{Option}
 use Rattle.phase_bits.specs.declared.holders.Holders.{Holders}
 use Rattle.phase_bits.specs.Number.{phase_of}
 use Rattle.phase_bits.specs.Records.{most_readers}
@@ -31,8 +32,9 @@ use Rattle.phase_schedule.proofs.Hands.{locked_sound}
 use Rattle.phase_schedule.proofs.GuardFew.{few_parked, fewer_parked}
 use Rattle.phase_schedule.proofs.MadeOpens.{writer_left, opened_write, runs_once, none_left, others_left, apart_write}
 
--- what is read of a cell's locker, and what a call left of the records, of its kind, and of the rows of who is parked
-pub record Called (records : List Holders) (kinds : List LockerKind) (parks : Parking) (c : ℕ) (x x' : Holders) (parks' : Parking) (records' : List Holders) (kinds' : List LockerKind) : Type 0 where
+-- what is read of a cell's locker, and what the end of a run left of the records, of the kinds, of who runs, and of the
+-- rows of who is parked
+pub record Called (records : List Holders) (kinds : List LockerKind) (running : List (Option ℕ)) (parks : Parking) (c : ℕ) (x x' : Holders) (parks' : Parking) (records' : List Holders) (kinds' : List LockerKind) (running' : List (Option ℕ)) : Type 0 where
   pub kind : LockerKind
   pub held : slice_get records c ≡ Some x
   pub place : slice_get kinds c ≡ Some kind
@@ -41,15 +43,16 @@ pub record Called (records : List Holders) (kinds : List LockerKind) (parks : Pa
   pub size : SameSize parks parks'
   pub records_are : records' ≡ set records c x'
   pub kinds_are : kinds' ≡ kinds
+  pub running_are : running' ≡ set running c None
 
--- what is read of a list of lockers
+-- what is read of a list of sequentializers
 pub read_locker : {L X : Type 0} (f : L → X) (lockers : List L) (c : ℕ) (l : L) → l ≡ get_or lockers c l → c < length lockers → slice_get (map f lockers) c ≡ Some (f l)
 read_locker f lockers c l at lt = slice_get-map f lockers c ∙ ap (option_map f) (slice_get_read lockers (length lockers) c l refl lt at)
 
--- a call of a cell's locker
-pub called : {L : Type 0} (held : L → Holders) (place : L → LockerKind) (lockers : List L) (parks : Parking) (c : ℕ) (l l' : L) (parks' : Parking) → l ≡ get_or lockers c l → c < length lockers → OthersStay c parks parks' → Fits (place l') (held l') parks' c → place l' ≡ place l → SameSize parks parks'
-    → Called (map held lockers) (map place lockers) parks c (held l) (held l') parks' (map held (set lockers c l')) (map place (set lockers c l'))
-called held place lockers parks c l l' parks' at lt others fits same size =
+-- the end of a run
+pub called : {L : Type 0} (held : L → Holders) (place : L → LockerKind) (runs : L → Option ℕ) (lockers : List L) (parks : Parking) (c : ℕ) (l l' : L) (parks' : Parking) → l ≡ get_or lockers c l → c < length lockers → OthersStay c parks parks' → Fits (place l') (held l') parks' c → place l' ≡ place l → runs l' ≡ None → SameSize parks parks'
+    → Called (map held lockers) (map place lockers) (map runs lockers) parks c (held l) (held l') parks' (map held (set lockers c l')) (map place (set lockers c l')) (map runs (set lockers c l'))
+called held place runs lockers parks c l l' parks' at lt others fits same over size =
     record {
       kind = place l;
       held = read_locker held lockers c l at lt;
@@ -59,6 +62,7 @@ called held place lockers parks c l l' parks' at lt others fits same size =
       size = size;
       records_are = map-set held lockers c l';
       kinds_are = map-set_same place lockers c l' l (same ∙ ap place at);
+      running_are = map-set runs lockers c l' ∙ ap (λ o. set (map runs lockers) c o) over;
     }
 
 -- one thing is read at one place

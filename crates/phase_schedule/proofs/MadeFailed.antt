@@ -40,6 +40,7 @@ use Rattle.phase_schedule.proofs.Hands.{locked_sound, waits_then, hands_locked, 
 use Rattle.phase_schedule.proofs.After.{content_with, tracks_after}
 use Rattle.phase_schedule.proofs.MadeOpens.{back_left, opened_failed, no_writer_here, no_share_here, no_drain_here, no_reader_here, no_read_share_here, none_left, others_left, apart_failed, steady_failed}
 use Rattle.phase_schedule.proofs.MadeGiven.{apart_on}
+use Rattle.phase_schedule.proofs.MadeRuns.{run_by_left}
 use Rattle.phase_schedule.proofs.MadeKept.{cell_inside, closed_row, kept_failed}
 use Rattle.phase_schedule.proofs.MadeLegal.{parks_there, free_by, section_failed, legal_last, may_last}
 use Rattle.phase_schedule.proofs.MadeEnds.{Called, record_counts, kind_is, core_is, few_readers}
@@ -111,14 +112,14 @@ module _ (cells : List CellPlan) (h : List Event) (v : View) (t : Tracks cells h
       legal_last cells h step (record { answer = answer.Failed; given = g }) (section_failed cells h step (Some s) idle acts is)
       (sym (ap (λ a. due_act cells h step (other_waits cells h step) false a) acts))
       (may_last cells h step answer.Failed s.cell concerned g (λ some. parks_there (cell_at cells s.cell).place (core cells s.cell h) v.parks s.cell g (t.locked.fits s.cell lt) listed some)
-      (ap (λ ws. reaches s.cell g ws) (none_without step.party (waits cells h) idle) ∙ reaches_given s.cell g (waits cells h) v.parks t.locked.shows listed)
-      (by (is_readers g)))
+        (ap (λ ws. reaches s.cell g ws) (none_without step.party (waits cells h) idle) ∙ reaches_given s.cell g (waits cells h) v.parks t.locked.shows listed)
+        (by (is_readers g)))
     where
       by : (b : Bool) → (b && downgrades step answer.Failed) || is_freed_last cells h step answer.Failed s.cell ≡ true
       by true = freed
       by false = freed
 
-  module _ (g : Given) (x x' : Holders) (parks' : Parking) (records' : List Holders) (kinds' : List LockerKind) (call : Called v.held v.places v.parks s.cell x x' parks' records' kinds') (hands : Hands s.cell (leave_write (phase_of 6) x) v.parks g x' parks') where
+  module _ (g : Given) (x x' : Holders) (parks' : Parking) (records' : List Holders) (kinds' : List LockerKind) (running' : List (Option ℕ)) (call : Called v.held v.places v.running v.parks s.cell x x' parks' records' kinds' running') (hands : Hands s.cell (leave_write (phase_of 6) x) v.parks g x' parks') where
     listed : IsListed s.cell v.parks g
     listed = listed_hand s.cell (leave_write (phase_of 6) x) v.parks g hands.may
 
@@ -137,10 +138,11 @@ module _ (cells : List CellPlan) (h : List Event) (v : View) (t : Tracks cells h
 
     -- the rows stand for the longer history
     pub tracks_failed : (row : CellRow) → row ≡ get_or v.cells s.cell row → s.cell < length v.cells → (party : PartyRow) → party ≡ get_or v.parties step.party party → step.party < length v.parties → (outer : Option ℕ) → outer ≡ cell_of (innermost step.party (without_innermost step.party (sections h))) → length h < length v.guards
-        → Tracks cells (failing g ∷ h) (record { cells = set v.cells s.cell (closed_row row.value row); guards = v.guards; parties = set v.parties step.party (record { waiting = party.waiting; innermost = outer }); held = records'; places = kinds'; parks = parks' })
+        → Tracks cells (failing g ∷ h) (record { cells = set v.cells s.cell (closed_row row.value row); guards = v.guards; parties = set v.parties step.party (record { waiting = party.waiting; innermost = outer }); held = records'; places = kinds'; running = running'; parks = parks' })
     tracks_failed row at in_cells party party_at in_parties outer outer_is room =
         tracks_after cells h (failing g) (opened_failed cells h step.party s is (given_on s.cell g (waits cells h))) (back_left cells h step.party s is None)
         (record { opened = opened g; back = back })
-        (record { cells = set v.cells s.cell (closed_row row.value row); guards = v.guards; parties = set v.parties step.party (record { waiting = party.waiting; innermost = outer }); held = records'; places = kinds'; parks = parks' })
+        (record { cells = set v.cells s.cell (closed_row row.value row); guards = v.guards; parties = set v.parties step.party (record { waiting = party.waiting; innermost = outer }); held = records'; places = kinds'; running = running'; parks = parks' })
         t.legal (line g listed) (steady_failed cells h step.party s is t.locked.apart t.steady (given_on s.cell g (waits cells h))) locked_for
-        (kept_failed cells h v t step.party s is row at party party_at in_parties outer outer_is in_cells s.cell g records' kinds' parks' call.size.parties) room
+        (rw call.running_are (run_by_left cells h step.party s is t.locked.apart v.running t.run_by))
+        (kept_failed cells h v t step.party s is row at party party_at in_parties outer outer_is in_cells s.cell g records' kinds' running' parks' call.size.parties) room

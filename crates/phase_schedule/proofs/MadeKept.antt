@@ -106,10 +106,10 @@ module _ (cells : List CellPlan) (h : List Event) (v : View) (t : Tracks cells h
     guard_inside : (x : Guard) → x.cell ≡ s.cell → (g : ℕ) (y : Guard) → numbered g (x ∷ guards h) ≡ Some y → y.cell < length cells
     guard_inside x same g y q = let old : _ = t.kept.guard_cell g y in let own : _ = cell_inside in grind arith
 
-    module _ (lt : s.cell < length v.cells) (c : ℕ) (g : Given) (held : List Holders) (places : List LockerKind) (parks : Parking) (size : length parks.rows ≡ length v.parks.rows) where
+    module _ (lt : s.cell < length v.cells) (c : ℕ) (g : Given) (held : List Holders) (places : List LockerKind) (running : List (Option ℕ)) (parks : Parking) (size : length parks.rows ≡ length v.parks.rows) where
       -- after a run that failed
       pub kept_failed : Kept cells (content_with cells h (back_left cells h p s is None)) (inside cells h) (opened_failed cells h p s is (given_on c g (waits cells h)))
-          (record { cells = set v.cells s.cell (closed_row row.value row); guards = v.guards; parties = set v.parties p (record { waiting = party.waiting; innermost = outer }); held = held; places = places; parks = parks })
+          (record { cells = set v.cells s.cell (closed_row row.value row); guards = v.guards; parties = set v.parties p (record { waiting = party.waiting; innermost = outer }); held = held; places = places; running = running; parks = parks })
       kept_failed =
           record {
             planned = planned_set v.cells s.cell _ row at refl ∙ t.kept.planned;
@@ -124,7 +124,7 @@ module _ (cells : List CellPlan) (h : List Event) (v : View) (t : Tracks cells h
 
       -- after a made that reads on
       pub kept_read : (made : ℕ) → Kept cells (content_with cells h (back_left cells h p s is (Some made))) (inside cells h) (opened_read cells h p s is (given_on c g (waits cells h)))
-          (record { cells = set v.cells s.cell (closed_row (Some made) row); guards = set v.guards (length h) (guard.Read p s.cell read_ticket); parties = set v.parties p (record { waiting = party.waiting; innermost = outer }); held = held; places = places; parks = parks })
+          (record { cells = set v.cells s.cell (closed_row (Some made) row); guards = set v.guards (length h) (guard.Read p s.cell read_ticket); parties = set v.parties p (record { waiting = party.waiting; innermost = outer }); held = held; places = places; running = running; parks = parks })
       kept_read made =
           record {
             planned = planned_set v.cells s.cell _ row at refl ∙ t.kept.planned;
@@ -138,9 +138,9 @@ module _ (cells : List CellPlan) (h : List Event) (v : View) (t : Tracks cells h
           }
 
     -- after a made that writes on
-    pub kept_write : s.cell < length v.cells → (made : ℕ) → Kept cells (content_with cells h None) (inside cells h) (opened_write cells h p s is made (waits cells h))
-        (record { cells = set v.cells s.cell (drafted_row made row); guards = set v.guards (length h) (guard.Write p s.cell write_ticket); parties = set v.parties p (record { waiting = party.waiting; innermost = outer }); held = v.held; places = v.places; parks = v.parks })
-    kept_write lt made =
+    pub kept_write : s.cell < length v.cells → (running : List (Option ℕ)) → (made : ℕ) → Kept cells (content_with cells h None) (inside cells h) (opened_write cells h p s is made (waits cells h))
+        (record { cells = set v.cells s.cell (drafted_row made row); guards = set v.guards (length h) (guard.Write p s.cell write_ticket); parties = set v.parties p (record { waiting = party.waiting; innermost = outer }); held = v.held; places = v.places; running = running; parks = v.parks })
+    kept_write lt running made =
         record {
           planned = planned_set v.cells s.cell _ row at refl ∙ t.kept.planned;
           cell = cell_made_write row (row_is lt) made (waits cells h);

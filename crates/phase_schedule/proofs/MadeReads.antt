@@ -42,6 +42,7 @@ use Rattle.phase_schedule.proofs.Hands.{locked_sound, waits_then, hands_locked, 
 use Rattle.phase_schedule.proofs.After.{content_with, tracks_after}
 use Rattle.phase_schedule.proofs.MadeOpens.{back_left, opened_read, no_writer_here, no_share_here, no_drain_here, no_reader_here, no_read_share_here, none_left, others_left, apart_read, steady_read}
 use Rattle.phase_schedule.proofs.MadeGiven.{apart_on}
+use Rattle.phase_schedule.proofs.MadeRuns.{run_by_left}
 use Rattle.phase_schedule.proofs.MadeKept.{cell_inside, closed_row, kept_read}
 use Rattle.phase_schedule.proofs.MadeLegal.{parks_there, section_made, due_read, legal_last, may_last}
 use Rattle.phase_schedule.proofs.MadeEnds.{Called, record_counts, kind_is, core_is, fewer_readers}
@@ -137,7 +138,7 @@ module _ (cells : List CellPlan) (h : List Event) (v : View) (t : Tracks cells h
   line g reads m =
       legal_last cells h step (record { answer = answer.ReadGuard; given = g }) (section_made cells h step made (Some s) idle acts is) (due_read cells h step s made acts is reads) (may g m)
 
-  module _ (g : Given) (x x' : Holders) (parks' : Parking) (records' : List Holders) (kinds' : List LockerKind) (after : Called v.held v.places v.parks s.cell x x' parks' records' kinds') (downgrades : Downgrades s.cell (phase_of 1) x v.parks g x' parks') (in_parties : step.party < length v.parties) where
+  module _ (g : Given) (x x' : Holders) (parks' : Parking) (records' : List Holders) (kinds' : List LockerKind) (running' : List (Option ℕ)) (after : Called v.held v.places v.running v.parks s.cell x x' parks' records' kinds' running') (downgrades : Downgrades s.cell (phase_of 1) x v.parks g x' parks') (in_parties : step.party < length v.parties) where
     locked : Locked cells (λ d. replay cells d (reading g ∷ h)) (open_after cells (reading g ∷ h)) (set v.held s.cell x') v.places parks'
     locked =
         hands_locked cells h v.held v.places v.parks t.locked (reading g) s.cell lt idle concerned refl (downgrade (phase_of 1) x) x' parks'
@@ -153,10 +154,11 @@ module _ (cells : List CellPlan) (h : List Event) (v : View) (t : Tracks cells h
 
     -- the rows stand for the longer history
     pub tracks_read : call_of s.want ≡ call.Read → (row : CellRow) → row ≡ get_or v.cells s.cell row → s.cell < length v.cells → (party : PartyRow) → party ≡ get_or v.parties step.party party → (outer : Option ℕ) → outer ≡ cell_of (innermost step.party (without_innermost step.party (sections h))) → length h < length v.guards
-        → Tracks cells (reading g ∷ h) (record { cells = set v.cells s.cell (closed_row (Some made) row); guards = set v.guards (length h) (guard.Read step.party s.cell read_ticket); parties = set v.parties step.party (record { waiting = party.waiting; innermost = outer }); held = records'; places = kinds'; parks = parks' })
+        → Tracks cells (reading g ∷ h) (record { cells = set v.cells s.cell (closed_row (Some made) row); guards = set v.guards (length h) (guard.Read step.party s.cell read_ticket); parties = set v.parties step.party (record { waiting = party.waiting; innermost = outer }); held = records'; places = kinds'; running = running'; parks = parks' })
     tracks_read reads row at in_cells party party_at outer outer_is room =
         tracks_after cells h (reading g) (opened_read cells h step.party s is (given_on s.cell g (waits cells h))) (back_left cells h step.party s is (Some made))
         (record { opened = opened g; back = back })
-        (record { cells = set v.cells s.cell (closed_row (Some made) row); guards = set v.guards (length h) (guard.Read step.party s.cell read_ticket); parties = set v.parties step.party (record { waiting = party.waiting; innermost = outer }); held = records'; places = kinds'; parks = parks' })
+        (record { cells = set v.cells s.cell (closed_row (Some made) row); guards = set v.guards (length h) (guard.Read step.party s.cell read_ticket); parties = set v.parties step.party (record { waiting = party.waiting; innermost = outer }); held = records'; places = kinds'; running = running'; parks = parks' })
         t.legal (line g reads downgrades.may) (steady_read cells h step.party s is t.locked.apart t.steady made (given_on s.cell g (waits cells h))) locked_for
-        (kept_read cells h v t step.party s is row at party party_at in_parties outer outer_is in_cells s.cell g records' kinds' parks' after.size.parties made) (rw length-set room)
+        (rw after.running_are (run_by_left cells h step.party s is t.locked.apart v.running t.run_by))
+        (kept_read cells h v t step.party s is row at party party_at in_parties outer outer_is in_cells s.cell g records' kinds' running' parks' after.size.parties made) (rw length-set room)

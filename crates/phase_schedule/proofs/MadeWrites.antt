@@ -24,6 +24,7 @@ use Rattle.phase_schedule.proofs.MadeOpens.{writer_left, opened_write, steady_wr
 use Rattle.phase_schedule.proofs.MadeKept.{drafted_row, kept_write}
 use Rattle.phase_schedule.proofs.MadeLegal.{section_made, due_write, legal_last}
 use Rattle.phase_schedule.proofs.MadeEnds.{locked_write}
+use Rattle.phase_schedule.proofs.MadeRuns.{run_by_left}
 
 module _ (cells : List CellPlan) (h : List Event) (v : View) (t : Tracks cells h v) (step : Step) (s : Section) (is : innermost step.party (sections h) ≡ Some s) (idle : wait_of step.party (waits cells h) ≡ None) (made : ℕ) (acts : step.act ≡ act.Made made) where
   -- the step, which gives nothing
@@ -40,12 +41,13 @@ module _ (cells : List CellPlan) (h : List Event) (v : View) (t : Tracks cells h
   opened = λ i. record { waits = none_without step.party (waits cells h) idle i; sections = sections_write i; guards = guards_write i }
 
   -- the rows stand for the longer history
-  pub tracks_write : (call_of s.want ≢ call.Read) → (row : CellRow) → row ≡ get_or v.cells s.cell row → s.cell < length v.cells → (party : PartyRow) → party ≡ get_or v.parties step.party party → step.party < length v.parties → (outer : Option ℕ) → outer ≡ cell_of (innermost step.party (without_innermost step.party (sections h))) → length h < length v.guards
-      → Tracks cells (writing ∷ h) (record { cells = set v.cells s.cell (drafted_row made row); guards = set v.guards (length h) (guard.Write step.party s.cell write_ticket); parties = set v.parties step.party (record { waiting = party.waiting; innermost = outer }); held = v.held; places = v.places; parks = v.parks })
-  tracks_write writes row at in_cells party party_at in_parties outer outer_is room =
+  pub tracks_write : (call_of s.want ≢ call.Read) → (row : CellRow) → row ≡ get_or v.cells s.cell row → s.cell < length v.cells → (party : PartyRow) → party ≡ get_or v.parties step.party party → step.party < length v.parties → (outer : Option ℕ) → outer ≡ cell_of (innermost step.party (without_innermost step.party (sections h))) → length h < length v.guards → (running : List (Option ℕ)) → running ≡ set v.running s.cell None
+      → Tracks cells (writing ∷ h) (record { cells = set v.cells s.cell (drafted_row made row); guards = set v.guards (length h) (guard.Write step.party s.cell write_ticket); parties = set v.parties step.party (record { waiting = party.waiting; innermost = outer }); held = v.held; places = v.places; running = running; parks = v.parks })
+  tracks_write writes row at in_cells party party_at in_parties outer outer_is room running running_is =
       tracks_after cells h writing (opened_write cells h step.party s is made (waits cells h)) None
       (record { opened = opened; back = refl })
-      (record { cells = set v.cells s.cell (drafted_row made row); guards = set v.guards (length h) (guard.Write step.party s.cell write_ticket); parties = set v.parties step.party (record { waiting = party.waiting; innermost = outer }); held = v.held; places = v.places; parks = v.parks })
+      (record { cells = set v.cells s.cell (drafted_row made row); guards = set v.guards (length h) (guard.Write step.party s.cell write_ticket); parties = set v.parties step.party (record { waiting = party.waiting; innermost = outer }); held = v.held; places = v.places; running = running; parks = v.parks })
       t.legal (legal_last cells h step (record { answer = answer.WriteGuard; given = given.Nobody }) (section_made cells h step made (Some s) idle acts is) (due_write cells h step s made acts is writes) refl)
       (steady_write cells h step.party s is t.locked.apart t.steady made (waits cells h)) (locked_write cells h v t step.party idle s is made)
-      (kept_write cells h v t step.party s is row at party party_at in_parties outer outer_is in_cells made) (rw length-set room)
+      (rw running_is (run_by_left cells h step.party s is t.locked.apart v.running t.run_by))
+      (kept_write cells h v t step.party s is row at party party_at in_parties outer outer_is in_cells running made) (rw length-set room)

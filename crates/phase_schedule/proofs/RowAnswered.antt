@@ -1,21 +1,23 @@
 -- After what its locker answered is kept, the rows stand for the longer history.
 use Rattle.std.proofs.Common.{◌≡◌, ℕ, ◌<◌, List, length, set, get_or, refl, sym, ◌∙◌, ap, subst, arith, true, false, None, Some, length-set}
-use Rattle.std.specs.Prelude.{Bool, if◌then◌else◌}
+use Rattle.std.specs.Prelude.{Bool, if◌then◌else◌, slice_get}
 use Rattle.std.proofs.lemmas.List.{length-map}
 use Rattle.phase_bits.specs.declared.phase.Phase.{Phase}
 use Rattle.phase_bits.specs.Number.{phase_of}
-use Rattle.phase_locker.specs.declared.tickets.Attempt.TheVariants.{Got, Wait}
-use Rattle.phase_locker.specs.declared.tickets.LockResult.TheVariants as got
+use Rattle.phase_locker.specs.declared.tickets.Attempt.{Attempt}
+use Rattle.phase_locker.specs.declared.tickets.Attempt.TheVariants.{Wait}
 use Rattle.phase_locker.specs.declared.ways.Given.{Given}
 use Rattle.phase_locker.specs.declared.ways.How.{How}
 use Rattle.phase_locker.specs.Natures.{read_ticket, write_ticket}
+use Rattle.phase_seq.specs.declared.section.Section.{Section as SeqSection}
 use Rattle.schedule_rules.specs.declared.step.Step.{Step}
+use Rattle.schedule_rules.specs.declared.line.Answer.{Answer}
 use Rattle.schedule_rules.specs.declared.line.Answer.TheVariants as answer
 use Rattle.schedule_rules.specs.Calls.{Calls}
 use Rattle.schedule_rules.specs.History.{Event, count}
 use Rattle.schedule_rules.specs.Sections.{runs_in, sections}
 use Rattle.schedule_rules.specs.Guards.{guards, reader, writer}
-use Rattle.schedule_rules.specs.Replay.{replay}
+use Rattle.schedule_rules.specs.Replay.{phase_at, replay}
 use Rattle.schedule_rules.specs.Holds.{writes_cell}
 use Rattle.schedule_rules.specs.Legal.{IsLegalLine}
 use Rattle.phase_schedule.specs.declared.rows.CellRow.{CellRow}
@@ -25,17 +27,24 @@ use Rattle.phase_schedule.specs.declared.rows.OpenSection.TheVariants as open_as
 use Rattle.phase_schedule.specs.declared.rows.PartyRow.{PartyRow}
 use Rattle.phase_schedule.specs.declared.rows.Target.{Target}
 use Rattle.phase_schedule.specs.View.{View}
-use Rattle.phase_schedule.specs.Tracks.{FollowsStep, Locked, event, plans}
-use Rattle.phase_schedule.specs.Ready.{IsAnswered, IsOpening, waits_left, with_section, with_guard}
+use Rattle.phase_schedule.specs.Kept.{guard_row, section_of}
+use Rattle.phase_schedule.specs.Tracks.{FollowsStep, Locked, RunBy, event, plans}
+use Rattle.phase_schedule.specs.Ready.{IsAnswered, IsMade, IsOpening, IsReadGuard, IsRun, IsWriteGuard, if_made, waits_left, with_section, with_guard}
 use Rattle.phase_schedule.proofs.After.{tracks_after}
 use Rattle.phase_schedule.proofs.Places.{same_number}
+use Rattle.phase_schedule.proofs.RowOpens.{numbered_above}
 use Rattle.phase_schedule.proofs.Within.{within_with}
-use Rattle.phase_schedule.proofs.RowTries.{becomes_wait, becomes_told, becomes_read, becomes_write, becomes_run, steady_same, steady_read, steady_write, steady_run}
+use Rattle.phase_schedule.proofs.RowTries.{becomes_wait, becomes_read, becomes_write, becomes_run, steady_same, steady_read, steady_write, steady_run}
 use Rattle.phase_schedule.proofs.RowKept.{with_open, planned_set, within_left, inner_is, party_got, party_waits, party_runs, slot_opened, guard_known, section_known, cell_is, section_none, cell_written, cell_runs}
 
 -- a cell that has a row is one of the plan
 planned : (v : View) (c : ℕ) → c < length v.cells → c < length (plans v)
 planned v c lt = let same : length (plans v) ≡ length v.cells = length-map v.cells (λ r. r.plan) in omega arith
+
+-- the row of the step is that of no guard
+pub slot_idle : (h : List Event) (v : View) (s : Step) (n : ℕ) (t : Target) (a : Attempt) (g : Given) → IsAnswered h v s n t a g → slice_get v.guards n ≡ Some guard.Free
+slot_idle h v s n t a g o =
+    subst (λ m. slice_get v.guards m ≡ Some guard.Free) (sym o.number) (o.kept.slot (length h) o.room ∙ ap (λ x. Some (guard_row x)) (numbered_above (length h) (length h) (guards h) o.steady.numbers (omega arith)))
 
 -- of the lock to write
 module _ (h : List Event) (v : View) (s : Step) (n : ℕ) (t : Target) (g : Given) where
@@ -60,8 +69,26 @@ module _ (h : List Event) (v : View) (s : Step) (n : ℕ) (t : Target) (g : Give
       let one = rw (same_number t.cell) at ((locked_section o).apart t.cell).one in
       (omega arith, omega arith)
 
-  line_by : {asked : Bool} (o : IsOpening h v s n t asked g) → IsLegalLine (plans v) h s (record { answer = if asked then answer.Running else answer.WriteGuard; given = g })
-  line_by o = subst (λ b. IsLegalLine (plans v) h s (record { answer = if b then answer.Running else answer.WriteGuard; given = g })) o.asks o.answered.line
+  -- who runs the generators, where a guard has the lock
+  run_by_guard : IsOpening h v s n t false g → RunBy (plans v) (sections h) v.running
+  run_by_guard o = subst (λ b. RunBy (plans v) (if b then with_section (plans v) h s t (waits_left (plans v) h s t g) else with_guard (plans v) h s t (writer (length h) s.party t.cell) (waits_left (plans v) h s t g)).sections v.running) o.asks o.answered.run_by
+
+  -- and where a section has it
+  run_by_section : IsOpening h v s n t true g → RunBy (plans v) (with_section (plans v) h s t (waits_left (plans v) h s t g)).sections v.running
+  run_by_section o = subst (λ b. RunBy (plans v) (if b then with_section (plans v) h s t (waits_left (plans v) h s t g) else with_guard (plans v) h s t (writer (length h) s.party t.cell) (waits_left (plans v) h s t g)).sections v.running) o.asks o.answered.run_by
+
+  -- the answer where the value may be accessed
+  made_answer : (a : Answer) → IsMade h v t true → if_made (plans v) h s t a ≡ a
+  made_answer a made = ap (λ b. if b then a else answer.Access (phase_of (phase_at (plans v) t.cell h))) made
+
+  read_line : IsReadGuard h v s n t g → IsLegalLine (plans v) h s (record { answer = answer.ReadGuard; given = g })
+  read_line o = subst (λ a. IsLegalLine (plans v) h s (record { answer = a; given = g })) (made_answer answer.ReadGuard o.made) o.answered.line
+
+  line_by : {asked : Bool} (o : IsOpening h v s n t asked g) → IsLegalLine (plans v) h s (record { answer = if asked then answer.Running else if_made (plans v) h s t answer.WriteGuard; given = g })
+  line_by o = subst (λ b. IsLegalLine (plans v) h s (record { answer = if b then answer.Running else if_made (plans v) h s t answer.WriteGuard; given = g })) o.asks o.answered.line
+
+  write_line : (p : Phase) → IsWriteGuard h v s n t p g → IsLegalLine (plans v) h s (record { answer = answer.WriteGuard; given = g })
+  write_line p o = subst (λ a. IsLegalLine (plans v) h s (record { answer = a; given = g })) (made_answer answer.WriteGuard o.made) (line_by o.opening.opening)
 
   -- the cell has no section
   pub guard_idle : (row : CellRow) → row ≡ get_or v.cells t.cell row → IsOpening h v s n t false g → row.section ≡ None
@@ -75,13 +102,14 @@ module _ (h : List Event) (v : View) (s : Step) (n : ℕ) (t : Target) (g : Give
 module _ (h : List Event) (v : View) (s : Step) (n : ℕ) (t : Target) (g : Given) (party : PartyRow) (party_at : party ≡ get_or v.parties s.party party) where
   -- the call waits
   pub waited : (way : How) → IsAnswered h v s n t (Wait way) g →
-      FollowsStep h s (record { answer = answer.Waiting way; given = g }) v (record { cells = v.cells; guards = v.guards; parties = set v.parties s.party (record { waiting = Some t; innermost = party.innermost }); held = v.held; places = v.places; parks = v.parks })
+      FollowsStep h s (record { answer = answer.Waiting way; given = g }) v (record { cells = v.cells; guards = v.guards; parties = set v.parties s.party (record { waiting = Some t; innermost = party.innermost }); held = v.held; places = v.places; running = v.running; parks = v.parks })
   waited way a =
       record {
         follows =
-            tracks_after (plans v) h (event s (record { answer = answer.Waiting way; given = g })) _ None (becomes_wait (plans v) h s t a.tries g way) (record { cells = v.cells; guards = v.guards; parties = set v.parties s.party (record { waiting = Some t; innermost = party.innermost }); held = v.held; places = v.places; parks = v.parks }) a.legal a.line
+            tracks_after (plans v) h (event s (record { answer = answer.Waiting way; given = g })) _ None (becomes_wait (plans v) h s t a.tries g way) (record { cells = v.cells; guards = v.guards; parties = set v.parties s.party (record { waiting = Some t; innermost = party.innermost }); held = v.held; places = v.places; running = v.running; parks = v.parks }) a.legal a.line
             (steady_same (plans v) h a.steady _)
             a.locked
+            a.run_by
             (record {
               planned = a.kept.planned;
               cell = a.kept.cell;
@@ -97,40 +125,18 @@ module _ (h : List Event) (v : View) (s : Step) (n : ℕ) (t : Target) (g : Give
         parties = length-set _ _ _;
       }
 
-  -- the call gets the phase alone
-  pub told : (q : Phase) → IsAnswered h v s n t (Got (got.None q)) g →
-      FollowsStep h s (record { answer = answer.Phase q; given = g }) v (record { cells = v.cells; guards = v.guards; parties = set v.parties s.party (record { waiting = None; innermost = party.innermost }); held = v.held; places = v.places; parks = v.parks })
-  told q a =
-      record {
-        follows =
-            tracks_after (plans v) h (event s (record { answer = answer.Phase q; given = g })) _ None (becomes_told (plans v) h s t a.tries g q) (record { cells = v.cells; guards = v.guards; parties = set v.parties s.party (record { waiting = None; innermost = party.innermost }); held = v.held; places = v.places; parks = v.parks }) a.legal a.line
-            (steady_same (plans v) h a.steady _)
-            a.locked
-            (record {
-              planned = a.kept.planned;
-              cell = a.kept.cell;
-              slot = a.kept.slot;
-              party = party_got (plans v) h v a.kept s t g party.innermost (inner_is (plans v) h v a.kept s t g party party_at a.party);
-              parties = a.kept.parties ∙ sym (length-set _ _ _);
-              section_cell = a.kept.section_cell;
-              guard_cell = a.kept.guard_cell;
-              wait_cell = within_left (plans v) h s g (length (plans v)) a.kept.wait_cell;
-            })
-            (let room : _ = a.room in omega arith);
-        guards = refl;
-        parties = length-set _ _ _;
-      }
-
   module _ (slot : GuardRow) where
     -- the call gets a read guard
-    pub reads : IsAnswered h v s n t (Got (got.Read read_ticket)) g → slot ≡ guard.Read s.party t.cell read_ticket →
-        FollowsStep h s (record { answer = answer.ReadGuard; given = g }) v (record { cells = v.cells; guards = set v.guards n slot; parties = set v.parties s.party (record { waiting = None; innermost = party.innermost }); held = v.held; places = v.places; parks = v.parks })
-    reads a is =
+    pub reads : IsReadGuard h v s n t g → slot ≡ guard.Read s.party t.cell read_ticket →
+        FollowsStep h s (record { answer = answer.ReadGuard; given = g }) v (record { cells = v.cells; guards = set v.guards n slot; parties = set v.parties s.party (record { waiting = None; innermost = party.innermost }); held = v.held; places = v.places; running = v.running; parks = v.parks })
+    reads o is =
+        let a = o.answered in
         record {
           follows =
-              tracks_after (plans v) h (event s (record { answer = answer.ReadGuard; given = g })) _ None (becomes_read (plans v) h s t a.tries g) (record { cells = v.cells; guards = set v.guards n slot; parties = set v.parties s.party (record { waiting = None; innermost = party.innermost }); held = v.held; places = v.places; parks = v.parks }) a.legal a.line
+              tracks_after (plans v) h (event s (record { answer = answer.ReadGuard; given = g })) _ None (becomes_read (plans v) h s t a.tries g) (record { cells = v.cells; guards = set v.guards n slot; parties = set v.parties s.party (record { waiting = None; innermost = party.innermost }); held = v.held; places = v.places; running = v.running; parks = v.parks }) a.legal (read_line h v s n t g o)
               (steady_read (plans v) h a.steady _ s.party t.cell)
               a.locked
+              a.run_by
               (record {
                 planned = a.kept.planned;
                 cell = a.kept.cell;
@@ -148,17 +154,19 @@ module _ (h : List Event) (v : View) (s : Step) (n : ℕ) (t : Target) (g : Give
 
     module _ (row new : CellRow) (row_at : row ≡ get_or v.cells t.cell row) where
       -- the call gets a write guard
-      pub writes : (p : Phase) (a : IsOpening h v s n t false g) → p ≡ phase_of (replay (plans v) t.cell h).phase → slot ≡ guard.Write s.party t.cell write_ticket → new ≡ with_open (open_as.Guarded (record { phase = p; value = row.value })) row →
-          FollowsStep h s (record { answer = answer.WriteGuard; given = g }) v (record { cells = set v.cells t.cell new; guards = set v.guards n slot; parties = set v.parties s.party (record { waiting = None; innermost = party.innermost }); held = v.held; places = v.places; parks = v.parks })
-      writes p o p_is is new_is =
+      pub writes : (p : Phase) (a : IsWriteGuard h v s n t p g) → slot ≡ guard.Write s.party t.cell write_ticket → new ≡ with_open (open_as.Guarded (record { phase = p; value = row.value })) row →
+          FollowsStep h s (record { answer = answer.WriteGuard; given = g }) v (record { cells = set v.cells t.cell new; guards = set v.guards n slot; parties = set v.parties s.party (record { waiting = None; innermost = party.innermost }); held = v.held; places = v.places; running = v.running; parks = v.parks })
+      writes p w is new_is =
+          let o = w.opening.opening in
           record {
             follows =
-                tracks_after (plans v) h (event s (record { answer = answer.WriteGuard; given = g })) _ None (becomes_write (plans v) h s t o.answered.tries g) (record { cells = set v.cells t.cell new; guards = set v.guards n slot; parties = set v.parties s.party (record { waiting = None; innermost = party.innermost }); held = v.held; places = v.places; parks = v.parks }) o.answered.legal (line_by h v s n t g o)
+                tracks_after (plans v) h (event s (record { answer = answer.WriteGuard; given = g })) _ None (becomes_write (plans v) h s t o.answered.tries g) (record { cells = set v.cells t.cell new; guards = set v.guards n slot; parties = set v.parties s.party (record { waiting = None; innermost = party.innermost }); held = v.held; places = v.places; running = v.running; parks = v.parks }) o.answered.legal (write_line h v s n t g p w)
                 (steady_write (plans v) h o.answered.steady _ s.party t.cell)
                 (locked_guard h v s n t g o)
+                (run_by_guard h v s n t g o)
                 (record {
                   planned = planned_set v.cells t.cell new row row_at (ap (λ r. r.plan) new_is) ∙ o.answered.kept.planned;
-                  cell = rw new_is (cell_written (plans v) h v o.answered.kept s t g row (cell_is (plans v) h v o.answered.kept s t g row row_at o.answered.cell) (guard_alone h v s n t g o).0 (waits_left (plans v) h s t g) p p_is);
+                  cell = rw new_is (cell_written (plans v) h v o.answered.kept s t g row (cell_is (plans v) h v o.answered.kept s t g row row_at o.answered.cell) (guard_alone h v s n t g o).0 (waits_left (plans v) h s t g) p w.opening.phase);
                   slot = slot_opened (plans v) h v o.answered.kept s t g n (writer (length h) s.party t.cell) slot (sym o.answered.number) is;
                   party = party_got (plans v) h v o.answered.kept s t g party.innermost (inner_is (plans v) h v o.answered.kept s t g party party_at o.answered.party);
                   parties = o.answered.kept.parties ∙ sym (length-set _ _ _);
@@ -172,17 +180,20 @@ module _ (h : List Event) (v : View) (s : Step) (n : ℕ) (t : Target) (g : Give
           }
 
   -- the call runs the generator
-  pub runs : (row new : CellRow) → row ≡ get_or v.cells t.cell row → IsOpening h v s n t true g → new ≡ with_open (open_as.Generates (record { party = s.party; call = t.call; outer = party.innermost }) write_ticket) row →
-      FollowsStep h s (record { answer = answer.Running; given = g }) v (record { cells = set v.cells t.cell new; guards = v.guards; parties = set v.parties s.party (record { waiting = None; innermost = Some t.cell }); held = v.held; places = v.places; parks = v.parks })
-  runs row new row_at o new_is =
+  pub runs : (row new : CellRow) (section : SeqSection) → row ≡ get_or v.cells t.cell row → IsRun h v s n t section g → new ≡ with_open (open_as.Generates (record { party = s.party; call = t.call; outer = party.innermost }) section) row →
+      FollowsStep h s (record { answer = answer.Running; given = g }) v (record { cells = set v.cells t.cell new; guards = v.guards; parties = set v.parties s.party (record { waiting = None; innermost = Some t.cell }); held = v.held; places = v.places; running = v.running; parks = v.parks })
+  runs row new section row_at r new_is =
+      let o = r.opening in
+      let new_is' : new ≡ with_open (open_as.Generates (record { party = s.party; call = t.call; outer = party.innermost }) (section_of t.cell s.party t.call)) row = new_is ∙ ap (λ q. with_open (open_as.Generates (record { party = s.party; call = t.call; outer = party.innermost }) q) row) r.section in
       record {
         follows =
-            tracks_after (plans v) h (event s (record { answer = answer.Running; given = g })) _ None (becomes_run (plans v) h s t o.answered.tries g) (record { cells = set v.cells t.cell new; guards = v.guards; parties = set v.parties s.party (record { waiting = None; innermost = Some t.cell }); held = v.held; places = v.places; parks = v.parks }) o.answered.legal (line_by h v s n t g o)
+            tracks_after (plans v) h (event s (record { answer = answer.Running; given = g })) _ None (becomes_run (plans v) h s t o.answered.tries g) (record { cells = set v.cells t.cell new; guards = v.guards; parties = set v.parties s.party (record { waiting = None; innermost = Some t.cell }); held = v.held; places = v.places; running = v.running; parks = v.parks }) o.answered.legal (line_by h v s n t g o)
             (steady_run (plans v) h o.answered.steady _ s.party t.cell t.call)
             (locked_section h v s n t g o)
+            (run_by_section h v s n t g o)
             (record {
-              planned = planned_set v.cells t.cell new row row_at (ap (λ r. r.plan) new_is) ∙ o.answered.kept.planned;
-              cell = rw new_is (cell_runs (plans v) h v o.answered.kept s t g row (cell_is (plans v) h v o.answered.kept s t g row row_at o.answered.cell) (section_alone h v s n t g o).0 (waits_left (plans v) h s t g) party.innermost (inner_is (plans v) h v o.answered.kept s t g party party_at o.answered.party));
+              planned = planned_set v.cells t.cell new row row_at (ap (λ x. x.plan) new_is') ∙ o.answered.kept.planned;
+              cell = rw new_is' (cell_runs (plans v) h v o.answered.kept s t g row (cell_is (plans v) h v o.answered.kept s t g row row_at o.answered.cell) (section_alone h v s n t g o).0 (waits_left (plans v) h s t g) party.innermost (inner_is (plans v) h v o.answered.kept s t g party party_at o.answered.party));
               slot = o.answered.kept.slot;
               party = party_runs (plans v) h v o.answered.kept s t g;
               parties = o.answered.kept.parties ∙ sym (length-set _ _ _);

@@ -22,14 +22,14 @@ use Rattle.phase_schedule.specs.Ready.{IsInnermost}
 use Rattle.phase_schedule.proofs.Places.{row_at, same_number}
 use Rattle.phase_schedule.proofs.RowOpens.{run_top}
 
-pub run_of_open : (r : Option RunRow) → run_of (open_run r) ≡ r
-run_of_open None = refl
-run_of_open (Some r) = refl
+pub run_of_open : (c : ℕ) (r : Option RunRow) → run_of (open_run c r) ≡ r
+run_of_open c None = refl
+run_of_open c (Some r) = refl
 
 -- where no write guard is open, the row shows the section that runs
-pub run_shown : (within : Guard → _) (o : Option Guard) (r : Option RunRow) → o ≡ None → run_of (section_by within o r) ≡ r
-run_shown within None r e = run_of_open r
-run_shown within (Some x) r e = absurd (cc)
+pub run_shown : (c : ℕ) (within : Guard → _) (o : Option Guard) (r : Option RunRow) → o ≡ None → run_of (section_by c within o r) ≡ r
+run_shown c within None r e = run_of_open c r
+run_shown c within (Some x) r e = absurd (cc)
 
 pub no_section_of : (o : Option Section) → None ≡ cell_of o → o ≡ None
 no_section_of None e = refl
@@ -73,7 +73,7 @@ module _ (h : List Event) (v : View) (t : Follows h v) (p c : ℕ) (row : PartyR
   its_run : (r : CellRow) → r ≡ cell_row (cell_at (plans v) c) c (replay (plans v) c h) (inside (plans v) h) (open_after (plans v) h) → run_of r.section ≡ Some (record { party = p; call = call_of its_section.0.want; outer = cell_of (innermost p (without_innermost p (sections h))) })
   its_run r at =
       ap (λ x. run_of x.section) at
-      ∙ run_shown _ _ (run_in c (sections h)) (subst (λ d. find (writes_cell d) (guards h) ≡ None) its_section.2 (none_found (writes_cell its_section.0.cell) (guards h) (no_writer_here h v t p its_section.0 its_section.1)))
+      ∙ run_shown c _ _ (run_in c (sections h)) (subst (λ d. find (writes_cell d) (guards h) ≡ None) its_section.2 (none_found (writes_cell its_section.0.cell) (guards h) (no_writer_here h v t p its_section.0 its_section.1)))
       ∙ ap (λ d. run_in d (sections h)) (sym its_section.2)
       ∙ run_top p (sections h) its_section.0 its_section.1 (omega (arith, runs_once h v t p its_section.0 its_section.1))
 

@@ -9,7 +9,6 @@ use Rattle.phase_bits.specs.Number.{phase_of}
 use Rattle.phase_locker.specs.declared.ways.Given.{Given}
 use Rattle.phase_locker.specs.declared.ways.Given.TheVariants as given
 use Rattle.phase_locker.specs.declared.ways.How.{How}
-use Rattle.phase_locker.specs.Natures.{write_ticket}
 use Rattle.schedule_rules.specs.declared.plan.CellPlan.{CellPlan}
 use Rattle.schedule_rules.specs.declared.step.Step.{Step}
 use Rattle.schedule_rules.specs.Kinds.{cell_at}
@@ -32,7 +31,7 @@ use Rattle.phase_schedule.specs.declared.rows.OpenSection.TheVariants as open_as
 use Rattle.phase_schedule.specs.declared.rows.PartyRow.{PartyRow}
 use Rattle.phase_schedule.specs.declared.rows.Target.{Target}
 use Rattle.phase_schedule.specs.View.{View}
-use Rattle.phase_schedule.specs.Kept.{call_of, cell_of, cell_row, guard_row, open_after, party_row, plans_in, target_of}
+use Rattle.phase_schedule.specs.Kept.{call_of, cell_of, cell_row, guard_row, open_after, party_row, plans_in, section_of, target_of}
 use Rattle.phase_schedule.specs.Shown.{AreWithin}
 use Rattle.phase_schedule.specs.Tracks.{IsSteady, Kept}
 use Rattle.phase_schedule.specs.Ready.{waits_left, still_open, with_section, with_guard}
@@ -157,9 +156,9 @@ module _ (cells : List CellPlan) (h : List Event) (v : View) (k : Kept cells (λ
         (λ d ne. rw (other_number t.cell d ne) refl)
         (rw (same_number t.cell, before_now h) (same_cell_row _ _ (ap (λ r. r.plan) is) (ap (λ r. r.value) is) (λ i. Some (open_as.Guarded (record { phase = p_is i; value = (is i).value })))))
 
-    pub cell_runs : (ws : List Wait) (outer : Option ℕ) → outer ≡ cell_of (innermost s.party (sections h)) → (d : ℕ) → d < length (set v.cells t.cell (with_open (open_as.Generates (record { party = s.party; call = t.call; outer = outer }) write_ticket) row)) →
-        slice_get (set v.cells t.cell (with_open (open_as.Generates (record { party = s.party; call = t.call; outer = outer }) write_ticket) row)) d ≡ Some (cell_row (cell_at cells d) d (replay cells d h) (inside cells h) (with_section cells h s t ws))
+    pub cell_runs : (ws : List Wait) (outer : Option ℕ) → outer ≡ cell_of (innermost s.party (sections h)) → (d : ℕ) → d < length (set v.cells t.cell (with_open (open_as.Generates (record { party = s.party; call = t.call; outer = outer }) (section_of t.cell s.party t.call)) row)) →
+        slice_get (set v.cells t.cell (with_open (open_as.Generates (record { party = s.party; call = t.call; outer = outer }) (section_of t.cell s.party t.call)) row)) d ≡ Some (cell_row (cell_at cells d) d (replay cells d h) (inside cells h) (with_section cells h s t ws))
     cell_runs ws outer out =
-        set_view v.cells t.cell (with_open (open_as.Generates (record { party = s.party; call = t.call; outer = outer }) write_ticket) row) (λ d. cell_row (cell_at cells d) d (replay cells d h) (inside cells h) (open_after cells h)) (λ d. cell_row (cell_at cells d) d (replay cells d h) (inside cells h) (with_section cells h s t ws)) k.cell
+        set_view v.cells t.cell (with_open (open_as.Generates (record { party = s.party; call = t.call; outer = outer }) (section_of t.cell s.party t.call)) row) (λ d. cell_row (cell_at cells d) d (replay cells d h) (inside cells h) (open_after cells h)) (λ d. cell_row (cell_at cells d) d (replay cells d h) (inside cells h) (with_section cells h s t ws)) k.cell
         (λ d ne. rw (other_number t.cell d ne) refl)
-        (rw (same_number t.cell, none_found (writes_cell t.cell) (guards h) no_writer) (same_cell_row _ _ (ap (λ r. r.plan) is) (ap (λ r. r.value) is) (ap (λ o. Some (open_as.Generates (record { party = s.party; call = t.call; outer = o }) write_ticket)) out)))
+        (rw (same_number t.cell, none_found (writes_cell t.cell) (guards h) no_writer) (same_cell_row _ _ (ap (λ r. r.plan) is) (ap (λ r. r.value) is) (ap (λ o. Some (open_as.Generates (record { party = s.party; call = t.call; outer = o }) (section_of t.cell s.party t.call))) out)))

@@ -14,6 +14,7 @@ use Rattle.schedule_rules.specs.declared.line.Refusal.{Refusal}
 use Rattle.schedule_rules.specs.declared.line.Refusal.TheVariants as refused
 use Rattle.schedule_rules.specs.Calls.{Want, Calls}
 use Rattle.schedule_rules.specs.History.{Event, act_by, latest_act}
+use Rattle.schedule_rules.specs.Guards.{guards}
 use Rattle.schedule_rules.specs.Waits.{Wait, wait_of, waits, attempt_of_wait, attempt_with}
 use Rattle.schedule_rules.specs.Refusals.{refusal, refusal_by, refusal_free, refusal_waiting}
 use Rattle.schedule_rules.specs.Legal.{IsLegalLine, Last, answer_of, due_at}
@@ -36,7 +37,7 @@ did_refuse h v s x r why =
     record {
       follows =
           tracks_after (plans v) h (event s (refused_line x)) (open_after (plans v) h) None (record { opened = refl; back = refl }) v r.follows.legal line
-          (steady_same (plans v) h r.follows.steady (waits (plans v) h)) r.follows.locked r.follows.kept (let room : _ = r.room in omega arith);
+          (steady_same (plans v) h r.follows.steady (waits (plans v) h)) r.follows.locked r.follows.run_by r.follows.kept (let room : _ = r.room in omega arith);
       guards = refl;
       parties = refl;
     }

@@ -1,6 +1,5 @@
 -- What stands open after an attempt, and that it is steady.
 use Rattle.std.proofs.Common.{◌≡◌, ℕ, suc, List, ◌∷◌, length, refl, arith, true, None, Some}
-use Rattle.phase_bits.specs.declared.phase.Phase.{Phase}
 use Rattle.phase_locker.specs.declared.ways.Given.{Given}
 use Rattle.phase_locker.specs.declared.ways.How.{How}
 use Rattle.schedule_rules.specs.declared.plan.Call.{Call}
@@ -23,7 +22,7 @@ use Rattle.phase_schedule.proofs.After.{Becomes, IsSteadyWith}
 use Rattle.phase_schedule.proofs.RowOpens.{numbers_more}
 
 -- an attempt ends no section
-try_ends : (a : Act) (p : ℕ) (ss : List Section) → is_try a ≡ true → sections_ended a p ss ≡ ss
+pub try_ends : (a : Act) (p : ℕ) (ss : List Section) → is_try a ≡ true → sections_ended a p ss ≡ ss
 try_ends (act.Call c k) p ss e = refl
 try_ends act.Again p ss e = refl
 try_ends (act.Made v) p ss e = absurd (cc)
@@ -51,20 +50,6 @@ module _ (cells : List CellPlan) (h : List Event) (s : Step) (t : Target) (is : 
   becomes_wait way =
       record {
         opened = λ i. record { waits = with_wait s.party way (is.attempted i) (waits_left cells h s t g); sections = try_ends s.act s.party (sections h) is.tries i; guards = guards h };
-        back = refl;
-      }
-
-  pub becomes_told : (q : Phase) → Becomes cells h (event s (record { answer = answer.Phase q; given = g })) (still_open cells h s t (waits_left cells h s t g)) None
-  becomes_told q =
-      record {
-        opened = λ i. record { waits = waits_left cells h s t g; sections = try_ends s.act s.party (sections h) is.tries i; guards = guards h };
-        back = refl;
-      }
-
-  pub becomes_cyclic : Becomes cells h (event s (record { answer = answer.Cyclic; given = g })) (still_open cells h s t (waits_left cells h s t g)) None
-  becomes_cyclic =
-      record {
-        opened = λ i. record { waits = waits_left cells h s t g; sections = try_ends s.act s.party (sections h) is.tries i; guards = guards h };
         back = refl;
       }
 

@@ -8,6 +8,7 @@ use Rattle.std.proofs.lemmas.List.Sums.{sum_by-set}
 use Rattle.std.proofs.lemmas.Option.{slice_get-get_or}
 use Rattle.std.proofs.lemmas.Grind.{common_steps}
 use Rattle.std.specs.Prelude.{All, count_by, slice_get}
+use Rattle.std.specs.declared.option.Option.{Option}
 use Rattle.phase_bits.specs.declared.holders.Holders.{Holders}
 use Rattle.phase_locker.specs.declared.ways.LockerKind.{LockerKind}
 use Rattle.phase_locker.specs.declared.tickets.ReadTicket.{ReadTicket}
@@ -17,6 +18,8 @@ use Rattle.phase_locker.specs.Fits.{Fits, IsWriteOpen, open_reads}
 use Rattle.phase_locker.specs.Others.{OthersStay}
 use Rattle.phase_locker.proofs.Others.{fits_beside}
 use Rattle.phase_locker.proofs.Leaving.{write_has_no_reader}
+use Rattle.phase_seq.specs.declared.section.Section.{Section as SeqSection}
+use Rattle.phase_seq.specs.Stands.{IsRunning}
 use Rattle.phase_schedule.specs.declared.rows.CellRow.{CellRow}
 use Rattle.phase_schedule.specs.declared.rows.GuardRow.{GuardRow}
 use Rattle.phase_schedule.specs.declared.rows.GuardRow.TheVariants as guard
@@ -24,7 +27,7 @@ use Rattle.phase_schedule.specs.declared.rows.PartyRow.{PartyRow}
 use Rattle.phase_schedule.specs.declared.rows.RunRow.{RunRow}
 use Rattle.phase_schedule.specs.declared.rows.OpenSection.TheVariants as open_as
 use Rattle.phase_schedule.specs.View.{View}
-use Rattle.phase_schedule.specs.Closing.{AreFree, AreIdle, HoldsAt, HoldsLocks, IsClosedAt, IsIdle, IsOfCell, locks_of, reads_row, writes_row}
+use Rattle.phase_schedule.specs.Closing.{AreFree, AreIdle, HoldsAt, HoldsLocks, IsClosedAt, IsIdle, IsOfCell, IsSectionAt, RunsAt, locks_of, reads_row, writes_row}
 
 -- ---- lists
 
@@ -107,12 +110,12 @@ idle_more n cs cs' closed idle j row k e =
 pub all_idle : (n : ℕ) (cs : List CellRow) → length cs ≤ n → AreIdleBelow n cs → AreIdle cs
 all_idle n cs le idle = λ j d lt. idle j (get_or cs j d) (omega (arith, lt, le)) (slice_get-get_or cs j d lt)
 
--- ---- rows, and lockers of any type
+-- ---- rows, and sequentializers of any type
 
-module _ {L : Type 0} (held : L → Holders) (place : L → LockerKind) where
+module _ {L : Type 0} (held : L → Holders) (place : L → LockerKind) (runner : L → Option ℕ) where
   -- what these rows hold
   abbrev pub viewed : List CellRow → List GuardRow → List PartyRow → List L → Rows → View
-  viewed cs gs ps ls s = record { cells = cs; guards = gs; parties = ps; held = map held ls; places = map place ls; parks = s }
+  viewed cs gs ps ls s = record { cells = cs; guards = gs; parties = ps; held = map held ls; places = map place ls; running = map runner ls; parks = s }
 
   module _ (cs : List CellRow) (gs : List GuardRow) (ps : List PartyRow) (ls : List L) (s : Rows) (holds : HoldsLocks (viewed cs gs ps ls s)) where
     inside_lockers : (c : ℕ) → c < length cs → c < length ls
@@ -123,6 +126,9 @@ module _ {L : Type 0} (held : L → Holders) (place : L → LockerKind) where
 
     kind_is : (c : ℕ) (lt : c < length cs) (l d : L) → l ≡ get_or ls c d → (holds.at c lt).kind ≡ place l
     kind_is c lt l d e = mapped_at place ls c (holds.at c lt).kind l d (holds.at c lt).kind_is e
+
+    runner_is : (c : ℕ) (lt : c < length cs) (l d : L) → l ≡ get_or ls c d → (holds.at c lt).runner ≡ runner l
+    runner_is c lt l d e = mapped_at runner ls c (holds.at c lt).runner l d (holds.at c lt).runner_is e
 
     -- the locker of a cell fits
     pub locker_fits : (c : ℕ) (l d : L) → c < length cs → l ≡ get_or ls c d → Fits (place l) (held l) s c
@@ -174,10 +180,27 @@ module _ {L : Type 0} (held : L → Holders) (place : L → LockerKind) where
         get_is (z ∷ xs) zero y x d e q = let k : z ≡ y = cc in sym k ∙ sym q
         get_is (z ∷ xs) (suc i) y x d e q = get_is xs i y x d e q
 
-    pub run_open : (c : ℕ) (lt : c < length cs) (row d : CellRow) (r : RunRow) (t : WriteTicket) (l m : L) → row ≡ get_or cs c d → row.section ≡ Some (open_as.Generates r t) → l ≡ get_or ls c m → IsWriteOpen (held l) s c
-    run_open c lt row d r t l m is gone here =
-        let one : locks_of (holds.at c lt).row.section ≡ 1 = ap (λ (x : CellRow). locks_of x.section) (section_at c lt row d is) ∙ ap locks_of gone in
-        open_at c lt l m here (omega (arith, one))
+    -- a section whose generator runs
+    module _ (c : ℕ) (lt : c < length cs) (row d : CellRow) (r : RunRow) (t : SeqSection) (l m : L) (is : row ≡ get_or cs c d) (gone : row.section ≡ Some (open_as.Generates r t)) (here : l ≡ get_or ls c m) where
+      run_open : IsWriteOpen (held l) s c
+      run_open =
+          let one : locks_of (holds.at c lt).row.section ≡ 1 = ap (λ (x : CellRow). locks_of x.section) (section_at c lt row d is) ∙ ap locks_of gone in
+          open_at c lt l m here (omega (arith, one))
+
+      -- it is that of its sequentializer
+      run_section : IsSectionAt c (runner l) t
+      run_section =
+          subst (λ (x : Option ℕ). IsSectionAt c x t) (runner_is c lt l m here)
+          (subst (λ o. RunsAt c (holds.at c lt).runner o) (ap (λ (x : CellRow). x.section) (section_at c lt row d is) ∙ gone) (holds.at c lt).runs)
+
+      pub run_inside : t.who.cell < length s.readers
+      run_inside = let cell : t.who.cell ≡ c = run_section.cell in let count : length s.readers ≡ length cs = holds.parks in omega (arith, cell, count, lt)
+
+      pub run_running : IsRunning t (runner l) (held l) s
+      run_running = record { party = run_section.party; asked = run_section.asked; locked = subst (λ (n : ℕ). IsWriteOpen (held l) s n) (sym run_section.cell) run_open }
+
+      pub run_fits : Fits (place l) (held l) s t.who.cell
+      run_fits = subst (λ (n : ℕ). Fits (place l) (held l) s n) (sym run_section.cell) (locker_fits c l m lt here)
 
     -- ---- after a call of one locker
 
@@ -202,6 +225,7 @@ module _ {L : Type 0} (held : L → Holders) (place : L → LockerKind) where
             few = let k : _ = holds.few in omega (arith, k, count);
             lockers = lockers_count held ∙ holds.lockers ∙ sym count;
             places = lockers_count place ∙ holds.places ∙ sym count;
+            runners = lockers_count runner ∙ holds.runners ∙ sym count;
             parks = size.cells ∙ holds.parks ∙ sym count;
           }
         where
@@ -216,15 +240,22 @@ module _ {L : Type 0} (held : L → Holders) (place : L → LockerKind) where
                 row_is = cells d ne ∙ a.row_is;
                 record_is = record_other held d ne ∙ a.record_is;
                 kind_is = record_other place d ne ∙ a.kind_is;
+                runner = a.runner;
+                runner_is = record_other runner d ne ∙ a.runner_is;
+                runs = a.runs;
                 fits = fits_beside a.kind a.record_of s s' c d a.fits others ne;
                 reads = rw (reads d ne, same.shares) a.reads;
                 one = rw (writes d ne) a.one;
                 writes = λ some. let w = a.writes (subst (λ (n : ℕ). 0 < n + locks_of a.row.section) (writes d ne) some) in record { locked = w.locked; unclaimed = same.claims ∙ w.unclaimed };
               }
 
+      -- who runs stays
+      runs_still : (l m : L) → l ≡ get_or ls c m → runner l' ≡ runner l → RunsAt c (runner l') (holds.at c lt).row.section
+      runs_still l m is same = subst (λ (x : Option ℕ). RunsAt c x (holds.at c lt).row.section) (runner_is c lt l m is ∙ sym same) (holds.at c lt).runs
+
       -- a read lock was given back
-      read_back : (l m : L) → l ≡ get_or ls c m → cs' ≡ cs → count_by (reads_row c) gs' + 1 ≡ count_by (reads_row c) gs → count_by (writes_row c) gs' ≡ count_by (writes_row c) gs → open_reads (held l') s' c + 1 ≡ open_reads (held l) s c → Fits (place l') (held l') s' c → HoldsAt (viewed cs' gs' ps (set ls c l') s') c
-      read_back l m is cells reads writes gone fits =
+      read_back : (l m : L) → l ≡ get_or ls c m → runner l' ≡ runner l → cs' ≡ cs → count_by (reads_row c) gs' + 1 ≡ count_by (reads_row c) gs → count_by (writes_row c) gs' ≡ count_by (writes_row c) gs → open_reads (held l') s' c + 1 ≡ open_reads (held l) s c → Fits (place l') (held l') s' c → HoldsAt (viewed cs' gs' ps (set ls c l') s') c
+      read_back l m is still cells reads writes gone fits =
           let a = holds.at c lt in
           let x = record_is c lt l m is in
           let some : count_by (reads_row c) gs ≤ open_reads (held l) s c = subst (λ (x : Holders). count_by (reads_row c) gs ≤ open_reads x s c) x a.reads in
@@ -235,6 +266,9 @@ module _ {L : Type 0} (held : L → Holders) (place : L → LockerKind) where
             row_is = ap (λ xs. slice_get xs c) cells ∙ a.row_is;
             record_is = record_here held;
             kind_is = record_here place;
+            runner = runner l';
+            runner_is = record_here runner;
+            runs = runs_still l m is still;
             fits = fits;
             reads = omega (arith, some, reads, gone);
             one = rw writes a.one;
@@ -246,8 +280,8 @@ module _ {L : Type 0} (held : L → Holders) (place : L → LockerKind) where
           none w = let e : (held l).readers ≡ 0 = write_has_no_reader (place l) (held l) s c (locker_fits c l m lt is) w in omega (arith, e, gone)
 
       -- the write lock was given back
-      write_back : (l m : L) (row : CellRow) → l ≡ get_or ls c m → slice_get cs' c ≡ Some row → count_by (writes_row c) gs' + locks_of row.section ≡ 0 → count_by (reads_row c) gs' ≡ count_by (reads_row c) gs → IsWriteOpen (held l) s c → Fits (place l') (held l') s' c → HoldsAt (viewed cs' gs' ps (set ls c l') s') c
-      write_back l m row is cells writes reads w fits =
+      write_back : (l m : L) (row : CellRow) → l ≡ get_or ls c m → slice_get cs' c ≡ Some row → RunsAt c (runner l') row.section → count_by (writes_row c) gs' + locks_of row.section ≡ 0 → count_by (reads_row c) gs' ≡ count_by (reads_row c) gs → IsWriteOpen (held l) s c → Fits (place l') (held l') s' c → HoldsAt (viewed cs' gs' ps (set ls c l') s') c
+      write_back l m row is cells runs writes reads w fits =
           let a = holds.at c lt in
           let some : count_by (reads_row c) gs ≤ open_reads (held l) s c = subst (λ (x : Holders). count_by (reads_row c) gs ≤ open_reads x s c) (record_is c lt l m is) a.reads in
           let e : (held l).readers ≡ 0 = write_has_no_reader (place l) (held l) s c (locker_fits c l m lt is) w in
@@ -258,6 +292,9 @@ module _ {L : Type 0} (held : L → Holders) (place : L → LockerKind) where
             row_is = cells;
             record_is = record_here held;
             kind_is = record_here place;
+            runner = runner l';
+            runner_is = record_here runner;
+            runs = runs;
             fits = fits;
             reads = omega (arith, some, reads, e);
             one = omega (arith, writes);
@@ -269,7 +306,7 @@ module _ {L : Type 0} (held : L → Holders) (place : L → LockerKind) where
     guards_left : (g : ℕ) → All (IsOfCell (length cs)) (set gs g guard.Free)
     guards_left g = All-set (IsOfCell (length cs)) gs g guard.Free tt holds.guards
 
-    module _ (g c q : ℕ) (d r : GuardRow) (free : r ≡ guard.Free) (inside : g < length gs) (l m l' : L) (is : l ≡ get_or ls c m) (s' : Rows) (others : OthersStay c s s') (size : SameSize s s') (fits : Fits (place l') (held l') s' c) where
+    module _ (g c q : ℕ) (d r : GuardRow) (free : r ≡ guard.Free) (inside : g < length gs) (l m l' : L) (is : l ≡ get_or ls c m) (still : runner l' ≡ runner l) (s' : Rows) (others : OthersStay c s s') (size : SameSize s s') (fits : Fits (place l') (held l') s' c) where
       -- of a read guard
       pub read_given : (t : ReadTicket) → get_or gs g d ≡ guard.Read q c t → open_reads (held l') s' c + 1 ≡ open_reads (held l) s c → HoldsLocks (viewed cs (set gs g r) ps (set ls c l') s')
       read_given t e gone =
@@ -277,7 +314,7 @@ module _ {L : Type 0} (held : L → Holders) (place : L → LockerKind) where
           (keeps cs (set gs g guard.Free) c (read_cell g q c t d inside e) l' s' others size refl (guards_left g) (λ j ne. refl)
           (λ j ne. as_many (reads_row j) gs g guard.Free d inside (ap (reads_row j) e ∙ another c j ne) refl)
           (λ j ne. as_many (writes_row j) gs g guard.Free d inside (ap (writes_row j) e) refl)
-          (read_back cs (set gs g guard.Free) c (read_cell g q c t d inside e) l' s' others size l m is refl (read_counted g c d inside (reads_here g q c t d e)) (as_many (writes_row c) gs g guard.Free d inside (ap (writes_row c) e) refl) gone fits))
+          (read_back cs (set gs g guard.Free) c (read_cell g q c t d inside e) l' s' others size l m is still refl (read_counted g c d inside (reads_here g q c t d e)) (as_many (writes_row c) gs g guard.Free d inside (ap (writes_row c) e) refl) gone fits))
 
       -- of a write guard
       pub write_given : (t : WriteTicket) → get_or gs g d ≡ guard.Write q c t → HoldsLocks (viewed cs (set gs g r) ps (set ls c l') s')
@@ -289,17 +326,20 @@ module _ {L : Type 0} (held : L → Holders) (place : L → LockerKind) where
           (keeps cs (set gs g guard.Free) c lt l' s' others size refl (guards_left g) (λ j ne. refl)
           (λ j ne. as_many (reads_row j) gs g guard.Free d inside (ap (reads_row j) e) refl)
           (λ j ne. as_many (writes_row j) gs g guard.Free d inside (ap (writes_row j) e ∙ another c j ne) refl)
-          (write_back cs (set gs g guard.Free) c lt l' s' others size l m (holds.at c lt).row is (holds.at c lt).row_is (omega (arith, one, most)) (as_many (reads_row c) gs g guard.Free d inside (ap (reads_row c) e) refl)
+          (write_back cs (set gs g guard.Free) c lt l' s' others size l m (holds.at c lt).row is (holds.at c lt).row_is (runs_still cs (set gs g guard.Free) c lt l' s' others size l m is still) (omega (arith, one, most)) (as_many (reads_row c) gs g guard.Free d inside (ap (reads_row c) e) refl)
           (write_open g q c t d l m inside e is) fits))
 
     -- of a section whose generator runs
-    pub run_given : (c : ℕ) (lt : c < length cs) (row d : CellRow) (r : RunRow) (t : WriteTicket) (l m l' : L) (s' : Rows) (cs' : List CellRow) → row ≡ get_or cs c d → row.section ≡ Some (open_as.Generates r t) → l ≡ get_or ls c m → OthersStay c s s' → SameSize s s' → Fits (place l') (held l') s' c → IsClosedAt c cs cs' → HoldsLocks (viewed cs' gs ps (set ls c l') s')
-    run_given c lt row d r t l m l' s' cs' found gone is others size fits closed =
+    pub run_given : (c : ℕ) (lt : c < length cs) (row d : CellRow) (r : RunRow) (t : SeqSection) (l m l' : L) (s' : Rows) (cs' : List CellRow) → row ≡ get_or cs c d → row.section ≡ Some (open_as.Generates r t) → l ≡ get_or ls c m → OthersStay t.who.cell s s' → SameSize s s' → Fits (place l') (held l') s' t.who.cell → IsClosedAt c cs cs' → HoldsLocks (viewed cs' gs ps (set ls c l') s')
+    run_given c lt row d r t l m l' s' cs' found gone is beside size fitting closed =
+        let at : t.who.cell ≡ c = (run_section c lt row d r t l m found gone is).cell in
+        let others : OthersStay c s s' = subst (λ (n : ℕ). OthersStay n s s') at beside in
+        let fits : Fits (place l') (held l') s' c = subst (λ (n : ℕ). Fits (place l') (held l') s' n) at fitting in
         let one : locks_of (holds.at c lt).row.section ≡ 1 = ap (λ (x : CellRow). locks_of x.section) (section_at c lt row d found) ∙ ap locks_of gone in
         let none : locks_of closed.row.section ≡ 0 = ap locks_of closed.idle in
         let most : _ = (holds.at c lt).one in
         keeps cs' gs c lt l' s' others size closed.count holds.guards closed.others (λ j ne. refl) (λ j ne. refl)
-        (write_back cs' gs c lt l' s' others size l m closed.row is closed.row_is (omega (arith, one, none, most)) refl (run_open c lt row d r t l m found gone is) fits)
+        (write_back cs' gs c lt l' s' others size l m closed.row is closed.row_is (subst (λ o. RunsAt c (runner l') o) (sym closed.idle) tt) (omega (arith, one, none, most)) refl (run_open c lt row d r t l m found gone is) fits)
 
     -- the section of a write guard, or none, holds no lock of itself
     pub none_given : (c : ℕ) (lt : c < length cs) (row d : CellRow) (cs' : List CellRow) → row ≡ get_or cs c d → locks_of row.section ≡ 0 → IsClosedAt c cs cs' → HoldsLocks (viewed cs' gs ps ls s)
@@ -310,6 +350,7 @@ module _ {L : Type 0} (held : L → Holders) (place : L → LockerKind) where
           few = let k : _ = holds.few in let e : _ = closed.count in omega (arith, k, e);
           lockers = holds.lockers ∙ sym closed.count;
           places = holds.places ∙ sym closed.count;
+          runners = holds.runners ∙ sym closed.count;
           parks = holds.parks ∙ sym closed.count;
         }
       where
@@ -323,9 +364,12 @@ module _ {L : Type 0} (held : L → Holders) (place : L → LockerKind) where
               row = closed.row;
               record_of = a.record_of;
               kind = a.kind;
+              runner = a.runner;
               row_is = closed.row_is;
               record_is = a.record_is;
               kind_is = a.kind_is;
+              runner_is = a.runner_is;
+              runs = subst (λ o. RunsAt c a.runner o) (sym closed.idle) tt;
               fits = a.fits;
               reads = a.reads;
               one = rw same a.one;
@@ -339,9 +383,12 @@ module _ {L : Type 0} (held : L → Holders) (place : L → LockerKind) where
               row = a.row;
               record_of = a.record_of;
               kind = a.kind;
+              runner = a.runner;
               row_is = closed.others j ne ∙ a.row_is;
               record_is = a.record_is;
               kind_is = a.kind_is;
+              runner_is = a.runner_is;
+              runs = a.runs;
               fits = a.fits;
               reads = a.reads;
               one = a.one;

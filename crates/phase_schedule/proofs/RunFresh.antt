@@ -1,5 +1,5 @@
 -- The rows before the first step.
-use Rattle.std.proofs.Common.{zero, suc, ◌≡◌, ℕ, ◌+◌, ◌<◌, ◌≤◌, ◌^◌, List, [], ◌∷◌, ◌++◌, length, map, take, get_or, replicate, refl, sym, ◌∙◌, ap, subst, arith, Some}
+use Rattle.std.proofs.Common.{zero, suc, ◌≡◌, ℕ, ◌+◌, ◌<◌, ◌≤◌, ◌^◌, List, [], ◌∷◌, ◌++◌, length, map, take, get_or, replicate, refl, sym, ◌∙◌, ap, subst, arith, None, Some}
 use Rattle.std.proofs.Math.ListN.{length-replicate}
 use Rattle.std.specs.Prelude.{slice_get}
 use Rattle.std.proofs.lemmas.Grind.{common_steps}
@@ -16,7 +16,7 @@ use Rattle.schedule_rules.specs.Replay.{replay, inside}
 use Rattle.phase_schedule.specs.declared.rows.GuardRow.TheVariants as guard
 use Rattle.phase_schedule.specs.View.{View}
 use Rattle.phase_schedule.specs.Kept.{fresh_cell, idle_party, kind_at, open_after, plans_in}
-use Rattle.phase_schedule.specs.Tracks.{Kept, Locked, Tracks, plans}
+use Rattle.phase_schedule.specs.Tracks.{Kept, Locked, RunBy, Tracks, plans}
 use Rattle.phase_schedule.specs.Progress.{AreFresh}
 use Rattle.phase_schedule.proofs.Within.{shows_fresh}
 
@@ -98,6 +98,7 @@ nothing xs a b =
       parties = replicate b idle_party;
       held = replicate (length xs) (unheld (phase_of 0));
       places = map kind_of xs;
+      running = replicate (length xs) None;
       parks = no_rows (length xs) b;
     }
 
@@ -115,6 +116,10 @@ kept_nothing xs a b =
       wait_cell = λ p w e. absurd (cc);
     }
 
+-- nobody runs
+run_by_nobody : (xs : List CellPlan) → RunBy xs [] (replicate (length xs) None)
+run_by_nobody xs = record { each = λ c lt. all_same (length xs) c None lt; count = length-replicate (length xs) None }
+
 tracks_nothing : (xs : List CellPlan) (a b : ℕ) → b < 2 ^ 20 → Tracks xs [] (nothing xs a b)
 tracks_nothing xs a b few =
     record {
@@ -127,14 +132,15 @@ tracks_nothing xs a b few =
         section = λ d s e. refl;
       };
       locked = locked_nothing xs b few;
+      run_by = run_by_nobody xs;
       kept = kept_nothing xs a b;
       room = omega arith;
     }
 
 -- so do those that a plan begins with
-pub begun : (plan : Plan) (count : ℕ) (v : View) → plan.parties < 2 ^ 20 → v.cells ≡ map fresh_cell plan.cells.items → v.guards ≡ replicate count guard.Free → v.parties ≡ replicate plan.parties idle_party → v.held ≡ replicate (length plan.cells.items) (unheld (phase_of 0)) → v.places ≡ map (λ (x : CellPlan). kind_at x.place) plan.cells.items → v.parks ≡ no_rows (length plan.cells.items) plan.parties →
+pub begun : (plan : Plan) (count : ℕ) (v : View) → plan.parties < 2 ^ 20 → v.cells ≡ map fresh_cell plan.cells.items → v.guards ≡ replicate count guard.Free → v.parties ≡ replicate plan.parties idle_party → v.held ≡ replicate (length plan.cells.items) (unheld (phase_of 0)) → v.places ≡ map (λ (x : CellPlan). kind_at x.place) plan.cells.items → v.running ≡ replicate (length plan.cells.items) None → v.parks ≡ no_rows (length plan.cells.items) plan.parties →
     AreFresh plan count v
-begun plan count v few ce gu pa he pl pk =
+begun plan count v few ce gu pa he pl ru pk =
     record {
       follows = subst (λ cs. Tracks cs [] v) (sym planned) (subst (λ (w : View). Tracks plan.cells.items [] w) (sym same) (tracks_nothing plan.cells.items count plan.parties few));
       planned = planned;
@@ -144,7 +150,7 @@ begun plan count v few ce gu pa he pl pk =
     }
   where
     same : v ≡ nothing plan.cells.items count plan.parties
-    same = λ i. record { cells = ce i; guards = gu i; parties = pa i; held = he i; places = pl i; parks = pk i }
+    same = λ i. record { cells = ce i; guards = gu i; parties = pa i; held = he i; places = pl i; running = ru i; parks = pk i }
 
     planned : plans v ≡ plan.cells.items
     planned = ap plans_in ce ∙ plans_back plan.cells.items

@@ -10,12 +10,15 @@ use Rattle.std.specs.Prelude.{count_by, replicate}
 use Rattle.std.specs.List.{find}
 use Rattle.std.specs.declared.option.Option.{Option}
 use Rattle.phase_locker.specs.Natures.{read_ticket, write_ticket}
+use Rattle.phase_seq.specs.Asks.{initializes}
+use Rattle.schedule_rules.specs.declared.plan.Call.{Call}
+use Rattle.schedule_rules.specs.declared.plan.Call.TheVariants as call
 use Rattle.schedule_rules.specs.declared.plan.CellPlan.{CellPlan}
 use Rattle.schedule_rules.specs.Kinds.{cell_at}
 use Rattle.schedule_rules.specs.Changes.{Content}
 use Rattle.schedule_rules.specs.Core.{core}
 use Rattle.schedule_rules.specs.History.{Event, count}
-use Rattle.schedule_rules.specs.Sections.{Section, runs_in, sections}
+use Rattle.schedule_rules.specs.Sections.{Section, innermost, runs_in, sections}
 use Rattle.schedule_rules.specs.Guards.{Guard, numbered, guards}
 use Rattle.schedule_rules.specs.Holds.{reads_cell, writes_cell, read_guards}
 use Rattle.schedule_rules.specs.Replay.{replay, inside}
@@ -24,9 +27,9 @@ use Rattle.phase_schedule.specs.declared.rows.GuardRow.{GuardRow}
 use Rattle.phase_schedule.specs.declared.rows.GuardRow.TheVariants as guard
 use Rattle.phase_schedule.specs.declared.rows.RunRow.{RunRow}
 use Rattle.phase_schedule.specs.View.{View}
-use Rattle.phase_schedule.specs.Kept.{cell_row, guard_row, kind_at, open_after, open_run, plans_in, run_in, section_by}
+use Rattle.phase_schedule.specs.Kept.{call_of, cell_of, cell_row, guard_row, kind_at, open_after, open_run, plans_in, run_in, runner_in, section_by, want_of}
 use Rattle.phase_schedule.specs.Tracks.{NumbersBelow, Tracks}
-use Rattle.phase_schedule.specs.Closing.{HoldsAt, HoldsLocks, IsOfCell, locks_of, reads_row, writes_row}
+use Rattle.phase_schedule.specs.Closing.{HoldsAt, HoldsLocks, IsOfCell, RunsAt, locks_of, reads_row, writes_row}
 use Rattle.phase_schedule.proofs.RowCounts.{open_reads_shown, write_open_shown}
 use Rattle.phase_schedule.proofs.RunClosing.{count_set}
 use Rattle.phase_schedule.proofs.Same.{agrees_core}
@@ -99,17 +102,37 @@ row_writes c x = by x.writes
     by false = refl
 
 -- a section that generates is one that runs
-section_counted : (c : ℕ) (within : Guard → Content) (o : Option Guard) (ss : List Section) → locks_of (section_by within o (run_in c ss)) ≤ count (runs_in c) ss
+section_counted : (c : ℕ) (within : Guard → Content) (o : Option Guard) (ss : List Section) → locks_of (section_by c within o (run_in c ss)) ≤ count (runs_in c) ss
 section_counted c within (Some x) ss = omega arith
 section_counted c within None ss = run_counted ss
   where
-    run_counted : (ss : List Section) → locks_of (open_run (run_in c ss)) ≤ count (runs_in c) ss
+    run_counted : (ss : List Section) → locks_of (open_run c (run_in c ss)) ≤ count (runs_in c) ss
     run_counted [] = omega arith
     run_counted (s ∷ ss) = by (s.cell == c) _ (run_counted ss)
       where
-        by : (b : Bool) (r : RunRow) → locks_of (open_run (run_in c ss)) ≤ count (runs_in c) ss → locks_of (open_run (cond b (Some r) (run_in c ss))) ≤ cond b (count (runs_in c) ss + 1) (count (runs_in c) ss)
+        by : (b : Bool) (r : RunRow) → locks_of (open_run c (run_in c ss)) ≤ count (runs_in c) ss → locks_of (open_run c (cond b (Some r) (run_in c ss))) ≤ cond b (count (runs_in c) ss + 1) (count (runs_in c) ss)
         by true r le = omega arith
         by false r le = le
+
+-- a call that runs a generator asked for the run
+asked_run : (k : Call) → initializes (want_of k) ≡ true
+asked_run call.Phase = refl
+asked_run call.Read = refl
+asked_run call.Write = refl
+
+-- a section that generates is that of the party that runs
+section_runs : (c : ℕ) (within : Guard → Content) (o : Option Guard) (ss : List Section) → RunsAt c (runner_in c ss) (section_by c within o (run_in c ss))
+section_runs c within (Some x) ss = tt
+section_runs c within None ss = run_runs ss
+  where
+    run_runs : (ss : List Section) → RunsAt c (runner_in c ss) (open_run c (run_in c ss))
+    run_runs [] = tt
+    run_runs (s ∷ ss) = by (s.cell == c) (run_runs ss)
+      where
+        by : (b : Bool) → RunsAt c (runner_in c ss) (open_run c (run_in c ss))
+            → RunsAt c (cond b (Some s.party) (runner_in c ss)) (open_run c (cond b (Some (record { party = s.party; call = call_of s.want; outer = cell_of (innermost s.party ss) })) (run_in c ss)))
+        by true rest = record { cell = refl; party = refl; asked = asked_run (call_of s.want) }
+        by false rest = rest
 
 -- ---- rows that stand for a history
 
@@ -154,6 +177,7 @@ module _ (cells : List CellPlan) (h : List Event) (v : View) (t : Tracks cells h
         few = few;
         lockers = t.locked.held_count ∙ sym planned_length;
         places = t.locked.place_count ∙ sym planned_length;
+        runners = t.run_by.count ∙ sym planned_length;
         parks = t.locked.readers_count ∙ sym planned_length;
       }
     where
@@ -171,6 +195,9 @@ module _ (cells : List CellPlan) (h : List Event) (v : View) (t : Tracks cells h
             row_is = t.kept.cell c inside_rows;
             record_is = t.locked.held c lt;
             kind_is = t.locked.place c lt;
+            runner = runner_in c (sections h);
+            runner_is = t.run_by.each c lt;
+            runs = section_runs c (inside cells h) (find (writes_cell c) (guards h)) (sections h);
             fits = t.locked.fits c lt;
             reads = omega (arith, reads, shown);
             one = omega (arith, writes, section, apart);

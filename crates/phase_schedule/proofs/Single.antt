@@ -86,6 +86,7 @@ module _ (cells : List CellPlan) where
   single_answered h s g answer.Failed ws single = single_given ws h s g (without_wait s.party ws) (single_without s.party ws single)
   single_answered h s g answer.Cyclic ws single = single_given ws h s g (without_wait s.party ws) (single_without s.party ws single)
   single_answered h s g answer.Borrowed ws single = single_given ws h s g (without_wait s.party ws) (single_without s.party ws single)
+  single_answered h s g (answer.Access q) ws single = single_given ws h s g (without_wait s.party ws) (single_without s.party ws single)
 
   -- after a history
   pub waits_single : (h : List Event) → IsSingle (waits cells h)

@@ -1,10 +1,12 @@
--- The locks that rows hold, and what is left when they are given back.
-use Rattle.std.specs.Prelude.{ℕ, ◌≡◌, ◌≢◌, ◌≤◌, ◌<◌, ◌+◌, ◌^◌, ◌==◌, All, Bool, false, List, length, slice_get, count_by}
+-- The locks and sections that rows hold, and what is left when they are given back.
+use Rattle.std.specs.Prelude.{ℕ, ◌≡◌, ◌≢◌, ◌≤◌, ◌<◌, ◌+◌, ◌^◌, ◌==◌, All, Bool, true, false, List, length, slice_get, count_by}
 use Rattle.std.specs.declared.option.Option.{Option}
 use Rattle.std.specs.declared.option.Option.TheVariants.{None, Some}
 use Rattle.phase_bits.specs.declared.holders.Holders.{Holders}
 use Rattle.phase_locker.specs.declared.ways.LockerKind.{LockerKind}
 use Rattle.phase_locker.specs.Fits.{Fits, IsWriteOpen, open_reads}
+use Rattle.phase_seq.specs.declared.section.Section.{Section as SeqSection}
+use Rattle.phase_seq.specs.Asks.{initializes}
 use Rattle.phase_schedule.specs.declared.rows.CellRow.{CellRow}
 use Rattle.phase_schedule.specs.declared.rows.GuardRow.{GuardRow}
 use Rattle.phase_schedule.specs.declared.rows.GuardRow.TheVariants as guard
@@ -27,21 +29,36 @@ writes_row c (guard.Write q d lock) = d == c
 -- how many write locks an open section holds of itself: that of a generator's section
 abbrev pub locks_of : Option OpenSection → ℕ
 locks_of None = 0
-locks_of (Some (open_as.Generates r lock)) = 1
+locks_of (Some (open_as.Generates r section)) = 1
 locks_of (Some (open_as.Guarded d)) = 0
 
--- the locks of the cell that the rows hold are open at its locker
+-- the section is the one of the cell, of the party that runs there, and a run was asked for
+pub record IsSectionAt (c : ℕ) (running : Option ℕ) (section : SeqSection) : Type 0 where
+  pub cell : section.who.cell ≡ c
+  pub party : running ≡ Some section.who.party
+  pub asked : initializes section.want ≡ true
+
+-- where a generator runs in the cell, its section is the one of the cell's sequentializer
+abbrev pub RunsAt : ℕ → Option ℕ → Option OpenSection → Type 0
+RunsAt c running None = Unit {0}
+RunsAt c running (Some (open_as.Generates r section)) = IsSectionAt c running section
+RunsAt c running (Some (open_as.Guarded d)) = Unit {0}
+
+-- the locks of the cell that the rows hold are open at its locker, and the section that runs is its sequentializer's
 pub record HoldsAt (v : View) (c : ℕ) : Type 0 where
   pub row : CellRow
   pub record_of : Holders
   pub kind : LockerKind
+  pub runner : Option ℕ
   pub row_is : slice_get v.cells c ≡ Some row
   pub record_is : slice_get v.held c ≡ Some record_of
   pub kind_is : slice_get v.places c ≡ Some kind
+  pub runner_is : slice_get v.running c ≡ Some runner
   pub fits : Fits kind record_of v.parks c
   pub reads : count_by (reads_row c) v.guards ≤ open_reads record_of v.parks c
   pub one : count_by (writes_row c) v.guards + locks_of row.section ≤ 1
   pub writes : 0 < count_by (writes_row c) v.guards + locks_of row.section → IsWriteOpen record_of v.parks c
+  pub runs : RunsAt c runner row.section
 
 -- the cell of a guard's row
 abbrev pub IsOfCell : ℕ → GuardRow → Type 0
@@ -49,13 +66,14 @@ IsOfCell n guard.Free = Unit {0}
 IsOfCell n (guard.Read q d lock) = d < n
 IsOfCell n (guard.Write q d lock) = d < n
 
--- the locks that the rows hold are open at their lockers
+-- the locks and sections that the rows hold are open at their sequentializers
 pub record HoldsLocks (v : View) : Type 0 where
   pub at : (c : ℕ) → c < length v.cells → HoldsAt v c
   pub guards : All (IsOfCell (length v.cells)) v.guards
   pub few : length v.cells < 2 ^ 32
   pub lockers : length v.held ≡ length v.cells
   pub places : length v.places ≡ length v.cells
+  pub runners : length v.running ≡ length v.cells
   pub parks : length v.parks.readers ≡ length v.cells
 
 -- the row of no guard

@@ -1,5 +1,5 @@
 -- What the rows keep of a history: each row is a function of what stands open, and of what is published.
-use Rattle.std.specs.Prelude.{ℕ, List, [], ◌∷◌, ◌==◌, ◌+◌, ◌||◌, nat_lt, map, if◌then◌else◌}
+use Rattle.std.specs.Prelude.{ℕ, Bool, false, List, [], ◌∷◌, ◌==◌, ◌+◌, ◌||◌, nat_lt, map, if◌then◌else◌}
 use Rattle.std.specs.List.{find, list_any}
 use Rattle.std.specs.declared.option.Option.{Option}
 use Rattle.std.specs.declared.option.Option.TheVariants.{None, Some}
@@ -8,7 +8,11 @@ use Rattle.phase_bits.specs.Number.{phase_of}
 use Rattle.phase_locker.specs.declared.ways.LockerKind.{LockerKind}
 use Rattle.phase_locker.specs.declared.ways.LockerKind.TheVariants as kind
 use Rattle.phase_locker.specs.Natures.{read_ticket, write_ticket}
+use Rattle.phase_seq.specs.declared.ask.Want.{Want as SeqWant}
+use Rattle.phase_seq.specs.declared.ask.Want.TheVariants as want
+use Rattle.phase_seq.specs.declared.section.Section.{Section as SeqSection}
 use Rattle.schedule_rules.specs.declared.plan.Call.{Call}
+use Rattle.schedule_rules.specs.declared.plan.Call.TheVariants as call
 use Rattle.schedule_rules.specs.declared.plan.CellPlan.{CellPlan}
 use Rattle.schedule_rules.specs.declared.plan.Place.{Place}
 use Rattle.schedule_rules.specs.declared.plan.Place.TheVariants as place
@@ -17,7 +21,7 @@ use Rattle.schedule_rules.specs.Calls.{Want, Calls}
 use Rattle.schedule_rules.specs.Changes.{Content}
 use Rattle.schedule_rules.specs.History.{Event, count}
 use Rattle.schedule_rules.specs.Sections.{Section, innermost, runs_in, sections}
-use Rattle.schedule_rules.specs.Guards.{Guard, guards}
+use Rattle.schedule_rules.specs.Guards.{Guard, numbered, guards}
 use Rattle.schedule_rules.specs.Waits.{Wait, wait_of, parks_to_read, parks_to_write, shares_read, shares_write, drains_on, waits}
 use Rattle.schedule_rules.specs.Holds.{reads_cell, writes_cell}
 use Rattle.phase_schedule.specs.declared.rows.CellRow.{CellRow}
@@ -59,24 +63,34 @@ run_in c (s ∷ ss) =
     then Some (record { party = s.party; call = call_of s.want; outer = cell_of (innermost s.party ss) })
     else run_in c ss
 
--- the row of a section whose generator runs
-abbrev pub open_run : Option RunRow → Option OpenSection
-open_run None = None
-open_run (Some r) = Some (open_as.Generates r write_ticket)
+-- what a call that asks for a run wants of its cell
+abbrev pub want_of : Call → SeqWant
+want_of call.Phase = want.Write  -- does not occur: the call asks for no run
+want_of call.Read = want.Read
+want_of call.Write = want.Write
+
+-- the section of the cell's sequentializer
+abbrev pub section_of : ℕ → ℕ → Call → SeqSection
+section_of c p k = record { who = record { cell = c; party = p }; want = want_of k; ticket = write_ticket }
+
+-- the row of a section whose generator runs in the cell
+abbrev pub open_run : ℕ → Option RunRow → Option OpenSection
+open_run c None = None
+open_run c (Some r) = Some (open_as.Generates r (section_of c r.party r.call))
 
 -- what a holder sees, as a draft
 abbrev pub draft_of : Content → Draft
 draft_of y = record { phase = phase_of y.phase; value = y.value }
 
 -- the open section of a cell: that of its write guard, or the one that runs in it
-abbrev pub section_by : (Guard → Content) → Option Guard → Option RunRow → Option OpenSection
-section_by within None r = open_run r
-section_by within (Some x) r = Some (open_as.Guarded (draft_of (within x)))
+abbrev pub section_by : ℕ → (Guard → Content) → Option Guard → Option RunRow → Option OpenSection
+section_by c within None r = open_run c r
+section_by c within (Some x) r = Some (open_as.Guarded (draft_of (within x)))
 
 -- the row of a cell, by what is published, what the holder of a write guard sees, and what stands open
 abbrev pub cell_row : CellPlan → ℕ → Content → (Guard → Content) → Open → CellRow
 cell_row x c y within o =
-    record { plan = x; value = y.value; section = section_by within (find (writes_cell c) o.guards) (run_in c o.sections) }
+    record { plan = x; value = y.value; section = section_by c within (find (writes_cell c) o.guards) (run_in c o.sections) }
 
 -- the row of a guard
 abbrev pub guard_row : Option Guard → GuardRow
@@ -91,6 +105,11 @@ target_of (Some w) = Some (record { cell = w.cell; call = call_of w.want })
 -- the row of a party
 abbrev pub party_row : ℕ → Open → PartyRow
 party_row p o = record { waiting = target_of (wait_of p o.waits); innermost = cell_of (innermost p o.sections) }
+
+-- the party whose generator runs in the cell
+abbrev pub runner_in : ℕ → List Section → Option ℕ
+runner_in c [] = None
+runner_in c (s ∷ ss) = if s.cell == c then Some s.party else runner_in c ss
 
 -- ---- the record of each locker
 

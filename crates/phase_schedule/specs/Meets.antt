@@ -4,6 +4,17 @@ use Rattle.std.specs.declared.option.Option.{Option}
 use Rattle.std.specs.declared.option.Option.TheVariants.{None, Some}
 use Rattle.phase_locker.specs.declared.tickets.LockNature.{LockNature}
 use Rattle.phase_locker.specs.declared.tickets.LockNature.TheVariants as nature
+use Rattle.phase_locker.specs.declared.ways.Given.{Given}
+use Rattle.phase_locker.specs.declared.ways.Given.TheVariants as given
+use Rattle.phase_seq.specs.declared.ask.Ask.{Ask}
+use Rattle.phase_seq.specs.declared.ask.Want.{Want as SeqWant}
+use Rattle.phase_seq.specs.declared.ask.Want.TheVariants as want
+use Rattle.schedule_rules.specs.declared.plan.Call.TheVariants as call
+use Rattle.phase_seq.specs.declared.section.Section.{Section as SeqSection}
+use Rattle.phase_seq.specs.declared.section.Finished.{Finished}
+use Rattle.phase_seq.specs.declared.section.Finished.TheVariants as finished
+use Rattle.schedule_rules.specs.declared.plan.Call.{Call}
+use Rattle.schedule_rules.specs.declared.plan.CellPlan.{CellPlan}
 use Rattle.schedule_rules.specs.Calls.{Nature, Reads, Writes}
 use Rattle.schedule_rules.specs.Guards.{Guard}
 use Rattle.phase_schedule.specs.declared.look_up.Held.{Held}
@@ -19,13 +30,13 @@ use Rattle.phase_schedule.specs.declared.rows.RunRow.{RunRow}
 -- the section whose generator runs
 abbrev pub run_of : Option OpenSection → Option RunRow
 run_of None = None
-run_of (Some (open_as.Generates r lock)) = Some r
+run_of (Some (open_as.Generates r section)) = Some r
 run_of (Some (open_as.Guarded d)) = None
 
 -- what the holder of a write guard sees
 abbrev pub drafted : Option OpenSection → Option Draft
 drafted None = None
-drafted (Some (open_as.Generates r lock)) = None
+drafted (Some (open_as.Generates r section)) = None
 drafted (Some (open_as.Guarded d)) = Some d
 
 -- the party runs it
@@ -69,21 +80,64 @@ IsWriting (guard.Write q c lock) = Unit {0}
 -- a write guard carries the section
 abbrev pub IsGuarded : Option OpenSection → Type 0
 IsGuarded None = ⊥
-IsGuarded (Some (open_as.Generates r lock)) = ⊥
+IsGuarded (Some (open_as.Generates r section)) = ⊥
 IsGuarded (Some (open_as.Guarded d)) = Unit {0}
 
 -- the section's generator runs
 abbrev pub IsGenerating : Option OpenSection → Type 0
 IsGenerating None = ⊥
-IsGenerating (Some (open_as.Generates r lock)) = Unit {0}
+IsGenerating (Some (open_as.Generates r section)) = Unit {0}
 IsGenerating (Some (open_as.Guarded d)) = ⊥
 
 -- the section after its holder set a value
 abbrev pub put_section : ℕ → Option OpenSection → Option OpenSection
 put_section v None = None
-put_section v (Some (open_as.Generates r lock)) = Some (open_as.Generates r lock)
+put_section v (Some (open_as.Generates r section)) = Some (open_as.Generates r section)
 put_section v (Some (open_as.Guarded d)) = Some (open_as.Guarded (record { phase = d.phase; value = Some v }))
 
 -- the row after its holder set a value
 abbrev pub put_row : ℕ → CellRow → CellRow
 put_row v row = record { plan = row.plan; value = row.value; section = put_section v row.section }
+
+-- the section whose generator runs, as its sequentializer gave it
+abbrev pub section_in : Option OpenSection → Option SeqSection
+section_in None = None
+section_in (Some (open_as.Generates r section)) = Some section
+section_in (Some (open_as.Guarded d)) = None
+
+-- the end of the run leaves a read lock
+abbrev pub IsReadingOn : Finished → Type 0
+IsReadingOn (finished.Read lock p) = Unit {0}
+IsReadingOn (finished.Write lock p) = ⊥
+IsReadingOn (finished.Phase p) = ⊥
+IsReadingOn (finished.Failed p) = ⊥
+
+-- the end of the run leaves the write lock
+abbrev pub IsWritingOn : Finished → Type 0
+IsWritingOn (finished.Read lock p) = ⊥
+IsWritingOn (finished.Write lock p) = Unit {0}
+IsWritingOn (finished.Phase p) = ⊥
+IsWritingOn (finished.Failed p) = ⊥
+
+-- the run failed
+abbrev pub IsFailed : Finished → Type 0
+IsFailed (finished.Read lock p) = ⊥
+IsFailed (finished.Write lock p) = ⊥
+IsFailed (finished.Phase p) = ⊥
+IsFailed (finished.Failed p) = Unit {0}
+
+-- what a call with this want asks of a cell
+abbrev pub ask_for : CellPlan → SeqWant → Ask
+ask_for x w = record { want = w; fast = false; tol = record { retry = x.retry; leak = false } }
+
+-- what a call asks of its cell
+abbrev pub ask_of : CellPlan → Call → Option Ask
+ask_of x call.Phase = None
+ask_of x call.Read = Some (ask_for x want.Read)
+ask_of x call.Write = Some (ask_for x want.Write)
+
+-- what a step gave, of which one part at most is something
+abbrev pub given_first : Given → Given → Given
+given_first given.Nobody last = last
+given_first (given.Writer q) last = given.Writer q
+given_first given.Readers last = given.Readers

@@ -1,6 +1,7 @@
 -- The rows of a run stand for a history of steps and lines.
 use Rattle.std.specs.Prelude.{ℕ, List, [], ◌∷◌, ◌≡◌, ◌≤◌, ◌<◌, ◌+◌, ◌^◌, length, slice_get}
 use Rattle.std.specs.List.{find}
+use Rattle.std.specs.declared.option.Option.{Option}
 use Rattle.std.specs.declared.option.Option.TheVariants.{Some}
 use Rattle.phase_bits.specs.declared.holders.Holders.{Holders}
 use Rattle.phase_bits.specs.Records.{most_readers}
@@ -20,7 +21,7 @@ use Rattle.schedule_rules.specs.Waits.{Wait, wait_of}
 use Rattle.schedule_rules.specs.Holds.{writes_cell}
 use Rattle.schedule_rules.specs.Legal.{IsLegal}
 use Rattle.phase_schedule.specs.View.{View}
-use Rattle.phase_schedule.specs.Kept.{Open, open_after, cell_row, guard_row, party_row, readers_in, writers_in, drains_in, record_in, kind_at, plans_in}
+use Rattle.phase_schedule.specs.Kept.{Open, open_after, cell_row, guard_row, party_row, readers_in, writers_in, drains_in, record_in, runner_in, kind_at, plans_in}
 use Rattle.phase_schedule.specs.Shown.{Shows, IsSingle}
 
 -- the numbers of the guards fall, from below n
@@ -49,6 +50,11 @@ module _ (cells : List CellPlan) where
     pub writers_count : length parks.writers ≡ length cells
     pub few : length parks.rows < 2 ^ 20
 
+  -- who runs the generator of each cell, as the sequentializers keep it
+  pub record RunBy (ss : List Section) (running : List (Option ℕ)) : Type 0 where
+    pub each : (c : ℕ) → c < length cells → slice_get running c ≡ Some (runner_in c ss)
+    pub count : length running ≡ length cells
+
   -- the rows of cells, steps and parties, by what is published, what the holder of a write guard sees, and what stands
   -- open
   pub record Kept (content : ℕ → Content) (within : Guard → Content) (o : Open) (v : View) : Type 0 where
@@ -74,6 +80,7 @@ module _ (cells : List CellPlan) where
     pub legal : IsLegal cells h
     pub steady : IsSteady h
     pub locked : Locked (λ c. replay cells c h) (open_after cells h) v.held v.places v.parks
+    pub run_by : RunBy (sections h) v.running
     pub kept : Kept (λ c. replay cells c h) (inside cells h) (open_after cells h) v
     pub room : length h ≤ length v.guards
 

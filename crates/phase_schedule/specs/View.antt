@@ -1,5 +1,6 @@
 -- What the rows of a run hold, with the records of the lockers in their place.
 use Rattle.std.specs.Prelude.{ℕ, List, map, vec_capacity}
+use Rattle.std.specs.declared.option.Option.{Option}
 use Rattle.phase_bits.specs.declared.holders.Holders.{Holders}
 use Rattle.phase_locker.specs.declared.ways.LockerKind.{LockerKind}
 use Rattle.phase_locker.specs.Rows.{Rows as Parking}
@@ -11,13 +12,15 @@ use Rattle.phase_schedule.specs.declared.progress.Progress.{Progress}
 use Rattle.schedule_rules.specs.declared.line.Line.{Line}
 use Rattle.schedule_rules.specs.declared.transcript.Final.{Final}
 
--- the rows of cells, steps and parties, the records of the lockers and where their calls wait, and who is parked
+-- the rows of cells, steps and parties, the records of the lockers and where their calls wait, which party runs the
+-- generator of each cell, and who is parked
 pub record View : Type 0 where
   pub cells : List CellRow
   pub guards : List GuardRow
   pub parties : List PartyRow
   pub held : List Holders
   pub places : List LockerKind
+  pub running : List (Option ℕ)
   pub parks : Parking
 
 -- what these rows hold
@@ -27,8 +30,9 @@ view held place rows =
       cells = rows.cells.items;
       guards = rows.guards.items;
       parties = rows.parties.items;
-      held = map held rows.lockers.items;
-      places = map place rows.lockers.items;
+      held = map (λ q. held q.locker) rows.sequentializers.items;
+      places = map (λ q. place q.locker) rows.sequentializers.items;
+      running = map (λ q. q.running) rows.sequentializers.items;
       parks = rows.parks;
     }
 

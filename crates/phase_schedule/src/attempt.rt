@@ -1,92 +1,58 @@
 //! The attempts of calls.
 
-ghost use Rattle.std.specs.Prelude.{◌≡◌, ℕ, List, true};
-ghost use Rattle.phase_bits.specs.Number.{number};
-ghost use Rattle.schedule_rules.specs.declared.plan.CellPlan.{CellPlan};
-ghost use Rattle.schedule_rules.specs.Calls.{Calls, call_initializes, rule, waking_nature};
+ghost use Rattle.std.specs.Prelude.{◌≡◌, ℕ, List};
+ghost use Rattle.phase_locker.specs.declared.tickets.Attempt.TheVariants.{Wait};
 ghost use Rattle.schedule_rules.specs.History.{Event};
 ghost use Rattle.phase_schedule.specs.View.{view};
-ghost use Rattle.phase_schedule.specs.Meets.{lock_nature, ran_by, run_of, some_nature};
+ghost use Rattle.phase_schedule.specs.Meets.{ask_of};
 ghost use Rattle.phase_schedule.specs.Tracks.{FollowsStep};
-ghost use Rattle.phase_schedule.specs.Ready.{IsAgain, IsAnswered, IsFirst, IsOpening, IsOpeningAt};
+ghost use Rattle.phase_schedule.specs.Ready.{IsAgain, IsAnswered, IsBegun, IsFirst, IsOpeningAt, IsReadAt, IsReadGuard, IsRun, IsWriteGuard};
 
 use crate::line::quiet;
-use crate::rows::{CellRow, Draft, GuardRow, OpenSection, Rows, RunRow, Target};
+use crate::rows::{Draft, GuardRow, OpenSection, Rows, RunRow, Target};
 use phase_bits::Phase;
-use phase_locker::{
-    Attempt, Given, How, LockNature, LockResult, PhaseLocker, ReadTicket, Who, WriteTicket,
-};
-use schedule_rules::{Answer, Call, Line, Step};
+use phase_locker::{Given, How, PhaseLocker, ReadTicket, Who, WriteTicket};
+use phase_seq::{Ask, Begun, Section, Tolerance, Want};
+use schedule_rules::{Answer, Call, CellPlan, Line, Step};
 use std::mem;
 
-/// The lock that a call wants at this phase.
-fn wants(call: Call, phase: Phase) -> LockNature
-    ensures { (x : CellPlan) → result ≡ lock_nature (rule x (Calls call) (number phase)) }
+/// What a call asks of its cell: `None` for `phase`, which asks for nothing but the phase.
+fn ask_of(plan: CellPlan, call: Call) -> Option<Ask>
+    ensures { result ≡ ask_of plan call }
 {
-    match call {
-        Call::Phase => LockNature::None,
-        Call::Read => if phase.contains(Phase::INITIALIZED) {
-            LockNature::Read
-        } else {
-            LockNature::Write
-        },
-        Call::Write => LockNature::Write,
-    }
-}
-
-/// Whether the call asks for a run of the generator where one is wanted.
-fn initializes(call: Call) -> bool
-    ensures { result ≡ call_initializes call }
-{
-    match call {
-        Call::Phase => false,
-        Call::Read | Call::Write => true,
-    }
-}
-
-/// As what a call that parks is woken.
-fn wake(call: Call) -> LockNature
-    ensures { result ≡ some_nature (waking_nature (Calls call)) }
-{
-    match call {
-        Call::Phase | Call::Read => LockNature::Read,
-        Call::Write => LockNature::Write,
-    }
-}
-
-impl CellRow {
-    /// Whether the party runs the cell's generator.
-    fn is_run_by(&self, party: u32) -> bool
-        ensures { result ≡ ran_by party (run_of self.now.section) }
-    {
-        match self.run() {
-            Some(run) => run.party == party,
-            None => false,
-        }
-    }
+    let want = match call {
+        Call::Phase => return None,
+        Call::Read => Want::Read,
+        Call::Write => Want::Write,
+    };
+    let tol = Tolerance {
+        retry: plan.retry,
+        leak: false,
+    };
+    Some(Ask {
+        want,
+        fast: false,
+        tol,
+    })
 }
 
 impl<L: PhaseLocker> Rows<L> {
-    /// A call of a party that does not wait. Whether it is cyclic is asked before any lock is tried.
+    /// A call of a party that does not wait.
     pub fn first(&mut self, n: u32, s: &Step, target: Target) -> Line
         ghost h: { List Event }
         requires { IsFirst h (view L.held L.place self.old) s.now n target }
         ensures { FollowsStep h s.now result (view L.held L.place self.old) (view L.held L.place self.new) }
     {
-        if initializes(target.call) && self.cells[target.cell as usize].is_run_by(s.party) {
-            return quiet(Answer::Cyclic);
-        }
-        let call = target.call;
-        let how = |phase: Phase| -> LockNature
-            ensures { (x : CellPlan) → result ≡ lock_nature (rule x (Calls call) (number phase)) }
-        { wants(call, phase) };
+        let cell = target.cell as usize;
+        let Some(ask) = ask_of(self.cells[cell].plan, target.call) else {
+            return quiet(Answer::Phase(self.sequentializers[cell].locker().phase()));
+        };
         let who = Who {
             cell: target.cell,
             party: s.party,
         };
-        let locker = &mut self.lockers[target.cell as usize];
-        let (attempt, given) = locker.lock(&mut self.parks, who, wake(call), &how);
-        self.answer(n, s, target, attempt, given)
+        let (begun, given) = self.sequentializers[cell].begin(&mut self.parks, who, ask);
+        self.begun(n, s, target, begun, given)
     }
 
     /// One more attempt of a call that waits.
@@ -95,35 +61,39 @@ impl<L: PhaseLocker> Rows<L> {
         requires { IsAgain h (view L.held L.place self.old) s.now n target }
         ensures { FollowsStep h s.now result (view L.held L.place self.old) (view L.held L.place self.new) }
     {
-        let call = target.call;
-        let how = |phase: Phase| -> LockNature
-            ensures { (x : CellPlan) → result ≡ lock_nature (rule x (Calls call) (number phase)) }
-        { wants(call, phase) };
+        let cell = target.cell as usize;
+        let Some(ask) = ask_of(self.cells[cell].plan, target.call) else {
+            unreachable!();
+        };
         let who = Who {
             cell: target.cell,
             party: s.party,
         };
-        let locker = &mut self.lockers[target.cell as usize];
-        let (attempt, given) = locker.again(&mut self.parks, who, wake(call), &how);
-        self.answer(n, s, target, attempt, given)
+        let (begun, given) = self.sequentializers[cell].again(&mut self.parks, who, ask);
+        self.begun(n, s, target, begun, given)
     }
 
-    /// Keeps what the locker answered.
-    fn answer(&mut self, n: u32, s: &Step, target: Target, attempt: Attempt, given: Given) -> Line
+    /// Keeps what the sequentializer answered.
+    fn begun(&mut self, n: u32, s: &Step, target: Target, begun: Begun, given: Given) -> Line
         ghost h: { List Event }
-        requires { IsAnswered h (view L.held L.place self.old) s.now n target attempt given }
+        requires { IsBegun h (view L.held L.place self.old) s.now n target begun given }
         ensures { FollowsStep h s.now result (view L.held L.place self.old) (view L.held L.place self.new) }
     {
-        match attempt {
-            Attempt::Wait(how) => self.wait(n, s, target, how, given),
-            Attempt::Got(lock) => self.get(n, s, target, lock, given),
+        match begun {
+            Begun::Wait(how) => self.wait(n, s, target, how, given),
+            Begun::Cyclic => quiet(Answer::Cyclic),
+            Begun::Read(lock, phase) => self.read(n, s, target, phase, lock, given),
+            Begun::Write(lock, phase) => self.write(n, s, target, phase, lock, given),
+            Begun::Run(section) => self.run(n, s, target, section, given),
+            Begun::Nothing(_) => unreachable!(),
+            Begun::Missed => unreachable!(),
         }
     }
 
     /// The call waits.
     fn wait(&mut self, n: u32, s: &Step, target: Target, how: How, given: Given) -> Line
         ghost h: { List Event }
-        requires { IsAnswered h (view L.held L.place self.old) s.now n target (Attempt.Wait how) given }
+        requires { IsAnswered h (view L.held L.place self.old) s.now n target (Wait how) given }
         ensures { FollowsStep h s.now result (view L.held L.place self.old) (view L.held L.place self.new) }
     {
         self.parties[s.party as usize].waiting = Some(target);
@@ -133,83 +103,53 @@ impl<L: PhaseLocker> Rows<L> {
         }
     }
 
-    /// The call gets what it wants.
-    fn get(
+    /// The call gets a lock to read: for a read guard where the value may be accessed, else it gives the lock back.
+    fn read(
         &mut self,
         n: u32,
         s: &Step,
         target: Target,
-        lock: LockResult<ReadTicket, WriteTicket>,
+        phase: Phase,
+        lock: ReadTicket,
         given: Given,
     ) -> Line
         ghost h: { List Event }
-        requires { IsAnswered h (view L.held L.place self.old) s.now n target (Attempt.Got lock) given }
+        requires { IsReadAt h (view L.held L.place self.old) s.now n target phase given }
         ensures { FollowsStep h s.now result (view L.held L.place self.old) (view L.held L.place self.new) }
     {
-        match lock {
-            LockResult::None(phase) => self.tell(n, s, target, phase, given),
-            LockResult::Read(lock) => self.read(n, s, target, lock, given),
-            LockResult::Write(lock) => self.write(n, s, target, lock, given),
-        }
-    }
-
-    /// The call gets the phase alone.
-    fn tell(&mut self, n: u32, s: &Step, target: Target, phase: Phase, given: Given) -> Line
-        ghost h: { List Event }
-        requires { IsAnswered h (view L.held L.place self.old) s.now n target (Attempt.Got (LockResult.None phase)) given }
-        ensures { FollowsStep h s.now result (view L.held L.place self.old) (view L.held L.place self.new) }
-    {
-        self.parties[s.party as usize].waiting = None;
-        Line {
-            answer: Answer::Phase(phase),
-            given,
-        }
-    }
-
-    /// The call gets a read guard.
-    fn read(&mut self, n: u32, s: &Step, target: Target, lock: ReadTicket, given: Given) -> Line
-        ghost h: { List Event }
-        requires { IsAnswered h (view L.held L.place self.old) s.now n target (Attempt.Got (LockResult.Read lock)) given }
-        ensures { FollowsStep h s.now result (view L.held L.place self.old) (view L.held L.place self.new) }
-    {
-        let guard = GuardRow::Read {
-            party: s.party,
-            cell: target.cell,
-            lock,
-        };
-        mem::replace(&mut self.guards[n as usize], guard).end();
-        self.parties[s.party as usize].waiting = None;
-        Line {
-            answer: Answer::ReadGuard,
-            given,
-        }
-    }
-
-    /// The call gets the lock to write: for a run of the generator where one is asked, and else for a write guard.
-    fn write(&mut self, n: u32, s: &Step, target: Target, lock: WriteTicket, given: Given) -> Line
-        ghost h: { List Event }
-        requires { IsAnswered h (view L.held L.place self.old) s.now n target (Attempt.Got (LockResult.Write lock)) given }
-        ensures { FollowsStep h s.now result (view L.held L.place self.old) (view L.held L.place self.new) }
-    {
-        let phase = self.lockers[target.cell as usize].phase();
         if phase.contains(Phase::INITIALIZED) {
-            self.open_guard(n, s, target, phase, lock, given)
+            self.open_read_guard(n, s, target, lock, given)
         } else {
-            self.open_run(n, s, target, lock, given)
+            self.deny_read(n, s, target, phase, lock, given)
         }
     }
 
-    /// Opens a section, whose generator runs.
-    fn open_run(
+    /// The call gets the lock to write, and asks for no run: for a write guard where the value may be accessed, else it
+    /// gives the lock back.
+    fn write(
         &mut self,
         n: u32,
         s: &Step,
         target: Target,
+        phase: Phase,
         lock: WriteTicket,
         given: Given,
     ) -> Line
         ghost h: { List Event }
-        requires { IsOpening h (view L.held L.place self.old) s.now n target true given }
+        requires { IsOpeningAt h (view L.held L.place self.old) s.now n target phase given }
+        ensures { FollowsStep h s.now result (view L.held L.place self.old) (view L.held L.place self.new) }
+    {
+        if phase.contains(Phase::INITIALIZED) {
+            self.open_guard(n, s, target, phase, lock, given)
+        } else {
+            self.deny_write(n, s, target, phase, lock, given)
+        }
+    }
+
+    /// Opens a section, whose generator runs.
+    fn run(&mut self, n: u32, s: &Step, target: Target, section: Section, given: Given) -> Line
+        ghost h: { List Event }
+        requires { IsRun h (view L.held L.place self.old) s.now n target section given }
         ensures { FollowsStep h s.now result (view L.held L.place self.old) (view L.held L.place self.new) }
     {
         let party = &mut self.parties[s.party as usize];
@@ -220,9 +160,30 @@ impl<L: PhaseLocker> Rows<L> {
         };
         party.waiting = None;
         party.innermost = Some(target.cell);
-        self.cells[target.cell as usize].open(OpenSection::Generates(run, lock));
+        self.cells[target.cell as usize].open(OpenSection::Generates(run, section));
         Line {
             answer: Answer::Running,
+            given,
+        }
+    }
+
+    /// Opens a read guard.
+    fn open_read_guard(
+        &mut self,
+        n: u32,
+        s: &Step,
+        target: Target,
+        lock: ReadTicket,
+        given: Given,
+    ) -> Line
+        ghost h: { List Event }
+        requires { IsReadGuard h (view L.held L.place self.old) s.now n target given }
+        ensures { FollowsStep h s.now result (view L.held L.place self.old) (view L.held L.place self.new) }
+    {
+        self.open_reader(n, s.party, target.cell, lock);
+        self.parties[s.party as usize].waiting = None;
+        Line {
+            answer: Answer::ReadGuard,
             given,
         }
     }
@@ -238,7 +199,7 @@ impl<L: PhaseLocker> Rows<L> {
         given: Given,
     ) -> Line
         ghost h: { List Event }
-        requires { IsOpeningAt h (view L.held L.place self.old) s.now n target phase given }
+        requires { IsWriteGuard h (view L.held L.place self.old) s.now n target phase given }
         ensures { FollowsStep h s.now result (view L.held L.place self.old) (view L.held L.place self.new) }
     {
         let row = &mut self.cells[target.cell as usize];

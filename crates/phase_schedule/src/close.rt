@@ -5,6 +5,8 @@ ghost use Rattle.phase_schedule.specs.View.{view};
 ghost use Rattle.phase_schedule.specs.Closing.{HoldsLocks, AreFree, AreIdle, IsClosedAt};
 ghost use Rattle.phase_schedule.specs.declared.rows.GuardRow.TheVariants.{Free};
 
+use crate::finished::no_lock;
+use crate::lockers::{release_read, release_write};
 use crate::rows::{CellRow, GuardRow, OpenSection, Rows};
 use phase_locker::PhaseLocker;
 use std::mem;
@@ -24,7 +26,7 @@ impl<L: PhaseLocker> Rows<L> {
             cells,
             guards,
             parties: _,
-            lockers: _,
+            sequentializers: _,
             parks: _,
         } = self;
         end_guards(guards);
@@ -46,17 +48,17 @@ impl<L: PhaseLocker> Rows<L> {
                 cell,
                 lock,
             } => {
-                let locker = &mut self.lockers[cell as usize];
-                let _given = locker.release_read(&mut self.parks, cell, lock);
+                let row = &mut self.sequentializers[cell as usize];
+                let _given = release_read(row, &mut self.parks, cell, lock);
             },
             GuardRow::Write {
                 party: _,
                 cell,
                 lock,
             } => {
-                let locker = &mut self.lockers[cell as usize];
-                let phase = locker.phase();
-                let _given = locker.release_write(&mut self.parks, cell, lock, phase);
+                let row = &mut self.sequentializers[cell as usize];
+                let phase = row.locker().phase();
+                let _given = release_write(row, &mut self.parks, cell, lock, phase);
             },
         }
     }
@@ -73,10 +75,10 @@ impl<L: PhaseLocker> Rows<L> {
             return;
         };
         match section {
-            OpenSection::Generates(_, lock) => {
-                let locker = &mut self.lockers[cell];
-                let phase = locker.phase();
-                let _given = locker.release_write(&mut self.parks, cell as u32, lock, phase);
+            OpenSection::Generates(_, section) => {
+                let row = &mut self.sequentializers[cell];
+                let (finished, _given) = row.finish(&mut self.parks, section, false);
+                no_lock(finished);
             },
             OpenSection::Guarded(_) => {},
         }

@@ -80,7 +80,7 @@ impl<L: PhaseLocker> Engine<L> {
         requires { cell < length self.now.cells }
         ensures { L.held result.now ≡ core self.now.cells cell (history self.now) }
     {
-        &self.progress.rows.lockers[cell as usize]
+        self.progress.rows.sequentializers[cell as usize].locker()
     }
 
     /// How each party waits, and who is parked at each cell.

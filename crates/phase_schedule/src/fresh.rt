@@ -1,6 +1,6 @@
 //! The rows before the first step.
 
-ghost use Rattle.std.specs.Prelude.{◌≡◌, ◌<◌, ◌≤◌, ◌^◌, [], IfOk, length, map, replicate, vec_capacity, true};
+ghost use Rattle.std.specs.Prelude.{◌≡◌, ◌<◌, ◌≤◌, ◌^◌, [], IfOk, length, map, replicate, vec_capacity, true, None};
 ghost use Rattle.phase_bits.specs.Number.{phase_of};
 ghost use Rattle.phase_bits.specs.Records.{unheld};
 ghost use Rattle.phase_schedule.specs.Kept.{fresh_cell, idle_party, kind_at};
@@ -11,6 +11,7 @@ ghost use Rattle.phase_schedule.specs.Progress.{AreFresh, TakesPlaces};
 use crate::rows::{CellRow, GuardRow, PartyRow, Rows, Target};
 use phase_bits::Phase;
 use phase_locker::{LockerKind, Parks, PhaseLocker};
+use phase_seq::LazySequentializer;
 use schedule_rules::{CellPlan, Place, Plan};
 use std::alloc::{AllocError, Global};
 
@@ -71,17 +72,22 @@ fn fresh_parties(alloc: Global, count: u32) -> Result<Vec<PartyRow>, AllocError>
     vec![in alloc; idle; count as usize]
 }
 
-/// A locker for each cell of a plan.
-fn fresh_lockers<L: PhaseLocker>(alloc: Global, plans: &[CellPlan]) -> Result<Vec<L>, AllocError>
+/// A sequentializer for each cell of a plan, with a locker for its place. Nobody runs.
+fn fresh_sequentializers<L: PhaseLocker>(
+    alloc: Global,
+    plans: &[CellPlan],
+) -> Result<Vec<LazySequentializer<L, ()>>, AllocError>
     requires { TakesPlaces L.takes plans.now }
-    ensures held { IfOk result (λ lockers. map L.held lockers.items ≡ replicate (length plans.now) (unheld (phase_of 0))) }
-    ensures places { IfOk result (λ lockers. map L.place lockers.items ≡ map (λ x. kind_at x.place) plans.now) }
+    ensures held { IfOk result (λ cells. map (λ q. L.held q.locker) cells.items ≡ replicate (length plans.now) (unheld (phase_of 0))) }
+    ensures places { IfOk result (λ cells. map (λ q. L.place q.locker) cells.items ≡ map (λ x. kind_at x.place) plans.now) }
+    ensures running { IfOk result (λ cells. map (λ q. q.running) cells.items ≡ replicate (length plans.now) None) }
 {
-    let mut lockers = Vec::with_capacity(alloc, plans.len())?;
+    let mut cells = Vec::with_capacity(alloc, plans.len())?;
     for plan in plans {
-        lockers.push_reserved(L::new(kind(plan.place), Phase::empty()));
+        let locker = L::new(kind(plan.place), Phase::empty());
+        cells.push_reserved(LazySequentializer::new(locker));
     }
-    Ok(lockers)
+    Ok(cells)
 }
 
 impl<L: PhaseLocker> Rows<L> {
@@ -94,7 +100,7 @@ impl<L: PhaseLocker> Rows<L> {
     {
         let parties = fresh_parties(alloc, plan.parties)?;
         let parks = Parks::new(alloc, plan.cells.len() as u32, plan.parties)?;
-        let lockers = fresh_lockers(alloc, &plan.cells)?;
+        let sequentializers = fresh_sequentializers(alloc, &plan.cells)?;
         let mut guards = Vec::with_capacity(alloc, count as usize)?;
         let mut cells = match Vec::with_capacity(alloc, plan.cells.len()) {
             Ok(cells) => cells,
@@ -109,7 +115,7 @@ impl<L: PhaseLocker> Rows<L> {
             cells,
             guards,
             parties,
-            lockers,
+            sequentializers,
             parks,
         })
     }

@@ -7,6 +7,7 @@ ghost use Rattle.phase_schedule.specs.Tracks.{FollowsStep};
 ghost use Rattle.phase_schedule.specs.Ready.{IsActing, IsHolding, IsHoldingNumbered, IsNumbered};
 
 use crate::line::{quiet, refused};
+use crate::lockers::{clone_read, downgrade, release_read, release_write};
 use crate::look_up::Held;
 use crate::rows::{CellRow, Draft, GuardRow, Rows};
 use phase_locker::PhaseLocker;
@@ -65,7 +66,8 @@ impl<L: PhaseLocker> Rows<L> {
         ensures { FollowsStep h s.now result (view L.held L.place self.old) (view L.held L.place self.new) }
     {
         let lock = mem::replace(&mut self.guards[guard as usize], GuardRow::Free).into_read();
-        let given = self.lockers[cell as usize].release_read(&mut self.parks, cell, lock);
+        let row = &mut self.sequentializers[cell as usize];
+        let given = release_read(row, &mut self.parks, cell, lock);
         Line {
             answer: Answer::Done,
             given,
@@ -81,8 +83,8 @@ impl<L: PhaseLocker> Rows<L> {
         let draft = self.draft(cell);
         self.cells[cell as usize].publish(draft);
         let lock = mem::replace(&mut self.guards[guard as usize], GuardRow::Free).into_write();
-        let locker = &mut self.lockers[cell as usize];
-        let given = locker.release_write(&mut self.parks, cell, lock, draft.phase);
+        let row = &mut self.sequentializers[cell as usize];
+        let given = release_write(row, &mut self.parks, cell, lock, draft.phase);
         Line {
             answer: Answer::Done,
             given,
@@ -111,8 +113,8 @@ impl<L: PhaseLocker> Rows<L> {
         let draft = self.draft(cell);
         self.cells[cell as usize].publish(draft);
         let lock = mem::replace(&mut self.guards[guard as usize], GuardRow::Free).into_write();
-        let locker = &mut self.lockers[cell as usize];
-        let (lock, given) = locker.downgrade(&mut self.parks, cell, lock, draft.phase);
+        let row = &mut self.sequentializers[cell as usize];
+        let (lock, given) = downgrade(row, &mut self.parks, cell, lock, draft.phase);
         self.open_reader(n, s.party, cell, lock);
         Line {
             answer: Answer::ReadGuard,
@@ -141,7 +143,7 @@ impl<L: PhaseLocker> Rows<L> {
         let GuardRow::Read { lock, .. } = &self.guards[guard as usize] else {
             unreachable!();
         };
-        match self.lockers[cell as usize].clone_read(lock) {
+        match clone_read(&mut self.sequentializers[cell as usize], lock) {
             Some(lock) => {
                 self.open_reader(n, s.party, cell, lock);
                 quiet(Answer::ReadGuard)

@@ -4,11 +4,14 @@
 mod attempt;
 mod cause;
 mod close;
+mod deny;
 mod engine;
 mod error;
+mod finished;
 mod fresh;
 mod held;
 mod line;
+mod lockers;
 mod look_up;
 mod outcome;
 mod perform;

@@ -1,28 +1,18 @@
 //! The outcomes of generators.
 
 ghost use Rattle.std.specs.Prelude.{◌≡◌, ℕ, List};
-ghost use Rattle.std.specs.Int.RustNames.{bit_or};
-ghost use Rattle.phase_bits.specs.Flags.{initialization_panicked, initialization_skiped};
-ghost use Rattle.phase_bits.specs.Number.{phase_of};
 ghost use Rattle.schedule_rules.specs.History.{Event};
 ghost use Rattle.phase_schedule.specs.View.{view};
 ghost use Rattle.phase_schedule.specs.Tracks.{FollowsStep};
 ghost use Rattle.phase_schedule.specs.Ready.{IsActing, IsFailing, IsMadeToRead, IsMadeToWrite, IsNumbered};
 
+use crate::finished::{no_lock, read_lock, write_lock};
 use crate::line::{quiet, refused};
 use crate::look_up::Run;
 use crate::rows::{Draft, GuardRow, OpenSection, Rows};
-use phase_bits::Phase;
 use phase_locker::PhaseLocker;
 use schedule_rules::{Act, Answer, Call, Line, Refusal, Step};
 use std::mem;
-
-/// The phase that a run leaves that failed.
-fn failed_phase() -> Phase
-    ensures { result ≡ phase_of (bit_or initialization_panicked initialization_skiped) }
-{
-    Phase::INITIALIZATION_PANICKED.union(Phase::INITIALIZATION_SKIPED)
-}
 
 impl<L: PhaseLocker> Rows<L> {
     /// The generator of the party's innermost section made a value.
@@ -48,11 +38,11 @@ impl<L: PhaseLocker> Rows<L> {
     {
         let row = &mut self.cells[run.cell as usize];
         row.value = Some(value);
-        let lock = row.end_run();
+        let section = row.end_run();
         self.parties[s.party as usize].innermost = run.outer;
-        let locker = &mut self.lockers[run.cell as usize];
-        let (lock, given) = locker.downgrade(&mut self.parks, run.cell, lock, Phase::INITIALIZED);
-        self.open_reader(n, s.party, run.cell, lock);
+        let cell = &mut self.sequentializers[run.cell as usize];
+        let (finished, given) = cell.finish(&mut self.parks, section, true);
+        self.open_reader(n, s.party, run.cell, read_lock(finished));
         Line {
             answer: Answer::ReadGuard,
             given,
@@ -66,9 +56,12 @@ impl<L: PhaseLocker> Rows<L> {
         ensures { FollowsStep h s.now result (view L.held L.place self.old) (view L.held L.place self.new) }
     {
         let row = &mut self.cells[run.cell as usize];
-        let lock = row.end_run();
-        row.open(OpenSection::Guarded(Draft {
-            phase: Phase::INITIALIZED,
+        let section = row.end_run();
+        let cell = &mut self.sequentializers[run.cell as usize];
+        let (finished, _nobody) = cell.finish(&mut self.parks, section, true);
+        let (lock, phase) = write_lock(finished);
+        self.cells[run.cell as usize].open(OpenSection::Guarded(Draft {
+            phase,
             value: Some(value),
         }));
         let guard = GuardRow::Write {
@@ -99,10 +92,11 @@ impl<L: PhaseLocker> Rows<L> {
         requires { IsFailing h (view L.held L.place self.old) s.now run }
         ensures { FollowsStep h s.now result (view L.held L.place self.old) (view L.held L.place self.new) }
     {
-        let lock = self.cells[run.cell as usize].end_run();
+        let section = self.cells[run.cell as usize].end_run();
         self.parties[s.party as usize].innermost = run.outer;
-        let locker = &mut self.lockers[run.cell as usize];
-        let given = locker.release_write(&mut self.parks, run.cell, lock, failed_phase());
+        let cell = &mut self.sequentializers[run.cell as usize];
+        let (finished, given) = cell.finish(&mut self.parks, section, false);
+        no_lock(finished);
         Line {
             answer: Answer::Failed,
             given,

@@ -69,12 +69,12 @@ impl<L: PhaseLocker> Rows<L> {
     fn tell_finals(&self, finals: &mut Vec<Final>)
         requires empty { finals.old.items ≡ [] }
         requires room { length self.now.cells.items ≤ vec_capacity finals.old }
-        requires lockers { length self.now.lockers.items ≡ length self.now.cells.items }
+        requires lockers { length self.now.sequentializers.items ≡ length self.now.cells.items }
         ensures { finals.new.items ≡ finals_of (view L.held L.place self.now) }
     {
         for (cell, row) in self.cells.iter().enumerate() {
             finals.push_reserved(Final {
-                phase: self.lockers[cell].phase(),
+                phase: self.sequentializers[cell].locker().phase(),
                 value: row.value,
             });
         }

@@ -2,6 +2,7 @@
 
 use phase_bits::Phase;
 use phase_locker::{Parks, PhaseLocker, ReadTicket, WriteTicket};
+use phase_seq::{LazySequentializer, Section};
 use schedule_rules::{Call, CellPlan};
 
 /// A section whose generator runs.
@@ -24,8 +25,8 @@ pub struct Draft {
 
 /// The open section of a cell.
 pub enum OpenSection {
-    /// Its generator runs, under this lock.
-    Generates(RunRow, WriteTicket),
+    /// Its generator runs.
+    Generates(RunRow, Section),
     /// An open write guard carries it, and its lock.
     Guarded(Draft),
 }
@@ -79,8 +80,9 @@ pub struct Rows<L: PhaseLocker> {
     pub cells: Vec<CellRow>,
     pub guards: Vec<GuardRow>,
     pub parties: Vec<PartyRow>,
-    /// The locker of each cell: its published phase, and who holds it.
-    pub lockers: Vec<L>,
+    /// The sequentializer of each cell: who runs its generator, and its locker, that is, its published phase and who
+    /// holds it.
+    pub sequentializers: Vec<LazySequentializer<L, ()>>,
     /// How each party waits, and who is parked at each cell.
     pub parks: Parks,
 }

@@ -65,6 +65,11 @@ fn release(party: u32, guard: u32) -> Step {
     }
 }
 
+fn made_failed(party: u32) -> Step {
+    let act = Act::MadeFailed;
+    Step { party, act }
+}
+
 fn again(party: u32) -> Step {
     let act = Act::Again;
     Step { party, act }
@@ -84,15 +89,21 @@ fn clone(party: u32, guard: u32) -> Step {
     }
 }
 
-/// A plan of cells whose calls wait so.
+/// A plan of cells whose calls wait so, and whose generators are run again after they failed.
 fn plan(alloc: Global, parties: u32, cells: usize, place: Place) -> Result<Plan, AllocError>
     ensures cells { IfOk result (λ p. length p.cells.items ≡ cells) }
     ensures parties { IfOk result (λ p. p.parties ≡ parties) }
 {
-    let cell = CellPlan {
-        kind: Kind::LockedLazy,
-        place,
-    };
+    let kind = Kind::LockedLazy;
+    let retry = true;
+    plan_of(alloc, parties, cells, CellPlan { kind, retry, place })
+}
+
+/// A plan of such cells.
+fn plan_of(alloc: Global, parties: u32, cells: usize, cell: CellPlan) -> Result<Plan, AllocError>
+    ensures cells { IfOk result (λ p. length p.cells.items ≡ cells) }
+    ensures parties { IfOk result (λ p. p.parties ≡ parties) }
+{
     Ok(Plan {
         parties,
         cells: vec![in alloc; cell; cells]?,
@@ -231,16 +242,31 @@ fn answers_are_those_known(rt: HostRuntime) -> Result<(), Fail> {
 }
 
 #[test]
-fn steps_are_refused(rt: HostRuntime) -> Result<(), Fail> {
-    let failed = Step {
-        party: 0,
-        act: Act::MadeFailed,
+fn a_generator_runs_once(rt: HostRuntime) -> Result<(), Fail> {
+    let skipped = Phase::INITIALIZATION_PANICKED.union(Phase::INITIALIZATION_SKIPED);
+    let rows = [
+        row(call(0, 0, Call::Read), Answer::Running),
+        row(made_failed(0), Answer::Failed),
+        row(call(0, 0, Call::Read), Answer::Access(skipped)),
+        row(call(0, 0, Call::Write), Answer::Access(skipped)),
+        row(call(0, 0, Call::Phase), Answer::Phase(skipped)),
+    ];
+    let once = CellPlan {
+        kind: Kind::LockedLazy,
+        retry: false,
+        place: Place::Spin,
     };
+    let plan = plan_of(rt.alloc(), 1, 1, once)?;
+    expect_rows(&rt, rt.alloc(), &plan, &rows)
+}
+
+#[test]
+fn steps_are_refused(rt: HostRuntime) -> Result<(), Fail> {
     let rows = [
         row(again(1), Answer::Refused(Refusal::NotWaiting)),
-        row(failed, Answer::Refused(Refusal::NoSection)),
+        row(made_failed(0), Answer::Refused(Refusal::NoSection)),
         row(call(0, 0, Call::Read), Answer::Running),
-        row(failed, Answer::Failed),
+        row(made_failed(0), Answer::Failed),
         row(call(0, 0, Call::Read), Answer::Running),
         row(call(1, 0, Call::Write), Answer::Waiting(How::Spin)),
         row(call(1, 0, Call::Phase), Answer::Refused(Refusal::Waits)),

@@ -4,10 +4,11 @@ ghost use Rattle.std.specs.Prelude.{◌≡◌, Some, None, slice_get};
 ghost use Rattle.std.specs.Vec.{with_item};
 ghost use Rattle.phase_locker.specs.Natures.{read_ticket};
 ghost use Rattle.phase_schedule.specs.declared.rows.GuardRow.TheVariants.{Free};
-ghost use Rattle.phase_schedule.specs.Meets.{IsGuarded, IsGenerating, IsReading, IsWriting, put_row};
+ghost use Rattle.phase_schedule.specs.Meets.{IsGuarded, IsGenerating, IsReading, IsWriting, put_row, section_in};
 
 use crate::rows::{CellRow, Draft, GuardRow, OpenSection, Rows};
 use phase_locker::{PhaseLocker, ReadTicket, WriteTicket};
+use phase_seq::Section;
 use std::mem;
 
 impl GuardRow {
@@ -81,13 +82,14 @@ impl CellRow {
         }
     }
 
-    /// The lock of the section whose generator runs. The section is gone then.
-    pub fn end_run(&mut self) -> WriteTicket
+    /// The section whose generator runs. It is gone from the row then.
+    pub fn end_run(&mut self) -> Section
         requires { IsGenerating self.old.section }
-        ensures { self.new ≡ record self.old { section = None } }
+        ensures row { self.new ≡ record self.old { section = None } }
+        ensures section { Some result ≡ section_in self.old.section }
     {
         match self.section.take() {
-            Some(OpenSection::Generates(_, lock)) => lock,
+            Some(OpenSection::Generates(_, section)) => section,
             _ => unreachable!(),
         }
     }
@@ -102,7 +104,7 @@ impl CellRow {
         match self.section.take() {
             Some(OpenSection::Guarded(_)) => {},
             None => unreachable!(),
-            Some(OpenSection::Generates(_, _lock)) => unreachable!(),
+            Some(OpenSection::Generates(_, _section)) => unreachable!(),
         }
         self.value = draft.value;
     }
@@ -143,7 +145,7 @@ impl CellRow {
         match section {
             None => {},
             Some(OpenSection::Guarded(_)) => unreachable!(),
-            Some(OpenSection::Generates(_, _lock)) => unreachable!(),
+            Some(OpenSection::Generates(_, _section)) => unreachable!(),
         }
     }
 }

@@ -1,6 +1,6 @@
 //! The sequentializer of a cell.
 
-ghost use Rattle.std.specs.Prelude.{◌≡◌, ◌≢◌, ◌+◌, ◌<◌, ◌&&◌, false, length};
+ghost use Rattle.std.specs.Prelude.{◌≡◌, ◌≢◌, ◌+◌, ◌<◌, ◌&&◌, true, false, length};
 ghost use Rattle.std.specs.Borrow.{sem};
 ghost use Rattle.phase_locker.specs.Rows.{row_of, HasFree, SameSize};
 ghost use Rattle.phase_locker.specs.Fits.{Fits, IsWriteOpen, open_reads};
@@ -143,7 +143,7 @@ impl<L: PhaseLocker, G> LazySequentializer<L, G> {
         requires cell { section.who.cell < length parks.old.readers }
         requires running { IsRunning section self.old.running (L.held self.old.locker) parks.old }
         requires fits { Fits (L.place self.old.locker) (L.held self.old.locker) parks.old section.who.cell }
-        requires room { section.want ≡ Want.Read → HasFree parks.old }
+        requires room { (section.want ≡ Want.Read) × (made ≡ true) → HasFree parks.old }
         ensures finishes { Finishes section made (L.held self.old.locker) parks.old result (L.held self.new.locker) parks.new }
         ensures running { self.new.running ≡ None }
         ensures others { OthersStay section.who.cell parks.old parks.new }

@@ -1,4 +1,4 @@
 use Rattle.phase_schedule.proofs.rows.Rows.again.Given as goal
 
-abbrev pub ghost-answer : goal.ghost-answer
-ghost-answer g a = g.h
+abbrev pub ghost-begun : goal.ghost-begun
+ghost-begun g a = g.h

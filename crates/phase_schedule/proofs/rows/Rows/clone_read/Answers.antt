@@ -24,9 +24,9 @@ unreachable-requires g c =
 
 pub clone_read-requires : goal.clone_read-requires
 clone_read-requires g c =
-    some_readers g.h (view g.L.PhaseLocker.held g.L.PhaseLocker.place c.args.self.now) c.args.s.now (act.Clone c.args.guard) c.args.guard c.args.cell c.requires.1.holding (g.L.PhaseLocker.held c.index_mut.result.now)
+    some_readers g.h (view g.L.PhaseLocker.held g.L.PhaseLocker.place c.args.self.now) c.args.s.now (act.Clone c.args.guard) c.args.guard c.args.cell c.requires.1.holding (g.L.PhaseLocker.held c.index_mut.result.now.locker)
     (held_shown g.h (view g.L.PhaseLocker.held g.L.PhaseLocker.place c.args.self.now) c.args.s.now (act.Clone c.args.guard) c.args.guard c.args.cell false c.requires.1.holding
-    g.L.PhaseLocker.held g.L.PhaseLocker.place c.args.self.now.lockers.items c.index_mut.result.now c.index_mut.ensures.value refl refl)
+    (λ q. g.L.PhaseLocker.held q.locker) (λ q. g.L.PhaseLocker.place q.locker) c.args.self.now.sequentializers.items c.index_mut.result.now c.index_mut.ensures.value refl refl)
 
 pub open_reader-requires : goal.open_reader-requires
 open_reader-requires g c = next_free g.h (view g.L.PhaseLocker.held g.L.PhaseLocker.place c.args.self.now) c.args.s.now c.args.n (act.Clone c.args.guard) c.args.guard c.args.cell false c.requires.1
@@ -34,11 +34,11 @@ open_reader-requires g c = next_free g.h (view g.L.PhaseLocker.held g.L.PhaseLoc
 pub returns-in-Some : goal.returns-in-Some
 returns-in-Some g c =
     rw (c.quiet.ensures, c.open_reader.ensures)
-    (did_clone g.L.PhaseLocker.held g.L.PhaseLocker.place g.h c.args.self.now c.args.s.now c.args.n c.args.guard c.args.cell c.requires.1 c.index_mut.result.now c.clone_read.new.self
-    c.index_mut.ensures.value c.in-Some.ensures.place c.in-Some.ensures.some (λ e. let q : true ≡ false = c.in-Some.ensures.most.1 e in cc) c.in-Some.ensures.fits)
+    (did_clone g.L.PhaseLocker.held g.L.PhaseLocker.place g.h c.args.self.now c.args.s.now c.args.n c.args.guard c.args.cell c.requires.1 c.index_mut.result.now c.clone_read.new.cell
+    c.index_mut.ensures.value c.in-Some.ensures.place c.in-Some.ensures.running c.in-Some.ensures.some (λ e. let q : true ≡ false = c.in-Some.ensures.most.1 e in cc) c.in-Some.ensures.fits)
 
 pub returns-in-None : goal.returns-in-None
 returns-in-None g c =
     rw c.quiet-in-None.ensures
-    (did_not_clone g.L.PhaseLocker.held g.L.PhaseLocker.place g.h c.args.self.now c.args.s.now c.args.n c.args.guard c.args.cell c.requires.1 c.index_mut.result.now c.clone_read.new.self
-    c.index_mut.ensures.value c.in-None.ensures.place (c.in-None.ensures.none refl) (c.in-None.ensures.most.0 refl))
+    (did_not_clone g.L.PhaseLocker.held g.L.PhaseLocker.place g.h c.args.self.now c.args.s.now c.args.n c.args.guard c.args.cell c.requires.1 c.index_mut.result.now c.clone_read.new.cell
+    c.index_mut.ensures.value c.in-None.ensures.place c.in-None.ensures.running (c.in-None.ensures.none refl) (c.in-None.ensures.most.0 refl))

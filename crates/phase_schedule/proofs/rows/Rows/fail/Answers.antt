@@ -1,41 +1,52 @@
-use Rattle.std.proofs.Common.{◌<◌, length, subst}
-use Rattle.phase_bits.specs.Records.{leave_write}
-use Rattle.phase_locker.specs.Gifts.{Hands}
+use Rattle.std.proofs.Common.{◌<◌, length}
 use Rattle.phase_schedule.specs.View.{view}
-use Rattle.phase_schedule.proofs.MadeEnds.{called, read_locker}
-use Rattle.phase_schedule.proofs.MadeDone.{generates, fits_run, open_run, in_plan, in_lockers, did_fail}
+use Rattle.phase_schedule.proofs.MadeEnds.{read_locker}
+use Rattle.phase_schedule.proofs.MadeDone.{generates, section_is, finish_cell, finish_runs, finish_fits, finish_failed, finish_called, in_plan, in_lockers, did_fail}
 use Rattle.phase_schedule.proofs.rows.Rows.fail.Goals as goal
 
-pub end_run-lock-requires : goal.end_run-lock-requires
-end_run-lock-requires g c =
+pub end_run-section-requires : goal.end_run-section-requires
+end_run-section-requires g c =
     let v = view g.L.PhaseLocker.held g.L.PhaseLocker.place c.args.self.now in
     generates g.h v c.requires.1.acting.ready.follows c.args.s.now.party c.args.run c.requires.1.ended c.index_mut.result.now c.index_mut.ensures.value
 
-pub release_write-given-requires-clause-fits : goal.release_write-given-requires-clause-fits
-release_write-given-requires-clause-fits g c =
+pub finish-finished-requires-clause-cell : goal.finish-finished-requires-clause-cell
+finish-finished-requires-clause-cell g c =
     let v = view g.L.PhaseLocker.held g.L.PhaseLocker.place c.args.self.now in
     let t = c.requires.1.acting.ready.follows in
-    let lt : c.args.run.cell < length c.args.self.now.lockers.items = in_lockers g.L.PhaseLocker.held c.args.self.now.lockers.items _ c.args.run.cell t.locked.held_count (in_plan g.h v t c.args.run.cell c.requires.1.ended.inside) in
-    fits_run g.h v t c.args.s.now.party c.args.run c.requires.1.ended (g.L.PhaseLocker.held c.index_mut-locker.result.now) (g.L.PhaseLocker.place c.index_mut-locker.result.now) c.requires.1.acting.idle
-    (read_locker g.L.PhaseLocker.held c.args.self.now.lockers.items c.args.run.cell c.index_mut-locker.result.now c.index_mut-locker.ensures.value lt)
-    (read_locker g.L.PhaseLocker.place c.args.self.now.lockers.items c.args.run.cell c.index_mut-locker.result.now c.index_mut-locker.ensures.value lt)
+    let is = section_is g.h v t c.args.s.now.party c.args.run c.requires.1.ended c.index_mut.result.now c.end_run-section.result c.index_mut.ensures.value c.end_run-section.ensures.section in
+    finish_cell g.h v t c.args.s.now.party c.args.run c.requires.1.ended c.requires.1.acting.idle c.end_run-section.result is
 
-pub release_write-given-requires-clause-open : goal.release_write-given-requires-clause-open
-release_write-given-requires-clause-open g c =
+pub finish-finished-requires-clause-running : goal.finish-finished-requires-clause-running
+finish-finished-requires-clause-running g c =
     let v = view g.L.PhaseLocker.held g.L.PhaseLocker.place c.args.self.now in
     let t = c.requires.1.acting.ready.follows in
-    let lt : c.args.run.cell < length c.args.self.now.lockers.items = in_lockers g.L.PhaseLocker.held c.args.self.now.lockers.items _ c.args.run.cell t.locked.held_count (in_plan g.h v t c.args.run.cell c.requires.1.ended.inside) in
-    open_run g.h v t c.args.s.now.party c.args.run c.requires.1.ended (g.L.PhaseLocker.held c.index_mut-locker.result.now) c.requires.1.acting.idle
-    (read_locker g.L.PhaseLocker.held c.args.self.now.lockers.items c.args.run.cell c.index_mut-locker.result.now c.index_mut-locker.ensures.value lt)
+    let is = section_is g.h v t c.args.s.now.party c.args.run c.requires.1.ended c.index_mut.result.now c.end_run-section.result c.index_mut.ensures.value c.end_run-section.ensures.section in
+    let lt : c.args.run.cell < length c.args.self.now.sequentializers.items = in_lockers (λ q. g.L.PhaseLocker.held q.locker) c.args.self.now.sequentializers.items _ c.args.run.cell t.locked.held_count (in_plan g.h v t c.args.run.cell c.requires.1.ended.inside) in
+    finish_runs g.h v t c.args.s.now.party c.args.run c.requires.1.ended c.requires.1.acting.idle c.end_run-section.result is (g.L.PhaseLocker.held c.index_mut-cell.result.now.locker) c.index_mut-cell.result.now.running
+        (read_locker (λ q. g.L.PhaseLocker.held q.locker) c.args.self.now.sequentializers.items c.args.run.cell c.index_mut-cell.result.now c.index_mut-cell.ensures.value lt)
+        (read_locker (λ q. q.running) c.args.self.now.sequentializers.items c.args.run.cell c.index_mut-cell.result.now c.index_mut-cell.ensures.value lt)
+
+pub finish-finished-requires-clause-fits : goal.finish-finished-requires-clause-fits
+finish-finished-requires-clause-fits g c =
+    let v = view g.L.PhaseLocker.held g.L.PhaseLocker.place c.args.self.now in
+    let t = c.requires.1.acting.ready.follows in
+    let is = section_is g.h v t c.args.s.now.party c.args.run c.requires.1.ended c.index_mut.result.now c.end_run-section.result c.index_mut.ensures.value c.end_run-section.ensures.section in
+    let lt : c.args.run.cell < length c.args.self.now.sequentializers.items = in_lockers (λ q. g.L.PhaseLocker.held q.locker) c.args.self.now.sequentializers.items _ c.args.run.cell t.locked.held_count (in_plan g.h v t c.args.run.cell c.requires.1.ended.inside) in
+    finish_fits g.h v t c.args.s.now.party c.args.run c.requires.1.ended c.requires.1.acting.idle c.end_run-section.result is (g.L.PhaseLocker.held c.index_mut-cell.result.now.locker) (g.L.PhaseLocker.place c.index_mut-cell.result.now.locker)
+        (read_locker (λ q. g.L.PhaseLocker.held q.locker) c.args.self.now.sequentializers.items c.args.run.cell c.index_mut-cell.result.now c.index_mut-cell.ensures.value lt)
+        (read_locker (λ q. g.L.PhaseLocker.place q.locker) c.args.self.now.sequentializers.items c.args.run.cell c.index_mut-cell.result.now c.index_mut-cell.ensures.value lt)
 
 pub returns : goal.returns
 returns g c =
     let v = view g.L.PhaseLocker.held g.L.PhaseLocker.place c.args.self.now in
     let t = c.requires.1.acting.ready.follows in
-    let lt : c.args.run.cell < length c.args.self.now.lockers.items = in_lockers g.L.PhaseLocker.held c.args.self.now.lockers.items _ c.args.run.cell t.locked.held_count (in_plan g.h v t c.args.run.cell c.requires.1.ended.inside) in
-    did_fail g.h v c.args.s.now c.args.run c.requires.1 c.index_mut.result.now c.end_run-lock.new.self c.index_mut-2.result.now c.release_write-given.result
-    (g.L.PhaseLocker.held c.index_mut-locker.result.now) (g.L.PhaseLocker.held c.release_write-given.new.self) c.release_write-given.new.parks _ _
-    c.index_mut.ensures.value c.end_run-lock.ensures c.index_mut-2.ensures.value
-    (called g.L.PhaseLocker.held g.L.PhaseLocker.place c.args.self.now.lockers.items c.args.self.now.parks c.args.run.cell c.index_mut-locker.result.now c.release_write-given.new.self c.release_write-given.new.parks
-    c.index_mut-locker.ensures.value lt c.release_write-given.ensures.others c.release_write-given.ensures.fits c.release_write-given.ensures.place c.release_write-given.ensures.same)
-    (subst (λ q. Hands c.args.run.cell (leave_write q (g.L.PhaseLocker.held c.index_mut-locker.result.now)) c.args.self.now.parks c.release_write-given.result (g.L.PhaseLocker.held c.release_write-given.new.self) c.release_write-given.new.parks) c.failed_phase.ensures c.release_write-given.ensures.hands)
+    let is = section_is g.h v t c.args.s.now.party c.args.run c.requires.1.ended c.index_mut.result.now c.end_run-section.result c.index_mut.ensures.value c.end_run-section.ensures.section in
+    let lt : c.args.run.cell < length c.args.self.now.sequentializers.items = in_lockers (λ q. g.L.PhaseLocker.held q.locker) c.args.self.now.sequentializers.items _ c.args.run.cell t.locked.held_count (in_plan g.h v t c.args.run.cell c.requires.1.ended.inside) in
+    did_fail g.h v c.args.s.now c.args.run c.requires.1 c.index_mut.result.now c.end_run-section.new.self c.index_mut-2.result.now c.finish-finished.result.1
+        (g.L.PhaseLocker.held c.index_mut-cell.result.now.locker) (g.L.PhaseLocker.held c.finish-finished.new.self.locker) c.finish-finished.new.parks _ _ _
+        c.index_mut.ensures.value c.end_run-section.ensures.row c.index_mut-2.ensures.value
+        (finish_called g.h v t c.args.s.now.party c.args.run c.requires.1.ended c.requires.1.acting.idle c.end_run-section.result is
+            (λ q. g.L.PhaseLocker.held q.locker) (λ q. g.L.PhaseLocker.place q.locker) (λ q. q.running) c.args.self.now.sequentializers.items c.index_mut-cell.result.now c.finish-finished.new.self c.finish-finished.new.parks
+            c.index_mut-cell.ensures.value lt c.finish-finished.ensures.others c.finish-finished.ensures.fits c.finish-finished.ensures.place c.finish-finished.ensures.running c.finish-finished.ensures.same)
+        (finish_failed g.h v t c.args.s.now.party c.args.run c.requires.1.ended c.requires.1.acting.idle c.end_run-section.result is
+            (g.L.PhaseLocker.held c.index_mut-cell.result.now.locker) c.finish-finished.result (g.L.PhaseLocker.held c.finish-finished.new.self.locker) c.finish-finished.new.parks c.finish-finished.ensures.finishes)

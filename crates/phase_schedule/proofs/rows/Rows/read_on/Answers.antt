@@ -27,13 +27,13 @@ downgrade-given-requires-clause-known g c = draft_known g.h _ c.args.s.now (act.
 pub downgrade-given-requires-clause-fits : goal.downgrade-given-requires-clause-fits
 downgrade-given-requires-clause-fits g c =
     locker_fits g.h (view g.L.PhaseLocker.held g.L.PhaseLocker.place c.args.self.now) c.args.s.now (act.Downgrade c.args.guard) c.args.guard c.args.cell true c.requires.1.holding
-    g.L.PhaseLocker.held g.L.PhaseLocker.place c.args.self.now.lockers.items c.index_mut-locker.result.now c.index_mut-locker.ensures.value refl refl
+    (λ q. g.L.PhaseLocker.held q.locker) (λ q. g.L.PhaseLocker.place q.locker) c.args.self.now.sequentializers.items c.index_mut-row.result.now c.index_mut-row.ensures.value refl refl
 
 pub downgrade-given-requires-clause-open : goal.downgrade-given-requires-clause-open
 downgrade-given-requires-clause-open g c =
-    write_open g.h (view g.L.PhaseLocker.held g.L.PhaseLocker.place c.args.self.now) c.args.s.now (act.Downgrade c.args.guard) c.args.guard c.args.cell c.requires.1.holding (g.L.PhaseLocker.held c.index_mut-locker.result.now)
+    write_open g.h (view g.L.PhaseLocker.held g.L.PhaseLocker.place c.args.self.now) c.args.s.now (act.Downgrade c.args.guard) c.args.guard c.args.cell c.requires.1.holding (g.L.PhaseLocker.held c.index_mut-row.result.now.locker)
     (held_shown g.h (view g.L.PhaseLocker.held g.L.PhaseLocker.place c.args.self.now) c.args.s.now (act.Downgrade c.args.guard) c.args.guard c.args.cell true c.requires.1.holding
-    g.L.PhaseLocker.held g.L.PhaseLocker.place c.args.self.now.lockers.items c.index_mut-locker.result.now c.index_mut-locker.ensures.value refl refl)
+    (λ q. g.L.PhaseLocker.held q.locker) (λ q. g.L.PhaseLocker.place q.locker) c.args.self.now.sequentializers.items c.index_mut-row.result.now c.index_mut-row.ensures.value refl refl)
 
 pub open_reader-requires : goal.open_reader-requires
 open_reader-requires g c = rw c.replace.ensures.after (next_free_then g.h (view g.L.PhaseLocker.held g.L.PhaseLocker.place c.args.self.now) c.args.s.now c.args.n (act.Downgrade c.args.guard) c.args.guard c.args.cell true c.requires.1)
@@ -41,6 +41,6 @@ open_reader-requires g c = rw c.replace.ensures.after (next_free_then g.h (view 
 pub returns : goal.returns
 returns g c =
     rw (c.open_reader.ensures, c.replace.ensures.after, c.publish.ensures)
-    (did_read_on g.L.PhaseLocker.held g.L.PhaseLocker.place g.h c.args.self.now c.args.s.now c.args.n c.args.guard c.args.cell c.requires.1 c.index_mut-locker.result.now c.downgrade-given.new.self c.downgrade-given.result.1 c.downgrade-given.new.parks
-    c.draft-draft.result c.index_mut.result.now c.index_mut-locker.ensures.value c.index_mut.ensures.value c.draft-draft.ensures
-    c.downgrade-given.ensures.downgrades c.downgrade-given.ensures.others c.downgrade-given.ensures.fits c.downgrade-given.ensures.place c.downgrade-given.ensures.same)
+    (did_read_on g.L.PhaseLocker.held g.L.PhaseLocker.place g.h c.args.self.now c.args.s.now c.args.n c.args.guard c.args.cell c.requires.1 c.index_mut-row.result.now c.downgrade-given.new.cell c.downgrade-given.result.1 c.downgrade-given.new.parks
+    c.draft-draft.result c.index_mut.result.now c.index_mut-row.ensures.value c.index_mut.ensures.value c.draft-draft.ensures
+    c.downgrade-given.ensures.downgrades c.downgrade-given.ensures.others c.downgrade-given.ensures.fits c.downgrade-given.ensures.place c.downgrade-given.ensures.running c.downgrade-given.ensures.same)

@@ -18,16 +18,16 @@ into_read-lock-requires g c =
 pub release_read-given-requires-clause-fits : goal.release_read-given-requires-clause-fits
 release_read-given-requires-clause-fits g c =
     locker_fits g.h (view g.L.PhaseLocker.held g.L.PhaseLocker.place c.args.self.now) c.args.s.now (act.Release c.args.guard) c.args.guard c.args.cell false c.requires.1
-    g.L.PhaseLocker.held g.L.PhaseLocker.place c.args.self.now.lockers.items c.index_mut-2.result.now c.index_mut-2.ensures.value refl refl
+    (λ q. g.L.PhaseLocker.held q.locker) (λ q. g.L.PhaseLocker.place q.locker) c.args.self.now.sequentializers.items c.index_mut-row.result.now c.index_mut-row.ensures.value refl refl
 
 pub release_read-given-requires-clause-open : goal.release_read-given-requires-clause-open
 release_read-given-requires-clause-open g c =
-    read_open g.h (view g.L.PhaseLocker.held g.L.PhaseLocker.place c.args.self.now) c.args.s.now (act.Release c.args.guard) c.args.guard c.args.cell c.requires.1 (g.L.PhaseLocker.held c.index_mut-2.result.now)
+    read_open g.h (view g.L.PhaseLocker.held g.L.PhaseLocker.place c.args.self.now) c.args.s.now (act.Release c.args.guard) c.args.guard c.args.cell c.requires.1 (g.L.PhaseLocker.held c.index_mut-row.result.now.locker)
     (held_shown g.h (view g.L.PhaseLocker.held g.L.PhaseLocker.place c.args.self.now) c.args.s.now (act.Release c.args.guard) c.args.guard c.args.cell false c.requires.1
-    g.L.PhaseLocker.held g.L.PhaseLocker.place c.args.self.now.lockers.items c.index_mut-2.result.now c.index_mut-2.ensures.value refl refl)
+    (λ q. g.L.PhaseLocker.held q.locker) (λ q. g.L.PhaseLocker.place q.locker) c.args.self.now.sequentializers.items c.index_mut-row.result.now c.index_mut-row.ensures.value refl refl)
 
 pub returns : goal.returns
 returns g c =
     rw c.replace.ensures.after
-    (did_release_read g.L.PhaseLocker.held g.L.PhaseLocker.place g.h c.args.self.now c.args.s.now c.args.guard c.args.cell c.requires.1 c.index_mut-2.result.now c.release_read-given.new.self c.release_read-given.result c.release_read-given.new.parks
-    c.index_mut-2.ensures.value c.release_read-given.ensures.hands c.release_read-given.ensures.others c.release_read-given.ensures.fits c.release_read-given.ensures.place c.release_read-given.ensures.same)
+    (did_release_read g.L.PhaseLocker.held g.L.PhaseLocker.place g.h c.args.self.now c.args.s.now c.args.guard c.args.cell c.requires.1 c.index_mut-row.result.now c.release_read-given.new.cell c.release_read-given.result c.release_read-given.new.parks
+    c.index_mut-row.ensures.value c.release_read-given.ensures.hands c.release_read-given.ensures.others c.release_read-given.ensures.fits c.release_read-given.ensures.place c.release_read-given.ensures.running c.release_read-given.ensures.same)

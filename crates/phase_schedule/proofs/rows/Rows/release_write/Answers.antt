@@ -27,17 +27,17 @@ release_write-given-requires-clause-known g c = draft_known g.h _ c.args.s.now (
 pub release_write-given-requires-clause-fits : goal.release_write-given-requires-clause-fits
 release_write-given-requires-clause-fits g c =
     locker_fits g.h (view g.L.PhaseLocker.held g.L.PhaseLocker.place c.args.self.now) c.args.s.now (act.Release c.args.guard) c.args.guard c.args.cell true c.requires.1
-    g.L.PhaseLocker.held g.L.PhaseLocker.place c.args.self.now.lockers.items c.index_mut-locker.result.now c.index_mut-locker.ensures.value refl refl
+    (λ q. g.L.PhaseLocker.held q.locker) (λ q. g.L.PhaseLocker.place q.locker) c.args.self.now.sequentializers.items c.index_mut-row.result.now c.index_mut-row.ensures.value refl refl
 
 pub release_write-given-requires-clause-open : goal.release_write-given-requires-clause-open
 release_write-given-requires-clause-open g c =
-    write_open g.h (view g.L.PhaseLocker.held g.L.PhaseLocker.place c.args.self.now) c.args.s.now (act.Release c.args.guard) c.args.guard c.args.cell c.requires.1 (g.L.PhaseLocker.held c.index_mut-locker.result.now)
+    write_open g.h (view g.L.PhaseLocker.held g.L.PhaseLocker.place c.args.self.now) c.args.s.now (act.Release c.args.guard) c.args.guard c.args.cell c.requires.1 (g.L.PhaseLocker.held c.index_mut-row.result.now.locker)
     (held_shown g.h (view g.L.PhaseLocker.held g.L.PhaseLocker.place c.args.self.now) c.args.s.now (act.Release c.args.guard) c.args.guard c.args.cell true c.requires.1
-    g.L.PhaseLocker.held g.L.PhaseLocker.place c.args.self.now.lockers.items c.index_mut-locker.result.now c.index_mut-locker.ensures.value refl refl)
+    (λ q. g.L.PhaseLocker.held q.locker) (λ q. g.L.PhaseLocker.place q.locker) c.args.self.now.sequentializers.items c.index_mut-row.result.now c.index_mut-row.ensures.value refl refl)
 
 pub returns : goal.returns
 returns g c =
     rw (c.replace.ensures.after, c.publish.ensures)
-    (did_release_write g.L.PhaseLocker.held g.L.PhaseLocker.place g.h c.args.self.now c.args.s.now c.args.guard c.args.cell c.requires.1 c.index_mut-locker.result.now c.release_write-given.new.self c.release_write-given.result c.release_write-given.new.parks
-    c.draft-draft.result c.index_mut.result.now c.index_mut-locker.ensures.value c.index_mut.ensures.value c.draft-draft.ensures
-    c.release_write-given.ensures.hands c.release_write-given.ensures.others c.release_write-given.ensures.fits c.release_write-given.ensures.place c.release_write-given.ensures.same)
+    (did_release_write g.L.PhaseLocker.held g.L.PhaseLocker.place g.h c.args.self.now c.args.s.now c.args.guard c.args.cell c.requires.1 c.index_mut-row.result.now c.release_write-given.new.cell c.release_write-given.result c.release_write-given.new.parks
+    c.draft-draft.result c.index_mut.result.now c.index_mut-row.ensures.value c.index_mut.ensures.value c.draft-draft.ensures
+    c.release_write-given.ensures.hands c.release_write-given.ensures.others c.release_write-given.ensures.fits c.release_write-given.ensures.place c.release_write-given.ensures.running c.release_write-given.ensures.same)
