@@ -6,7 +6,7 @@ use std::rt::Files;
 use std::{fs, io};
 
 /// The examples, by the names of their files.
-const NAMES: [&str; 7] = [
+const NAMES: [&str; 8] = [
     "first",
     "readers_and_a_writer",
     "nested_generators",
@@ -14,6 +14,7 @@ const NAMES: [&str; 7] = [
     "refusals",
     "a_hand_over",
     "downgrade_and_clone",
+    "a_generator_that_runs_once",
 ];
 
 /// More bytes than any of their transcripts has.

@@ -1,5 +1,5 @@
 -- Who runs the generator of each cell after an attempt.
-use Rattle.std.proofs.Common.{◌≡◌, ◌≢◌, ℕ, ◌<◌, List, length, set, refl, sym, ◌∙◌, ap, subst, arith, Bool, true, false, None, Some, length-set, inl, inr}
+use Rattle.std.proofs.Common.{◌≡◌, ◌≢◌, ℕ, ◌<◌, List, length, set, refl, sym, ◌∙◌, ap, subst, arith, Bool, true, false, Some, length-set, inl, inr}
 use Rattle.std.specs.Prelude.{slice_get, if◌then◌else◌}
 use Rattle.std.specs.declared.option.Option.{Option}
 use Rattle.phase_bits.specs.Number.{phase_of}

@@ -1,5 +1,5 @@
 -- After a call that may not access the value gave its lock back, the rows stand for the longer history.
-use Rattle.std.proofs.Common.{◌≡◌, ℕ, ◌+◌, ◌-◌, ◌<◌, List, ◌∷◌, length, map, set, get_or, refl, sym, ◌∙◌, ap, subst, arith, Bool, true, false, cond, None, Some, length-set}
+use Rattle.std.proofs.Common.{◌≡◌, ℕ, ◌+◌, ◌<◌, List, length, map, set, get_or, refl, sym, ◌∙◌, ap, subst, arith, Bool, false, None, Some, length-set}
 use Rattle.std.specs.Prelude.{slice_get, if◌then◌else◌}
 use Rattle.std.proofs.lemmas.List.{length-map, map-set, set-get_or}
 use Rattle.std.proofs.lemmas.Option.{get_or_from_slice_get}
@@ -188,7 +188,7 @@ module _ (h : List Event) (v : View) (s : Step) (n : ℕ) (t : Target) (p : Phas
   pub denies_read : (party : PartyRow) → party ≡ get_or v.parties s.party party → (last : Given) (r r' : Holders) (parks' : Parking) (records' : List Holders) (kinds' : List LockerKind) (running' : List (Option ℕ))
       → Released v.held v.places v.running v.parks t.cell r r' parks' records' kinds' running' → Hands t.cell (leave_read r) v.parks last r' parks'
       → FollowsStep h s (record { answer = answer.Access p; given = given_first g last }) v
-        (record { cells = v.cells; guards = v.guards; parties = set v.parties s.party (record { waiting = None; innermost = party.innermost }); held = records'; places = kinds'; running = running'; parks = parks' })
+      (record { cells = v.cells; guards = v.guards; parties = set v.parties s.party (record { waiting = None; innermost = party.innermost }); held = records'; places = kinds'; running = running'; parks = parks' })
   denies_read party party_at last r r' parks' records' kinds' running' after hands =
       did_deny h v s n t g _ d.reads.answered read_hold refl refl p answers_read party party_at (leave_read r) (read_agrees r after.held) last r r' parks' records' kinds' running' after hands
 
@@ -247,6 +247,6 @@ module _ (h : List Event) (v : View) (s : Step) (n : ℕ) (t : Target) (p : Phas
   pub denies_write : (party : PartyRow) → party ≡ get_or v.parties s.party party → (last : Given) (r r' : Holders) (parks' : Parking) (records' : List Holders) (kinds' : List LockerKind) (running' : List (Option ℕ))
       → Released v.held v.places v.running v.parks t.cell r r' parks' records' kinds' running' → Hands t.cell (leave_write p r) v.parks last r' parks'
       → FollowsStep h s (record { answer = answer.Access p; given = given_first g last }) v
-        (record { cells = v.cells; guards = v.guards; parties = set v.parties s.party (record { waiting = None; innermost = party.innermost }); held = records'; places = kinds'; running = running'; parks = parks' })
+      (record { cells = v.cells; guards = v.guards; parties = set v.parties s.party (record { waiting = None; innermost = party.innermost }); held = records'; places = kinds'; running = running'; parks = parks' })
   denies_write party party_at last r r' parks' records' kinds' running' after hands =
       did_deny h v s n t g _ d.opening.opening.answered write_hold refl opened_write p answers_write party party_at (leave_write p r) (write_agrees r after.held) last r r' parks' records' kinds' running' after hands

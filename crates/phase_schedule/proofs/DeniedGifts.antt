@@ -10,7 +10,6 @@ use Rattle.phase_locker.specs.Gifts.{MayHand}
 use Rattle.schedule_rules.specs.declared.plan.CellPlan.{CellPlan}
 use Rattle.schedule_rules.specs.History.{Event, count}
 use Rattle.schedule_rules.specs.Waits.{Wait, parks_to_read, parks_to_write, parked_readers, shares_read, shares_write, is_parked_writer, wait_woken, wake_reader, wake_writer}
-use Rattle.schedule_rules.specs.Holds.{readers_with, writers_with}
 use Rattle.schedule_rules.specs.Gifts.{reaches}
 use Rattle.phase_schedule.specs.Meets.{given_first}
 use Rattle.phase_schedule.specs.Shown.{Agrees}
@@ -69,14 +68,14 @@ module _ (cells : List CellPlan) (c : ℕ) (h : List Event) (ws : List Wait) (s 
   given_once given.Nobody last some reached a may = absurd (some refl)
   given_once (given.Writer q) last some reached a may =
       none_more last (λ i.
-          let none : _ = (idle_counts cells c h (given_on c (given.Writer q) ws) s y a i).1 in
-          let share : _ = some_write_share c q ws reached in
-          omega (arith, none, share)) may
+      let none : _ = (idle_counts cells c h (given_on c (given.Writer q) ws) s y a i).1 in
+      let share : _ = some_write_share c q ws reached in
+      omega (arith, none, share)) may
   given_once given.Readers last some reached a may =
       none_more last (λ i.
-          let none : _ = (idle_counts cells c h (given_on c given.Readers ws) s y a i).0 in
-          let share : _ = some_read_share c ws reached in
-          omega (arith, none, share)) may
+      let none : _ = (idle_counts cells c h (given_on c given.Readers ws) s y a i).0 in
+      let share : _ = some_read_share c ws reached in
+      omega (arith, none, share)) may
 
 -- the one gift is that of the attempt, or the last
 pub first_is : (g last : Given) → g ≢ given.Nobody → given_first g last ≡ g

@@ -1,6 +1,6 @@
 -- The line of a call that may not access the value is legal: it gives what its attempt gave, or what the lock gives that
 -- it gives back.
-use Rattle.std.proofs.Common.{◌≡◌, ◌≢◌, ℕ, ◌+◌, List, ◌∷◌, refl, sym, ◌∙◌, ap, subst, Bool, true, false, None, Some}
+use Rattle.std.proofs.Common.{◌≡◌, ℕ, ◌+◌, List, refl, sym, ◌∙◌, ap, subst, Bool, true, false, Some}
 use Rattle.std.specs.Prelude.{◌==◌, ◌&&◌, ◌||◌, IsTrue}
 use Rattle.phase_bits.specs.declared.holders.Holders.{Holders}
 use Rattle.phase_bits.specs.declared.phase.Phase.{Phase}
@@ -18,7 +18,7 @@ use Rattle.schedule_rules.specs.declared.line.Answer.TheVariants as answer
 use Rattle.schedule_rules.specs.Kinds.{cell_at, is_parking}
 use Rattle.schedule_rules.specs.Calls.{Calls}
 use Rattle.schedule_rules.specs.History.{Event}
-use Rattle.schedule_rules.specs.Waits.{waits, attempt, attempt_with, other_waits, cell_concerned, cell_concerned_with, cell_of_attempt}
+use Rattle.schedule_rules.specs.Waits.{waits, attempt_with, other_waits, cell_concerned, cell_concerned_with, cell_of_attempt}
 use Rattle.schedule_rules.specs.Refusals.{refusal}
 use Rattle.schedule_rules.specs.Gifts.{reaches, is_readers, downgrades, is_freed_first, is_freed_last, may_give_first, may_give_last, may_give_on}
 use Rattle.schedule_rules.specs.Legal.{Moment, First, Last, IsLegalLine, answer_of, due_at, may_give, may_give_at}

@@ -1,5 +1,5 @@
 -- The records of the lockers and the rows of who is parked after a step of a party that does not wait, which hands over.
-use Rattle.std.proofs.Common.{◌≡◌, ◌≢◌, ℕ, ◌<◌, ◌^◌, List, ◌∷◌, length, set, refl, sym, ◌∙◌, ap, subst, arith, Bool, true, false, None, Some, length-set, inl, inr}
+use Rattle.std.proofs.Common.{◌≡◌, ◌≢◌, ℕ, ◌<◌, ◌^◌, List, ◌∷◌, length, set, refl, sym, ◌∙◌, ap, subst, Bool, None, Some, length-set, inl, inr}
 use Rattle.std.specs.Prelude.{◌⊎◌, slice_get, if◌then◌else◌}
 use Rattle.std.specs.declared.option.Option.{Option}
 use Rattle.phase_bits.specs.declared.holders.Holders.{Holders}
@@ -18,7 +18,7 @@ use Rattle.schedule_rules.specs.Replay.{replay}
 use Rattle.schedule_rules.specs.Core.{core, core_with}
 use Rattle.schedule_rules.specs.Waits.{Wait, wait_of, waits, waits_given, other_waits, cell_concerned}
 use Rattle.phase_schedule.specs.Kept.{open_after, kind_at}
-use Rattle.phase_schedule.specs.Shown.{Shows, IsSingle, Agrees, wait_row}
+use Rattle.phase_schedule.specs.Shown.{Shows, IsSingle, Agrees}
 use Rattle.phase_schedule.specs.Tracks.{IsApart, Locked}
 use Rattle.phase_schedule.proofs.Places.{eq_or_not, slice_get_set_same, slice_get_set_other}
 use Rattle.phase_schedule.proofs.Counted.{one_of, none_without}

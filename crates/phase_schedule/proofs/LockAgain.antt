@@ -16,7 +16,6 @@ use Rattle.phase_locker.specs.Others.{OthersStay}
 use Rattle.phase_locker.specs.Attempts.{keeps as row_keeps, given_up, Judged, Keeps, GivesUp}
 use Rattle.phase_locker.specs.Gifts.{Hands}
 use Rattle.phase_locker.proofs.Judging.{by_bool}
-use Rattle.schedule_rules.specs.declared.plan.Call.{Call}
 use Rattle.schedule_rules.specs.declared.plan.CellPlan.{CellPlan}
 use Rattle.schedule_rules.specs.declared.step.Act.{Act}
 use Rattle.schedule_rules.specs.declared.step.Act.TheVariants as act
@@ -27,7 +26,7 @@ use Rattle.schedule_rules.specs.Calls.{Calls, Want, rule, waking_nature, initial
 use Rattle.schedule_rules.specs.History.{Event}
 use Rattle.schedule_rules.specs.Sections.{runs}
 use Rattle.schedule_rules.specs.Replay.{replay, phase_at, inside}
-use Rattle.schedule_rules.specs.Waits.{Wait as WaitingCall, attempt, wait_of, waits, other_waits, cell_concerned, cell_concerned_with, cell_of_attempt, attempt_with}
+use Rattle.schedule_rules.specs.Waits.{Wait as WaitingCall, wait_of, waits, other_waits, cell_concerned, cell_concerned_with, cell_of_attempt, attempt_with}
 use Rattle.schedule_rules.specs.Holds.{has_own, keeps, readers, is_free_with}
 use Rattle.schedule_rules.specs.Due.{keeps_own, due_attempt}
 use Rattle.schedule_rules.specs.Gifts.{reaches, is_freed_first, may_give_first}

@@ -15,8 +15,8 @@ use Rattle.schedule_rules.specs.declared.plan.CellPlan.{CellPlan}
 use Rattle.schedule_rules.specs.Kinds.{cell_at}
 use Rattle.schedule_rules.specs.Changes.{Content}
 use Rattle.schedule_rules.specs.History.{count}
-use Rattle.schedule_rules.specs.Sections.{Section, runs_in, sections}
-use Rattle.schedule_rules.specs.Guards.{Guard, reader, writer, guards}
+use Rattle.schedule_rules.specs.Sections.{Section, runs_in}
+use Rattle.schedule_rules.specs.Guards.{Guard, reader, writer}
 use Rattle.schedule_rules.specs.Waits.{Wait, Attempt, with_wait, parks_to_read, parks_to_write, shares_read, shares_write, is_drain}
 use Rattle.schedule_rules.specs.Holds.{reads_cell, writes_cell}
 use Rattle.phase_schedule.specs.Kept.{Open, readers_in, writers_in, drains_in, record_in, kind_at}

@@ -1,5 +1,5 @@
 -- What stands open after a locker judged a call, and the records and rows then.
-use Rattle.std.proofs.Common.{◌≡◌, ◌≢◌, ◌==◌, ℕ, ◌<◌, List, length, refl, arith, Bool, true, false, None, Some, ◌∙◌, ap, sym, subst, not, ◌||◌, ◌&&◌, inl, inr, length-set}
+use Rattle.std.proofs.Common.{◌≡◌, ◌≢◌, ◌==◌, ℕ, ◌<◌, List, length, refl, arith, Bool, true, false, None, Some, ◌∙◌, ap, sym, subst, ◌||◌, ◌&&◌, inl, inr, length-set}
 use Rattle.std.specs.Prelude.{nat_lt, if◌then◌else◌, ◌⊎◌}
 use Rattle.phase_bits.specs.declared.holders.Holders.{Holders}
 use Rattle.phase_bits.specs.Number.{phase_of}
@@ -23,7 +23,7 @@ use Rattle.schedule_rules.specs.declared.step.Step.{Step}
 use Rattle.schedule_rules.specs.Calls.{Calls}
 use Rattle.schedule_rules.specs.History.{Event}
 use Rattle.schedule_rules.specs.Sections.{Section}
-use Rattle.schedule_rules.specs.Guards.{reader, writer}
+use Rattle.schedule_rules.specs.Guards.{writer}
 use Rattle.schedule_rules.specs.Replay.{phase_at}
 use Rattle.schedule_rules.specs.Waits.{Wait as WaitingCall, wait_of, with_wait, is_drain}
 use Rattle.phase_schedule.specs.declared.rows.Target.{Target}

@@ -11,7 +11,7 @@ use Rattle.phase_bits.specs.Records.{leave_write}
 use Rattle.phase_locker.specs.declared.ways.Given.{Given}
 use Rattle.phase_locker.specs.declared.ways.Given.TheVariants as given
 use Rattle.phase_locker.specs.declared.ways.LockerKind.{LockerKind}
-use Rattle.phase_locker.specs.Rows.{Rows as Parking, HasFree, SameSize}
+use Rattle.phase_locker.specs.Rows.{Rows as Parking, SameSize}
 use Rattle.phase_locker.specs.Others.{OthersStay}
 use Rattle.phase_locker.specs.Fits.{Fits, IsWriteOpen}
 use Rattle.phase_locker.specs.Gifts.{Hands, Downgrades}
@@ -46,7 +46,7 @@ use Rattle.phase_schedule.proofs.Places.{row_at}
 use Rattle.phase_schedule.proofs.RowOpens.{numbered_above, run_top}
 use Rattle.phase_schedule.proofs.MadeOpens.{runs_once, no_writer_here}
 use Rattle.phase_schedule.proofs.MadeKept.{closed_row, drafted_row}
-use Rattle.phase_schedule.proofs.MadeEnds.{Called, called, fits_read, has_free, read_once, write_open}
+use Rattle.phase_schedule.proofs.MadeEnds.{Called, called, fits_read, read_once, write_open}
 use Rattle.phase_schedule.proofs.MadeRuns.{runner_is}
 use Rattle.phase_schedule.proofs.MadeFailed.{tracks_failed}
 use Rattle.phase_schedule.proofs.MadeReads.{tracks_read}
@@ -75,8 +75,8 @@ module _ (h : List Event) (v : View) (t : Follows h v) where
     section_at row at =
         ap (λ (r : CellRow). r.section) (row_at v.cells run.cell row _ at e.inside (t.kept.cell run.cell e.inside))
         ∙ subst (λ c. section_by c (inside (plans v) h) (find (writes_cell c) (guards h)) (run_in c (sections h)) ≡ Some (open_as.Generates (record { party = p; call = run.call; outer = cell_of (innermost p (without_innermost p (sections h))) }) (section_of c p run.call))) e.cell
-          (shown ∙ ap (λ r. open_run e.section.cell r) (run_top p (sections h) e.section e.found (let once : _ = runs_once (plans v) h p e.section e.found t.locked.apart in omega (arith, once)))
-           ∙ ap (λ k. Some (open_as.Generates (record { party = p; call = k; outer = cell_of (innermost p (without_innermost p (sections h))) }) (section_of e.section.cell p k))) e.call)
+        (shown ∙ ap (λ r. open_run e.section.cell r) (run_top p (sections h) e.section e.found (let once : _ = runs_once (plans v) h p e.section e.found t.locked.apart in omega (arith, once)))
+        ∙ ap (λ k. Some (open_as.Generates (record { party = p; call = k; outer = cell_of (innermost p (without_innermost p (sections h))) }) (section_of e.section.cell p k))) e.call)
 
     -- the row of the cell shows that the generator runs
     pub generates : (row : CellRow) → row ≡ get_or v.cells run.cell row → IsGenerating row.section
@@ -119,9 +119,6 @@ module _ (h : List Event) (v : View) (t : Follows h v) where
       pub finish_fits : (x : Holders) (k : LockerKind) → slice_get v.held run.cell ≡ Some x → slice_get v.places run.cell ≡ Some k → Fits k x v.parks o.who.cell
       finish_fits x k held place = subst (λ (q : SeqSection). Fits k x v.parks q.who.cell) (sym is) (fits_run x k idle held place)
 
-      pub finish_room : p < length v.parties → HasFree v.parks
-      finish_room lt = has_free (plans v) h v t p idle lt
-
       -- where it failed
       pub finish_failed : (x : Holders) (r : Finished × Given) (x' : Holders) (parks' : Parking) → Finishes o false x v.parks r x' parks' → Hands run.cell (leave_write (phase_of 6) x) v.parks r.1 x' parks'
       finish_failed x r x' parks' f = subst (λ (q : SeqSection). Hands q.who.cell (leave_write (phase_of 6) x) v.parks r.1 x' parks') is f.hands
@@ -158,13 +155,13 @@ module _ (h : List Event) (v : View) (t : Follows h v) where
 pub did_fail : (h : List Event) (v : View) (step : Step) (run : Run) (f : IsFailing h v step run) (row row' : CellRow) (party : PartyRow) (g : Given) (x x' : Holders) (parks' : Parking) (records' : List Holders) (kinds' : List LockerKind) (running' : List (Option ℕ))
     → row ≡ get_or v.cells run.cell row → row' ≡ closed_row row.value row → party ≡ get_or v.parties step.party party → Called v.held v.places v.running v.parks run.cell x x' parks' records' kinds' running' → Hands run.cell (leave_write (phase_of 6) x) v.parks g x' parks'
     → FollowsStep h step (record { answer = answer.Failed; given = g }) v
-      (record { cells = set v.cells run.cell row'; guards = v.guards; parties = set v.parties step.party (record { waiting = party.waiting; innermost = run.outer }); held = records'; places = kinds'; running = running'; parks = parks' })
+    (record { cells = set v.cells run.cell row'; guards = v.guards; parties = set v.parties step.party (record { waiting = party.waiting; innermost = run.outer }); held = records'; places = kinds'; running = running'; parks = parks' })
 did_fail h v step run f row row' party g x x' parks' records' kinds' running' at row_is party_at call hands =
     record {
       follows =
           rw row_is
           (subst (λ c. row ≡ get_or v.cells c row → c < length v.cells → Called v.held v.places v.running v.parks c x x' parks' records' kinds' running' → Hands c (leave_write (phase_of 6) x) v.parks g x' parks'
-              → Tracks (plans v) (event step (record { answer = answer.Failed; given = g }) ∷ h) (record { cells = set v.cells c (closed_row row.value row); guards = v.guards; parties = set v.parties step.party (record { waiting = party.waiting; innermost = run.outer }); held = records'; places = kinds'; running = running'; parks = parks' })) f.ended.cell
+          → Tracks (plans v) (event step (record { answer = answer.Failed; given = g }) ∷ h) (record { cells = set v.cells c (closed_row row.value row); guards = v.guards; parties = set v.parties step.party (record { waiting = party.waiting; innermost = run.outer }); held = records'; places = kinds'; running = running'; parks = parks' })) f.ended.cell
           (λ at_c in_cells call_c hands_c. tracks_failed (plans v) h v f.acting.ready.follows step f.ended.section f.ended.found f.acting.idle f.acting.acts g x x' parks' records' kinds' running' call_c hands_c row at_c in_cells party party_at f.acting.ready.party run.outer f.ended.outer f.acting.ready.room)
           at f.ended.inside call hands);
       guards = refl;
@@ -175,15 +172,15 @@ did_fail h v step run f row row' party g x x' parks' records' kinds' running' at
 pub did_read : (h : List Event) (v : View) (step : Step) (n made : ℕ) (run : Run) (f : IsMadeToRead h v step n made run) (row row' : CellRow) (party : PartyRow) (g : Given) (x x' : Holders) (parks' : Parking) (records' : List Holders) (kinds' : List LockerKind) (running' : List (Option ℕ))
     → row ≡ get_or v.cells run.cell row → row' ≡ closed_row (Some made) row → party ≡ get_or v.parties step.party party → Called v.held v.places v.running v.parks run.cell x x' parks' records' kinds' running' → Downgrades run.cell (phase_of 1) x v.parks g x' parks'
     → FollowsStep h step (record { answer = answer.ReadGuard; given = g }) v
-      (record { cells = set v.cells run.cell row'; guards = set v.guards n (guard.Read step.party run.cell read_ticket); parties = set v.parties step.party (record { waiting = party.waiting; innermost = run.outer }); held = records'; places = kinds'; running = running'; parks = parks' })
+    (record { cells = set v.cells run.cell row'; guards = set v.guards n (guard.Read step.party run.cell read_ticket); parties = set v.parties step.party (record { waiting = party.waiting; innermost = run.outer }); held = records'; places = kinds'; running = running'; parks = parks' })
 did_read h v step n made run f row row' party g x x' parks' records' kinds' running' at row_is party_at call downgrades =
     record {
       follows =
           rw (row_is, f.made.number)
           (subst (λ c. row ≡ get_or v.cells c row → c < length v.cells → Called v.held v.places v.running v.parks c x x' parks' records' kinds' running' → Downgrades c (phase_of 1) x v.parks g x' parks'
-              → Tracks (plans v) (event step (record { answer = answer.ReadGuard; given = g }) ∷ h) (record { cells = set v.cells c (closed_row (Some made) row); guards = set v.guards (length h) (guard.Read step.party c read_ticket); parties = set v.parties step.party (record { waiting = party.waiting; innermost = run.outer }); held = records'; places = kinds'; running = running'; parks = parks' })) f.ended.cell
+          → Tracks (plans v) (event step (record { answer = answer.ReadGuard; given = g }) ∷ h) (record { cells = set v.cells c (closed_row (Some made) row); guards = set v.guards (length h) (guard.Read step.party c read_ticket); parties = set v.parties step.party (record { waiting = party.waiting; innermost = run.outer }); held = records'; places = kinds'; running = running'; parks = parks' })) f.ended.cell
           (λ at_c in_cells call_c downgrades_c. tracks_read (plans v) h v f.made.acting.ready.follows step f.ended.section f.ended.found f.made.acting.idle made f.made.acting.acts g x x' parks' records' kinds' running' call_c downgrades_c f.made.acting.ready.party
-              (f.ended.call ∙ f.reads) row at_c in_cells party party_at run.outer f.ended.outer f.made.acting.ready.room)
+          (f.ended.call ∙ f.reads) row at_c in_cells party party_at run.outer f.ended.outer f.made.acting.ready.room)
           at f.ended.inside call downgrades);
       guards = length-set _ _ _;
       parties = length-set _ _ _;
@@ -200,15 +197,15 @@ drafted rows c row closed again row' made q lt closed_is at is q_is =
 pub did_write : (h : List Event) (v : View) (step : Step) (n made : ℕ) (run : Run) (f : IsMadeToWrite h v step n made run) (row row' : CellRow) (party : PartyRow) (cells' : List CellRow) (records' : List Holders) (kinds' : List LockerKind) (running' : List (Option ℕ)) (parks' : Parking)
     → row ≡ get_or v.cells run.cell row → row' ≡ drafted_row made row → party ≡ get_or v.parties step.party party → cells' ≡ set v.cells run.cell row' → records' ≡ v.held → kinds' ≡ v.places → running' ≡ set v.running run.cell None → parks' ≡ v.parks
     → FollowsStep h step (record { answer = answer.WriteGuard; given = given.Nobody }) v
-      (record { cells = cells'; guards = set v.guards n (guard.Write step.party run.cell write_ticket); parties = set v.parties step.party (record { waiting = party.waiting; innermost = run.outer }); held = records'; places = kinds'; running = running'; parks = parks' })
+    (record { cells = cells'; guards = set v.guards n (guard.Write step.party run.cell write_ticket); parties = set v.parties step.party (record { waiting = party.waiting; innermost = run.outer }); held = records'; places = kinds'; running = running'; parks = parks' })
 did_write h v step n made run f row row' party cells' records' kinds' running' parks' at row_is party_at cells_are records_are kinds_are running_are parks_are =
     record {
       follows =
           rw (cells_are, row_is, f.made.number, records_are, kinds_are, parks_are)
           (subst (λ c. row ≡ get_or v.cells c row → c < length v.cells → running' ≡ set v.running c None
-              → Tracks (plans v) (event step (record { answer = answer.WriteGuard; given = given.Nobody }) ∷ h) (record { cells = set v.cells c (drafted_row made row); guards = set v.guards (length h) (guard.Write step.party c write_ticket); parties = set v.parties step.party (record { waiting = party.waiting; innermost = run.outer }); held = v.held; places = v.places; running = running'; parks = v.parks })) f.ended.cell
+          → Tracks (plans v) (event step (record { answer = answer.WriteGuard; given = given.Nobody }) ∷ h) (record { cells = set v.cells c (drafted_row made row); guards = set v.guards (length h) (guard.Write step.party c write_ticket); parties = set v.parties step.party (record { waiting = party.waiting; innermost = run.outer }); held = v.held; places = v.places; running = running'; parks = v.parks })) f.ended.cell
           (λ at_c in_cells running_c. tracks_write (plans v) h v f.made.acting.ready.follows step f.ended.section f.ended.found f.made.acting.idle made f.made.acting.acts
-              (λ e. f.writes (sym f.ended.call ∙ e)) row at_c in_cells party party_at f.made.acting.ready.party run.outer f.ended.outer f.made.acting.ready.room running' running_c)
+          (λ e. f.writes (sym f.ended.call ∙ e)) row at_c in_cells party party_at f.made.acting.ready.party run.outer f.ended.outer f.made.acting.ready.room running' running_c)
           at f.ended.inside running_are);
       guards = length-set _ _ _;
       parties = length-set _ _ _;

@@ -112,8 +112,8 @@ module _ (cells : List CellPlan) (h : List Event) (v : View) (t : Tracks cells h
       legal_last cells h step (record { answer = answer.Failed; given = g }) (section_failed cells h step (Some s) idle acts is)
       (sym (ap (λ a. due_act cells h step (other_waits cells h step) false a) acts))
       (may_last cells h step answer.Failed s.cell concerned g (λ some. parks_there (cell_at cells s.cell).place (core cells s.cell h) v.parks s.cell g (t.locked.fits s.cell lt) listed some)
-        (ap (λ ws. reaches s.cell g ws) (none_without step.party (waits cells h) idle) ∙ reaches_given s.cell g (waits cells h) v.parks t.locked.shows listed)
-        (by (is_readers g)))
+      (ap (λ ws. reaches s.cell g ws) (none_without step.party (waits cells h) idle) ∙ reaches_given s.cell g (waits cells h) v.parks t.locked.shows listed)
+      (by (is_readers g)))
     where
       by : (b : Bool) → (b && downgrades step answer.Failed) || is_freed_last cells h step answer.Failed s.cell ≡ true
       by true = freed

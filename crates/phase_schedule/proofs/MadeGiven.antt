@@ -44,10 +44,10 @@ module _ (c : ℕ) (ws : List Wait) (ss : List Section) (gs : List Guard) where
     apart_writer q parked none alone d =
         elim (eq_or_not d c) [
           | inl e ↦ rw e (record {
-              one = omega (arith, none, write_shares_woken q c ws parked.wait single parked.is parked.parks, drains_beside_writer q c ws parked.wait single parked.is parked.parks c);
-              no_reader = λ some. omega (arith, alone, read_shares_beside_writer q c ws parked.wait single parked.is parked.parks c);
-              limit = omega (arith, alone, read_shares_beside_writer q c ws parked.wait single parked.is parked.parks c);
-            })
+            one = omega (arith, none, write_shares_woken q c ws parked.wait single parked.is parked.parks, drains_beside_writer q c ws parked.wait single parked.is parked.parks c);
+            no_reader = λ some. omega (arith, alone, read_shares_beside_writer q c ws parked.wait single parked.is parked.parks c);
+            limit = omega (arith, alone, read_shares_beside_writer q c ws parked.wait single parked.is parked.parks c);
+          })
           | inr ne ↦ same_apart (with_waits ws) (with_waits (map (wake_writer q) ws)) d
               (omega (arith, write_shares_woken_other q c ws parked.wait single parked.is parked.parks d ne))
               (omega (arith, read_shares_beside_writer q c ws parked.wait single parked.is parked.parks d))
@@ -59,10 +59,10 @@ module _ (c : ℕ) (ws : List Wait) (ss : List Section) (gs : List Guard) where
     apart_readers none few d =
         elim (eq_or_not d c) [
           | inl e ↦ rw e (record {
-              one = omega (arith, none, write_shares_beside_readers c c ws, drains_beside_readers c c ws);
-              no_reader = λ some. absurd (omega (arith, some, none, write_shares_beside_readers c c ws));
-              limit = omega (arith, few, read_shares_woken c ws);
-            })
+            one = omega (arith, none, write_shares_beside_readers c c ws, drains_beside_readers c c ws);
+            no_reader = λ some. absurd (omega (arith, some, none, write_shares_beside_readers c c ws));
+            limit = omega (arith, few, read_shares_woken c ws);
+          })
           | inr ne ↦ same_apart (with_waits ws) (with_waits (map (wake_reader c) ws)) d
               (omega (arith, write_shares_beside_readers c d ws)) (omega (arith, read_shares_woken_other c d ws ne)) (drains_beside_readers c d ws) (apart d)
         ]

@@ -111,10 +111,10 @@ module _ (cells : List CellPlan) (h : List Event) (p : ℕ) (s : Section) (is : 
     apart_read d =
         elim (eq_or_not d s.cell) [
           | inl e ↦ rw e (record {
-              one = omega (arith, none_left, no_writer_here, no_share_here, no_drain_here);
-              no_reader = λ some. absurd (omega (arith, some, none_left, no_writer_here, no_share_here));
-              limit = let self : _ = same_number s.cell in let none : _ = no_reads_here in grind arith;
-            })
+            one = omega (arith, none_left, no_writer_here, no_share_here, no_drain_here);
+            no_reader = λ some. absurd (omega (arith, some, none_left, no_writer_here, no_share_here));
+            limit = let self : _ = same_number s.cell in let none : _ = no_reads_here in grind arith;
+          })
           | inr ne ↦ same_apart (open_after cells h) (opened_read (waits cells h)) d (omega (arith, others_left d ne)) (rw (other_number s.cell d ne) refl) refl (apart d)
         ]
 
@@ -122,10 +122,10 @@ module _ (cells : List CellPlan) (h : List Event) (p : ℕ) (s : Section) (is : 
     apart_write v d =
         elim (eq_or_not d s.cell) [
           | inl e ↦ rw e (record {
-              one = let self : _ = same_number s.cell in let runs : _ = none_left in let writes : _ = no_writer_here in let shares : _ = no_share_here in let drains : _ = no_drain_here in grind arith;
-              no_reader = λ some. no_reads_here;
-              limit = omega (arith, no_reads_here);
-            })
+            one = let self : _ = same_number s.cell in let runs : _ = none_left in let writes : _ = no_writer_here in let shares : _ = no_share_here in let drains : _ = no_drain_here in grind arith;
+            no_reader = λ some. no_reads_here;
+            limit = omega (arith, no_reads_here);
+          })
           | inr ne ↦ same_apart (open_after cells h) (opened_write v (waits cells h)) d (rw (other_number s.cell d ne) (omega (arith, others_left d ne))) refl refl (apart d)
         ]
 

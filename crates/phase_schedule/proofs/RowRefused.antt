@@ -14,7 +14,6 @@ use Rattle.schedule_rules.specs.declared.line.Refusal.{Refusal}
 use Rattle.schedule_rules.specs.declared.line.Refusal.TheVariants as refused
 use Rattle.schedule_rules.specs.Calls.{Want, Calls}
 use Rattle.schedule_rules.specs.History.{Event, act_by, latest_act}
-use Rattle.schedule_rules.specs.Guards.{guards}
 use Rattle.schedule_rules.specs.Waits.{Wait, wait_of, waits, attempt_of_wait, attempt_with}
 use Rattle.schedule_rules.specs.Refusals.{refusal, refusal_by, refusal_free, refusal_waiting}
 use Rattle.schedule_rules.specs.Legal.{IsLegalLine, Last, answer_of, due_at}

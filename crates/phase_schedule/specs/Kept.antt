@@ -1,5 +1,5 @@
 -- What the rows keep of a history: each row is a function of what stands open, and of what is published.
-use Rattle.std.specs.Prelude.{ℕ, Bool, false, List, [], ◌∷◌, ◌==◌, ◌+◌, ◌||◌, nat_lt, map, if◌then◌else◌}
+use Rattle.std.specs.Prelude.{ℕ, List, [], ◌∷◌, ◌==◌, ◌+◌, ◌||◌, nat_lt, map, if◌then◌else◌}
 use Rattle.std.specs.List.{find, list_any}
 use Rattle.std.specs.declared.option.Option.{Option}
 use Rattle.std.specs.declared.option.Option.TheVariants.{None, Some}
@@ -21,7 +21,7 @@ use Rattle.schedule_rules.specs.Calls.{Want, Calls}
 use Rattle.schedule_rules.specs.Changes.{Content}
 use Rattle.schedule_rules.specs.History.{Event, count}
 use Rattle.schedule_rules.specs.Sections.{Section, innermost, runs_in, sections}
-use Rattle.schedule_rules.specs.Guards.{Guard, numbered, guards}
+use Rattle.schedule_rules.specs.Guards.{Guard, guards}
 use Rattle.schedule_rules.specs.Waits.{Wait, wait_of, parks_to_read, parks_to_write, shares_read, shares_write, drains_on, waits}
 use Rattle.schedule_rules.specs.Holds.{reads_cell, writes_cell}
 use Rattle.phase_schedule.specs.declared.rows.CellRow.{CellRow}

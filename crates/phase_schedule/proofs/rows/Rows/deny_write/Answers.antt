@@ -13,15 +13,15 @@ release_write-last-requires-clause-fits g c =
     let v = view g.L.PhaseLocker.held g.L.PhaseLocker.place c.args.self.now in
     let lt : c.args.target.cell < length c.args.self.now.sequentializers.items = in_lockers (λ q. g.L.PhaseLocker.held q.locker) c.args.self.now.sequentializers.items _ c.args.target.cell c.requires.1.opening.opening.answered.locked.held_count (write_cell_known g.h v c.args.s.now c.args.n c.args.target c.args.phase c.args.given c.requires.1) in
     write_fits g.h v c.args.s.now c.args.n c.args.target c.args.phase c.args.given c.requires.1 (g.L.PhaseLocker.held c.index_mut-cell.result.now.locker) (g.L.PhaseLocker.place c.index_mut-cell.result.now.locker)
-        (read_locker (λ q. g.L.PhaseLocker.held q.locker) c.args.self.now.sequentializers.items c.args.target.cell c.index_mut-cell.result.now c.index_mut-cell.ensures.value lt)
-        (read_locker (λ q. g.L.PhaseLocker.place q.locker) c.args.self.now.sequentializers.items c.args.target.cell c.index_mut-cell.result.now c.index_mut-cell.ensures.value lt)
+    (read_locker (λ q. g.L.PhaseLocker.held q.locker) c.args.self.now.sequentializers.items c.args.target.cell c.index_mut-cell.result.now c.index_mut-cell.ensures.value lt)
+    (read_locker (λ q. g.L.PhaseLocker.place q.locker) c.args.self.now.sequentializers.items c.args.target.cell c.index_mut-cell.result.now c.index_mut-cell.ensures.value lt)
 
 pub release_write-last-requires-clause-open : goal.release_write-last-requires-clause-open
 release_write-last-requires-clause-open g c =
     let v = view g.L.PhaseLocker.held g.L.PhaseLocker.place c.args.self.now in
     let lt : c.args.target.cell < length c.args.self.now.sequentializers.items = in_lockers (λ q. g.L.PhaseLocker.held q.locker) c.args.self.now.sequentializers.items _ c.args.target.cell c.requires.1.opening.opening.answered.locked.held_count (write_cell_known g.h v c.args.s.now c.args.n c.args.target c.args.phase c.args.given c.requires.1) in
     write_open g.h v c.args.s.now c.args.n c.args.target c.args.phase c.args.given c.requires.1 (g.L.PhaseLocker.held c.index_mut-cell.result.now.locker)
-        (read_locker (λ q. g.L.PhaseLocker.held q.locker) c.args.self.now.sequentializers.items c.args.target.cell c.index_mut-cell.result.now c.index_mut-cell.ensures.value lt)
+    (read_locker (λ q. g.L.PhaseLocker.held q.locker) c.args.self.now.sequentializers.items c.args.target.cell c.index_mut-cell.result.now c.index_mut-cell.ensures.value lt)
 
 pub returns : goal.returns
 returns g c =
@@ -29,7 +29,7 @@ returns g c =
     let lt : c.args.target.cell < length c.args.self.now.sequentializers.items = in_lockers (λ q. g.L.PhaseLocker.held q.locker) c.args.self.now.sequentializers.items _ c.args.target.cell c.requires.1.opening.opening.answered.locked.held_count (write_cell_known g.h v c.args.s.now c.args.n c.args.target c.args.phase c.args.given c.requires.1) in
     rw c.given_first.ensures
     (denies_write g.h v c.args.s.now c.args.n c.args.target c.args.phase c.args.given c.requires.1 c.index_mut.result.now c.index_mut.ensures.value c.release_write-last.result
-        (g.L.PhaseLocker.held c.index_mut-cell.result.now.locker) (g.L.PhaseLocker.held c.release_write-last.new.cell.locker) c.release_write-last.new.parks _ _ _
-        (released (λ q. g.L.PhaseLocker.held q.locker) (λ q. g.L.PhaseLocker.place q.locker) (λ q. q.running) c.args.self.now.sequentializers.items c.args.self.now.parks c.args.target.cell c.index_mut-cell.result.now c.release_write-last.new.cell c.release_write-last.new.parks
-            c.index_mut-cell.ensures.value lt c.release_write-last.ensures.others c.release_write-last.ensures.fits c.release_write-last.ensures.place c.release_write-last.ensures.running c.release_write-last.ensures.same)
-        c.release_write-last.ensures.hands)
+    (g.L.PhaseLocker.held c.index_mut-cell.result.now.locker) (g.L.PhaseLocker.held c.release_write-last.new.cell.locker) c.release_write-last.new.parks _ _ _
+    (released (λ q. g.L.PhaseLocker.held q.locker) (λ q. g.L.PhaseLocker.place q.locker) (λ q. q.running) c.args.self.now.sequentializers.items c.args.self.now.parks c.args.target.cell c.index_mut-cell.result.now c.release_write-last.new.cell c.release_write-last.new.parks
+    c.index_mut-cell.ensures.value lt c.release_write-last.ensures.others c.release_write-last.ensures.fits c.release_write-last.ensures.place c.release_write-last.ensures.running c.release_write-last.ensures.same)
+    c.release_write-last.ensures.hands)

@@ -23,8 +23,8 @@ finish-finished-requires-clause-running g c =
     let is = section_is g.h v t c.args.s.now.party c.args.run c.requires.1.ended c.index_mut.result.now c.end_run-section.result c.index_mut.ensures.value c.end_run-section.ensures.section in
     let lt : c.args.run.cell < length c.args.self.now.sequentializers.items = in_lockers (λ q. g.L.PhaseLocker.held q.locker) c.args.self.now.sequentializers.items _ c.args.run.cell t.locked.held_count (in_plan g.h v t c.args.run.cell c.requires.1.ended.inside) in
     finish_runs g.h v t c.args.s.now.party c.args.run c.requires.1.ended c.requires.1.acting.idle c.end_run-section.result is (g.L.PhaseLocker.held c.index_mut-cell.result.now.locker) c.index_mut-cell.result.now.running
-        (read_locker (λ q. g.L.PhaseLocker.held q.locker) c.args.self.now.sequentializers.items c.args.run.cell c.index_mut-cell.result.now c.index_mut-cell.ensures.value lt)
-        (read_locker (λ q. q.running) c.args.self.now.sequentializers.items c.args.run.cell c.index_mut-cell.result.now c.index_mut-cell.ensures.value lt)
+    (read_locker (λ q. g.L.PhaseLocker.held q.locker) c.args.self.now.sequentializers.items c.args.run.cell c.index_mut-cell.result.now c.index_mut-cell.ensures.value lt)
+    (read_locker (λ q. q.running) c.args.self.now.sequentializers.items c.args.run.cell c.index_mut-cell.result.now c.index_mut-cell.ensures.value lt)
 
 pub finish-finished-requires-clause-fits : goal.finish-finished-requires-clause-fits
 finish-finished-requires-clause-fits g c =
@@ -33,8 +33,8 @@ finish-finished-requires-clause-fits g c =
     let is = section_is g.h v t c.args.s.now.party c.args.run c.requires.1.ended c.index_mut.result.now c.end_run-section.result c.index_mut.ensures.value c.end_run-section.ensures.section in
     let lt : c.args.run.cell < length c.args.self.now.sequentializers.items = in_lockers (λ q. g.L.PhaseLocker.held q.locker) c.args.self.now.sequentializers.items _ c.args.run.cell t.locked.held_count (in_plan g.h v t c.args.run.cell c.requires.1.ended.inside) in
     finish_fits g.h v t c.args.s.now.party c.args.run c.requires.1.ended c.requires.1.acting.idle c.end_run-section.result is (g.L.PhaseLocker.held c.index_mut-cell.result.now.locker) (g.L.PhaseLocker.place c.index_mut-cell.result.now.locker)
-        (read_locker (λ q. g.L.PhaseLocker.held q.locker) c.args.self.now.sequentializers.items c.args.run.cell c.index_mut-cell.result.now c.index_mut-cell.ensures.value lt)
-        (read_locker (λ q. g.L.PhaseLocker.place q.locker) c.args.self.now.sequentializers.items c.args.run.cell c.index_mut-cell.result.now c.index_mut-cell.ensures.value lt)
+    (read_locker (λ q. g.L.PhaseLocker.held q.locker) c.args.self.now.sequentializers.items c.args.run.cell c.index_mut-cell.result.now c.index_mut-cell.ensures.value lt)
+    (read_locker (λ q. g.L.PhaseLocker.place q.locker) c.args.self.now.sequentializers.items c.args.run.cell c.index_mut-cell.result.now c.index_mut-cell.ensures.value lt)
 
 pub returns : goal.returns
 returns g c =
@@ -43,10 +43,10 @@ returns g c =
     let is = section_is g.h v t c.args.s.now.party c.args.run c.requires.1.ended c.index_mut.result.now c.end_run-section.result c.index_mut.ensures.value c.end_run-section.ensures.section in
     let lt : c.args.run.cell < length c.args.self.now.sequentializers.items = in_lockers (λ q. g.L.PhaseLocker.held q.locker) c.args.self.now.sequentializers.items _ c.args.run.cell t.locked.held_count (in_plan g.h v t c.args.run.cell c.requires.1.ended.inside) in
     did_fail g.h v c.args.s.now c.args.run c.requires.1 c.index_mut.result.now c.end_run-section.new.self c.index_mut-2.result.now c.finish-finished.result.1
-        (g.L.PhaseLocker.held c.index_mut-cell.result.now.locker) (g.L.PhaseLocker.held c.finish-finished.new.self.locker) c.finish-finished.new.parks _ _ _
-        c.index_mut.ensures.value c.end_run-section.ensures.row c.index_mut-2.ensures.value
-        (finish_called g.h v t c.args.s.now.party c.args.run c.requires.1.ended c.requires.1.acting.idle c.end_run-section.result is
-            (λ q. g.L.PhaseLocker.held q.locker) (λ q. g.L.PhaseLocker.place q.locker) (λ q. q.running) c.args.self.now.sequentializers.items c.index_mut-cell.result.now c.finish-finished.new.self c.finish-finished.new.parks
-            c.index_mut-cell.ensures.value lt c.finish-finished.ensures.others c.finish-finished.ensures.fits c.finish-finished.ensures.place c.finish-finished.ensures.running c.finish-finished.ensures.same)
-        (finish_failed g.h v t c.args.s.now.party c.args.run c.requires.1.ended c.requires.1.acting.idle c.end_run-section.result is
-            (g.L.PhaseLocker.held c.index_mut-cell.result.now.locker) c.finish-finished.result (g.L.PhaseLocker.held c.finish-finished.new.self.locker) c.finish-finished.new.parks c.finish-finished.ensures.finishes)
+    (g.L.PhaseLocker.held c.index_mut-cell.result.now.locker) (g.L.PhaseLocker.held c.finish-finished.new.self.locker) c.finish-finished.new.parks _ _ _
+    c.index_mut.ensures.value c.end_run-section.ensures.row c.index_mut-2.ensures.value
+    (finish_called g.h v t c.args.s.now.party c.args.run c.requires.1.ended c.requires.1.acting.idle c.end_run-section.result is
+    (λ q. g.L.PhaseLocker.held q.locker) (λ q. g.L.PhaseLocker.place q.locker) (λ q. q.running) c.args.self.now.sequentializers.items c.index_mut-cell.result.now c.finish-finished.new.self c.finish-finished.new.parks
+    c.index_mut-cell.ensures.value lt c.finish-finished.ensures.others c.finish-finished.ensures.fits c.finish-finished.ensures.place c.finish-finished.ensures.running c.finish-finished.ensures.same)
+    (finish_failed g.h v t c.args.s.now.party c.args.run c.requires.1.ended c.requires.1.acting.idle c.end_run-section.result is
+    (g.L.PhaseLocker.held c.index_mut-cell.result.now.locker) c.finish-finished.result (g.L.PhaseLocker.held c.finish-finished.new.self.locker) c.finish-finished.new.parks c.finish-finished.ensures.finishes)

@@ -24,8 +24,8 @@ finish-finished-requires-clause-running g c =
     let is = section_is g.h v t c.args.s.now.party c.args.run c.requires.1.ended c.index_mut-row.result.now c.end_run-section.result c.index_mut-row.ensures.value c.end_run-section.ensures.section in
     let lt : c.args.run.cell < length c.args.self.now.sequentializers.items = in_lockers (λ q. g.L.PhaseLocker.held q.locker) c.args.self.now.sequentializers.items _ c.args.run.cell t.locked.held_count (in_plan g.h v t c.args.run.cell c.requires.1.ended.inside) in
     finish_runs g.h v t c.args.s.now.party c.args.run c.requires.1.ended c.requires.1.made.acting.idle c.end_run-section.result is (g.L.PhaseLocker.held c.index_mut-cell.result.now.locker) c.index_mut-cell.result.now.running
-        (read_locker (λ q. g.L.PhaseLocker.held q.locker) c.args.self.now.sequentializers.items c.args.run.cell c.index_mut-cell.result.now c.index_mut-cell.ensures.value lt)
-        (read_locker (λ q. q.running) c.args.self.now.sequentializers.items c.args.run.cell c.index_mut-cell.result.now c.index_mut-cell.ensures.value lt)
+    (read_locker (λ q. g.L.PhaseLocker.held q.locker) c.args.self.now.sequentializers.items c.args.run.cell c.index_mut-cell.result.now c.index_mut-cell.ensures.value lt)
+    (read_locker (λ q. q.running) c.args.self.now.sequentializers.items c.args.run.cell c.index_mut-cell.result.now c.index_mut-cell.ensures.value lt)
 
 pub finish-finished-requires-clause-fits : goal.finish-finished-requires-clause-fits
 finish-finished-requires-clause-fits g c =
@@ -34,8 +34,8 @@ finish-finished-requires-clause-fits g c =
     let is = section_is g.h v t c.args.s.now.party c.args.run c.requires.1.ended c.index_mut-row.result.now c.end_run-section.result c.index_mut-row.ensures.value c.end_run-section.ensures.section in
     let lt : c.args.run.cell < length c.args.self.now.sequentializers.items = in_lockers (λ q. g.L.PhaseLocker.held q.locker) c.args.self.now.sequentializers.items _ c.args.run.cell t.locked.held_count (in_plan g.h v t c.args.run.cell c.requires.1.ended.inside) in
     finish_fits g.h v t c.args.s.now.party c.args.run c.requires.1.ended c.requires.1.made.acting.idle c.end_run-section.result is (g.L.PhaseLocker.held c.index_mut-cell.result.now.locker) (g.L.PhaseLocker.place c.index_mut-cell.result.now.locker)
-        (read_locker (λ q. g.L.PhaseLocker.held q.locker) c.args.self.now.sequentializers.items c.args.run.cell c.index_mut-cell.result.now c.index_mut-cell.ensures.value lt)
-        (read_locker (λ q. g.L.PhaseLocker.place q.locker) c.args.self.now.sequentializers.items c.args.run.cell c.index_mut-cell.result.now c.index_mut-cell.ensures.value lt)
+    (read_locker (λ q. g.L.PhaseLocker.held q.locker) c.args.self.now.sequentializers.items c.args.run.cell c.index_mut-cell.result.now c.index_mut-cell.ensures.value lt)
+    (read_locker (λ q. g.L.PhaseLocker.place q.locker) c.args.self.now.sequentializers.items c.args.run.cell c.index_mut-cell.result.now c.index_mut-cell.ensures.value lt)
 
 pub read_lock-requires : goal.read_lock-requires
 read_lock-requires g c =
@@ -43,7 +43,7 @@ read_lock-requires g c =
     let t = c.requires.1.made.acting.ready.follows in
     let is = section_is g.h v t c.args.s.now.party c.args.run c.requires.1.ended c.index_mut-row.result.now c.end_run-section.result c.index_mut-row.ensures.value c.end_run-section.ensures.section in
     let f = finish_read g.h v t c.args.s.now.party c.args.run c.requires.1.ended c.requires.1.made.acting.idle c.end_run-section.result is c.requires.1.reads
-            (g.L.PhaseLocker.held c.index_mut-cell.result.now.locker) c.finish-finished.result (g.L.PhaseLocker.held c.finish-finished.new.self.locker) c.finish-finished.new.parks c.finish-finished.ensures.finishes in
+    (g.L.PhaseLocker.held c.index_mut-cell.result.now.locker) c.finish-finished.result (g.L.PhaseLocker.held c.finish-finished.new.self.locker) c.finish-finished.new.parks c.finish-finished.ensures.finishes in
     subst IsReadingOn (sym f.finished) tt
 
 pub open_reader-requires : goal.open_reader-requires
@@ -56,12 +56,12 @@ returns g c =
     let is = section_is g.h v t c.args.s.now.party c.args.run c.requires.1.ended c.index_mut-row.result.now c.end_run-section.result c.index_mut-row.ensures.value c.end_run-section.ensures.section in
     let lt : c.args.run.cell < length c.args.self.now.sequentializers.items = in_lockers (λ q. g.L.PhaseLocker.held q.locker) c.args.self.now.sequentializers.items _ c.args.run.cell t.locked.held_count (in_plan g.h v t c.args.run.cell c.requires.1.ended.inside) in
     let f = finish_read g.h v t c.args.s.now.party c.args.run c.requires.1.ended c.requires.1.made.acting.idle c.end_run-section.result is c.requires.1.reads
-            (g.L.PhaseLocker.held c.index_mut-cell.result.now.locker) c.finish-finished.result (g.L.PhaseLocker.held c.finish-finished.new.self.locker) c.finish-finished.new.parks c.finish-finished.ensures.finishes in
+    (g.L.PhaseLocker.held c.index_mut-cell.result.now.locker) c.finish-finished.result (g.L.PhaseLocker.held c.finish-finished.new.self.locker) c.finish-finished.new.parks c.finish-finished.ensures.finishes in
     rw c.open_reader.ensures
     (did_read g.h v c.args.s.now c.args.n c.args.value c.args.run c.requires.1 c.index_mut-row.result.now c.end_run-section.new.self c.index_mut.result.now c.finish-finished.result.1
-        (g.L.PhaseLocker.held c.index_mut-cell.result.now.locker) (g.L.PhaseLocker.held c.finish-finished.new.self.locker) c.finish-finished.new.parks _ _ _
-        c.index_mut-row.ensures.value c.end_run-section.ensures.row c.index_mut.ensures.value
-        (finish_called g.h v t c.args.s.now.party c.args.run c.requires.1.ended c.requires.1.made.acting.idle c.end_run-section.result is
-            (λ q. g.L.PhaseLocker.held q.locker) (λ q. g.L.PhaseLocker.place q.locker) (λ q. q.running) c.args.self.now.sequentializers.items c.index_mut-cell.result.now c.finish-finished.new.self c.finish-finished.new.parks
-            c.index_mut-cell.ensures.value lt c.finish-finished.ensures.others c.finish-finished.ensures.fits c.finish-finished.ensures.place c.finish-finished.ensures.running c.finish-finished.ensures.same)
-        f.downgrades)
+    (g.L.PhaseLocker.held c.index_mut-cell.result.now.locker) (g.L.PhaseLocker.held c.finish-finished.new.self.locker) c.finish-finished.new.parks _ _ _
+    c.index_mut-row.ensures.value c.end_run-section.ensures.row c.index_mut.ensures.value
+    (finish_called g.h v t c.args.s.now.party c.args.run c.requires.1.ended c.requires.1.made.acting.idle c.end_run-section.result is
+    (λ q. g.L.PhaseLocker.held q.locker) (λ q. g.L.PhaseLocker.place q.locker) (λ q. q.running) c.args.self.now.sequentializers.items c.index_mut-cell.result.now c.finish-finished.new.self c.finish-finished.new.parks
+    c.index_mut-cell.ensures.value lt c.finish-finished.ensures.others c.finish-finished.ensures.fits c.finish-finished.ensures.place c.finish-finished.ensures.running c.finish-finished.ensures.same)
+    f.downgrades)
