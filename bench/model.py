@@ -15,14 +15,17 @@ MOST_READERS = 2**20 - 1
 
 
 class Cell:
-    def __init__(self, parks):
-        self.parks = parks
+    def __init__(self, parks, once):
+        self.parks, self.once = parks, once
         self.phase, self.value = EMPTY, None
         self.guards = 0  # open read guards
         self.runner = None  # the party whose generator runs
         self.writer = None  # the open write guard
         self.shares = {}  # party -> "read" or "write": locks given to parked calls that made no step since
         self.parked = []  # parties with the nature to which they are woken, in order of parking
+
+    def wants_run(self):
+        return self.phase == EMPTY if self.once else self.phase != INITIALIZED
 
     def readers(self):
         return self.guards + sum(nature == "read" for nature in self.shares.values())
@@ -55,8 +58,8 @@ class Guard:
 class Model:
     """Cells that park or spin. On a parking cell each barred call parks, and a downgrade gives nothing."""
 
-    def __init__(self, parties, parks):
-        self.cells = [Cell(park) for park in parks]
+    def __init__(self, parties, plan):
+        self.cells = [Cell(parks, once) for parks, once in plan]
         self.waiting = [None] * parties  # the call that waits
         self.running = [[] for _ in range(parties)]  # the sections that run, innermost last
         self.guards = {}
@@ -113,7 +116,7 @@ class Model:
 
     def call(self, party, call, number):
         cell = self.cells[number]
-        writes = call == "write" or cell.phase != INITIALIZED
+        writes = call == "write" or cell.wants_run()
         nature = None if call == "phase" else "write" if writes else "read"
         self.waiting[party] = None
         share = cell.shares.pop(party, None)
@@ -146,13 +149,15 @@ class Model:
         cell = self.cells[number]
         if nature is None:
             return "phase " + PHASES[cell.phase]
+        if nature == "write" and cell.wants_run():
+            cell.runner = party
+            self.running[party].append((number, call))
+            return "running"
+        if cell.phase != INITIALIZED:
+            return "access " + PHASES[cell.phase] + cell.hand_over()
         if nature == "read":
             return self.read_guard(party, number)
-        if cell.phase == INITIALIZED:
-            return self.write_guard(party, number, cell.phase, cell.value)
-        cell.runner = party
-        self.running[party].append((number, call))
-        return "running"
+        return self.write_guard(party, number, cell.phase, cell.value)
 
     def outcome(self, party, args):
         number, call = self.running[party].pop()
@@ -185,10 +190,10 @@ class Model:
 class Player:
     """Chooses steps that mostly do something, with some that are refused or wait."""
 
-    def __init__(self, parties, cells, seed, greatest, parking):
+    def __init__(self, parties, cells, seed, greatest, parking, once):
         self.random = random.Random(seed)
-        self.parks = [self.random.random() < parking for _ in range(cells)]
-        self.model = Model(parties, self.parks)
+        self.plan = [(self.random.random() < parking, self.random.random() < once) for _ in range(cells)]
+        self.model = Model(parties, self.plan)
         self.parties, self.cells, self.greatest = parties, cells, greatest
         self.own = [[] for _ in range(parties)]  # the numbers of each party's guards
 
@@ -228,11 +233,12 @@ class Player:
         return f"{party} {' '.join(map(str, act))}", answer
 
 
-def schedule(parties, cells, steps, seed, greatest=10**6, parking=0.0):
-    """The text of a random schedule, and the text of its transcript. So many of its cells park."""
-    player = Player(parties, cells, seed, greatest, parking)
-    places = ["park" if park else "spin" for park in player.parks]
-    text = ["schedule 1", f"parties {parties}"] + [f"cell LockedLazy {place}" for place in places] + ["steps"]
+def schedule(parties, cells, steps, seed, greatest=10**6, parking=0.0, once=0.0):
+    """The text of a random schedule, and the text of its transcript. These shares of its cells park, and have no retry."""
+    player = Player(parties, cells, seed, greatest, parking, once)
+    text = ["schedule 1", f"parties {parties}"]
+    text += [f"cell LockedLazy {'park' if parks else 'spin'}{' once' if once else ''}" for parks, once in player.plan]
+    text.append("steps")
     lines = ["transcript 1"]
     for n in range(steps):
         step, answer = player.step()
