@@ -18,7 +18,8 @@ use schedule_rules::{Line, Plan, Step, Transcript};
 use std::alloc::Global;
 use std::marker::Model;
 
-/// A schedule that runs, step by step, over lockers of this type. It is spent by `finish`.
+/// A schedule that runs, step by step, over lockers of this type. It is spent by `finish`. This project's own, as its
+/// calls are.
 ///
 /// A contract sees its parties, its cells, how many steps it has room for, and the steps so far with their lines.
 pub struct Engine<L: PhaseLocker> {
@@ -40,6 +41,10 @@ impl<L: PhaseLocker> Model for Engine<L> {
 
 impl<L: PhaseLocker> Engine<L> {
     /// An engine for this plan, with room for so many steps. All memory is taken here.
+    ///
+    /// # Errors
+    ///
+    /// `TooManyParties` for 2^20 parties or more, which is asked before memory is taken, and `Memory` where that ran out.
     pub fn new(alloc: Global, plan: &Plan, count: u32) -> Result<Engine<L>, RunError>
         requires cells { length plan.now.cells.items < 2 ^ 32 }
         requires places { TakesPlaces L.takes plan.now.cells.items }
@@ -59,7 +64,7 @@ impl<L: PhaseLocker> Engine<L> {
         Ok(Engine { progress, steps })
     }
 
-    /// Makes one step. It takes no memory.
+    /// Makes one step, and answers its line. It takes no memory.
     pub fn step(&mut self, s: &Step) -> Line
         requires known { IsKnown self.old.parties (length self.old.cells) s.now }
         requires room { length self.old.steps < self.old.count }

@@ -6,7 +6,7 @@ ghost use Rattle.phase_schedule.specs.declared.error.RunError.TheVariants.{Memor
 use std::alloc::AllocError;
 use thiserror::Error;
 
-/// Why a schedule does not run. All but want of memory are found before the first step.
+/// Why a schedule does not run. All but want of memory are found before the first step. This project's own.
 #[derive(Debug, Drop, Error)]
 pub enum RunError {
     /// There are 2^20 parties or more. This is asked first.

@@ -1,4 +1,6 @@
 //! Runs schedules: an engine with one row for each cell, party and step over lockers of any type, and whole runs.
+//! It stands on `phase_seq` for calls on one cell, on `phase_locker` for the lockers, and on `schedule_rules` for what a
+//! legal transcript is.
 #![tactic(auto)]
 
 mod attempt;

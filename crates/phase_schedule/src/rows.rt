@@ -19,7 +19,9 @@ pub struct RunRow {
 /// What the holder of a write guard sees. It is published when the guard is given back.
 #[derive(Clone, Copy, PartialEq, Eq, Debug)]
 pub struct Draft {
+    /// The phase that is published then.
     pub phase: Phase,
+    /// The value that its holder made or set last.
     pub value: Option<u64>,
 }
 
@@ -65,7 +67,7 @@ pub struct Target {
     pub call: Call,
 }
 
-/// What is kept of a party. Whether it waits, and how, the parked rows say.
+/// What is kept of a party. How it waits, the rows of `Parks` say.
 #[derive(Clone, Copy, PartialEq, Eq, Debug)]
 pub struct PartyRow {
     /// The call that waits.

@@ -13,7 +13,12 @@ use schedule_rules::{Plan, Step, Transcript};
 use std::alloc::{AllocError, Global};
 
 /// Runs a schedule. All memory is taken before the first step, and every cause but want of memory is looked for before
-/// any memory is taken.
+/// any memory is taken. This project's own.
+///
+/// # Errors
+///
+/// `TooManyParties` for 2^20 parties or more, else `UnknownParty` or `UnknownCell` at the first step that names one, the
+/// party first; `Memory` where memory ran out.
 pub fn run_schedule(alloc: Global, plan: &Plan, steps: &[Step]) -> Result<Transcript, RunError>
     requires cells { length plan.now.cells.items < 2 ^ 32 }
     requires steps { length steps.now < 2 ^ 32 }

@@ -1,5 +1,6 @@
 //! What a schedule and a transcript are: the plan, the steps and the lines as types, and in `specs/` which transcript
-//! of a schedule is legal. Nothing here runs.
+//! of a schedule is legal. Nothing here runs. It stands on `phase_locker` for how a call waits and what a step gives, and
+//! on `phase_bits` for phases.
 #![tactic(auto)]
 
 mod laws;

@@ -3,7 +3,8 @@
 use phase_bits::Phase;
 use phase_locker::{Given, How};
 
-/// Why a step is refused. A refused step changes nothing.
+/// Why a step is refused. A refused step changes nothing. This project's own; the numbers are those that a transcript
+/// prints.
 #[derive(Clone, Copy, PartialEq, Eq, Debug)]
 pub enum Refusal {
     /// 1: the party waits, and the act is not `Again`.
@@ -18,7 +19,7 @@ pub enum Refusal {
     NoSection,
 }
 
-/// What a step answers.
+/// What a step answers. This project's own, where a case does not say otherwise.
 #[derive(Clone, Copy, PartialEq, Eq, Debug)]
 pub enum Answer {
     /// The published phase.
@@ -38,7 +39,8 @@ pub enum Answer {
     Access(Phase),
     /// The generator that this step ended failed.
     Failed,
-    /// The party asked for a run of the generator that it is running.
+    /// The party asked for a run of the generator that it is running, and nothing is left open. static_init panics or
+    /// deadlocks there.
     Cyclic,
     /// A clone is barred.
     Borrowed,
@@ -48,9 +50,10 @@ pub enum Answer {
     Refused(Refusal),
 }
 
-/// The line of a step.
+/// The line of a step. This project's own.
 #[derive(Clone, Copy, PartialEq, Eq, Debug)]
 pub struct Line {
+    /// What the step answered.
     pub answer: Answer,
     /// What it gave to calls that are parked.
     pub given: Given,

@@ -7,16 +7,18 @@ pub enum Kind {
     LockedLazy,
 }
 
-/// Which lock a cell has, that is, how a call waits that its lock bars.
+/// Which lock a cell has, that is, how a call waits that its lock bars. This project's own, by the two families of
+/// lockers of static_init.
 #[derive(Clone, Copy, PartialEq, Eq, Debug)]
 pub enum Place {
-    /// A call that is barred parks, and the lock is handed to it when it is free.
+    /// A call that is barred parks or drains, and the lock may be handed to it when it is free.
     Park,
     /// A call that is barred tries again by itself, and nothing is handed to it.
     Spin,
 }
 
-/// What a party may ask of a cell.
+/// What a party may ask of a cell. `Read` and `Write` are static_init's `read` and `write`, with the initialization
+/// that they make.
 #[derive(Clone, Copy, PartialEq, Eq, Debug)]
 pub enum Call {
     /// The published phase, without a lock.
@@ -30,18 +32,21 @@ pub enum Call {
 /// A cell of a plan.
 #[derive(Clone, Copy, PartialEq, Eq, Debug)]
 pub struct CellPlan {
+    /// What the cell is.
     pub kind: Kind,
     /// Whether the generator is run again after it failed: `GeneratorTolerance::INIT_FAILURE` of
     /// static_init, which its `try_init_once` takes away. Without it the generator runs once, and
     /// what reads or writes the cell after a failure is told that the value may not be accessed.
     pub retry: bool,
+    /// How a barred call waits.
     pub place: Place,
 }
 
-/// The parties and the cells of a schedule. Both are numbered from 0.
+/// The parties and the cells of a schedule. Both are numbered from 0. This project's own.
 #[derive(Drop)]
 pub struct Plan {
     /// How many parties there are: below 2^20 in a schedule that runs.
     pub parties: u32,
+    /// The cells, in the order of their numbers: fewer than 2^32 in a schedule that runs.
     pub cells: Vec<CellPlan>,
 }

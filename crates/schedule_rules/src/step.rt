@@ -2,7 +2,7 @@
 
 use crate::plan::Call;
 
-/// What a party does in one step. A guard is named by the number of the step whose line answered it.
+/// What a party does in one step. This project's own. A guard is named by the number of the step whose line answered it.
 #[derive(Clone, Copy, PartialEq, Eq, Debug)]
 pub enum Act {
     /// One attempt of a call at a cell.
@@ -25,9 +25,11 @@ pub enum Act {
     Clone { guard: u32 },
 }
 
-/// One step of one party.
+/// One step of one party. This project's own.
 #[derive(Clone, Copy, PartialEq, Eq, Debug)]
 pub struct Step {
+    /// The number of the party, below the plan's `parties` in a schedule that runs.
     pub party: u32,
+    /// What it does.
     pub act: Act,
 }

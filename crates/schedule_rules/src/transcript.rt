@@ -3,16 +3,20 @@
 use crate::line::Line;
 use phase_bits::Phase;
 
-/// What a cell is left with: the published phase, and the value where there is one.
+/// What a cell is left with. This project's own.
 #[derive(Clone, Copy, PartialEq, Eq, Debug)]
 pub struct Final {
+    /// The published phase.
     pub phase: Phase,
+    /// The published value, where there is one.
     pub value: Option<u64>,
 }
 
-/// A line for each step, and what each cell is left with.
+/// What a run of a schedule tells. This project's own.
 #[derive(Drop)]
 pub struct Transcript {
+    /// A line for each step, in the order of the steps.
     pub lines: Vec<Line>,
+    /// What each cell is left with, in the order of the cells.
     pub finals: Vec<Final>,
 }
