@@ -2,10 +2,12 @@
 
 ghost use Rattle.std.specs.Prelude.{◌≡◌, ◌<◌, ◌^◌, ◌∷◌, ◌++◌, [], length, None, IfOk, IfErr};
 ghost use Rattle.schedule_rules.specs.Core.{core};
+ghost use Rattle.schedule_rules.specs.Kinds.{cell_at};
 ghost use Rattle.schedule_rules.specs.Legal.{IsLegal};
 ghost use Rattle.schedule_rules.specs.Transcripts.{AreFinals, IsKnown};
 ghost use Rattle.schedule_rules.specs.Waits.{waits};
 ghost use Rattle.phase_schedule.specs.Errors.{cause_of_plan, IsCause};
+ghost use Rattle.phase_schedule.specs.Kept.{kind_at};
 ghost use Rattle.phase_schedule.specs.Standing.{history};
 ghost use Rattle.phase_schedule.specs.Shown.{Shows};
 ghost use Rattle.phase_schedule.specs.Progress.{TakesPlaces};
@@ -80,10 +82,11 @@ impl<L: PhaseLocker> Engine<L> {
         line
     }
 
-    /// The locker of a cell, which holds the record of the cell's holders.
+    /// The locker of a cell, which holds the record of the cell's holders, and is of the kind that the cell's place wants.
     pub fn locker(&self, cell: u32) -> &L
         requires { cell < length self.now.cells }
-        ensures { L.held result.now ≡ core self.now.cells cell (history self.now) }
+        ensures held { L.held result.now ≡ core self.now.cells cell (history self.now) }
+        ensures place { L.place result.now ≡ kind_at (cell_at self.now.cells cell).place }
     {
         self.progress.rows.sequentializers[cell as usize].locker()
     }
