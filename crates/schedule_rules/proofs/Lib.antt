@@ -10,3 +10,4 @@ pub mod Bars
 mod OneTranscript
 mod Waiting
 mod Access
+mod Running

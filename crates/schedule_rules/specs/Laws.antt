@@ -13,7 +13,7 @@ use Rattle.phase_bits.specs.Number.{phase_of}
 use Rattle.phase_bits.specs.Flags.{has, initialized}
 use Rattle.phase_locker.specs.declared.ways.Given.{Given}
 use Rattle.schedule_rules.specs.Kinds.{cell_at, is_parking}
-use Rattle.schedule_rules.specs.Calls.{Reads, rule, initializes}
+use Rattle.schedule_rules.specs.Calls.{Reads, rule, asks, initializes}
 use Rattle.schedule_rules.specs.History.{Event}
 use Rattle.schedule_rules.specs.Sections.{Section, innermost, runs, sections}
 use Rattle.schedule_rules.specs.Guards.{Guard, numbered, guards}
@@ -55,6 +55,11 @@ abbrev pub is_borrowed : Answer → Bool
 is_borrowed answer.Borrowed = true
 is_borrowed _ = false
 
+-- the answer says that a generator begins to run
+abbrev pub is_running : Answer → Bool
+is_running answer.Running = true
+is_running _ = false
+
 module _ (cells : List CellPlan) where
   -- the calls of others that wait when the rule of the step is judged: after a gift of the first moment
   abbrev pub waits_judged : Moment → List Event → Step → Given → List Wait
@@ -74,6 +79,19 @@ module _ (cells : List CellPlan) where
   abbrev pub is_barred_step : List Event → Step → Given → Moment → Bool
   is_barred_step h s g m =
       is_none (refusal cells h s) && is_barred_attempt h s.party (attempt cells h s) (waits_judged m h s g)
+
+  -- the attempt is not cyclic, is not barred where these calls of others wait, and asks for a run at the cell's phase
+  abbrev pub is_asking_attempt : List Event → ℕ → Option Attempt → List Wait → Bool
+  is_asking_attempt h p None ws = false
+  is_asking_attempt h p (Some a) ws =
+      not (initializes a.want && runs p a.cell h)
+      && (not (is_barred_attempt h p (Some a) ws)
+      && asks (cell_at cells a.cell) a.want (phase_at cells a.cell h))
+
+  -- the step is not refused, and what it attempts asks for a run, where its line gives this at this moment
+  abbrev pub is_asking_step : List Event → Step → Given → Moment → Bool
+  is_asking_step h s g m =
+      is_none (refusal cells h s) && is_asking_attempt h s.party (attempt cells h s) (waits_judged m h s g)
 
   -- a read on the cell of the guard is barred, where these calls of others wait
   abbrev pub is_barred_beside : List Event → Option Guard → List Wait → Bool

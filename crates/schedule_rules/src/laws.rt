@@ -28,7 +28,9 @@ ghost use Rattle.schedule_rules.specs.Laws.{
   IsDenied,
   is_waiting,
   is_borrowed,
+  is_running,
   is_barred_step,
+  is_asking_step,
   is_borrowing_step,
   NoneParks,
   successes,
@@ -53,6 +55,13 @@ pub fn steps_wait_exactly_where_barred()
         (legal : IsLegalLine cells h s l) → is_waiting l.answer ≡ is_barred_step cells h s l.given legal.moment }
     ensures borrows { (cells : List CellPlan) (h : List Event) (s : Step) (l : Line) →
         (legal : IsLegalLine cells h s l) → is_borrowed l.answer ≡ is_borrowing_step cells h s l.given legal.moment }
+{}
+
+/// A step begins a run exactly where it is not refused, is not cyclic, its call keeps its share or its drain or is not
+/// barred, and the call asks for a run at the published phase of the cell.
+pub fn steps_run_exactly_where_asked()
+    ensures { (cells : List CellPlan) (h : List Event) (s : Step) (l : Line) →
+        (legal : IsLegalLine cells h s l) → is_running l.answer ≡ is_asking_step cells h s l.given legal.moment }
 {}
 
 /// A schedule of cells that do not park has at most one legal transcript: the same lines, and the same finals. Where a

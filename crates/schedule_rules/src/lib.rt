@@ -12,7 +12,7 @@ mod transcript;
 pub use laws::{
     access_changes_nothing, generators_succeed_once, holds_exclude_each_other, initialized_stays,
     one_transcript_is_legal, records_bar_what_rules_bar, refused_steps_change_nothing,
-    steps_wait_exactly_where_barred, without_retry_one_run,
+    steps_run_exactly_where_asked, steps_wait_exactly_where_barred, without_retry_one_run,
 };
 pub use line::{Answer, Line, Refusal};
 pub use phase_locker::{Given, How};
