@@ -1,5 +1,5 @@
 -- Where a step begins a run.
-use Rattle.std.proofs.Common.{◌≡◌, ℕ, List, Bool, true, false, not, ◌&&◌, refl, ◌∙◌, ap}
+use Rattle.std.proofs.Common.{◌≡◌, ◌≢◌, ℕ, List, Bool, true, false, not, ◌&&◌, refl, sym, ◌∙◌, ap}
 use Rattle.std.specs.Prelude.{if◌then◌else◌, is_none}
 use Rattle.std.specs.declared.option.Option.{Option}
 use Rattle.std.specs.declared.option.Option.TheVariants.{None, Some}
@@ -115,3 +115,19 @@ runs_where_asked cells h s l k =
     ap is_running (k.answered ∙ ap (answer_of (refusal cells h s)) (due_at-judged cells k.moment h s l.given k.chosen))
     ∙ unless_refused (refusal cells h s) _
     ∙ ap (λ b. is_none (refusal cells h s) && b) (due cells h (waits_judged cells k.moment h s l.given) k.chosen s.party s.act)
+
+-- a call for the phase begins none
+pub phase_runs_nothing : (cells : List CellPlan) (h : List Event) (s : Step) (l : Line) (c : ℕ) → IsLegalLine cells h s l
+    → attempt cells h s ≡ Some (record { cell = c; want = Calls call.Phase }) → l.answer ≢ answer.Running
+phase_runs_nothing cells h s l c k e r = apart (sym (ap is_running r) ∙ runs_where_asked cells h s l k ∙ none)
+  where
+    never : (x y : Bool) → (x && (true && (not y && false))) ≡ false
+    never true true = refl
+    never true false = refl
+    never false y = refl
+
+    none : is_asking_step cells h s l.given k.moment ≡ false
+    none = rw e (never (is_none (refusal cells h s)) _)
+
+    apart : true ≡ false → ⊥
+    apart x = cc

@@ -1,6 +1,6 @@
 //! Laws of the definitions, for every history. Each is the contract of a function that does nothing.
 
-ghost use Rattle.std.specs.Prelude.{ℕ, Bool, List, ◌∷◌, ◌≡◌, ◌≤◌, ◌<◌, true, false};
+ghost use Rattle.std.specs.Prelude.{ℕ, Bool, List, ◌∷◌, ◌≡◌, ◌≢◌, ◌≤◌, ◌<◌, true, false};
 ghost use Rattle.std.specs.declared.option.Option.TheVariants.{Some};
 ghost use Rattle.phase_bits.specs.declared.phase.Phase.{Phase};
 ghost use Rattle.phase_bits.specs.Records.{bars_read, bars_write};
@@ -11,11 +11,12 @@ ghost use Rattle.schedule_rules.specs.declared.step.Step.{Step};
 ghost use Rattle.schedule_rules.specs.declared.line.Line.{Line};
 ghost use Rattle.schedule_rules.specs.declared.line.Refusal.{Refusal};
 ghost use Rattle.schedule_rules.specs.declared.line.Answer.TheVariants as answer;
-ghost use Rattle.schedule_rules.specs.Calls.{Reads, Writes};
+ghost use Rattle.schedule_rules.specs.declared.plan.Call.TheVariants as call;
+ghost use Rattle.schedule_rules.specs.Calls.{Calls, Reads, Writes};
 ghost use Rattle.schedule_rules.specs.History.{Event};
 ghost use Rattle.schedule_rules.specs.Kinds.{cell_at};
 ghost use Rattle.schedule_rules.specs.Sections.{runs};
-ghost use Rattle.schedule_rules.specs.Waits.{Attempt, Wait, cell_concerned};
+ghost use Rattle.schedule_rules.specs.Waits.{Attempt, attempt, Wait, cell_concerned};
 ghost use Rattle.schedule_rules.specs.Holds.{readers_with, writers_with, holding, holding_with, is_barred};
 ghost use Rattle.schedule_rules.specs.Core.{core, core_with};
 ghost use Rattle.schedule_rules.specs.Due.{keeps_own, due_attempt};
@@ -62,6 +63,12 @@ pub fn steps_wait_exactly_where_barred()
 pub fn steps_run_exactly_where_asked()
     ensures { (cells : List CellPlan) (h : List Event) (s : Step) (l : Line) →
         (legal : IsLegalLine cells h s l) → is_running l.answer ≡ is_asking_step cells h s l.given legal.moment }
+{}
+
+/// A call for the phase begins no run of a generator, whatever the phase is.
+pub fn phase_calls_run_nothing()
+    ensures { (cells : List CellPlan) (h : List Event) (s : Step) (l : Line) (c : ℕ) → IsLegalLine cells h s l →
+        attempt cells h s ≡ Some (record { cell = c; want = Calls call.Phase }) → l.answer ≢ answer.Running }
 {}
 
 /// A schedule of cells that do not park has at most one legal transcript: the same lines, and the same finals. Where a
