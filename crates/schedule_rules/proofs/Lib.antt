@@ -11,3 +11,4 @@ mod OneTranscript
 mod Waiting
 mod Access
 mod Running
+mod TurnedBack

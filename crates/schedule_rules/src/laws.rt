@@ -71,6 +71,17 @@ pub fn phase_calls_run_nothing()
         attempt cells h s ≡ Some (record { cell = c; want = Calls call.Phase }) → l.answer ≢ answer.Running }
 {}
 
+/// A call that is turned back, because it is cyclic or is a clone that is barred, leaves all sections and guards, and
+/// every published phase and value, as they were.
+pub fn turned_back_calls_change_nothing()
+    ensures cyclic { (cells : List CellPlan) (h : List Event) (s : Step) (g : Given) →
+        IsLegalLine cells h s (record { answer = answer.Cyclic; given = g }) →
+        IsWithoutEffect cells h (record { step = s; line = record { answer = answer.Cyclic; given = g } }) }
+    ensures borrowed { (cells : List CellPlan) (h : List Event) (s : Step) (g : Given) →
+        IsLegalLine cells h s (record { answer = answer.Borrowed; given = g }) →
+        IsWithoutEffect cells h (record { step = s; line = record { answer = answer.Borrowed; given = g } }) }
+{}
+
 /// A schedule of cells that do not park has at most one legal transcript: the same lines, and the same finals. Where a
 /// cell parks its calls, a step may hand over to one call or to another, or to none.
 pub fn one_transcript_is_legal()

@@ -1,0 +1,8 @@
+use Rattle.schedule_rules.proofs.TurnedBack.{cyclic_without_effect, borrowed_without_effect}
+use Rattle.schedule_rules.proofs.laws.turned_back_calls_change_nothing.Goals as goal
+
+pub returns-clause-cyclic : goal.returns-clause-cyclic
+returns-clause-cyclic c = cyclic_without_effect
+
+pub returns-clause-borrowed : goal.returns-clause-borrowed
+returns-clause-borrowed c = borrowed_without_effect
