@@ -12,3 +12,4 @@ mod Waiting
 mod Access
 mod Running
 mod TurnedBack
+mod Failing

@@ -55,6 +55,16 @@ abbrev pub is_borrowed : Answer → Bool
 is_borrowed answer.Borrowed = true
 is_borrowed _ = false
 
+-- the answer says that a generator failed
+abbrev pub is_failed : Answer → Bool
+is_failed answer.Failed = true
+is_failed _ = false
+
+-- the act ends a generator by a failure
+abbrev pub is_failure : Act → Bool
+is_failure act.MadeFailed = true
+is_failure _ = false
+
 -- the answer says that a generator begins to run
 abbrev pub is_running : Answer → Bool
 is_running answer.Running = true
