@@ -1,11 +1,9 @@
 -- What a generator's failure leaves.
-use Rattle.std.proofs.Common.{◌≡◌, ◌≢◌, ℕ, List, [], ◌∷◌, Bool, true, false, not, ◌&&◌, refl, sym, ◌∙◌, ap, arith}
-use Rattle.std.specs.Prelude.{◌==◌, if◌then◌else◌, is_none}
+use Rattle.std.proofs.Common.{◌≡◌, ◌≢◌, ℕ, List, Bool, true, false, not, ◌&&◌, refl, sym, ◌∙◌, ap, arith}
+use Rattle.std.specs.Prelude.{◌==◌, is_none}
 use Rattle.std.specs.declared.option.Option.{Option}
 use Rattle.std.specs.declared.option.Option.TheVariants.{None, Some}
-use Rattle.phase_bits.specs.Number.{phase_of}
 use Rattle.phase_locker.specs.declared.ways.Given.{Given}
-use Rattle.schedule_rules.specs.declared.plan.Call.TheVariants as call
 use Rattle.schedule_rules.specs.declared.plan.CellPlan.{CellPlan}
 use Rattle.schedule_rules.specs.declared.step.Act.{Act}
 use Rattle.schedule_rules.specs.declared.step.Act.TheVariants as act
@@ -13,23 +11,22 @@ use Rattle.schedule_rules.specs.declared.step.Step.{Step}
 use Rattle.schedule_rules.specs.declared.line.Line.{Line}
 use Rattle.schedule_rules.specs.declared.line.Answer.{Answer}
 use Rattle.schedule_rules.specs.declared.line.Answer.TheVariants as answer
-use Rattle.schedule_rules.specs.declared.line.Refusal.{Refusal}
 use Rattle.schedule_rules.specs.Kinds.{cell_at}
-use Rattle.schedule_rules.specs.Phases.{Failure, is_accessible, phase_reached}
+use Rattle.schedule_rules.specs.Phases.{Failure, phase_reached}
 use Rattle.schedule_rules.specs.Calls.{Want, Calls, Nature, Reads, Writes, rule, asks, initializes}
-use Rattle.schedule_rules.specs.Changes.{Content, Ran, effect}
+use Rattle.schedule_rules.specs.Changes.{Content}
 use Rattle.schedule_rules.specs.History.{Event}
 use Rattle.schedule_rules.specs.Sections.{Section, innermost, sections}
-use Rattle.schedule_rules.specs.Guards.{Guard, numbered, guards}
+use Rattle.schedule_rules.specs.Guards.{numbered, guards}
 use Rattle.schedule_rules.specs.Replay.{Back, back_of_run, back_failed, replay, phase_at, content_after_back}
 use Rattle.schedule_rules.specs.Waits.{Attempt, Wait, wait_of, waits, attempt_of_wait, cell_of_section, cell_concerned}
-use Rattle.schedule_rules.specs.Holds.{is_barred, holding_with}
+use Rattle.schedule_rules.specs.Holds.{is_barred}
 use Rattle.schedule_rules.specs.Refusals.{refusal}
 use Rattle.schedule_rules.specs.Answers.{if_accessible, call_answer_admitted, answer_admitted}
-use Rattle.schedule_rules.specs.Due.{answer_of_made, due_tried, due_made, due_look, due_clone, due_answer, meeting}
-use Rattle.schedule_rules.specs.Legal.{IsLegalLine, answer_of}
-use Rattle.schedule_rules.specs.Laws.{is_failed, is_failure, waits_judged}
-use Rattle.schedule_rules.proofs.Waiting.{due_at-judged}
+use Rattle.schedule_rules.specs.Due.{due_tried, due_answer, meeting}
+use Rattle.schedule_rules.specs.Legal.{IsLegalLine}
+use Rattle.schedule_rules.specs.Laws.{IsFailedRun, is_failed, is_failure, waits_judged}
+use Rattle.schedule_rules.proofs.Answered.{either, accessed, made, looked, cloned, second, legal_by}
 use Rattle.schedule_rules.proofs.Initialized.{in_turn}
 
 -- the same number
@@ -40,22 +37,18 @@ same_number m n e = grind arith
 other_number : (m n k : ℕ) → m ≡ n → n ≢ k → (m == k) ≡ false
 other_number m n k e apart = grind arith
 
--- a choice between two answers that do not say Failed
-one_of_two : (b : Bool) (x y : Answer) → is_failed x ≡ false → is_failed y ≡ false → is_failed (if b then x else y) ≡ false
-one_of_two true x y p q = p
-one_of_two false x y p q = q
+-- the answer does not say Failed
+abbrev Goes : Answer → Type 0
+Goes a = is_failed a ≡ false
 
 -- a call that is not barred does not fail
 admitted : (n : Option Nature) (x : CellPlan) (w : Want) (y : Content) → n ≡ rule x w y.phase → is_failed (answer_admitted x w y) ≡ false
 admitted n x (Calls k) y e = rw (sym e) (by n)
   where
-    accessed : (a : Answer) → is_failed a ≡ false → is_failed (if_accessible x y a) ≡ false
-    accessed a f = one_of_two (is_accessible x.kind y.phase) a (answer.Access (phase_of y.phase)) f refl
-
     by : (n : Option Nature) → is_failed (call_answer_admitted n x k y) ≡ false
     by None = refl
-    by (Some Reads) = accessed answer.ReadGuard refl
-    by (Some Writes) = one_of_two (asks x (Calls k) y.phase) answer.Running (if_accessible x y answer.WriteGuard) refl (accessed answer.WriteGuard refl)
+    by (Some Reads) = accessed Goes x y answer.ReadGuard refl refl
+    by (Some Writes) = either Goes (asks x (Calls k) y.phase) answer.Running (if_accessible x y answer.WriteGuard) refl (accessed Goes x y answer.WriteGuard refl refl)
 
 module _ (cells : List CellPlan) (h : List Event) where
   module _ (ws : List Wait) (chosen : Bool) where
@@ -64,78 +57,32 @@ module _ (cells : List CellPlan) (h : List Event) where
     tried p None = refl
     tried p (Some a) =
         let m : _ = meeting cells h p a ws in let x : CellPlan = cell_at cells a.cell in
-        in_turn (λ r. is_failed r ≡ false) (initializes a.want && m.own_run) (not m.kept && is_barred (rule x a.want m.content.phase) m.holding)
+        in_turn Goes (initializes a.want && m.own_run) (not m.kept && is_barred (rule x a.want m.content.phase) m.holding)
         _ (answer_admitted x a.want m.content) refl (λ way. refl) (admitted (rule x a.want m.content.phase) x a.want m.content refl)
 
-    -- no value made fails
-    made : (v : ℕ) (o : Option Section) → is_failed (due_made cells h v o) ≡ false
-    made v None = refl
-    made v (Some s) = by s.want
-      where
-        by : (w : Want) → is_failed (answer_of_made w) ≡ false
-        by (Calls call.Phase) = refl
-        by (Calls call.Read) = refl
-        by (Calls call.Write) = refl
-
-    -- no look
-    looked : (o : Option Guard) → is_failed (due_look cells h o) ≡ false
-    looked None = refl
-    looked (Some x) = refl
-
-    -- no clone
-    cloned : (o : Option Guard) → is_failed (due_clone cells h ws o) ≡ false
-    cloned None = refl
-    cloned (Some x) = one_of_two (is_barred (Some Reads) (holding_with x.cell h ws)) answer.Borrowed answer.ReadGuard refl refl
-
-    -- but a failure
+    -- no act but a failure does
     due : (p : ℕ) (a : Act) → is_failed (due_answer cells h (record { party = p; act = a }) ws chosen) ≡ is_failure a
     due p (act.Call c k) = tried p (Some (record { cell = c; want = Calls k }))
     due p act.Again = tried p (attempt_of_wait (wait_of p (waits cells h)))
-    due p (act.Made v) = made v (innermost p (sections h))
+    due p (act.Made v) = made Goes cells h v (innermost p (sections h)) refl refl refl
     due p act.MadeFailed = refl
-    due p (act.Look g) = looked (numbered g (guards h))
+    due p (act.Look g) = looked Goes cells h (numbered g (guards h)) refl (λ v. refl)
     due p (act.Set g v) = refl
     due p (act.Release g) = refl
     due p (act.Downgrade g) = refl
-    due p (act.Clone g) = cloned (numbered g (guards h))
-
-  -- a refused step does not fail
-  unless_refused : (r : Option Refusal) (a : Answer) → is_failed (answer_of r a) ≡ (is_none r && is_failed a)
-  unless_refused None a = refl
-  unless_refused (Some r) a = refl
+    due p (act.Clone g) = cloned Goes cells h ws (numbered g (guards h)) refl refl refl
 
   -- a legal line says Failed exactly where a failure is not refused
   pub fails_where_ended : (s : Step) (l : Line) → IsLegalLine cells h s l → is_failed l.answer ≡ (is_none (refusal cells h s) && is_failure s.act)
   fails_where_ended s l k =
-      ap is_failed (k.answered ∙ ap (answer_of (refusal cells h s)) (due_at-judged cells k.moment h s l.given k.chosen))
-      ∙ unless_refused (refusal cells h s) _
+      legal_by is_failed (λ q. refl) cells h s l k
       ∙ ap (λ b. is_none (refusal cells h s) && b) (due (waits_judged cells k.moment h s l.given) k.chosen s.party s.act)
-
-  -- a failed run leaves the value
-  kept_run : (c p : ℕ) (o : Option Section) → (content_after_back cells c (back_of_run None o) (replay cells c h)).value ≡ (replay cells c h).value
-  kept_run c p None = refl
-  kept_run c p (Some t) = by (t.cell == c)
-    where
-      by : (b : Bool) → (if b then effect (cell_at cells c) (Ran None ∷ []) (replay cells c h) else replay cells c h).value ≡ (replay cells c h).value
-      by true = refl
-      by false = refl
-
-  pub value_kept : (s : Step) (g : Given) (c : ℕ) → (replay cells c (record { step = s; line = record { answer = answer.Failed; given = g } } ∷ h)).value ≡ (replay cells c h).value
-  value_kept s g c = by s.act
-    where
-      by : (a : Act) → (content_after_back cells c (back_failed h s.party a) (replay cells c h)).value ≡ (replay cells c h).value
-      by act.MadeFailed = kept_run c s.party (innermost s.party (sections h))
-      by _ = refl
 
   -- a legal line that says Failed ends a run of the cell that its step concerns
   module _ (s : Step) (g : Given) (c : ℕ) (k : IsLegalLine cells h s (record { answer = answer.Failed; given = g })) (e : cell_concerned cells h s ≡ Some c) where
     -- its step is a failure
     ends : is_failure s.act ≡ true
     ends = second (is_none (refusal cells h s)) (is_failure s.act) (sym (fails_where_ended s (record { answer = answer.Failed; given = g }) k))
-      where
-        second : (x y : Bool) → (x && y) ≡ true → y ≡ true
-        second true y f = f
-        second false y f = absurd (cc)
 
     -- what holds of a failed run of this cell holds of what the step gives back
     run_of : (P : Option Back → Type 0) → ((t : Section) → t.cell ≡ c → P (back_of_run None (Some t))) → P (back_failed h s.party s.act)
@@ -149,14 +96,11 @@ module _ (cells : List CellPlan) (h : List Event) where
         by act.MadeFailed f d = found (innermost s.party (sections h)) d
         by _ f d = absurd (cc)
 
-    -- it reaches the phase of a failed run there
-    pub phase_failed : phase_at cells c (record { step = s; line = record { answer = answer.Failed; given = g } } ∷ h) ≡ phase_reached (cell_at cells c) (phase_at cells c h) Failure
-    phase_failed =
-        run_of (λ b. (content_after_back cells c b (replay cells c h)).phase ≡ phase_reached (cell_at cells c) (phase_at cells c h) Failure)
-        (λ t same. rw (same_number t.cell c same) refl)
-
-    -- and changes no other cell
-    pub others_kept : (d : ℕ) → c ≢ d → replay cells d (record { step = s; line = record { answer = answer.Failed; given = g } } ∷ h) ≡ replay cells d h
-    others_kept d apart =
-        run_of (λ b. content_after_back cells d b (replay cells d h) ≡ replay cells d h)
-        (λ t same. rw (other_number t.cell c d same apart) refl)
+    -- it leaves the value there and reaches the phase of a failed run, and changes no other cell
+    pub fails_in : IsFailedRun cells h (record { step = s; line = record { answer = answer.Failed; given = g } }) c
+    fails_in = record {
+      value_stays = run_of (λ b. (content_after_back cells c b (replay cells c h)).value ≡ (replay cells c h).value) (λ t same. rw (same_number t.cell c same) refl);
+      fails = run_of (λ b. (content_after_back cells c b (replay cells c h)).phase ≡ phase_reached (cell_at cells c) (phase_at cells c h) Failure)
+          (λ t same. rw (same_number t.cell c same) refl);
+      others_stay = λ d apart. run_of (λ b. content_after_back cells d b (replay cells d h) ≡ replay cells d h) (λ t same. rw (other_number t.cell c d same apart) refl);
+    }

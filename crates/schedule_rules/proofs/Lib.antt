@@ -10,6 +10,7 @@ pub mod Bars
 mod OneTranscript
 mod Waiting
 mod Access
+pub mod Answered
 mod Running
 mod TurnedBack
 mod Failing

@@ -3,7 +3,6 @@ use Rattle.std.proofs.Common.{◌≡◌, ◌≢◌, ℕ, List, Bool, true, false
 use Rattle.std.specs.Prelude.{if◌then◌else◌, is_none}
 use Rattle.std.specs.declared.option.Option.{Option}
 use Rattle.std.specs.declared.option.Option.TheVariants.{None, Some}
-use Rattle.phase_bits.specs.Number.{phase_of}
 use Rattle.phase_locker.specs.declared.ways.How.{How}
 use Rattle.schedule_rules.specs.declared.plan.Call.TheVariants as call
 use Rattle.schedule_rules.specs.declared.plan.CellPlan.{CellPlan}
@@ -13,31 +12,25 @@ use Rattle.schedule_rules.specs.declared.step.Step.{Step}
 use Rattle.schedule_rules.specs.declared.line.Line.{Line}
 use Rattle.schedule_rules.specs.declared.line.Answer.{Answer}
 use Rattle.schedule_rules.specs.declared.line.Answer.TheVariants as answer
-use Rattle.schedule_rules.specs.declared.line.Refusal.{Refusal}
 use Rattle.schedule_rules.specs.Kinds.{cell_at}
-use Rattle.schedule_rules.specs.Phases.{shall_init, is_accessible}
-use Rattle.schedule_rules.specs.Calls.{Want, Calls, Reads, rule, asks, initializes}
+use Rattle.schedule_rules.specs.Phases.{shall_init}
+use Rattle.schedule_rules.specs.Calls.{Want, Calls, rule, asks, initializes}
 use Rattle.schedule_rules.specs.Changes.{Content}
 use Rattle.schedule_rules.specs.History.{Event}
-use Rattle.schedule_rules.specs.Sections.{Section, innermost, sections}
-use Rattle.schedule_rules.specs.Guards.{Guard, numbered, guards}
+use Rattle.schedule_rules.specs.Sections.{innermost, sections}
+use Rattle.schedule_rules.specs.Guards.{numbered, guards}
 use Rattle.schedule_rules.specs.Waits.{Attempt, attempt, Wait, wait_of, waits, attempt_of_wait}
-use Rattle.schedule_rules.specs.Holds.{is_barred, holding_with}
+use Rattle.schedule_rules.specs.Holds.{is_barred}
 use Rattle.schedule_rules.specs.Refusals.{refusal}
-use Rattle.schedule_rules.specs.Answers.{if_accessible, Meeting, answer_admitted}
-use Rattle.schedule_rules.specs.Due.{answer_of_made, due_tried, due_made, due_look, due_clone, due_answer, meeting}
-use Rattle.schedule_rules.specs.Legal.{IsLegalLine, answer_of}
+use Rattle.schedule_rules.specs.Answers.{Meeting, answer_admitted}
+use Rattle.schedule_rules.specs.Due.{due_tried, due_answer, meeting}
+use Rattle.schedule_rules.specs.Legal.{IsLegalLine}
 use Rattle.schedule_rules.specs.Laws.{is_running, waits_judged, is_asking_attempt, is_asking_step}
-use Rattle.schedule_rules.proofs.Waiting.{due_at-judged}
+use Rattle.schedule_rules.proofs.Answered.{accessed, made, looked, cloned, legal_by}
 
--- a choice between two answers that begin no run
-one_of_two : (b : Bool) (x y : Answer) → is_running x ≡ false → is_running y ≡ false → is_running (if b then x else y) ≡ false
-one_of_two true x y p q = p
-one_of_two false x y p q = q
-
--- what gets a guard begins none
-accessed : (x : CellPlan) (y : Content) (a : Answer) → is_running a ≡ false → is_running (if_accessible x y a) ≡ false
-accessed x y a e = one_of_two (is_accessible x.kind y.phase) a (answer.Access (phase_of y.phase)) e refl
+-- the answer begins no run
+abbrev Rests : Answer → Type 0
+Rests a = is_running a ≡ false
 
 -- a call that is not barred begins a run exactly where it asks for one
 admitted : (x : CellPlan) (w : Want) (y : Content) → is_running (answer_admitted x w y) ≡ asks x w y.phase
@@ -46,12 +39,12 @@ admitted x (Calls call.Read) y = by (shall_init x.retry y.phase) refl
   where
     by : (b : Bool) → shall_init x.retry y.phase ≡ b → is_running (answer_admitted x (Calls call.Read) y) ≡ asks x (Calls call.Read) y.phase
     by true e = rw (e, e) refl
-    by false e = rw e (accessed x y answer.ReadGuard refl)
+    by false e = rw e (accessed Rests x y answer.ReadGuard refl refl)
 admitted x (Calls call.Write) y = by (shall_init x.retry y.phase) refl
   where
     by : (b : Bool) → shall_init x.retry y.phase ≡ b → is_running (answer_admitted x (Calls call.Write) y) ≡ asks x (Calls call.Write) y.phase
     by true e = rw e refl
-    by false e = rw e (accessed x y answer.WriteGuard refl)
+    by false e = rw e (accessed Rests x y answer.WriteGuard refl refl)
 
 -- cyclic, else waiting, else as it asks
 in_turn : (cyclic kept barred asked : Bool) (w : How) (r : Answer) → is_running r ≡ asked
@@ -70,50 +63,24 @@ module _ (cells : List CellPlan) (h : List Event) (ws : List Wait) (chosen : Boo
       in_turn (initializes a.want && m.own_run) m.kept (is_barred (rule x a.want m.content.phase) m.holding) (asks x a.want m.content.phase) _
       (answer_admitted x a.want m.content) (admitted x a.want m.content)
 
-  -- a value made begins none
-  made : (v : ℕ) (o : Option Section) → is_running (due_made cells h v o) ≡ false
-  made v None = refl
-  made v (Some s) = by s.want
-    where
-      by : (w : Want) → is_running (answer_of_made w) ≡ false
-      by (Calls call.Phase) = refl
-      by (Calls call.Read) = refl
-      by (Calls call.Write) = refl
-
-  -- nor does a look
-  looked : (o : Option Guard) → is_running (due_look cells h o) ≡ false
-  looked None = refl
-  looked (Some x) = refl
-
-  -- nor a clone
-  cloned : (o : Option Guard) → is_running (due_clone cells h ws o) ≡ false
-  cloned None = refl
-  cloned (Some x) = one_of_two (is_barred (Some Reads) (holding_with x.cell h ws)) answer.Borrowed answer.ReadGuard refl refl
-
   -- each act
   due : (p : ℕ) (a : Act)
       → is_running (due_answer cells h (record { party = p; act = a }) ws chosen) ≡ is_asking_attempt cells h p (attempt cells h (record { party = p; act = a })) ws
   due p (act.Call c k) = tried p (Some (record { cell = c; want = Calls k }))
   due p act.Again = tried p (attempt_of_wait (wait_of p (waits cells h)))
-  due p (act.Made v) = made v (innermost p (sections h))
+  due p (act.Made v) = made Rests cells h v (innermost p (sections h)) refl refl refl
   due p act.MadeFailed = refl
-  due p (act.Look g) = looked (numbered g (guards h))
+  due p (act.Look g) = looked Rests cells h (numbered g (guards h)) refl (λ v. refl)
   due p (act.Set g v) = refl
   due p (act.Release g) = refl
   due p (act.Downgrade g) = refl
-  due p (act.Clone g) = cloned (numbered g (guards h))
-
--- a refused step begins none
-unless_refused : (r : Option Refusal) (a : Answer) → is_running (answer_of r a) ≡ (is_none r && is_running a)
-unless_refused None a = refl
-unless_refused (Some r) a = refl
+  due p (act.Clone g) = cloned Rests cells h ws (numbered g (guards h)) refl refl refl
 
 -- a legal line begins a run exactly where the step asks for one
 pub runs_where_asked : (cells : List CellPlan) (h : List Event) (s : Step) (l : Line) (k : IsLegalLine cells h s l)
     → is_running l.answer ≡ is_asking_step cells h s l.given k.moment
 runs_where_asked cells h s l k =
-    ap is_running (k.answered ∙ ap (answer_of (refusal cells h s)) (due_at-judged cells k.moment h s l.given k.chosen))
-    ∙ unless_refused (refusal cells h s) _
+    legal_by is_running (λ q. refl) cells h s l k
     ∙ ap (λ b. is_none (refusal cells h s) && b) (due cells h (waits_judged cells k.moment h s l.given) k.chosen s.party s.act)
 
 -- a call for the phase begins none

@@ -13,6 +13,7 @@ use Rattle.phase_bits.specs.Number.{phase_of}
 use Rattle.phase_bits.specs.Flags.{has, initialized}
 use Rattle.phase_locker.specs.declared.ways.Given.{Given}
 use Rattle.schedule_rules.specs.Kinds.{cell_at, is_parking}
+use Rattle.schedule_rules.specs.Phases.{Failure, phase_reached}
 use Rattle.schedule_rules.specs.Calls.{Reads, rule, asks, initializes}
 use Rattle.schedule_rules.specs.History.{Event}
 use Rattle.schedule_rules.specs.Sections.{Section, innermost, runs, sections}
@@ -44,6 +45,12 @@ pub record IsDenied (cells : List CellPlan) (h : List Event) (c : ℕ) (shows : 
   pub once : (cell_at cells c).retry ≡ false
   pub lacks : has (phase_at cells c h) initialized ≡ false
   pub ended : phase_at cells c h ≢ 0
+
+-- the event leaves the value of the cell and gives it the phase of a failed run, and it leaves every other cell
+pub record IsFailedRun (cells : List CellPlan) (h : List Event) (e : Event) (c : ℕ) : Type 0 where
+  pub value_stays : (replay cells c (e ∷ h)).value ≡ (replay cells c h).value
+  pub fails : phase_at cells c (e ∷ h) ≡ phase_reached (cell_at cells c) (phase_at cells c h) Failure
+  pub others_stay : (d : ℕ) → c ≢ d → replay cells d (e ∷ h) ≡ replay cells d h
 
 -- the answer says that a call waits
 abbrev pub is_waiting : Answer → Bool

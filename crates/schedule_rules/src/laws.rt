@@ -13,7 +13,6 @@ ghost use Rattle.schedule_rules.specs.declared.line.Refusal.{Refusal};
 ghost use Rattle.schedule_rules.specs.declared.line.Answer.TheVariants as answer;
 ghost use Rattle.schedule_rules.specs.declared.plan.Call.TheVariants as call;
 ghost use Rattle.schedule_rules.specs.Calls.{Calls, Reads, Writes};
-ghost use Rattle.schedule_rules.specs.Phases.{Failure, phase_reached};
 ghost use Rattle.schedule_rules.specs.Refusals.{refusal};
 ghost use Rattle.schedule_rules.specs.History.{Event};
 ghost use Rattle.schedule_rules.specs.Kinds.{cell_at};
@@ -23,12 +22,13 @@ ghost use Rattle.schedule_rules.specs.Holds.{readers_with, writers_with, holding
 ghost use Rattle.schedule_rules.specs.Core.{core, core_with};
 ghost use Rattle.schedule_rules.specs.Due.{keeps_own, due_attempt};
 ghost use Rattle.schedule_rules.specs.Legal.{IsLegal, IsLegalLine, IsExclusive};
-ghost use Rattle.schedule_rules.specs.Replay.{replay, phase_at};
+ghost use Rattle.schedule_rules.specs.Replay.{phase_at};
 ghost use Rattle.phase_bits.specs.Flags.{has, initialized};
 ghost use Rattle.schedule_rules.specs.Laws.{
   ChangesNothing,
   IsWithoutEffect,
   IsDenied,
+  IsFailedRun,
   is_waiting,
   is_borrowed,
   is_failed,
@@ -86,22 +86,14 @@ pub fn turned_back_calls_change_nothing()
         IsWithoutEffect cells h (record { step = s; line = record { answer = answer.Borrowed; given = g } }) }
 {}
 
-/// A step answers Failed exactly where it ends a generator by a failure and is not refused. It leaves the value of every
-/// cell as it was, reaches the phase of a failed run in the cell of that generator, and changes no other cell.
+/// A step answers Failed exactly where it ends a generator by a failure and is not refused. It leaves the published value
+/// of the generator's cell as it was, publishes the phase of a failed run there, and changes nothing published elsewhere.
 pub fn failed_runs_keep_the_value()
     ensures answers { (cells : List CellPlan) (h : List Event) (s : Step) (l : Line) → IsLegalLine cells h s l →
         is_failed l.answer ≡ (is_none (refusal cells h s) && is_failure s.act) }
-    ensures keeps { (cells : List CellPlan) (h : List Event) (s : Step) (g : Given) (c : ℕ) →
-        (replay cells c (record { step = s; line = record { answer = answer.Failed; given = g } } ∷ h)).value
-        ≡ (replay cells c h).value }
-    ensures reaches { (cells : List CellPlan) (h : List Event) (s : Step) (g : Given) (c : ℕ) →
+    ensures changes { (cells : List CellPlan) (h : List Event) (s : Step) (g : Given) (c : ℕ) →
         IsLegalLine cells h s (record { answer = answer.Failed; given = g }) → cell_concerned cells h s ≡ Some c →
-        phase_at cells c (record { step = s; line = record { answer = answer.Failed; given = g } } ∷ h)
-        ≡ phase_reached (cell_at cells c) (phase_at cells c h) Failure }
-    ensures elsewhere { (cells : List CellPlan) (h : List Event) (s : Step) (g : Given) (c d : ℕ) →
-        IsLegalLine cells h s (record { answer = answer.Failed; given = g }) → cell_concerned cells h s ≡ Some c →
-        c ≢ d → replay cells d (record { step = s; line = record { answer = answer.Failed; given = g } } ∷ h)
-        ≡ replay cells d h }
+        IsFailedRun cells h (record { step = s; line = record { answer = answer.Failed; given = g } }) c }
 {}
 
 /// A schedule of cells that do not park has at most one legal transcript: the same lines, and the same finals. Where a
