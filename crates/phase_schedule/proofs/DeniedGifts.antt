@@ -76,9 +76,3 @@ module _ (cells : List CellPlan) (c : ℕ) (h : List Event) (ws : List Wait) (s 
       let none : _ = (idle_counts cells c h (given_on c given.Readers ws) s y a i).0 in
       let share : _ = some_read_share c ws reached in
       omega (arith, none, share)) may
-
--- the one gift is that of the attempt, or the last
-pub first_is : (g last : Given) → g ≢ given.Nobody → given_first g last ≡ g
-first_is given.Nobody last some = absurd (some refl)
-first_is (given.Writer q) last some = refl
-first_is given.Readers last some = refl

@@ -116,8 +116,3 @@ module _ (cells : List CellPlan) (c : ℕ) (h : List Event) where
   core_waiting w way a ws s s' x x' ew ea shows party in_readers in_writers agrees es ex =
       let shown : Shows (with_wait w.party way (Some a) ws) (rows_waiting way w s) = shows_waiting_at w way a ws s (ea ∙ sym ew) shows party (rw ew in_readers) (rw ew in_writers) in
       ex ∙ flagged_core cells c h (with_wait w.party way (Some a) ws) s' (held_waiting way x) (subst (λ (t : Rows). Shows (with_wait w.party way (Some a) ws) t) (sym es) shown) (agrees_waiting cells c h w.party way a ws x ea agrees)
-
-  -- and where a party waits no longer, and nothing is handed over
-  pub core_freed : (p : ℕ) (ws : List Wait) (s s' : Rows) (x x' : Holders) → IsSound s → Shows ws s → Agrees cells c h (without_wait p ws) x → s' ≡ freed p s → x' ≡ flagged c s' x → x' ≡ core_with cells c h (without_wait p ws)
-  core_freed p ws s s' x x' sound shows agrees es ex =
-      ex ∙ flagged_core cells c h (without_wait p ws) s' x (subst (λ (t : Rows). Shows (without_wait p ws) t) (sym es) (shows_freed p ws s sound shows)) agrees

@@ -53,10 +53,6 @@ module _ (cells : List CellPlan) (h : List Event) (records : List Holders) (kind
   pub locked_sound : IsSound parks
   locked_sound = sound_of (waits cells h) parks k.single k.shows (k.writers_count ∙ sym k.readers_count) k.few
 
-  -- the record of the cell's locker
-  pub held_is : (c : ℕ) → c < length cells → slice_get records c ≡ Some (core cells c h)
-  held_is c lt = k.held c lt
-
   module _ (e : Event) (c : ℕ) (lt : c < length cells) (idle : wait_of e.step.party (waits cells h) ≡ None) (concerned : cell_concerned cells h e.step ≡ Some c)
       (waits_are : waits cells (e ∷ h) ≡ waits_given cells h e.step e.line.given (other_waits cells h e.step)) where
     -- the calls that wait then

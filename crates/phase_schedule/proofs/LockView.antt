@@ -69,14 +69,6 @@ module _ {L : Type 0} (held : L → Holders) (place : L → LockerKind) (rows : 
   pub fits_seen : Fits (place q.locker) (held q.locker) rows.parks t.cell
   fits_seen = rw (held_seen, place_seen) (is.ready.follows.locked.fits t.cell known)
 
-  -- its cell has lists of who is parked
-  pub inside_seen : t.cell < length rows.parks.readers
-  inside_seen = let k = known in let e = is.ready.follows.locked.readers_count in omega (arith, k, e)
-
-  -- and its party a row
-  pub party_seen : s.party < length rows.parks.rows
-  party_seen = let k = is.ready.party in let e = is.ready.follows.kept.parties in omega (arith, k, e)
-
 -- the plan of the cell that is attempted
 pub plan_seen : (h : List Event) (v : View) (s : Step) (n : ℕ) (t : Target) → IsAttempt h v s n t → (row : CellRow) → row ≡ get_or v.cells t.cell row → row.plan ≡ cell_at (plans v) t.cell
 plan_seen h v s n t is row at = ap (λ (r : CellRow). r.plan) (row_at v.cells t.cell row _ at is.cell (is.ready.follows.kept.cell t.cell is.cell))

@@ -68,10 +68,3 @@ module _ (q c : ℕ) (ws : List Wait) (w : Wait) (single : IsSingle ws) (is : wa
       let k = woken_to_write c w parks in
       let e = rw (k.drain d) at (count_woken (drains_on d) q ws w is k.parked (single q)) in
       omega (arith, e)
-
-  -- and the parked writers of other cells
-  pub writer_woken_other : (d : ℕ) → d ≢ c → parked_writers d (map (wake_writer q) ws) ≡ parked_writers d ws
-  writer_woken_other d ne =
-      let k = woken_to_write c w parks in
-      let none : occurs q (parked_writers d ws) ≡ 0 = occurs_writers d q ws single ∙ ap (one_of (parks_to_write d)) is ∙ rw (k.other_parked d ne) refl in
-      writer_woken q d ws ∙ without_absent q (parked_writers d ws) none

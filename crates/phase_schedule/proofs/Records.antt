@@ -103,7 +103,3 @@ module _ (cells : List CellPlan) (c : ℕ) (h : List Event) where
   -- the same, as the row of the party says what it had
   pub agrees_row_given_up : (p : ℕ) (ws : List Wait) (s : Rows) (w : Wait) (x : Holders) → IsSingle ws → Shows ws s → wait_of p ws ≡ Some w → w.cell ≡ c → writers_with c h ws + drains_with c ws ≤ 1 → Agrees cells c h ws x → Agrees cells c h (without_wait p ws) (given_up (row_of s p).waiting x)
   agrees_row_given_up p ws s w x single shows is here one a = rw (row_waits p ws s w shows is) (agrees_given_up p ws w x single is here one a)
-
-  -- a party that does not wait takes nothing away
-  pub agrees_none : (p : ℕ) (ws : List Wait) (x : Holders) → wait_of p ws ≡ None → Agrees cells c h ws x → Agrees cells c h (without_wait p ws) x
-  agrees_none p ws x none a = rw (none_without p ws none) a

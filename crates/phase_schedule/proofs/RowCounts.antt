@@ -40,14 +40,6 @@ never_free how.Drain woken e = cc
 pub row_free : (p : ℕ) (ws : List Wait) (s : Rows) → Shows ws s → wait_of p ws ≡ None → row_of s p ≡ free_row
 row_free p ws s shows none = shows.row p ∙ ap wait_row none
 
--- a party with a free row
-pub free_waits : (p : ℕ) (ws : List Wait) (s : Rows) → Shows ws s → (row_of s p).waiting ≡ waiting.Free → wait_of p ws ≡ None
-free_waits p ws s shows free = by (wait_of p ws) (ap (λ (r : Row). r.waiting) (sym (shows.row p)) ∙ free)
-  where
-    by : (o : Option Wait) → (wait_row o).waiting ≡ waiting.Free → o ≡ None
-    by None e = refl
-    by (Some w) e = absurd (never_free w.way w.woken e)
-
 -- a party whose call waits has a row
 pub waits_inside : (p : ℕ) (rows : List Row) (w : Wait) → get_or rows p free_row ≡ wait_row (Some w) → p < length rows
 waits_inside p rows w e =
@@ -111,17 +103,6 @@ row_shares c w = by w.party w.cell w.want w.way w.woken
     by p x want how.ParkedWrite false = refl
     by p x want how.Drain woken = refl
 
-pub row_drains : (c : ℕ) (w : Wait) → drains_at c (wait_row (Some w)) ≡ drains_on c w
-row_drains c w = by w.party w.cell w.want w.way w.woken
-  where
-    by : (p x : ℕ) (want : Want) (way : How) (woken : Bool) → drains_at c (wait_row (Some (record { party = p; cell = x; want = want; way = way; woken = woken }))) ≡ drains_on c (record { party = p; cell = x; want = want; way = way; woken = woken })
-    by p x want how.Spin woken = refl
-    by p x want how.ParkedRead true = refl
-    by p x want how.ParkedRead false = refl
-    by p x want how.ParkedWrite true = refl
-    by p x want how.ParkedWrite false = refl
-    by p x want how.Drain woken = refl
-
 pub row_claims : (c : ℕ) (w : Wait) → cond {A = ℕ} (claims_at c (wait_row (Some w))) 1 0 ≡ cond {A = ℕ} (shares_write c w) 1 0 + cond {A = ℕ} (drains_on c w) 1 0
 row_claims c w = by w.party w.cell w.want w.way w.woken
   where
@@ -138,10 +119,6 @@ module _ (c : ℕ) (ws : List Wait) (s : Rows) (single : IsSingle ws) (shows : S
   -- read shares
   pub shares_shown : shares s c ≡ count (shares_read c) ws
   shares_shown = count_rows (shares_at c) ws s.rows refl single shows.row ∙ count_test (λ (w : Wait). shares_at c (wait_row (Some w))) (shares_read c) ws (row_shares c)
-
-  -- drains
-  pub drains_shown : drains s c ≡ count (drains_on c) ws
-  drains_shown = count_rows (drains_at c) ws s.rows refl single shows.row ∙ count_test (λ (w : Wait). drains_at c (wait_row (Some w))) (drains_on c) ws (row_drains c)
 
   -- claims: write shares and drains
   pub claims_shown : claims s c ≡ count (shares_write c) ws + count (drains_on c) ws

@@ -31,10 +31,6 @@ pub run_shown : (c : ℕ) (within : Guard → _) (o : Option Guard) (r : Option 
 run_shown c within None r e = run_of_open c r
 run_shown c within (Some x) r e = absurd (cc)
 
-pub no_section_of : (o : Option Section) → None ≡ cell_of o → o ≡ None
-no_section_of None e = refl
-no_section_of (Some s) e = absurd (cc)
-
 section_of : (o : Option Section) (c : ℕ) → cell_of o ≡ Some c → (s : Section) × (o ≡ Some s) × (s.cell ≡ c)
 section_of None c e = absurd (cc)
 section_of (Some s) c e = (s, refl, (let q : _ = e in cc))

@@ -60,7 +60,3 @@ run_kept c p (x ∷ ss) s e ne = grind (arith, run_kept c p ss s, innermost_kept
 pub run_top : (p : ℕ) (ss : List Section) (s : Section) → innermost p ss ≡ Some s → count (runs_in s.cell) ss ≤ 1 → run_in s.cell ss ≡ Some (record { party = p; call = call_of s.want; outer = cell_of (innermost p (without_innermost p ss)) })
 run_top p [] s e n = cc
 run_top p (x ∷ ss) s e n = grind (arith, run_top p ss s, found_counts (λ y. y.party == p) (runs_in s.cell) ss s)
-
-pub runs_row : (p c : ℕ) (ss : List Section) → ran_by p (run_in c ss) ≡ generates_for p (find (runs_in c) ss)
-runs_row p c [] = refl
-runs_row p c (x ∷ ss) = grind (arith, runs_row p c ss)

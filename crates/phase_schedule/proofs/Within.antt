@@ -12,10 +12,6 @@ use Rattle.phase_schedule.specs.Shown.{Shows, AreWithin}
 use Rattle.phase_schedule.proofs.Each.{reader_party, reader_cell, writer_party, writer_cell}
 use Rattle.phase_schedule.proofs.Finding.{changed, wait_map, wait_added, wait_beside}
 
--- no call waits at an unknown cell
-pub within_none : (n : ℕ) → AreWithin n []
-within_none n = λ r w e. absurd (cc)
-
 -- without a party's wait
 pub within_without : (n p : ℕ) (ws : List Wait) → AreWithin n ws → AreWithin n (without_wait p ws)
 within_without n p ws all = λ r w e. by r w (cases_eq r p) e
