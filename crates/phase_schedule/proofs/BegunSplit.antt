@@ -39,9 +39,9 @@ use Rattle.phase_schedule.specs.View.{View}
 use Rattle.phase_schedule.specs.Meets.{ask_of}
 use Rattle.phase_schedule.specs.Tracks.{plans}
 use Rattle.phase_schedule.specs.Ready.{Tries, IsAnswered, IsBegun, IsFirst, IsOpeningAt, IsReadAt, IsRun, IsTried, asks_run, begun_for, who_of}
+use Rattle.phase_schedule.proofs.Truth.{both_true}
 use Rattle.phase_schedule.proofs.LockDue.{tried}
 use Rattle.phase_schedule.proofs.LockRun.{due_try}
-use Rattle.phase_schedule.proofs.LockView.{both_true}
 use Rattle.phase_schedule.proofs.BegunAsks.{AsksAs, asks_as}
 
 -- ---- only a call for the phase is answered by it

@@ -36,6 +36,8 @@ use Rattle.phase_schedule.specs.Meets.{given_first}
 use Rattle.phase_schedule.specs.Shown.{Agrees}
 use Rattle.phase_schedule.specs.Tracks.{FollowsStep, Locked, RunBy, event, plans}
 use Rattle.phase_schedule.specs.Ready.{IsAnswered, IsDeniedRead, IsDeniedWrite, answer_by, asks_run, if_made, opened_by, still_open, waits_left, with_guard, with_section}
+use Rattle.phase_schedule.proofs.Truth.{or_left, lt_more}
+use Rattle.phase_schedule.proofs.Places.{inside_plan, set_there, read_once}
 use Rattle.phase_schedule.proofs.After.{tracks_after}
 use Rattle.phase_schedule.proofs.GivenOn.{given_on}
 use Rattle.phase_schedule.proofs.RowTries.{steady_same}
@@ -43,8 +45,8 @@ use Rattle.phase_schedule.proofs.RowKept.{inner_is, party_got, within_left}
 use Rattle.phase_schedule.proofs.RowCounts.{shares_shown, claims_shown}
 use Rattle.phase_schedule.proofs.Same.{unlocked}
 use Rattle.phase_schedule.proofs.GuardPhase.{phase_known}
-use Rattle.phase_schedule.proofs.LockCells.{lt_more, reader_more, writer_more}
-use Rattle.phase_schedule.proofs.MadeEnds.{read_locker, read_once}
+use Rattle.phase_schedule.proofs.LockCells.{reader_more, writer_more}
+use Rattle.phase_schedule.proofs.MadeEnds.{read_locker}
 use Rattle.phase_schedule.proofs.DeniedHolds.{locked_left}
 use Rattle.phase_schedule.proofs.DeniedLegal.{line_denied}
 
@@ -77,10 +79,6 @@ released held place runs lockers parks c l l' parks' at lt others fits same runs
       running_are = map-set_same runs lockers c l' l (runs_on ∙ ap runs at);
     }
 
--- what is read and written again stays
-set_read : {X : Type 0} (xs : List X) (i : ℕ) (x : X) → slice_get xs i ≡ Some x → set xs i x ≡ xs
-set_read xs i x e = ap (λ y. set xs i y) (sym (get_or_from_slice_get xs i x x e)) ∙ set-get_or xs i x
-
 module _ (h : List Event) (v : View) (s : Step) (n : ℕ) (t : Target) (g : Given) where
   -- the calls that wait once the attempt is made
   abbrev ws : List Wait
@@ -89,7 +87,7 @@ module _ (h : List Event) (v : View) (s : Step) (n : ℕ) (t : Target) (g : Give
   -- a call that has this hold, as a guard that is open for as long as the step takes
   module _ (a : Attempt) (k : IsAnswered h v s n t a g) (x : Guard) (at : x.cell ≡ t.cell) (opened : opened_by (plans v) h s t a g ≡ with_guard (plans v) h s t x ws) where
     pub in_plan : t.cell < length (plans v)
-    in_plan = let lt : t.cell < length v.cells = k.cell in let same : length (plans v) ≡ length v.cells = length-map v.cells (λ r. r.plan) in omega (arith, lt, same)
+    in_plan = inside_plan v t.cell k.cell
 
     pub locked_with : Locked (plans v) (λ c. replay (plans v) c h) (with_guard (plans v) h s t x ws) v.held v.places v.parks
     locked_with = subst (λ o. Locked (plans v) (λ c. replay (plans v) c h) o v.held v.places v.parks) opened k.locked
@@ -105,7 +103,7 @@ module _ (h : List Event) (v : View) (s : Step) (n : ℕ) (t : Target) (g : Give
     kind_with k is = read_once v.places t.cell k _ is (locked_with.place t.cell in_plan)
 
     set_kind : (k : LockerKind) → slice_get v.places t.cell ≡ Some k → set v.places t.cell k ≡ v.places
-    set_kind k is = set_read v.places t.cell k is
+    set_kind k is = set_there v.places t.cell k is
 
     -- it fits the rows
     pub fits_with : (r : Holders) (k : LockerKind) → slice_get v.held t.cell ≡ Some r → slice_get v.places t.cell ≡ Some k → Fits k r v.parks t.cell
@@ -233,7 +231,7 @@ module _ (h : List Event) (v : View) (s : Step) (n : ℕ) (t : Target) (p : Phas
       let no_drain : _ = none_else.1 in
       subst (λ (q : Holders). IsWriteOpen q v.parks t.cell) (sym (record_with h v s n t g _ d.opening.opening.answered write_hold refl opened_write r is))
       (record {
-        locked = lt_more _ _ _ one_write;
+        locked = or_left _ _ (lt_more _ _ one_write);
         unclaimed = claims_shown t.cell (waits_left (plans v) h s t g) v.parks k.single k.shows ∙ omega (arith, no_writer, no_drain);
       })
 

@@ -13,6 +13,7 @@ use Rattle.schedule_rules.specs.Waits.{Wait, parks_to_read, parks_to_write, park
 use Rattle.schedule_rules.specs.Gifts.{reaches}
 use Rattle.phase_schedule.specs.Meets.{given_first}
 use Rattle.phase_schedule.specs.Shown.{Agrees}
+use Rattle.phase_schedule.proofs.Truth.{both_are}
 use Rattle.phase_schedule.proofs.Each.{woken_to_write}
 use Rattle.phase_schedule.proofs.Lists.{any_readers}
 use Rattle.phase_schedule.proofs.Counted.{read_shares_woken}
@@ -31,13 +32,9 @@ some_read_share c ws e =
     let all : _ = read_shares_woken c ws in
     omega (arith, some, all)
 
-both : (a b : Bool) → (a && b) ≡ true → (a ≡ true) × (b ≡ true)
-both true b e = (refl, e)
-both false b e = absurd (cc)
-
 writer_share : (c q : ℕ) (w : Wait) → ((w.party == q) && parks_to_write c w) ≡ true → shares_write c (wake_writer q w) ≡ true
 writer_share c q w e =
-    let parts = both (w.party == q) (parks_to_write c w) e in
+    let parts = both_are (w.party == q) (parks_to_write c w) e in
     let woken = woken_to_write c w parts.1 in
     let is : ((w.party == q) && is_parked_writer w.way w.woken) ≡ true = rw (parts.0, woken.parked) refl in
     let same : wake_writer q w ≡ wait_woken w = ap (λ b. cond b (wait_woken w) w) is in

@@ -9,9 +9,8 @@ use Rattle.schedule_rules.specs.Waits.{Wait, Attempt, wait_of, without_wait, wit
 use Rattle.schedule_rules.specs.Core.{core_with}
 use Rattle.phase_schedule.specs.Shown.{IsSingle}
 use Rattle.phase_schedule.proofs.Each.{woken_to_read, woken_to_write, writer_reads}
-use Rattle.phase_schedule.proofs.Counted.{count_without_wait, none_without, any_map, count_woken, read_shares_woken_other, write_shares_beside_readers, drains_beside_readers}
+use Rattle.phase_schedule.proofs.Counted.{count_without_wait, any_map, count_woken, read_shares_woken_other, write_shares_beside_readers, drains_beside_readers}
 use Rattle.phase_schedule.proofs.Members.{write_shares_woken_other, read_shares_beside_writer, drains_beside_writer}
-use Rattle.phase_schedule.proofs.Added.{read_shares_added, write_shares_added, drains_added_other}
 use Rattle.phase_schedule.proofs.Same.{core_same, any_same}
 
 -- a call at another cell passes no test of this one

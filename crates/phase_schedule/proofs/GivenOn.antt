@@ -19,7 +19,6 @@ use Rattle.phase_schedule.specs.Shown.{Shows, IsSingle, AreWithin, Agrees}
 use Rattle.phase_schedule.proofs.Finding.{changed, wait_readers, wait_writer}
 use Rattle.phase_schedule.proofs.Single.{single_readers, single_writer}
 use Rattle.phase_schedule.proofs.Reaching.{parked_writer, reaches_writer, reaches_readers}
-use Rattle.phase_schedule.proofs.ShowsFreed.{shows_freed}
 use Rattle.phase_schedule.proofs.ShowsWaiting.{shows_waiting_at}
 use Rattle.phase_schedule.proofs.ShowsHanded.{shows_handed_readers, shows_handed_writer}
 use Rattle.phase_schedule.proofs.Same.{flagged_core}

@@ -36,6 +36,7 @@ use Rattle.phase_schedule.specs.Kept.{Open, open_after, cell_row, draft_of, kind
 use Rattle.phase_schedule.specs.Shown.{Agrees}
 use Rattle.phase_schedule.specs.Tracks.{IsApart, Tracks}
 use Rattle.phase_schedule.specs.Ready.{IsHeld}
+use Rattle.phase_schedule.proofs.Truth.{or_left}
 use Rattle.phase_schedule.proofs.Places.{eq_or_not, set_view}
 use Rattle.phase_schedule.proofs.Same.{unlocked}
 use Rattle.phase_schedule.proofs.RowOpens.{numbers_removed}
@@ -47,9 +48,6 @@ use Rattle.phase_schedule.proofs.GuardGone.{counted_one, counted_none, never_rea
 use Rattle.phase_schedule.proofs.GuardReader.{reads_more, reads_elsewhere, slot_read, known_read, steady_reader}
 use Rattle.phase_schedule.proofs.GuardRefused.{downgrade_held}
 use Rattle.phase_schedule.proofs.GuardStep.{told, handed_over, kept_now}
-
-or_left : (a b : Bool) → a ≡ true → (a || b) ≡ true
-or_left a b e = rw e refl
 
 module _ (cells : List CellPlan) (h : List Event) (v : View) (t : Tracks cells h v) (s : Step) (g c : ℕ) (k : IsHeld h s.party g c true) (acts : s.act ≡ act.Downgrade g) (lt : c < length cells) (idle : wait_of s.party (waits cells h) ≡ None) (room : length h < length v.guards) (l : Given)
     (draft : Draft) (drafts : draft ≡ draft_of (inside cells h k.guard)) (row : CellRow) (at : row ≡ get_or v.cells c row) (in_rows : c < length v.cells) where

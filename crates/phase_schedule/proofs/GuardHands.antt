@@ -27,6 +27,7 @@ use Rattle.schedule_rules.specs.Legal.{IsLegalLine, Last, answer_of}
 use Rattle.phase_schedule.specs.Kept.{Open, readers_in, writers_in, drains_in, kind_at}
 use Rattle.phase_schedule.specs.Shown.{Shows, IsSingle, Agrees}
 use Rattle.phase_schedule.specs.Tracks.{IsApart, event}
+use Rattle.phase_schedule.proofs.Truth.{both_true, or_right, no_claims, none_stands}
 use Rattle.phase_schedule.proofs.Places.{eq_or_not}
 use Rattle.phase_schedule.proofs.Counted.{none_without, read_shares_woken, read_shares_woken_other, write_shares_beside_readers, drains_beside_readers}
 use Rattle.phase_schedule.proofs.Members.{write_shares_woken, write_shares_woken_other, read_shares_beside_writer, drains_beside_writer}
@@ -114,15 +115,6 @@ module _ (c : ℕ) (ws : List Wait) (ss : List Section) (gs : List Guard) (s : P
           let n : _ = drains_beside_readers c d ws in
           apart_less (with_waits ws) (with_waits (map (wake_reader c) ws)) d (omega (arith, r)) (omega (arith, w)) (omega (arith, n)) (all d)
 
--- nothing locks a cell without writers and drains
-no_claims : (n m : ℕ) → (nat_lt 0 n || nat_lt 0 m) ≡ false → (n ≡ 0) × (m ≡ 0)
-no_claims n m e = by (nat_lt 0 n) (nat_lt 0 m) refl refl e
-  where
-    by : (b d : Bool) → nat_lt 0 n ≡ b → nat_lt 0 m ≡ d → (b || d) ≡ false → (n ≡ 0) × (m ≡ 0)
-    by true d p q k = absurd (cc)
-    by false true p q k = absurd (cc)
-    by false false p q k = (grind arith, grind arith)
-
 module _ (cells : List CellPlan) (c : ℕ) (h : List Event) (ws : List Wait) (s : Parking) (x : Holders) (a : Agrees cells c h ws x) where
   -- nothing stands at a cell whose record is idle
   pub idle_counts : IsIdle x → (readers_with c h ws ≡ 0) × (writers_with c h ws ≡ 0) × (drains_with c ws ≡ 0)
@@ -145,16 +137,6 @@ module _ (cells : List CellPlan) (c : ℕ) (h : List Event) (ws : List Wait) (s 
       (w ∙ none.1, omega (arith, r, no_reader, few, most))
 
 -- ---- the line is legal
-
-three_true : (a b d : Bool) → a ≡ true → b ≡ true → d ≡ true → (a && (b && d)) ≡ true
-three_true a b d e f k = rw (e, f, k) refl
-
-none_stands : (a b d : ℕ) → a ≡ 0 → b ≡ 0 → d ≡ 0 → (a + b + d == 0) ≡ true
-none_stands a b d e f k = rw (e, f, k) refl
-
-or_true : (a b : Bool) → b ≡ true → (a || b) ≡ true
-or_true true b e = refl
-or_true false b e = e
 
 -- a gift is made only where calls park
 pub parks_there : (p : Place) (x : Holders) (s : Parking) (c : ℕ) (g : Given) → Fits (kind_at p) x s c → IsListed c s g → g ≢ given.Nobody → is_parking p ≡ true
@@ -183,13 +165,13 @@ module _ (cells : List CellPlan) (h : List Event) (s : Step) (a : Answer) where
     may_give_there given.Nobody is may = refl
     may_give_there (given.Writer q) is may =
         ap (λ o. may_give_on cells h s o a (given.Writer q)) concerned
-        ∙ three_true _ _ _ (parks_there (cell_at cells c).place x parks c (given.Writer q) fits is (λ e. absurd (cc))) reached (may (λ e. absurd (cc)))
+        ∙ both_true _ _ (parks_there (cell_at cells c).place x parks c (given.Writer q) fits is (λ e. absurd (cc))) (both_true _ _ reached (may (λ e. absurd (cc))))
       where
         reached : reaches c (given.Writer q) (other_waits cells h s) ≡ true
         reached = ap (λ ws. reaches c (given.Writer q) ws) (none_without s.party (waits cells h) idle) ∙ reaches_given c (given.Writer q) (waits cells h) parks shows is
     may_give_there given.Readers is may =
         ap (λ o. may_give_on cells h s o a given.Readers) concerned
-        ∙ three_true _ _ _ (parks_there (cell_at cells c).place x parks c given.Readers fits is (λ e. absurd (cc))) reached (may (λ e. absurd (cc)))
+        ∙ both_true _ _ (parks_there (cell_at cells c).place x parks c given.Readers fits is (λ e. absurd (cc))) (both_true _ _ reached (may (λ e. absurd (cc))))
       where
         reached : reaches c given.Readers (other_waits cells h s) ≡ true
         reached = ap (λ ws. reaches c given.Readers ws) (none_without s.party (waits cells h) idle) ∙ reaches_given c given.Readers (waits cells h) parks shows is
@@ -206,5 +188,5 @@ module _ (cells : List CellPlan) (h : List Event) (s : Step) (a : Answer) where
     pub may_hand_there : (g : Given) (y : Holders) → Agrees cells c (event s (record { answer = a; given = g }) ∷ h) (waits cells h) y → MayHand c y parks g
         → waits cells (event s (record { answer = a; given = given.Nobody }) ∷ h) ≡ other_waits cells h s → may_give_last cells h s a g ≡ true
     may_hand_there given.Nobody y agrees may left = refl
-    may_hand_there (given.Writer q) y agrees may left = may_give_there (given.Writer q) may.1 (λ n. or_true (is_readers (given.Writer q) && downgrades s a) _ (freed_last (given.Writer q) y agrees may.0 left))
-    may_hand_there given.Readers y agrees may left = may_give_there given.Readers may.1 (λ n. or_true (is_readers given.Readers && downgrades s a) _ (freed_last given.Readers y agrees may.0 left))
+    may_hand_there (given.Writer q) y agrees may left = may_give_there (given.Writer q) may.1 (λ n. or_right (is_readers (given.Writer q) && downgrades s a) _ (freed_last (given.Writer q) y agrees may.0 left))
+    may_hand_there given.Readers y agrees may left = may_give_there given.Readers may.1 (λ n. or_right (is_readers given.Readers && downgrades s a) _ (freed_last given.Readers y agrees may.0 left))

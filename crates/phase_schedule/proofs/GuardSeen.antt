@@ -28,16 +28,12 @@ use Rattle.phase_schedule.specs.Kept.{cell_row, guard_row, kind_at, open_after, 
 use Rattle.phase_schedule.specs.Meets.{IsGuarded, IsReading, IsWriting}
 use Rattle.phase_schedule.specs.Tracks.{plans}
 use Rattle.phase_schedule.specs.Ready.{HasWriter, IsDraft, IsHolding, IsHoldingNumbered}
-use Rattle.phase_schedule.proofs.Places.{row_at, slice_get_set_other}
+use Rattle.phase_schedule.proofs.Places.{row_at, slice_get_set_other, inside_plan, mapped_at}
 use Rattle.phase_schedule.proofs.Same.{agrees_core}
 use Rattle.phase_schedule.proofs.RowCounts.{open_reads_shown, row_free, write_open_shown}
 use Rattle.phase_schedule.proofs.RowOpens.{found_below, numbered_above}
 use Rattle.phase_schedule.proofs.GuardPhase.{inside_known}
 use Rattle.phase_schedule.proofs.GuardGone.{found_writer, reads_here, writes_here}
-
--- what is kept of an element that is read
-pub mapped_at : {X Y : Type 0} (f : X → Y) (xs : List X) (i : ℕ) (x : X) (y : Y) → x ≡ get_or xs i x → i < length xs → slice_get (map f xs) i ≡ Some y → f x ≡ y
-mapped_at f xs i x y at lt q = row_at (map f xs) i (f x) y (ap f at ∙ sym (get_or-map f xs i x (f x) lt)) (rw length-map lt) q
 
 -- the records, kinds and runs after a sequentializer is written that keeps its kind and who runs
 pub seen_locker : {L R : Type 0} (held : L → Holders) (place : L → LockerKind) (runner : L → R) (ls : List L) (c : ℕ) (l l' : L) → l ≡ get_or ls c l → place l' ≡ place l → runner l' ≡ runner l
@@ -53,7 +49,7 @@ seen_locker {R = R} held place runner ls c l l' at same runs P p =
 module _ (h : List Event) (v : View) (s : Step) (a : Act) (g c : ℕ) (w : Bool) (k : IsHolding h v s a g c w) where
   -- its cell is in the plan
   pub in_plan : c < length (plans v)
-  in_plan = rw length-map k.inside
+  in_plan = inside_plan v c k.inside
 
   -- a held guard has a row
   pub slot_inside : g < length v.guards
@@ -68,21 +64,14 @@ module _ (h : List Event) (v : View) (s : Step) (a : Act) (g c : ℕ) (w : Bool)
   cell_shown row at = row_at v.cells c row _ at k.inside (k.acting.ready.follows.kept.cell c k.inside)
 
   module _ {L : Type 0} (held : L → Holders) (place : L → LockerKind) (ls : List L) (l : L) (at : l ≡ get_or ls c l) (records : map held ls ≡ v.held) (kinds : map place ls ≡ v.places) where
-    locker_inside : c < length ls
-    locker_inside =
-        let same : length (map held ls) ≡ length v.held = ap (λ (xs : List Holders). length xs) records in
-        let size : length (map held ls) ≡ length ls = length-map _ _ in
-        let count : length v.held ≡ length (plans v) = k.acting.ready.follows.locked.held_count in
-        let lt : c < length (plans v) = in_plan in
-        omega (arith, same, size, count, lt)
 
     -- the record of its locker
     pub held_shown : held l ≡ core (plans v) c h
-    held_shown = mapped_at held ls c l (core (plans v) c h) at locker_inside (ap (λ (xs : List Holders). slice_get xs c) records ∙ k.acting.ready.follows.locked.held c in_plan)
+    held_shown = mapped_at held ls c l (core (plans v) c h) l at (ap (λ (xs : List Holders). slice_get xs c) records ∙ k.acting.ready.follows.locked.held c in_plan)
 
     -- and where its calls wait
     pub place_shown : place l ≡ kind_at (cell_at (plans v) c).place
-    place_shown = mapped_at place ls c l (kind_at (cell_at (plans v) c).place) at locker_inside (ap (λ (xs : List LockerKind). slice_get xs c) kinds ∙ k.acting.ready.follows.locked.place c in_plan)
+    place_shown = mapped_at place ls c l (kind_at (cell_at (plans v) c).place) l at (ap (λ (xs : List LockerKind). slice_get xs c) kinds ∙ k.acting.ready.follows.locked.place c in_plan)
 
     -- record and rows fit
     pub locker_fits : Fits (place l) (held l) v.parks c

@@ -20,7 +20,7 @@ use Rattle.schedule_rules.specs.Waits.{Wait, wait_of, waits, waits_given, other_
 use Rattle.phase_schedule.specs.Kept.{open_after, kind_at}
 use Rattle.phase_schedule.specs.Shown.{Shows, IsSingle, Agrees}
 use Rattle.phase_schedule.specs.Tracks.{IsApart, Locked}
-use Rattle.phase_schedule.proofs.Places.{eq_or_not, slice_get_set_same, slice_get_set_other}
+use Rattle.phase_schedule.proofs.Places.{eq_or_not, set_kept}
 use Rattle.phase_schedule.proofs.Counted.{one_of, none_without}
 use Rattle.phase_schedule.proofs.Members.{occurs_readers, occurs_writers}
 use Rattle.phase_schedule.proofs.Reaching.{passes, row_reads, row_writes}
@@ -39,14 +39,6 @@ sound_of ws s single shows sizes few =
       cells = sizes;
       few = few;
     }
-
--- a write of one place of a list of what is kept
-pub set_kept : {X : Type 0} (n : ℕ) (xs : List X) (i : ℕ) (x : X) (f g : ℕ → X) → length xs ≡ n → ((j : ℕ) → j < n → slice_get xs j ≡ Some (f j)) → ((j : ℕ) → j ≢ i → g j ≡ f j) → x ≡ g i → (j : ℕ) → j < n → slice_get (set xs i x) j ≡ Some (g j)
-set_kept n xs i x f g size all others here j lt =
-    elim (eq_or_not j i) [
-      | inl e ↦ rw (e, ← here) (slice_get_set_same xs i x (rw (size, ← e) lt))
-      | inr ne ↦ slice_get_set_other xs i j x ne ∙ all j lt ∙ ap Some (sym (others j ne))
-    ]
 
 module _ (cells : List CellPlan) (h : List Event) (records : List Holders) (kinds : List LockerKind) (parks : Parking) (k : Locked cells (λ c. replay cells c h) (open_after cells h) records kinds parks) where
   -- the rows are sound
@@ -97,5 +89,5 @@ module _ (cells : List CellPlan) (h : List Event) (records : List Holders) (kind
 -- a hand-over keeps how many lists there are
 pub handed_writers : (c : ℕ) (g : Given) (s : Parking) → length (rows_handed c g s).writers ≡ length s.writers
 handed_writers c given.Nobody s = refl
-handed_writers c (given.Writer q) s = length-set _ _ _
+handed_writers c (given.Writer q) s = length-set s.writers c _
 handed_writers c given.Readers s = refl

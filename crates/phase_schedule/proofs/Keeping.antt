@@ -14,7 +14,6 @@ use Rattle.schedule_rules.specs.Holds.{read_guards, write_holds, readers_with, w
 use Rattle.schedule_rules.specs.Core.{is_locked_with}
 use Rattle.phase_schedule.specs.Shown.{IsSingle, Agrees}
 use Rattle.phase_schedule.proofs.Counted.{count_without_wait}
-use Rattle.phase_schedule.proofs.Same.{locked_by_write, locked_by_drain}
 
 -- what a call has of the cell, it has alone
 pub read_share_alone : (c : ℕ) (w : Wait) → shares_read c w ≡ true → (shares_write c w ≡ false) × (drains_on c w ≡ false)

@@ -1,3 +1,5 @@
+pub mod Truth
+pub mod Places
 pub mod Each
 pub mod Finding
 pub mod Single
@@ -18,7 +20,6 @@ pub mod Within
 pub mod GivenOn
 pub mod RowCounts
 pub mod KeptShares
-pub mod Places
 pub mod After
 pub mod Hands
 pub mod RowOpens

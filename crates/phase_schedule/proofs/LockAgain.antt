@@ -1,5 +1,6 @@
 -- One more attempt of a call that waits, once its locker answered.
 use Rattle.std.proofs.Common.{◌≡◌, ℕ, ◌<◌, List, length, set, refl, arith, Bool, true, false, None, Some, ◌∙◌, ap, sym, subst, not, ◌&&◌, inl, inr}
+use Rattle.std.proofs.lemmas.Bool.{not_from_false}
 use Rattle.std.specs.Prelude.{MatchBool}
 use Rattle.std.specs.declared.option.Option.{Option}
 use Rattle.phase_bits.specs.declared.holders.Holders.{Holders}
@@ -37,17 +38,18 @@ use Rattle.phase_schedule.specs.Kept.{open_after, record_in, kind_at, target_of,
 use Rattle.phase_schedule.specs.Meets.{some_nature, lock_nature}
 use Rattle.phase_schedule.specs.Tracks.{RunBy, Tracks, plans}
 use Rattle.phase_schedule.specs.Ready.{Tries, is_try, IsAgain, IsAnswered, answer_by, opened_by, waits_left}
+use Rattle.phase_schedule.proofs.Truth.{both_true}
 use Rattle.phase_schedule.proofs.KeptShares.{row_kept}
 use Rattle.phase_schedule.proofs.GivenOn.{given_on, given_concerned, listed_hand, reaches_given}
+use Rattle.phase_schedule.proofs.Places.{inside_plan}
+use Rattle.phase_schedule.proofs.Hands.{sound_of}
 use Rattle.phase_schedule.proofs.LockBarred.{open_with}
 use Rattle.phase_schedule.proofs.LockDue.{chosen_by, tried, kept_due, judged_due}
 use Rattle.phase_schedule.proofs.LockRun.{due_try}
 use Rattle.phase_schedule.proofs.LockCells.{locked_at}
 use Rattle.phase_schedule.proofs.LockOpened.{Opens, opened_at, opened_is}
-use Rattle.phase_schedule.proofs.LockFirst.{legal_quiet, view_with, kept_with, inside_plan}
-use Rattle.phase_schedule.proofs.LockView.{both_true}
+use Rattle.phase_schedule.proofs.LockFirst.{legal_quiet, view_with, kept_with}
 use Rattle.phase_schedule.proofs.LockCalm.{waits_calm}
-use Rattle.phase_schedule.proofs.LockLeft.{sound_shown}
 use Rattle.phase_schedule.proofs.LockKept.{kept_is, opens_kept}
 use Rattle.phase_schedule.proofs.LockGives.{rest_shown, after_apart, between_is, opens_given, gift_or_none, gift_parks, gift_taken, gift_free}
 
@@ -100,10 +102,6 @@ module _ (cells : List CellPlan) (h : List Event) (s : Step) (t : Target) (is : 
         gave = ap (λ r. may_give cells r First h s (record { answer = a; given = g })) is.free ∙ ap (λ o. may_give_first cells h s o g) is.attempted ∙ both_true (is_freed_first cells h s (tried t)) (reaches t.cell g (other_waits cells h s)) freed to;
       }
 
-not_true : (b : Bool) → b ≡ false → not b ≡ true
-not_true true e = absurd (cc)
-not_true false e = refl
-
 module _ (h : List Event) (v : View) (s : Step) (n : ℕ) (t : Target) (is : IsAgain h v s n t) where
   abbrev track : Tracks (plans v) h v
   track = is.attempt.ready.follows
@@ -122,7 +120,7 @@ module _ (h : List Event) (v : View) (s : Step) (n : ℕ) (t : Target) (is : IsA
   sound =
       let rc = track.locked.readers_count in
       let wc = track.locked.writers_count in
-      sound_shown (waits (plans v) h) v.parks track.locked.single track.locked.shows (omega (arith, rc, wc)) track.locked.few
+      sound_of (waits (plans v) h) v.parks track.locked.single track.locked.shows (omega (arith, rc, wc)) track.locked.few
 
   -- the locker keeps what the rule keeps
   kept_same : (nature : LockNature) → nature ≡ lock_nature (rule (cell_at (plans v) t.cell) (Calls t.call) (phase_at (plans v) t.cell h)) → row_keeps (row_of v.parks s.party).waiting nature record_is ≡ keeps_own (plans v) h s.party (tried t)
@@ -194,7 +192,7 @@ module _ (h : List Event) (v : View) (s : Step) (n : ℕ) (t : Target) (is : IsA
               (both_true _ (is_free_with t.cell h (other_waits (plans v) h s))
               (both_true (has_own (wait_of s.party (waits (plans v) h))) (not (keeps_own (plans v) h s.party (tried t)))
               (ap has_own at.is ∙ gift_taken (plans v) h s t (waits (plans v) h) at.wait at.is at.cell v.parks apart single shows sound (kind_at (cell_at (plans v) t.cell).place) (track.locked.fits t.cell known) gift)
-              (not_true (keeps_own (plans v) h s.party (tried t)) own))
+              (not_from_false (keeps_own (plans v) h s.party (tried t)) own))
               (gift_free (plans v) h s t (waits (plans v) h) at.wait at.is at.cell v.parks apart single shows sound gift)))
               (reaches_given t.cell g (other_waits (plans v) h s) (freed s.party v.parks) (rest_shown (plans v) h s t (waits (plans v) h) at.wait at.is at.cell v.parks apart single shows sound)
               (listed_hand t.cell (given_up (row_of v.parks s.party).waiting record_is) (freed s.party v.parks) g hands.may))

@@ -22,6 +22,7 @@ use Rattle.schedule_rules.specs.Holds.{reads_cell, writes_cell}
 use Rattle.phase_schedule.specs.Kept.{Open, readers_in, writers_in, drains_in, record_in, kind_at}
 use Rattle.phase_schedule.specs.Shown.{Shows, IsSingle}
 use Rattle.phase_schedule.specs.Tracks.{IsApart, Locked}
+use Rattle.phase_schedule.proofs.Truth.{or_left, lt_more}
 use Rattle.phase_schedule.proofs.Places.{eq_or_not, slice_get_set_same, slice_get_set_other}
 use Rattle.phase_schedule.proofs.Reaching.{flag_readers, flag_writers}
 use Rattle.phase_schedule.proofs.Added.{read_shares_added, write_shares_added, drains_added, drains_added_other}
@@ -115,12 +116,6 @@ section_more s o = let e = here s.cell (count (runs_in s.cell) o.sections) in om
 
 -- ---- the records of the cell itself
 
-pub lt_more : (m n : ℕ) (b : Bool) → m ≡ n + 1 → (nat_lt 0 m || b) ≡ true
-lt_more m n b e = rw e (by n b)
-  where
-    by : (n : ℕ) (b : Bool) → (nat_lt 0 (n + 1) || b) ≡ true
-    by n b = grind arith
-
 module _ (c phase : ℕ) (o : Open) (s : Parking) (shows : Shows o.waits s) where
   -- nothing more is open
   pub record_flagged : flagged c s (record_in c phase o) ≡ record_in c phase o
@@ -132,7 +127,7 @@ module _ (c phase : ℕ) (o : Open) (s : Parking) (shows : Shows o.waits s) wher
 
   record_locked : (o' : Open) → o'.waits ≡ o.waits → readers_in c o' ≡ readers_in c o → writers_in c o' ≡ writers_in c o + 1 → flagged c s (admit_write (record_in c phase o)) ≡ record_in c phase o'
   record_locked o' ws r w =
-      let l : (nat_lt 0 (writers_in c o') || nat_lt 0 (drains_in c o')) ≡ true = lt_more (writers_in c o') (writers_in c o) (nat_lt 0 (drains_in c o')) w in
+      let l : (nat_lt 0 (writers_in c o') || nat_lt 0 (drains_in c o')) ≡ true = or_left (nat_lt 0 (writers_in c o')) (nat_lt 0 (drains_in c o')) (lt_more (writers_in c o') (writers_in c o) w) in
       λ i. record { phase = phase_of phase; readers = sym r i; locked = sym l i; read_waiters = (flag_readers c o.waits s shows ∙ ap (list_any (parks_to_read c)) (sym ws)) i; write_waiters = (flag_writers c o.waits s shows ∙ ap (list_any (parks_to_write c)) (sym ws)) i }
 
   -- one writer more

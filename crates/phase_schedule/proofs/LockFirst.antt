@@ -38,6 +38,7 @@ use Rattle.phase_schedule.specs.Kept.{Open, open_after, record_in, kind_at}
 use Rattle.phase_schedule.specs.Meets.{some_nature, lock_nature}
 use Rattle.phase_schedule.specs.Tracks.{Kept, Locked, RunBy, Tracks, FollowsStep, event, plans}
 use Rattle.phase_schedule.specs.Ready.{Tries, IsFirst, IsAnswered, answer_by, opened_by}
+use Rattle.phase_schedule.proofs.Places.{inside_plan}
 use Rattle.phase_schedule.proofs.After.{tracks_after}
 use Rattle.phase_schedule.proofs.RowTries.{try_ends, steady_same}
 use Rattle.phase_schedule.proofs.Counted.{none_without}
@@ -78,10 +79,6 @@ kept_with cells content within o v c x k r parks size a =
       guard_cell = a.guard_cell;
       wait_cell = a.wait_cell;
     }
-
--- a cell of the rows is one of the plan
-pub inside_plan : (v : View) (c : ℕ) → c < length v.cells → c < length (plans v)
-inside_plan v c lt = rw length-map lt
 
 -- ---- a call of a party that does not wait
 

@@ -40,9 +40,10 @@ use Rattle.phase_schedule.proofs.Same.{agrees_core}
 use Rattle.phase_schedule.proofs.Records.{row_waits, agrees_row_given_up}
 use Rattle.phase_schedule.proofs.RowCounts.{shares_shown}
 use Rattle.phase_schedule.proofs.GivenOn.{given_on, IsListed, listed_hand, single_on, none_on, shows_on, core_on}
+use Rattle.phase_schedule.proofs.Hands.{sound_of, handed_writers}
 use Rattle.phase_schedule.proofs.LockBarred.{open_with}
 use Rattle.phase_schedule.proofs.LockCells.{before_then}
-use Rattle.phase_schedule.proofs.LockLeft.{sound_shown, before_left, before_given, freed_writers, handed_writers, handed_readers, handed_rows}
+use Rattle.phase_schedule.proofs.LockLeft.{before_left, before_given, freed_writers, handed_readers, handed_rows}
 use Rattle.phase_schedule.proofs.LockOpened.{Opens, opened_at, opens_judged, unlocked_none}
 
 module _ (cells : List CellPlan) (h : List Event) (s : Step) (t : Target) (ws : List WaitingCall) (w : WaitingCall) (is : wait_of s.party ws ≡ Some w) (here : w.cell ≡ t.cell) (parks : Parking) (apart : IsApart (open_with h ws) t.cell) (single : IsSingle ws) (shows : Shows ws parks) (sound : IsSound parks) where
@@ -73,7 +74,7 @@ module _ (cells : List CellPlan) (h : List Event) (s : Step) (t : Target) (ws : 
       let e0 = size.0 in
       let e1 = size.1 in
       let few = sound.few in
-      sound_shown rest (freed s.party parks) rest_single rest_shown (freed_writers s.party parks ∙ sound.cells ∙ sym e1) (omega (arith, e0, few))
+      sound_of rest (freed s.party parks) rest_single rest_shown (freed_writers s.party parks ∙ sound.cells ∙ sym e1) (omega (arith, e0, few))
 
   pub rest_apart : IsApart (open_with h rest) t.cell
   rest_apart =

@@ -25,12 +25,13 @@ use Rattle.phase_schedule.specs.Meets.{lock_nature}
 use Rattle.phase_schedule.specs.Shown.{Shows, IsSingle}
 use Rattle.phase_schedule.specs.Tracks.{IsApart}
 use Rattle.phase_schedule.specs.Ready.{asks_run}
+use Rattle.phase_schedule.proofs.Truth.{or_left, or_right, lt_more}
 use Rattle.phase_schedule.proofs.Single.{single_without}
 use Rattle.phase_schedule.proofs.ShowsFreed.{shows_freed}
 use Rattle.phase_schedule.proofs.Reaching.{flag_readers, flag_writers}
 use Rattle.phase_schedule.proofs.Keeping.{Fewer, fewer_reads, fewer_writes, fewer_drains}
 use Rattle.phase_schedule.proofs.LockBarred.{open_with}
-use Rattle.phase_schedule.proofs.LockCells.{AsBefore, before_then, before_reader, before_writer, before_section, guarded, sectioned, reader_more, writer_more, section_more, lt_more}
+use Rattle.phase_schedule.proofs.LockCells.{AsBefore, before_then, before_reader, before_writer, before_section, guarded, sectioned, reader_more, writer_more, section_more}
 use Rattle.phase_schedule.proofs.LockLeft.{before_left, freed_writers}
 use Rattle.phase_schedule.proofs.LockOpened.{Opens, opened_at}
 
@@ -69,10 +70,6 @@ pub record_moved : (c phase : ℕ) (o o' : Open) (s : Parking) → Shows o'.wait
     → flagged c s (record_in c phase o) ≡ record_in c phase o'
 record_moved c phase o o' s shows er el =
     λ i. record { phase = phase_of phase; readers = er i; locked = el i; read_waiters = flag_readers c o'.waits s shows i; write_waiters = flag_writers c o'.waits s shows i }
-
-right_more : (m n : ℕ) (b : Bool) → m ≡ n + 1 → (b || nat_lt 0 m) ≡ true
-right_more m n true e = refl
-right_more m n false e = grind (arith, e)
 
 module _ (cells : List CellPlan) (h : List Event) (s : Step) (t : Target) (ws : List WaitingCall) (w : WaitingCall) (is : wait_of s.party ws ≡ Some w) (here : w.cell ≡ t.cell) (parks parks' : Parking) (x' : Holders) (apart : IsApart (open_with h ws) t.cell) (single : IsSingle ws) (shows : Shows ws parks) (sound : IsSound parks)
     (rows : parks' ≡ freed s.party parks) (held : x' ≡ flagged t.cell parks' (record_in t.cell (phase_at cells t.cell h) (open_with h ws))) where
@@ -115,8 +112,8 @@ module _ (cells : List CellPlan) (h : List Event) (s : Step) (t : Target) (ws : 
       let shown : Shows o'.waits parks' = subst (λ vs. Shows vs parks') (sym ew) now in
       record {
         held = held ∙ record_moved t.cell (phase_at cells t.cell h) (open_with h ws) o' parks' shown er
-            (right_more (drains_in t.cell (open_with h ws)) (drains_in t.cell (open_with h (without_wait s.party ws))) (nat_lt 0 (writers_in t.cell (open_with h ws))) (sym fd)
-            ∙ sym (lt_more (writers_in t.cell o') (writers_in t.cell (open_with h (without_wait s.party ws))) (nat_lt 0 (drains_in t.cell o')) ew'));
+            (or_right (nat_lt 0 (writers_in t.cell (open_with h ws))) (nat_lt 0 (drains_in t.cell (open_with h ws))) (lt_more (drains_in t.cell (open_with h ws)) (drains_in t.cell (open_with h (without_wait s.party ws))) (sym fd))
+            ∙ sym (or_left (nat_lt 0 (writers_in t.cell o')) (nat_lt 0 (drains_in t.cell o')) (lt_more (writers_in t.cell o') (writers_in t.cell (open_with h (without_wait s.party ws))) ew')));
         before = λ d ne. before_then d (open_with h ws) (open_with h (without_wait s.party ws)) o' (elsewhere d ne) (before d ne);
         apart = record { one = omega (arith, one, fw, fd, ew', ed'); no_reader = λ lt. sym er ∙ has.1; limit = let l = apart.limit in omega (arith, er, l) };
         shows = shown;

@@ -24,17 +24,7 @@ use Rattle.phase_schedule.specs.View.{View, view}
 use Rattle.phase_schedule.specs.Kept.{open_after, record_in, kind_at, runner_in}
 use Rattle.phase_schedule.specs.Tracks.{plans}
 use Rattle.phase_schedule.specs.Ready.{IsAttempt, IsAnswered}
-use Rattle.phase_schedule.proofs.Places.{row_at}
-use Rattle.phase_schedule.proofs.LockFirst.{inside_plan}
-
--- what is seen of the locker that stands there
-pub seen_at : {A B : Type 0} (f : A → B) (ls : List A) (i : ℕ) (x : A) (y : B) → x ≡ get_or ls i x → i < length (map f ls) → slice_get (map f ls) i ≡ Some y → f x ≡ y
-seen_at f ls i x y at lt e =
-    let there : slice_get ls i ≡ Some x = slice_get_read ls (length ls) i x refl (rw length-map at lt) at in
-    some (ap (λ o. option_map f o) (sym there) ∙ sym (slice_get-map f ls i) ∙ e)
-  where
-    some : Some (f x) ≡ Some y → f x ≡ y
-    some q = cc
+use Rattle.phase_schedule.proofs.Places.{row_at, inside_plan, mapped_at}
 
 -- ---- one sequentializer is changed
 
@@ -52,18 +42,15 @@ module _ {L : Type 0} (held : L → Holders) (place : L → LockerKind) (rows : 
 
   -- its record
   pub held_seen : held q.locker ≡ record_in t.cell (phase_at (plans (view held place rows)) t.cell h) (open_after (plans (view held place rows)) h)
-  held_seen = seen_at (λ x. held x.locker) rows.sequentializers.items t.cell q (record_in t.cell (phase_at (plans (view held place rows)) t.cell h) (open_after (plans (view held place rows)) h)) at
-      (let k = known in let e = is.ready.follows.locked.held_count in omega (arith, k, e)) (is.ready.follows.locked.held t.cell known)
+  held_seen = mapped_at (λ x. held x.locker) rows.sequentializers.items t.cell q (record_in t.cell (phase_at (plans (view held place rows)) t.cell h) (open_after (plans (view held place rows)) h)) q at (is.ready.follows.locked.held t.cell known)
 
   -- its kind
   pub place_seen : place q.locker ≡ kind_at (cell_at (plans (view held place rows)) t.cell).place
-  place_seen = seen_at (λ x. place x.locker) rows.sequentializers.items t.cell q (kind_at (cell_at (plans (view held place rows)) t.cell).place) at
-      (let k = known in let e = is.ready.follows.locked.place_count in omega (arith, k, e)) (is.ready.follows.locked.place t.cell known)
+  place_seen = mapped_at (λ x. place x.locker) rows.sequentializers.items t.cell q (kind_at (cell_at (plans (view held place rows)) t.cell).place) q at (is.ready.follows.locked.place t.cell known)
 
   -- who runs
   pub running_seen : q.running ≡ runner_in t.cell (sections h)
-  running_seen = seen_at (λ x. x.running) rows.sequentializers.items t.cell q (runner_in t.cell (sections h)) at
-      (let k = known in let e = is.ready.follows.run_by.count in omega (arith, k, e)) (is.ready.follows.run_by.each t.cell known)
+  running_seen = mapped_at (λ x. x.running) rows.sequentializers.items t.cell q (runner_in t.cell (sections h)) q at (is.ready.follows.run_by.each t.cell known)
 
   -- it fits the parked rows
   pub fits_seen : Fits (place q.locker) (held q.locker) rows.parks t.cell
@@ -72,9 +59,3 @@ module _ {L : Type 0} (held : L → Holders) (place : L → LockerKind) (rows : 
 -- the plan of the cell that is attempted
 pub plan_seen : (h : List Event) (v : View) (s : Step) (n : ℕ) (t : Target) → IsAttempt h v s n t → (row : CellRow) → row ≡ get_or v.cells t.cell row → row.plan ≡ cell_at (plans v) t.cell
 plan_seen h v s n t is row at = ap (λ (r : CellRow). r.plan) (row_at v.cells t.cell row _ at is.cell (is.ready.follows.kept.cell t.cell is.cell))
-
--- ---- tests
-
-pub both_true : (a b : Bool) → a ≡ true → b ≡ true → (a && b) ≡ true
-both_true true b e f = f
-both_true false b e f = absurd (cc)

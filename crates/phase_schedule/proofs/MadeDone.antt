@@ -42,11 +42,11 @@ use Rattle.phase_schedule.specs.Meets.{IsGenerating, section_in}
 use Rattle.phase_schedule.specs.View.{View}
 use Rattle.phase_schedule.specs.Tracks.{Follows, FollowsStep, Tracks, event, plans}
 use Rattle.phase_schedule.specs.Ready.{IsInnermost, IsFailing, IsMadeToRead, IsMadeToWrite}
-use Rattle.phase_schedule.proofs.Places.{row_at}
+use Rattle.phase_schedule.proofs.Places.{row_at, inside_plan, read_once}
 use Rattle.phase_schedule.proofs.RowOpens.{numbered_above, run_top}
 use Rattle.phase_schedule.proofs.MadeOpens.{runs_once, no_writer_here}
 use Rattle.phase_schedule.proofs.MadeKept.{closed_row, drafted_row}
-use Rattle.phase_schedule.proofs.MadeEnds.{Called, called, fits_read, read_once, write_open}
+use Rattle.phase_schedule.proofs.MadeEnds.{Called, called, fits_read, write_open}
 use Rattle.phase_schedule.proofs.MadeRuns.{runner_is}
 use Rattle.phase_schedule.proofs.MadeFailed.{tracks_failed}
 use Rattle.phase_schedule.proofs.MadeReads.{tracks_read}
@@ -57,9 +57,6 @@ pub in_lockers : {L X : Type 0} (f : L → X) (lockers : List L) (n c : ℕ) →
 in_lockers f lockers n c size lt = let same : length (map f lockers) ≡ length lockers = length-map _ _ in omega (arith, size, same, lt)
 
 module _ (h : List Event) (v : View) (t : Follows h v) where
-  -- a cell is one of the plan
-  pub in_plan : (c : ℕ) → c < length v.cells → c < length (plans v)
-  in_plan c lt = rw (length-map {A = CellRow}) lt
 
   -- the step to come has opened no guard
   pub slot_free : (n : ℕ) → n ≡ length h → length h < length v.guards → slice_get v.guards n ≡ Some guard.Free
@@ -90,7 +87,7 @@ module _ (h : List Event) (v : View) (t : Follows h v) where
     pub running_run : (x : Holders) (runs : Option ℕ) → wait_of p (waits (plans v) h) ≡ None → slice_get v.held run.cell ≡ Some x → slice_get v.running run.cell ≡ Some runs → IsRunning (section_of run.cell p run.call) runs x v.parks
     running_run x runs idle held run_at =
         record {
-          party = read_once v.running run.cell runs _ run_at (t.run_by.each run.cell (in_plan run.cell e.inside)) ∙ subst (λ c. runner_in c (sections h) ≡ Some p) e.cell (runner_is (plans v) h p e.section e.found t.locked.apart);
+          party = read_once v.running run.cell runs _ run_at (t.run_by.each run.cell (inside_plan v run.cell e.inside)) ∙ subst (λ c. runner_in c (sections h) ≡ Some p) e.cell (runner_is (plans v) h p e.section e.found t.locked.apart);
           asked = asked_of run.call;
           locked = open_run_here x idle held;
         }
@@ -102,16 +99,16 @@ module _ (h : List Event) (v : View) (t : Follows h v) where
 
         open_run_here : (x : Holders) → wait_of p (waits (plans v) h) ≡ None → slice_get v.held run.cell ≡ Some x → IsWriteOpen x v.parks run.cell
         open_run_here x idle held =
-            subst (λ c. slice_get v.held c ≡ Some x → c < length (plans v) → IsWriteOpen x v.parks c) e.cell (λ is lt. write_open (plans v) h v t p idle e.section e.found x lt is) held (in_plan run.cell e.inside)
+            subst (λ c. slice_get v.held c ≡ Some x → c < length (plans v) → IsWriteOpen x v.parks c) e.cell (λ is lt. write_open (plans v) h v t p idle e.section e.found x lt is) held (inside_plan v run.cell e.inside)
 
     -- the record of its locker fits the rows
     pub fits_run : (x : Holders) (k : LockerKind) → wait_of p (waits (plans v) h) ≡ None → slice_get v.held run.cell ≡ Some x → slice_get v.places run.cell ≡ Some k → Fits k x v.parks run.cell
-    fits_run x k idle held place = fits_read (plans v) h v t p idle run.cell x k (in_plan run.cell e.inside) held place
+    fits_run x k idle held place = fits_read (plans v) h v t p idle run.cell x k (inside_plan v run.cell e.inside) held place
 
     -- what the end of the run asks for, and what it does, with the section that was taken out of the row
     module _ (idle : wait_of p (waits (plans v) h) ≡ None) (o : SeqSection) (is : o ≡ section_of run.cell p run.call) where
       pub finish_cell : o.who.cell < length v.parks.readers
-      finish_cell = rw (is, t.locked.readers_count) (in_plan run.cell e.inside)
+      finish_cell = rw (is, t.locked.readers_count) (inside_plan v run.cell e.inside)
 
       pub finish_runs : (x : Holders) (runs : Option ℕ) → slice_get v.held run.cell ≡ Some x → slice_get v.running run.cell ≡ Some runs → IsRunning o runs x v.parks
       finish_runs x runs held run_at = subst (λ (q : SeqSection). IsRunning q runs x v.parks) (sym is) (running_run x runs idle held run_at)

@@ -25,7 +25,7 @@ use Rattle.schedule_rules.specs.Core.{core}
 use Rattle.phase_schedule.specs.Kept.{record_in, kind_at}
 use Rattle.phase_schedule.specs.Tracks.{Locked, Tracks}
 use Rattle.phase_schedule.specs.View.{View}
-use Rattle.phase_schedule.proofs.Places.{eq_or_not, other_number, same_number}
+use Rattle.phase_schedule.proofs.Places.{eq_or_not, other_number, same_number, read_once}
 use Rattle.phase_schedule.proofs.Same.{agrees_core}
 use Rattle.phase_schedule.proofs.RowCounts.{row_free, write_open_shown}
 use Rattle.phase_schedule.proofs.Hands.{locked_sound}
@@ -64,10 +64,6 @@ called held place runs lockers parks c l l' parks' at lt others fits same over s
       kinds_are = map-set_same place lockers c l' l (same ∙ ap place at);
       running_are = map-set runs lockers c l' ∙ ap (λ o. set (map runs lockers) c o) over;
     }
-
--- one thing is read at one place
-pub read_once : {X : Type 0} (xs : List X) (c : ℕ) (x y : X) → slice_get xs c ≡ Some x → slice_get xs c ≡ Some y → x ≡ y
-read_once xs c x y p q = let e : Some x ≡ Some y = sym p ∙ q in cc
 
 -- the record of a cell is that of as many holds
 pub record_counts : (d : ℕ) (ws : List Wait) (ss ss' : List Section) (gs gs' : List Guard) (q q' : ℕ) → q' ≡ q → count (reads_cell d) gs' ≡ count (reads_cell d) gs → count (writes_cell d) gs' + count (runs_in d) ss' ≡ count (writes_cell d) gs + count (runs_in d) ss

@@ -7,7 +7,7 @@ use Rattle.schedule_rules.specs.Waits.{Wait, party_if, parks_to_read, parks_to_w
 use Rattle.schedule_rules.proofs.Found.{none_found}
 use Rattle.phase_schedule.specs.Shown.{IsSingle}
 use Rattle.phase_schedule.proofs.Each.{woken_to_write}
-use Rattle.phase_schedule.proofs.Lists.{listed, listed_readers, listed_writers, writer_woken}
+use Rattle.phase_schedule.proofs.Lists.{listed, listed_readers, listed_writers}
 use Rattle.phase_schedule.proofs.Counted.{one_of, count_woken}
 
 -- a party is in a list as often as it has a call that passes

@@ -19,7 +19,7 @@ use Rattle.phase_schedule.specs.Kept.{call_of, cell_of, cell_row, open_after, op
 use Rattle.phase_schedule.specs.Meets.{run_of}
 use Rattle.phase_schedule.specs.Tracks.{Follows, plans}
 use Rattle.phase_schedule.specs.Ready.{IsInnermost}
-use Rattle.phase_schedule.proofs.Places.{row_at, same_number}
+use Rattle.phase_schedule.proofs.Places.{row_at, same_number, planned_length}
 use Rattle.phase_schedule.proofs.RowOpens.{run_top}
 
 pub run_of_open : (c : ℕ) (r : Option RunRow) → run_of (open_run c r) ≡ r
@@ -51,10 +51,6 @@ module _ (h : List Event) (v : View) (t : Follows h v) (p : ℕ) (s : Section) (
   pub found_here : find (runs_in s.cell) (sections h) ≡ Some s
   found_here = only_one (λ x. x.party == p) (runs_in s.cell) (sections h) s is (same_number s.cell) (omega (arith, runs_once))
 
--- there are as many rows of cells as cells in the plan
-pub planned_length : (v : View) → length (plans v) ≡ length v.cells
-planned_length v = length-map _ _
-
 module _ (h : List Event) (v : View) (t : Follows h v) (p c : ℕ) (row : PartyRow) (row_is : row ≡ party_row p (open_after (plans v) h)) (c_is : row.innermost ≡ Some c) where
   its_section : (s : Section) × (innermost p (sections h) ≡ Some s) × (s.cell ≡ c)
   its_section = section_of (innermost p (sections h)) c (sym (ap (λ r. r.innermost) row_is) ∙ c_is)
@@ -63,7 +59,7 @@ module _ (h : List Event) (v : View) (t : Follows h v) (p c : ℕ) (row : PartyR
   its_cell =
       let f : _ = its_section in
       let known : f.0.cell < length (plans v) = t.kept.section_cell f.0.cell f.0 (found_here h v t p f.0 f.1) in
-      subst (λ d. d < length v.cells) f.2 (subst (λ n. f.0.cell < n) (planned_length v) known)
+      subst (λ d. d < length v.cells) f.2 (subst (λ n. f.0.cell < n) (sym (planned_length v.cells (plans v) refl)) known)
 
   -- the row of the cell shows it
   its_run : (r : CellRow) → r ≡ cell_row (cell_at (plans v) c) c (replay (plans v) c h) (inside (plans v) h) (open_after (plans v) h) → run_of r.section ≡ Some (record { party = p; call = call_of its_section.0.want; outer = cell_of (innermost p (without_innermost p (sections h))) })

@@ -31,16 +31,13 @@ use Rattle.phase_schedule.specs.Kept.{call_of, cell_of, cell_row, guard_row, kin
 use Rattle.phase_schedule.specs.Tracks.{NumbersBelow, Tracks}
 use Rattle.phase_schedule.specs.Closing.{HoldsAt, HoldsLocks, IsOfCell, RunsAt, locks_of, reads_row, writes_row}
 use Rattle.phase_schedule.proofs.RowCounts.{open_reads_shown, write_open_shown}
+use Rattle.phase_schedule.proofs.Places.{planned_length}
+use Rattle.phase_schedule.proofs.RowOpens.{numbered_above}
 use Rattle.phase_schedule.proofs.RunClosing.{count_set}
 use Rattle.phase_schedule.proofs.Same.{agrees_core}
 use Rattle.phase_schedule.proofs.Slots.{set_shows}
 
 -- ---- guards by their numbers
-
--- no guard has a number from n on
-none_above : (n g : ℕ) (gs : List Guard) → NumbersBelow n gs → n ≤ g → numbered g gs ≡ None
-none_above n g [] b le = refl
-none_above n g (x ∷ gs) b le = let lt : x.number < n = b.0 in let rest = none_above x.number g gs b.1 (omega (arith, lt, le)) in grind (arith, lt, le, rest)
 
 found_first : (x : Guard) (gs : List Guard) → numbered x.number (x ∷ gs) ≡ Some x
 found_first x gs = grind arith
@@ -73,7 +70,7 @@ count_slots f n [] rows fails below all = none_pass f rows fails all
 count_slots f n (x ∷ gs) rows fails below all =
     let here : get_or rows x.number guard.Free ≡ guard_row (Some x) = all x.number ∙ ap guard_row (found_first x gs) in
     let lt : x.number < length rows = elim (cases_lt x.number (length rows)) [ inl k ↦ k | inr k ↦ absurd (never_free x (sym here ∙ get_or_past rows x.number guard.Free k)) ] in
-    let none : numbered x.number gs ≡ None = none_above x.number x.number gs below.1 (omega arith) in
+    let none : numbered x.number gs ≡ None = numbered_above x.number x.number gs below.1 (omega arith) in
     let rest = count_slots f x.number gs (set rows x.number guard.Free) fails below.1 (set_shows rows x.number guard.Free guard.Free (λ g. guard_row (numbered g (x ∷ gs))) (λ g. guard_row (numbered g gs)) all (λ g ne. ap guard_row (found_beside x gs g ne)) lt (sym (ap guard_row none))) in
     let one = rw (here, fails) at (count_set f rows x.number guard.Free guard.Free lt) in
     add (f (guard_row (Some x))) _ _ _ rest one
@@ -137,18 +134,15 @@ section_runs c within None ss = run_runs ss
 -- ---- rows that stand for a history
 
 module _ (cells : List CellPlan) (h : List Event) (v : View) (t : Tracks cells h v) where
-  planned_length : length v.cells ≡ length cells
-  planned_length = let e : map (λ r. r.plan) v.cells ≡ cells = t.kept.planned in by v.cells cells e
-    where
-      by : (rows : List _) (cells : List CellPlan) → plans_in rows ≡ cells → length rows ≡ length cells
-      by rows cells e = grind (arith, common_steps)
+  as_many : length v.cells ≡ length cells
+  as_many = planned_length v.cells cells t.kept.planned
 
   -- each slot shows the guard of its number, where there is one
   slots : (g : ℕ) → get_or v.guards g guard.Free ≡ guard_row (numbered g (guards h))
   slots g =
       elim (cases_lt g (length v.guards)) [
         | inl k ↦ get_or_from_slice_get v.guards g _ guard.Free (t.kept.slot g k)
-        | inr k ↦ get_or_past v.guards g guard.Free k ∙ sym (ap guard_row (none_above (length h) g (guards h) t.steady.numbers (let r : _ = t.room in omega (arith, r, k))))
+        | inr k ↦ get_or_past v.guards g guard.Free k ∙ sym (ap guard_row (numbered_above (length h) g (guards h) t.steady.numbers (let r : _ = t.room in omega (arith, r, k))))
       ]
 
   reads_counted : (c : ℕ) → count_by (reads_row c) v.guards ≡ read_guards c h
@@ -162,7 +156,7 @@ module _ (cells : List CellPlan) (h : List Event) (v : View) (t : Tracks cells h
   of_cell g (Some x) e = by x.writes
     where
       lt : x.cell < length v.cells
-      lt = subst (λ (n : ℕ). x.cell < n) (sym planned_length) (t.kept.guard_cell g x e)
+      lt = subst (λ (n : ℕ). x.cell < n) (sym as_many) (t.kept.guard_cell g x e)
 
       by : (b : Bool) → IsOfCell (length v.cells) (cond {A = GuardRow} b (guard.Write x.party x.cell write_ticket) (guard.Read x.party x.cell read_ticket))
       by true = lt
@@ -172,13 +166,13 @@ module _ (cells : List CellPlan) (h : List Event) (v : View) (t : Tracks cells h
   pub holds_locks : length v.cells < 2 ^ 32 → HoldsLocks v
   holds_locks few =
       record {
-        at = λ c lt. holds_at c (subst (λ (n : ℕ). c < n) planned_length lt) lt;
+        at = λ c lt. holds_at c (subst (λ (n : ℕ). c < n) as_many lt) lt;
         guards = λ g d lt. subst (IsOfCell (length v.cells)) (sym (get_or_from_slice_get v.guards g _ d (t.kept.slot g lt))) (of_cell g (numbered g (guards h)) refl);
         few = few;
-        lockers = t.locked.held_count ∙ sym planned_length;
-        places = t.locked.place_count ∙ sym planned_length;
-        runners = t.run_by.count ∙ sym planned_length;
-        parks = t.locked.readers_count ∙ sym planned_length;
+        lockers = t.locked.held_count ∙ sym as_many;
+        places = t.locked.place_count ∙ sym as_many;
+        runners = t.run_by.count ∙ sym as_many;
+        parks = t.locked.readers_count ∙ sym as_many;
       }
     where
       holds_at : (c : ℕ) → c < length cells → c < length v.cells → HoldsAt v c
