@@ -1,5 +1,6 @@
 -- A call that waits is none for the phase alone: that would have been answered.
 use Rattle.std.proofs.Common.{◌≡◌, ◌≢◌, ℕ, List, [], ◌∷◌, refl, Bool, true, false, None, Some, ◌∙◌, ap, sym, subst, not, ◌&&◌, inl, inr}
+use Rattle.std.proofs.lemmas.Bool.{cases_eq}
 use Rattle.std.specs.Prelude.{if◌then◌else◌}
 use Rattle.std.specs.declared.option.Option.{Option}
 use Rattle.phase_bits.specs.declared.phase.Phase.{Phase}
@@ -20,7 +21,6 @@ use Rattle.schedule_rules.specs.Answers.{Meeting, answer_of_attempt}
 use Rattle.schedule_rules.specs.Due.{due_answer, due_tried, meeting}
 use Rattle.schedule_rules.specs.Legal.{IsLegal, IsLegalLine, Moment, First, Last, due_at}
 use Rattle.schedule_rules.proofs.Opened.{wait_removed}
-use Rattle.phase_schedule.proofs.Places.{eq_or_not}
 use Rattle.phase_schedule.proofs.Finding.{wait_added}
 use Rattle.phase_schedule.proofs.Single.{none_given}
 use Rattle.phase_schedule.proofs.LockCalm.{attempt_beside, due_by, not_refused}
@@ -69,7 +69,7 @@ module _ (cells : List CellPlan) where
   asks : (p : ℕ) (h : List Event) → IsLegal cells h → Asks (attempt_of_wait (wait_of p (waits cells h)))
   asks p [] legal = tt
   asks p (e ∷ h) legal =
-      elim (eq_or_not e.step.party p) [
+      elim (cases_eq e.step.party p) [
         | inl q ↦ subst (λ r. Asks (attempt_of_wait (wait_of r (waits cells (e ∷ h))))) q (steps h e.step e.line legal.0 (asks e.step.party h legal.2) e.line.answer refl)
         | inr ne ↦ subst (λ o. Asks o) (sym (attempt_beside cells h e.step e.line.given p (waits cells h) ne e.line.answer)) (asks p h legal.2)
       ]

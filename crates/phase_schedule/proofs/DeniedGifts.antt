@@ -18,7 +18,7 @@ use Rattle.phase_schedule.proofs.Each.{woken_to_write}
 use Rattle.phase_schedule.proofs.Lists.{any_readers}
 use Rattle.phase_schedule.proofs.Counted.{read_shares_woken}
 use Rattle.phase_schedule.proofs.GivenOn.{given_on}
-use Rattle.phase_schedule.proofs.GuardHands.{idle_counts}
+use Rattle.phase_schedule.proofs.Apart.{idle_counts}
 
 -- ---- a share that is given is left on its cell
 

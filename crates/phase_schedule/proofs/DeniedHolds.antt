@@ -23,7 +23,7 @@ use Rattle.phase_schedule.specs.Tracks.{IsApart, Locked}
 use Rattle.phase_schedule.specs.Ready.{still_open, with_guard}
 use Rattle.phase_schedule.proofs.GivenOn.{given_on, IsListed, listed_hand, single_on, shows_on, core_on}
 use Rattle.phase_schedule.proofs.Hands.{sound_of, handed_writers}
-use Rattle.phase_schedule.proofs.GuardHands.{apart_less, apart_given, hand_adds}
+use Rattle.phase_schedule.proofs.Apart.{apart_less, apart_given, hand_adds}
 use Rattle.phase_schedule.proofs.GuardGone.{reads_not_there, writes_not_there}
 use Rattle.phase_schedule.proofs.LockCells.{AsBefore, before_then, locked_at}
 use Rattle.phase_schedule.proofs.LockLeft.{before_given}

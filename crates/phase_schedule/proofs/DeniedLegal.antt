@@ -29,8 +29,8 @@ use Rattle.phase_schedule.specs.Shown.{Agrees, Shows}
 use Rattle.phase_schedule.specs.Ready.{Tries, is_try, waits_left}
 use Rattle.phase_schedule.proofs.Truth.{both_are, or_right, none_stands}
 use Rattle.phase_schedule.proofs.GivenOn.{given_on, given_concerned, IsListed, listed_hand, reaches_given}
-use Rattle.phase_schedule.proofs.GuardHands.{idle_counts}
-use Rattle.phase_schedule.proofs.MadeLegal.{may_last, parks_there}
+use Rattle.phase_schedule.proofs.Apart.{idle_counts}
+use Rattle.phase_schedule.proofs.Lines.{may_last, parks_there}
 use Rattle.phase_schedule.proofs.LockAgain.{concerned}
 use Rattle.phase_schedule.proofs.DeniedGifts.{given_once}
 

@@ -22,7 +22,7 @@ use Rattle.phase_schedule.specs.View.{View}
 use Rattle.phase_schedule.specs.Meets.{put_row}
 use Rattle.phase_schedule.specs.Tracks.{FollowsStep, Tracks, plans}
 use Rattle.phase_schedule.specs.Ready.{IsDraft, IsHeld, IsHolding}
-use Rattle.phase_schedule.proofs.GuardHands.{legal_quiet}
+use Rattle.phase_schedule.proofs.Lines.{legal_quiet}
 use Rattle.phase_schedule.proofs.GuardReader.{steady_same}
 use Rattle.phase_schedule.proofs.GuardRefused.{look_free, set_held}
 use Rattle.phase_schedule.proofs.GuardPut.{steady_put, slot_put, guard_put, cell_put}

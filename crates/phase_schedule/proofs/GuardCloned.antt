@@ -1,5 +1,6 @@
 -- After a read guard is cloned, or is not, the rows stand for the longer history.
 use Rattle.std.proofs.Common.{◌≡◌, ◌≢◌, ℕ, ◌+◌, ◌<◌, List, ◌∷◌, length, set, refl, sym, ◌∙◌, ap, subst, arith, Bool, true, false, None, Some, inl, inr, length-set}
+use Rattle.std.proofs.lemmas.Bool.{cases_eq}
 use Rattle.std.specs.Prelude.{◌==◌, ◌&&◌, ◌||◌, nat_lt, if◌then◌else◌}
 use Rattle.phase_bits.specs.declared.holders.Holders.{Holders}
 use Rattle.phase_bits.specs.Number.{phase_of}
@@ -29,9 +30,9 @@ use Rattle.phase_schedule.specs.Kept.{Open, kind_at, open_after}
 use Rattle.phase_schedule.specs.Shown.{Agrees}
 use Rattle.phase_schedule.specs.Tracks.{IsApart, Tracks}
 use Rattle.phase_schedule.specs.Ready.{IsHeld}
-use Rattle.phase_schedule.proofs.Places.{eq_or_not}
 use Rattle.phase_schedule.proofs.Counted.{none_without}
-use Rattle.phase_schedule.proofs.GuardHands.{apart_less, legal_quiet}
+use Rattle.phase_schedule.proofs.Lines.{legal_quiet}
+use Rattle.phase_schedule.proofs.Apart.{apart_less}
 use Rattle.phase_schedule.proofs.GuardGone.{reads_here}
 use Rattle.phase_schedule.proofs.GuardQuiet.{quiet_step}
 use Rattle.phase_schedule.proofs.GuardReader.{nobody_moved, size_same, reads_more, reads_elsewhere, slot_read, known_read, steady_reader, steady_same}
@@ -127,7 +128,7 @@ module _ (cells : List CellPlan) (h : List Event) (v : View) (t : Tracks cells h
 
     apart : (d : ℕ) → IsApart open_then d
     apart d =
-        elim (eq_or_not d c) [
+        elim (cases_eq d c) [
           | inl e ↦ subst (λ n. IsApart open_then n) (sym e) here
           | inr ne ↦ other ne
         ]

@@ -1,5 +1,6 @@
 -- What is open, and what the rows show, once a guard is given back.
 use Rattle.std.proofs.Common.{◌≡◌, ◌≢◌, ℕ, suc, ◌+◌, ◌<◌, ◌≤◌, List, length, set, get_or, refl, sym, ◌∙◌, ap, subst, arith, Bool, true, false, cond, None, Some, inl, inr}
+use Rattle.std.proofs.lemmas.Bool.{cases_eq}
 use Rattle.std.specs.Prelude.{◌==◌, slice_get}
 use Rattle.std.specs.List.{find}
 use Rattle.std.specs.declared.option.Option.{Option}
@@ -20,7 +21,7 @@ use Rattle.phase_schedule.specs.declared.rows.GuardRow.TheVariants as guard
 use Rattle.phase_schedule.specs.View.{View}
 use Rattle.phase_schedule.specs.Kept.{Open, cell_row, draft_of, guard_row, open_after, run_in, section_by}
 use Rattle.phase_schedule.specs.Tracks.{NumbersBelow, Tracks}
-use Rattle.phase_schedule.proofs.Places.{eq_or_not, row_at, other_number, same_number, set_view}
+use Rattle.phase_schedule.proofs.Places.{row_at, other_number, same_number, set_view}
 use Rattle.phase_schedule.proofs.RowOpens.{no_run, numbered_removed, numbers_more, numbers_removed}
 use Rattle.phase_schedule.proofs.After.{IsSteadyWith}
 
@@ -67,7 +68,7 @@ module _ (cells : List CellPlan) (h : List Event) (v : View) (t : Tracks cells h
   -- the other guards are kept
   pub guard_was : (k : ℕ) (y : Guard) → numbered k (without_guard g (guards h)) ≡ Some y → numbered k (guards h) ≡ Some y
   guard_was k y e =
-      elim (eq_or_not k g) [
+      elim (cases_eq k g) [
         | inl q ↦ absurd (gone q)
         | inr ne ↦ sym (guard_kept g k (guards h) ne) ∙ e
       ]

@@ -1,5 +1,6 @@
 -- What is open, and what the rows show, once the holder of a write guard set a value.
 use Rattle.std.proofs.Common.{◌≡◌, ◌≢◌, ℕ, suc, ◌<◌, List, length, set, get_or, refl, sym, ◌∙◌, ap, subst, arith, true, None, Some, inl, inr}
+use Rattle.std.proofs.lemmas.Bool.{cases_eq}
 use Rattle.std.specs.Prelude.{◌==◌, slice_get}
 use Rattle.std.specs.List.{find}
 use Rattle.schedule_rules.specs.declared.plan.CellPlan.{CellPlan}
@@ -17,7 +18,7 @@ use Rattle.phase_schedule.specs.View.{View}
 use Rattle.phase_schedule.specs.Kept.{Open, cell_row, guard_row, open_after, run_in, section_by}
 use Rattle.phase_schedule.specs.Meets.{put_row, put_section}
 use Rattle.phase_schedule.specs.Tracks.{Tracks}
-use Rattle.phase_schedule.proofs.Places.{eq_or_not, row_at, same_view, set_view}
+use Rattle.phase_schedule.proofs.Places.{row_at, same_view, set_view}
 use Rattle.phase_schedule.proofs.RowOpens.{numbers_more, numbers_put}
 use Rattle.phase_schedule.proofs.After.{IsSteadyWith}
 use Rattle.phase_schedule.proofs.GuardGone.{found_writer, writes_here}
@@ -45,7 +46,7 @@ module _ (cells : List CellPlan) (h : List Event) (v : View) (t : Tracks cells h
 
   writer_then : (d : ℕ) (y : Guard) → find (writes_cell d) guards_put ≡ Some y → (z : Guard) × (find (writes_cell d) (guards h) ≡ Some z) × (y.start ≡ z.start)
   writer_then d y e =
-      elim (eq_or_not d c) [
+      elim (cases_eq d c) [
         | inl q ↦ (x, ap (λ n. find (writes_cell n) (guards h)) q ∙ writer_before, ap (λ z. z.start) (same q))
         | inr ne ↦ (y, sym (writer_other d ne) ∙ e, refl)
       ]
@@ -71,14 +72,14 @@ module _ (cells : List CellPlan) (h : List Event) (v : View) (t : Tracks cells h
     where
       same : (k : ℕ) → guard_row (numbered k guards_put) ≡ guard_row (numbered k (guards h))
       same k =
-          elim (eq_or_not k g) [
+          elim (cases_eq k g) [
             | inl q ↦ ap (λ j. guard_row (numbered j guards_put)) q ∙ ap guard_row (numbered_put g value (guards h) x is) ∙ sym (ap guard_row is) ∙ ap (λ j. guard_row (numbered j (guards h))) (sym q)
             | inr ne ↦ ap guard_row (numbered_put_other g k value (guards h) ne)
           ]
 
   pub guard_put : (k : ℕ) (y : Guard) → numbered k guards_put ≡ Some y → y.cell < length cells
   guard_put k y e =
-      elim (eq_or_not k g) [
+      elim (cases_eq k g) [
         | inl q ↦ subst (λ n. n < length cells) (sym (ap (λ z. z.cell) (same q))) (t.kept.guard_cell g x is)
         | inr ne ↦ t.kept.guard_cell k y (sym (numbered_put_other g k value (guards h) ne) ∙ e)
       ]

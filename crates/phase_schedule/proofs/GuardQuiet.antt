@@ -28,7 +28,7 @@ use Rattle.phase_schedule.specs.Shown.{Agrees}
 use Rattle.phase_schedule.specs.Tracks.{IsApart, Tracks}
 use Rattle.phase_schedule.proofs.Places.{set_there}
 use Rattle.phase_schedule.proofs.After.{IsSteadyWith}
-use Rattle.phase_schedule.proofs.GuardHands.{apart_less}
+use Rattle.phase_schedule.proofs.Apart.{apart_less}
 use Rattle.phase_schedule.proofs.GuardReader.{nobody_moved, size_same}
 use Rattle.phase_schedule.proofs.GuardStep.{told, handed_over, kept_now}
 

@@ -1,5 +1,6 @@
 -- What is open, and what the rows show, once one more read guard is open.
 use Rattle.std.proofs.Common.{◌≡◌, ◌≢◌, ℕ, suc, ◌+◌, ◌<◌, List, ◌∷◌, length, set, refl, sym, ◌∙◌, ap, arith, cond, None, Some, inl, inr}
+use Rattle.std.proofs.lemmas.Bool.{cases_eq}
 use Rattle.std.specs.Prelude.{slice_get}
 use Rattle.std.specs.declared.option.Option.{Option}
 use Rattle.phase_locker.specs.Natures.{read_ticket}
@@ -17,7 +18,7 @@ use Rattle.phase_schedule.specs.declared.rows.GuardRow.TheVariants as guard
 use Rattle.phase_schedule.specs.View.{View}
 use Rattle.phase_schedule.specs.Kept.{guard_row}
 use Rattle.phase_schedule.specs.Tracks.{NumbersBelow, Tracks}
-use Rattle.phase_schedule.proofs.Places.{eq_or_not, other_number, same_number, set_view}
+use Rattle.phase_schedule.proofs.Places.{other_number, same_number, set_view}
 use Rattle.phase_schedule.proofs.RowOpens.{numbers_more}
 use Rattle.phase_schedule.proofs.After.{IsSteadyWith}
 
@@ -52,7 +53,7 @@ module _ (n p c : ℕ) (gs : List Guard) where
   -- its cell is known
   pub known_read : (m : ℕ) → c < m → ((k : ℕ) (y : Guard) → numbered k gs ≡ Some y → y.cell < m) → (k : ℕ) (y : Guard) → numbered k (reader n p c ∷ gs) ≡ Some y → y.cell < m
   known_read m lt all k y e =
-      elim (eq_or_not k n) [
+      elim (cases_eq k n) [
         | inl q ↦ at (sym found_new ∙ ap (λ j. numbered j (reader n p c ∷ gs)) (sym q) ∙ e)
         | inr ne ↦ all k y (sym (found_old k ne) ∙ e)
       ]

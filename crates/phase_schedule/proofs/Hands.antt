@@ -1,5 +1,6 @@
 -- The records of the lockers and the rows of who is parked after a step of a party that does not wait, which hands over.
 use Rattle.std.proofs.Common.{◌≡◌, ◌≢◌, ℕ, ◌<◌, ◌^◌, List, ◌∷◌, length, set, refl, sym, ◌∙◌, ap, subst, Bool, None, Some, length-set, inl, inr}
+use Rattle.std.proofs.lemmas.Bool.{cases_eq}
 use Rattle.std.specs.Prelude.{◌⊎◌, slice_get, if◌then◌else◌}
 use Rattle.std.specs.declared.option.Option.{Option}
 use Rattle.phase_bits.specs.declared.holders.Holders.{Holders}
@@ -20,7 +21,7 @@ use Rattle.schedule_rules.specs.Waits.{Wait, wait_of, waits, waits_given, other_
 use Rattle.phase_schedule.specs.Kept.{open_after, kind_at}
 use Rattle.phase_schedule.specs.Shown.{Shows, IsSingle, Agrees}
 use Rattle.phase_schedule.specs.Tracks.{IsApart, Locked}
-use Rattle.phase_schedule.proofs.Places.{eq_or_not, set_kept}
+use Rattle.phase_schedule.proofs.Places.{set_kept}
 use Rattle.phase_schedule.proofs.Counted.{one_of, none_without}
 use Rattle.phase_schedule.proofs.Members.{occurs_readers, occurs_writers}
 use Rattle.phase_schedule.proofs.Reaching.{passes, row_reads, row_writes}
@@ -62,7 +63,7 @@ module _ (cells : List CellPlan) (h : List Event) (records : List Holders) (kind
         record {
           held = set_kept (length cells) records c x' (λ d. core cells d h) (λ d. core cells d (e ∷ h)) k.held_count k.held there here;
           place = k.place;
-          fits = λ d in_d. by_cell d in_d (eq_or_not d c);
+          fits = λ d in_d. by_cell d in_d (cases_eq d c);
           shows = rw waits_then (subst (λ (t : Parking). Shows (given_on c e.line.given (waits cells h)) t) (sym rows_are) (shows_on c e.line.given (waits cells h) parks inside locked_sound k.shows listed));
           single = rw waits_then (single_on c e.line.given (waits cells h) k.single);
           apart = apart;

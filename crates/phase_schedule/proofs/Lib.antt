@@ -23,6 +23,7 @@ pub mod KeptShares
 pub mod After
 pub mod Hands
 pub mod RowOpens
+pub mod Alone
 pub mod RowInner
 pub mod RowTries
 pub mod RowKept
@@ -34,9 +35,10 @@ pub mod RunFresh
 pub mod RunClosing
 pub mod RunOpen
 pub mod RunTold
-pub mod GuardFew
+pub mod Few
 pub mod GuardPhase
-pub mod GuardHands
+pub mod Apart
+pub mod Lines
 pub mod GuardGone
 pub mod GuardStep
 pub mod GuardRefused
@@ -56,10 +58,8 @@ pub mod BegunRuns
 pub mod LockFirst
 pub mod LockView
 pub mod LockCalm
-pub mod MadeApart
 pub mod MadeOpens
 pub mod MadeRuns
-pub mod MadeGiven
 pub mod MadeKept
 pub mod MadeLegal
 pub mod MadeEnds

@@ -48,7 +48,7 @@ use Rattle.phase_schedule.proofs.LockDue.{chosen_by, tried, kept_due, judged_due
 use Rattle.phase_schedule.proofs.LockRun.{due_try}
 use Rattle.phase_schedule.proofs.LockCells.{locked_at}
 use Rattle.phase_schedule.proofs.LockOpened.{Opens, opened_at, opened_is}
-use Rattle.phase_schedule.proofs.LockFirst.{legal_quiet, view_with, kept_with}
+use Rattle.phase_schedule.proofs.LockFirst.{view_with, kept_with, legal_tried}
 use Rattle.phase_schedule.proofs.LockCalm.{waits_calm}
 use Rattle.phase_schedule.proofs.LockKept.{kept_is, opens_kept}
 use Rattle.phase_schedule.proofs.LockGives.{rest_shown, after_apart, between_is, opens_given, gift_or_none, gift_parks, gift_taken, gift_free}
@@ -157,7 +157,7 @@ module _ (h : List Event) (v : View) (s : Step) (n : ℕ) (t : Target) (is : IsA
         opens_kept (plans v) h s t (waits (plans v) h) at.wait at.is at.cell v.parks parks' x' (track.locked.apart t.cell) track.locked.single track.locked.shows sound q.rows q.held
         (rule (cell_at (plans v) t.cell) (Calls t.call) (phase_at (plans v) t.cell h)) (kept_is t.cell at.wait (rule (cell_at (plans v) t.cell) (Calls t.call) (phase_at (plans v) t.cell h)) (readers (plans v) t.cell h) at.cell way) in
         let due : answer_by (plans v) h s t a ≡ due_attempt (plans v) h s.party (tried t) (other_waits (plans v) h s) false = ap (answer_by (plans v) h s t) q.answer ∙ kept_due (plans v) h s t (other_waits (plans v) h s) calm nature en own in
-        answered (rw (q.answer, q.given, en) opens) (subst (λ y. IsLegalLine (plans v) h s (record { answer = answer_by (plans v) h s t a; given = y })) (sym q.given) (legal_quiet (plans v) h s t is.attempt.tries (answer_by (plans v) h s t a) false due))
+        answered (rw (q.answer, q.given, en) opens) (subst (λ y. IsLegalLine (plans v) h s (record { answer = answer_by (plans v) h s t a; given = y })) (sym q.given) (legal_tried (plans v) h s t is.attempt.tries (answer_by (plans v) h s t a) false due))
 
     -- a call that gives up what it has
     gave_answered : (fresh : Bool) (wake nature : LockNature) (between : Holders) (rows : Parking) → nature ≡ lock_nature (rule (cell_at (plans v) t.cell) (Calls t.call) (phase_at (plans v) t.cell h)) → wake ≡ some_nature (waking_nature (Calls t.call)) → row_keeps (row_of v.parks s.party).waiting nature record_is ≡ false
@@ -185,7 +185,7 @@ module _ (h : List Event) (v : View) (s : Step) (n : ℕ) (t : Target) (is : IsA
         (subst (λ o. Opens t.cell (phase_at (plans v) t.cell h) (open_after (plans v) h) o v.parks parks' x') (sym (opened_is (plans v) h s t a g ∙ ap (λ ws. opened_at (plans v) h s t ws a) el)) opens)
         (elim (gift_or_none (plans v) h s t (waits (plans v) h) at.wait at.is at.cell v.parks apart single shows sound g hands.may) [
           | inl e ↦ subst (λ y. IsLegalLine (plans v) h s (record { answer = answer_by (plans v) h s t a; given = y })) (sym e)
-              (legal_quiet (plans v) h s t is.attempt.tries (answer_by (plans v) h s t a) (chosen_by a) (due ∙ ap (λ y. due_attempt (plans v) h s.party (tried t) (given_on t.cell y (other_waits (plans v) h s)) (chosen_by a)) e))
+              (legal_tried (plans v) h s t is.attempt.tries (answer_by (plans v) h s t a) (chosen_by a) (due ∙ ap (λ y. due_attempt (plans v) h s.party (tried t) (given_on t.cell y (other_waits (plans v) h s)) (chosen_by a)) e))
           | inr gift ↦ legal_first (plans v) h s t is.attempt.tries (answer_by (plans v) h s t a) g (chosen_by a) (due ∙ ap (λ ws. due_attempt (plans v) h s.party (tried t) ws (chosen_by a)) (sym el))
               (both_true (is_parking (cell_at (plans v) t.cell).place) _
               (gift_parks (plans v) h s t (waits (plans v) h) at.wait at.is at.cell v.parks apart single shows sound (cell_at (plans v) t.cell).place (track.locked.fits t.cell known) gift)

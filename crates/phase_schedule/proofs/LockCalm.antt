@@ -1,5 +1,6 @@
 -- A call that waits asks no run of a cell that its own party runs: it would have been cyclic.
 use Rattle.std.proofs.Common.{◌≡◌, ◌≢◌, ◌==◌, ℕ, ◌≤◌, List, [], ◌∷◌, refl, arith, Bool, true, false, None, Some, ◌∙◌, ap, sym, subst, ◌&&◌, ◌||◌, inl, inr}
+use Rattle.std.proofs.lemmas.Bool.{cases_eq}
 use Rattle.std.specs.Prelude.{if◌then◌else◌}
 use Rattle.std.specs.List.{find}
 use Rattle.std.specs.declared.option.Option.{Option}
@@ -22,7 +23,6 @@ use Rattle.schedule_rules.specs.Due.{due_answer, due_act, due_tried}
 use Rattle.schedule_rules.specs.Legal.{IsLegal, IsLegalLine, Moment, First, Last, answer_of, due_at}
 use Rattle.schedule_rules.proofs.Opened.{wait_removed, wait_kept}
 use Rattle.schedule_rules.proofs.GoesOn.{attempt_given}
-use Rattle.phase_schedule.proofs.Places.{eq_or_not}
 use Rattle.phase_schedule.proofs.Finding.{wait_added, wait_beside}
 use Rattle.phase_schedule.proofs.Single.{none_given}
 
@@ -166,7 +166,7 @@ module _ (cells : List CellPlan) where
   calm : (p : ℕ) (h : List Event) → IsLegal cells h → Calm p (sections h) (attempt_of_wait (wait_of p (waits cells h)))
   calm p [] legal = tt
   calm p (e ∷ h) legal =
-      elim (eq_or_not e.step.party p) [
+      elim (cases_eq e.step.party p) [
         | inl q ↦ subst (λ r. Calm r (sections (e ∷ h)) (attempt_of_wait (wait_of r (waits cells (e ∷ h))))) q (steps h e.step e.line legal.2 legal.0 (calm e.step.party h legal.2) e.line.answer refl)
         | inr ne ↦ subst (λ o. Calm p (sections (e ∷ h)) o) (sym (attempt_beside h e.step e.line.given p (waits cells h) ne e.line.answer))
             (calm_sections h e.step e.line.given p (waits cells h) ne e.line.answer (sections h) (attempt_of_wait (wait_of p (waits cells h))) (calm p h legal.2))

@@ -1,5 +1,6 @@
 -- The records and rows after a deed at one cell: there they are as told, and the other cells stand as before.
 use Rattle.std.proofs.Common.{◌≡◌, ◌≢◌, ◌==◌, ℕ, ◌+◌, ◌<◌, ◌≤◌, List, ◌∷◌, length, set, refl, arith, Bool, true, false, cond, Some, ◌∙◌, ap, sym, subst, ◌||◌, ◌&&◌, inl, inr, length-set}
+use Rattle.std.proofs.lemmas.Bool.{cases_eq}
 use Rattle.std.specs.Prelude.{nat_lt}
 use Rattle.std.specs.List.{list_any}
 use Rattle.phase_bits.specs.declared.holders.Holders.{Holders}
@@ -23,7 +24,7 @@ use Rattle.phase_schedule.specs.Kept.{Open, readers_in, writers_in, drains_in, r
 use Rattle.phase_schedule.specs.Shown.{Shows, IsSingle}
 use Rattle.phase_schedule.specs.Tracks.{IsApart, Locked}
 use Rattle.phase_schedule.proofs.Truth.{or_left, lt_more}
-use Rattle.phase_schedule.proofs.Places.{eq_or_not, slice_get_set_same, slice_get_set_other}
+use Rattle.phase_schedule.proofs.Places.{slice_get_set_same, slice_get_set_other}
 use Rattle.phase_schedule.proofs.Reaching.{flag_readers, flag_writers}
 use Rattle.phase_schedule.proofs.Added.{read_shares_added, write_shares_added, drains_added, drains_added_other}
 use Rattle.phase_schedule.proofs.Elsewhere.{any_added_reads, any_added_writes}
@@ -190,24 +191,24 @@ module _ (cells : List CellPlan) (content : ℕ → Content) (o o' : Open) (reco
   locked_at k inside ex ek before apart fits others size writers shows single =
       record {
         held = λ d lt.
-            elim (eq_or_not d c) [
+            elim (cases_eq d c) [
               | inl e ↦ rw e (slice_get_set_same records c x' (omega (arith, inside, k.held_count)) ∙ ap Some ex)
               | inr ne ↦ slice_get_set_other records c d x' ne ∙ k.held d lt ∙ ap Some (sym (record_before d (content d).phase o o' (before d ne)))
             ];
         place = λ d lt.
-            elim (eq_or_not d c) [
+            elim (cases_eq d c) [
               | inl e ↦ rw e (slice_get_set_same kinds c k' (omega (arith, inside, k.place_count)) ∙ ap Some ek)
               | inr ne ↦ slice_get_set_other kinds c d k' ne ∙ k.place d lt
             ];
         fits = λ d lt.
-            elim (eq_or_not d c) [
+            elim (cases_eq d c) [
               | inl e ↦ rw (e, sym ex, sym ek) fits
               | inr ne ↦ rw (record_before d (content d).phase o o' (before d ne)) (fits_beside (kind_at (cell_at cells d).place) (record_in d (content d).phase o) parks parks' c d (k.fits d lt) others ne)
             ];
         shows = shows;
         single = single;
         apart = λ d.
-            elim (eq_or_not d c) [
+            elim (cases_eq d c) [
               | inl e ↦ rw e apart
               | inr ne ↦ apart_before d o o' (before d ne) (k.apart d)
             ];

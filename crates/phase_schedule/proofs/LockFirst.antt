@@ -52,8 +52,8 @@ use Rattle.phase_schedule.proofs.LockOpened.{opened_at, opened_is, opens_judged}
 
 module _ (cells : List CellPlan) (h : List Event) (s : Step) (t : Target) (is : Tries cells h s t) where
   -- a line that gives nothing is legal where its answer is due
-  pub legal_quiet : (a : Answer) (chosen : Bool) → a ≡ due_attempt cells h s.party (tried t) (other_waits cells h s) chosen → IsLegalLine cells h s (record { answer = a; given = Nobody })
-  legal_quiet a chosen e =
+  pub legal_tried : (a : Answer) (chosen : Bool) → a ≡ due_attempt cells h s.party (tried t) (other_waits cells h s) chosen → IsLegalLine cells h s (record { answer = a; given = Nobody })
+  legal_tried a chosen e =
       record {
         moment = Last;
         chosen = chosen;
@@ -124,7 +124,7 @@ module _ (h : List Event) (v : View) (s : Step) (n : ℕ) (t : Target) (is : IsF
           cell = is.attempt.cell;
           number = is.attempt.number;
           tries = is.attempt.tries;
-          line = legal_quiet (plans v) h s t is.attempt.tries (answer_by (plans v) h s t a) (chosen_by a)
+          line = legal_tried (plans v) h s t is.attempt.tries (answer_by (plans v) h s t a) (chosen_by a)
               (judged_due (plans v) h s t (other_waits (plans v) h s) calm keeps_none (locked.apart t.cell) true (record { cell = t.cell; party = s.party }) wake nature v.parks a x' parks' en' ew j');
         }
 
@@ -151,7 +151,7 @@ module _ (h : List Event) (v : View) (s : Step) (n : ℕ) (t : Target) (is : IsF
   pub cyclic_follows : (l : Line) → l ≡ record { answer = answer.Cyclic; given = Nobody } → (call_initializes t.call && runs s.party t.cell h) ≡ true → FollowsStep h s l v v
   cyclic_follows l e cyclic =
       stay_follows answer.Cyclic (try_ends s.act s.party (sections h) is.attempt.tries.tries) refl refl refl
-      (legal_quiet (plans v) h s t is.attempt.tries answer.Cyclic false
+      (legal_tried (plans v) h s t is.attempt.tries answer.Cyclic false
       (sym (is_cyclic (call_initializes t.call && runs s.party t.cell h) answer.Cyclic _ cyclic))) l e
 
   -- the answer of the call for the phase
@@ -164,5 +164,5 @@ module _ (h : List Event) (v : View) (s : Step) (n : ℕ) (t : Target) (is : IsF
   pub told_follows : (l : Line) (x : Holders) → x ≡ record_in t.cell (phase_at (plans v) t.cell h) (open_after (plans v) h) → l ≡ record { answer = answer.Phase x.phase; given = Nobody } → t.call ≡ call.Phase → FollowsStep h s l v v
   told_follows l x ex e only =
       stay_follows (answer.Phase (phase_of (phase_at (plans v) t.cell h))) (try_ends s.act s.party (sections h) is.attempt.tries.tries) refl refl refl
-      (legal_quiet (plans v) h s t is.attempt.tries (answer.Phase (phase_of (phase_at (plans v) t.cell h))) false
+      (legal_tried (plans v) h s t is.attempt.tries (answer.Phase (phase_of (phase_at (plans v) t.cell h))) false
       (phase_due t.call only (meeting (plans v) h s.party (tried t) (other_waits (plans v) h s)) keeps_none)) l (e ∙ ap (λ (y : Holders). record { answer = answer.Phase y.phase; given = Nobody }) ex)

@@ -44,7 +44,7 @@ use Rattle.phase_schedule.specs.Tracks.{Follows, FollowsStep, Tracks, event, pla
 use Rattle.phase_schedule.specs.Ready.{IsInnermost, IsFailing, IsMadeToRead, IsMadeToWrite}
 use Rattle.phase_schedule.proofs.Places.{row_at, inside_plan, read_once}
 use Rattle.phase_schedule.proofs.RowOpens.{numbered_above, run_top}
-use Rattle.phase_schedule.proofs.MadeOpens.{runs_once, no_writer_here}
+use Rattle.phase_schedule.proofs.Alone.{runs_once, no_writer_here}
 use Rattle.phase_schedule.proofs.MadeKept.{closed_row, drafted_row}
 use Rattle.phase_schedule.proofs.MadeEnds.{Called, called, fits_read, write_open}
 use Rattle.phase_schedule.proofs.MadeRuns.{runner_is}

@@ -1,5 +1,6 @@
 -- The records of the lockers after the outcome of a generator.
 use Rattle.std.proofs.Common.{◌≡◌, ◌≢◌, ℕ, ◌+◌, ◌<◌, ◌≤◌, List, ◌∷◌, length, map, set, get_or, option_map, refl, sym, ◌∙◌, ap, subst, arith, None, Some, inl, inr}
+use Rattle.std.proofs.lemmas.Bool.{cases_eq}
 use Rattle.std.proofs.lemmas.List.{map-set}
 use Rattle.std.proofs.lemmas.Option.{slice_get-map, slice_get_read}
 use Rattle.std.proofs.Math.Seq.{map-set_same}
@@ -25,12 +26,11 @@ use Rattle.schedule_rules.specs.Core.{core}
 use Rattle.phase_schedule.specs.Kept.{record_in, kind_at}
 use Rattle.phase_schedule.specs.Tracks.{Locked, Tracks}
 use Rattle.phase_schedule.specs.View.{View}
-use Rattle.phase_schedule.proofs.Places.{eq_or_not, other_number, same_number, read_once}
+use Rattle.phase_schedule.proofs.Places.{other_number, same_number, read_once}
 use Rattle.phase_schedule.proofs.Same.{agrees_core}
 use Rattle.phase_schedule.proofs.RowCounts.{row_free, write_open_shown}
-use Rattle.phase_schedule.proofs.Hands.{locked_sound}
-use Rattle.phase_schedule.proofs.GuardFew.{few_parked, fewer_parked}
-use Rattle.phase_schedule.proofs.MadeOpens.{writer_left, opened_write, runs_once, none_left, others_left, apart_write}
+use Rattle.phase_schedule.proofs.Alone.{runs_once, none_left, others_left}
+use Rattle.phase_schedule.proofs.MadeOpens.{writer_left, opened_write, apart_write}
 
 -- what is read of a cell's locker, and what the end of a run left of the records, of the kinds, of who runs, and of the
 -- rows of who is parked
@@ -100,26 +100,10 @@ module _ (cells : List CellPlan) (h : List Event) (v : View) (t : Tracks cells h
   pub has_free : p < length v.parties → HasFree v.parks
   has_free lt = record { party = p; inside = rw t.kept.parties lt; free = ap (λ r. r.waiting) (row_free p (waits cells h) v.parks t.locked.shows idle) }
 
-  -- the parked readers of a cell are within the limit
-  pub few_readers : (c : ℕ) → c < length cells → length (parked_readers c (waits cells h)) ≤ most_readers
-  few_readers c lt =
-      let few : _ = few_parked c v.parks (rw t.locked.readers_count lt) (locked_sound cells h v.held v.places v.parks t.locked) in
-      let same : _ = ap (λ (ps : List ℕ). length ps) (t.locked.shows.readers c) in
-      let most : _ = t.locked.few in
-      omega (arith, few, same, most)
-
-  -- and leave room for one reader more
-  pub fewer_readers : (c : ℕ) → c < length cells → p < length v.parties → 1 + length (parked_readers c (waits cells h)) ≤ most_readers
-  fewer_readers c lt p_in =
-      let few : _ = fewer_parked c v.parks (rw t.locked.readers_count lt) (locked_sound cells h v.held v.places v.parks t.locked) (has_free p_in) in
-      let same : _ = ap (λ (ps : List ℕ). length ps) (t.locked.shows.readers c) in
-      let most : _ = t.locked.few in
-      omega (arith, few, same, most)
-
   module _ (s : Section) (is : innermost p (sections h) ≡ Some s) where
     -- where a section goes on in a write guard the records stay
     pub records_stay : (made d : ℕ) → record_in d (replay cells d h).phase (opened_write cells h p s is made (waits cells h)) ≡ core cells d h
-    records_stay made d = record_counts d (waits cells h) (sections h) (without_innermost p (sections h)) (guards h) (writer_left cells h p s is made ∷ guards h) _ _ refl refl (by (eq_or_not d s.cell))
+    records_stay made d = record_counts d (waits cells h) (sections h) (without_innermost p (sections h)) (guards h) (writer_left cells h p s is made ∷ guards h) _ _ refl refl (by (cases_eq d s.cell))
       where
         here : count (writes_cell s.cell) (opened_write cells h p s is made (waits cells h)).guards + count (runs_in s.cell) (opened_write cells h p s is made (waits cells h)).sections ≡ write_holds s.cell h
         here = let self : _ = same_number s.cell in let once : _ = runs_once cells h p s is t.locked.apart in let none : _ = none_left cells h p s is t.locked.apart in grind arith

@@ -28,11 +28,11 @@ use Rattle.phase_schedule.specs.Kept.{open_after, cell_of, cell_row, guard_row, 
 use Rattle.phase_schedule.specs.View.{View}
 use Rattle.phase_schedule.specs.Tracks.{Tracks, Kept}
 use Rattle.phase_schedule.proofs.Places.{other_number, row_at, same_number, set_view}
-use Rattle.phase_schedule.proofs.GivenOn.{given_on, within_on}
+use Rattle.phase_schedule.proofs.GivenOn.{given_on, within_on, target_given}
 use Rattle.phase_schedule.proofs.RowOpens.{no_run, run_kept}
 use Rattle.phase_schedule.proofs.RowKept.{planned_set}
-use Rattle.phase_schedule.proofs.MadeGiven.{target_given}
-use Rattle.phase_schedule.proofs.MadeOpens.{writer_left, back_left, opened_read, opened_write, opened_failed, found_here, no_writer_here, none_left, started_left}
+use Rattle.phase_schedule.proofs.Alone.{found_here, no_writer_here, none_left, started_left}
+use Rattle.phase_schedule.proofs.MadeOpens.{writer_left, back_left, opened_read, opened_write, opened_failed}
 use Rattle.phase_schedule.proofs.After.{content_with}
 
 -- a cell whose section is gone

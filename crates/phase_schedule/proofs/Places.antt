@@ -1,5 +1,6 @@
 -- Places of lists, and the lists of what is kept there.
 use Rattle.std.proofs.Common.{zero, suc, ◌≡◌, ◌≢◌, ℕ, ◌<◌, List, [], ◌∷◌, length, map, set, get_or, refl, sym, ◌∙◌, ap, subst, arith, true, false, Some, inl, inr, length-set}
+use Rattle.std.proofs.lemmas.Bool.{cases_eq}
 use Rattle.std.specs.Prelude.{◌==◌, ◌⊎◌, slice_get}
 use Rattle.std.proofs.lemmas.Grind.{common_steps}
 use Rattle.std.proofs.lemmas.Option.{gets, get_or_from_slice_get}
@@ -9,10 +10,6 @@ use Rattle.phase_schedule.specs.declared.rows.CellRow.{CellRow}
 use Rattle.phase_schedule.specs.View.{View}
 use Rattle.phase_schedule.specs.Kept.{plans_in}
 use Rattle.phase_schedule.specs.Tracks.{plans}
-
--- two numbers are equal or not
-pub eq_or_not : (a b : ℕ) → (a ≡ b) ⊎ (a ≢ b)
-eq_or_not a b = grind arith
 
 pub same_number : (a : ℕ) → (a == a) ≡ true
 same_number a = grind arith
@@ -48,7 +45,7 @@ set_there xs i x e = ap (λ y. set xs i y) (sym (get_or_from_slice_get xs i x x 
 -- a list of what is kept, so long, after one of its places is written
 pub set_kept : {X : Type 0} (n : ℕ) (xs : List X) (i : ℕ) (x : X) (f g : ℕ → X) → length xs ≡ n → ((j : ℕ) → j < n → slice_get xs j ≡ Some (f j)) → ((j : ℕ) → j ≢ i → g j ≡ f j) → x ≡ g i → (j : ℕ) → j < n → slice_get (set xs i x) j ≡ Some (g j)
 set_kept n xs i x f g size all others here j lt =
-    elim (eq_or_not j i) [
+    elim (cases_eq j i) [
       | inl e ↦ rw (e, ← here) (slice_get_set_same xs i x (rw (size, ← e) lt))
       | inr ne ↦ slice_get_set_other xs i j x ne ∙ all j lt ∙ ap Some (sym (others j ne))
     ]

@@ -19,8 +19,9 @@ use Rattle.phase_schedule.specs.Kept.{call_of, cell_of, cell_row, open_after, op
 use Rattle.phase_schedule.specs.Meets.{run_of}
 use Rattle.phase_schedule.specs.Tracks.{Follows, plans}
 use Rattle.phase_schedule.specs.Ready.{IsInnermost}
-use Rattle.phase_schedule.proofs.Places.{row_at, same_number, planned_length}
+use Rattle.phase_schedule.proofs.Places.{row_at, planned_length}
 use Rattle.phase_schedule.proofs.RowOpens.{run_top}
+use Rattle.phase_schedule.proofs.Alone.{found_here, no_writer_here, runs_once}
 
 pub run_of_open : (c : ℕ) (r : Option RunRow) → run_of (open_run c r) ≡ r
 run_of_open c None = refl
@@ -35,22 +36,6 @@ section_of : (o : Option Section) (c : ℕ) → cell_of o ≡ Some c → (s : Se
 section_of None c e = absurd (cc)
 section_of (Some s) c e = (s, refl, (let q : _ = e in cc))
 
-module _ (h : List Event) (v : View) (t : Follows h v) (p : ℕ) (s : Section) (is : innermost p (sections h) ≡ Some s) where
-  some_run : 0 < count (runs_in s.cell) (sections h)
-  some_run = found_counts (λ x. x.party == p) (runs_in s.cell) (sections h) s is (same_number s.cell)
-
-  one_hold : count (writes_cell s.cell) (guards h) + count (runs_in s.cell) (sections h) ≤ 1
-  one_hold = let one : _ = (t.locked.apart s.cell).one in omega arith
-
-  pub runs_once : count (runs_in s.cell) (sections h) ≡ 1
-  runs_once = let some : _ = some_run in let one : _ = one_hold in omega arith
-
-  pub no_writer_here : count (writes_cell s.cell) (guards h) ≡ 0
-  no_writer_here = let some : _ = some_run in let one : _ = one_hold in omega arith
-
-  pub found_here : find (runs_in s.cell) (sections h) ≡ Some s
-  found_here = only_one (λ x. x.party == p) (runs_in s.cell) (sections h) s is (same_number s.cell) (omega (arith, runs_once))
-
 module _ (h : List Event) (v : View) (t : Follows h v) (p c : ℕ) (row : PartyRow) (row_is : row ≡ party_row p (open_after (plans v) h)) (c_is : row.innermost ≡ Some c) where
   its_section : (s : Section) × (innermost p (sections h) ≡ Some s) × (s.cell ≡ c)
   its_section = section_of (innermost p (sections h)) c (sym (ap (λ r. r.innermost) row_is) ∙ c_is)
@@ -58,16 +43,16 @@ module _ (h : List Event) (v : View) (t : Follows h v) (p c : ℕ) (row : PartyR
   pub its_cell : c < length v.cells
   its_cell =
       let f : _ = its_section in
-      let known : f.0.cell < length (plans v) = t.kept.section_cell f.0.cell f.0 (found_here h v t p f.0 f.1) in
+      let known : f.0.cell < length (plans v) = t.kept.section_cell f.0.cell f.0 (found_here (plans v) h p f.0 f.1 t.locked.apart) in
       subst (λ d. d < length v.cells) f.2 (subst (λ n. f.0.cell < n) (sym (planned_length v.cells (plans v) refl)) known)
 
   -- the row of the cell shows it
   its_run : (r : CellRow) → r ≡ cell_row (cell_at (plans v) c) c (replay (plans v) c h) (inside (plans v) h) (open_after (plans v) h) → run_of r.section ≡ Some (record { party = p; call = call_of its_section.0.want; outer = cell_of (innermost p (without_innermost p (sections h))) })
   its_run r at =
       ap (λ x. run_of x.section) at
-      ∙ run_shown c _ _ (run_in c (sections h)) (subst (λ d. find (writes_cell d) (guards h) ≡ None) its_section.2 (none_found (writes_cell its_section.0.cell) (guards h) (no_writer_here h v t p its_section.0 its_section.1)))
+      ∙ run_shown c _ _ (run_in c (sections h)) (subst (λ d. find (writes_cell d) (guards h) ≡ None) its_section.2 (none_found (writes_cell its_section.0.cell) (guards h) (no_writer_here (plans v) h p its_section.0 its_section.1 t.locked.apart)))
       ∙ ap (λ d. run_in d (sections h)) (sym its_section.2)
-      ∙ run_top p (sections h) its_section.0 its_section.1 (omega (arith, runs_once h v t p its_section.0 its_section.1))
+      ∙ run_top p (sections h) its_section.0 its_section.1 (omega (arith, runs_once (plans v) h p its_section.0 its_section.1 t.locked.apart))
 
   kept_row : (r : CellRow) → r ≡ get_or v.cells c r → r ≡ cell_row (cell_at (plans v) c) c (replay (plans v) c h) (inside (plans v) h) (open_after (plans v) h)
   kept_row r at = row_at v.cells c r _ at its_cell (t.kept.cell c its_cell)
