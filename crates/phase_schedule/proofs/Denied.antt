@@ -46,38 +46,9 @@ use Rattle.phase_schedule.proofs.RowCounts.{shares_shown, claims_shown}
 use Rattle.phase_schedule.proofs.Same.{unlocked}
 use Rattle.phase_schedule.proofs.GuardPhase.{phase_known}
 use Rattle.phase_schedule.proofs.LockCells.{reader_more, writer_more}
-use Rattle.phase_schedule.proofs.MadeEnds.{read_locker}
+use Rattle.phase_schedule.proofs.Called.{Called}
 use Rattle.phase_schedule.proofs.DeniedHolds.{locked_left}
 use Rattle.phase_schedule.proofs.DeniedLegal.{line_denied}
-
--- what is read of the locker of a cell, and what a release left of the records, of the kinds, of who runs, and of the
--- rows of who is parked
-pub record Released (records : List Holders) (kinds : List LockerKind) (running : List (Option ℕ)) (parks : Parking) (c : ℕ) (x x' : Holders) (parks' : Parking) (records' : List Holders) (kinds' : List LockerKind) (running' : List (Option ℕ)) : Type 0 where
-  pub kind : LockerKind
-  pub held : slice_get records c ≡ Some x
-  pub place : slice_get kinds c ≡ Some kind
-  pub others : OthersStay c parks parks'
-  pub fits : Fits kind x' parks' c
-  pub size : SameSize parks parks'
-  pub records_are : records' ≡ set records c x'
-  pub kinds_are : kinds' ≡ kinds
-  pub running_are : running' ≡ running
-
--- a release of a cell's locker
-pub released : {L : Type 0} (held : L → Holders) (place : L → LockerKind) (runs : L → Option ℕ) (lockers : List L) (parks : Parking) (c : ℕ) (l l' : L) (parks' : Parking) → l ≡ get_or lockers c l → c < length lockers → OthersStay c parks parks' → Fits (place l') (held l') parks' c → place l' ≡ place l → runs l' ≡ runs l → SameSize parks parks'
-    → Released (map held lockers) (map place lockers) (map runs lockers) parks c (held l) (held l') parks' (map held (set lockers c l')) (map place (set lockers c l')) (map runs (set lockers c l'))
-released held place runs lockers parks c l l' parks' at lt others fits same runs_on size =
-    record {
-      kind = place l;
-      held = read_locker held lockers c l at lt;
-      place = read_locker place lockers c l at lt;
-      others = others;
-      fits = subst (λ k. Fits k (held l') parks' c) same fits;
-      size = size;
-      records_are = map-set held lockers c l';
-      kinds_are = map-set_same place lockers c l' l (same ∙ ap place at);
-      running_are = map-set_same runs lockers c l' l (runs_on ∙ ap runs at);
-    }
 
 module _ (h : List Event) (v : View) (s : Step) (n : ℕ) (t : Target) (g : Given) where
   -- the calls that wait once the attempt is made
@@ -111,7 +82,7 @@ module _ (h : List Event) (v : View) (s : Step) (n : ℕ) (t : Target) (g : Give
 
     -- the lock was given back, and handed on
     module _ (p : Phase) (answers : answer_by (plans v) h s t a ≡ answer.Access p) (party : PartyRow) (party_at : party ≡ get_or v.parties s.party party) (y : Holders) (agrees : Agrees (plans v) t.cell h ws y)
-        (last : Given) (r r' : Holders) (parks' : Parking) (records' : List Holders) (kinds' : List LockerKind) (running' : List (Option ℕ)) (after : Released v.held v.places v.running v.parks t.cell r r' parks' records' kinds' running') (hands : Hands t.cell y v.parks last r' parks') where
+        (last : Given) (r r' : Holders) (parks' : Parking) (records' : List Holders) (kinds' : List LockerKind) (running' : List (Option ℕ)) (after : Called v.held v.places v.running v.parks t.cell r r' parks' records' kinds' running') (hands : Hands t.cell y v.parks last r' parks') where
       line_with : IsLegalLine (plans v) h s (record { answer = answer.Access p; given = g })
       line_with = subst (λ b. IsLegalLine (plans v) h s (record { answer = b; given = g })) answers k.line
 
@@ -184,7 +155,7 @@ module _ (h : List Event) (v : View) (s : Step) (n : ℕ) (t : Target) (p : Phas
 
   -- after it was given back
   pub denies_read : (party : PartyRow) → party ≡ get_or v.parties s.party party → (last : Given) (r r' : Holders) (parks' : Parking) (records' : List Holders) (kinds' : List LockerKind) (running' : List (Option ℕ))
-      → Released v.held v.places v.running v.parks t.cell r r' parks' records' kinds' running' → Hands t.cell (leave_read r) v.parks last r' parks'
+      → Called v.held v.places v.running v.parks t.cell r r' parks' records' kinds' running' → Hands t.cell (leave_read r) v.parks last r' parks'
       → FollowsStep h s (record { answer = answer.Access p; given = given_first g last }) v
       (record { cells = v.cells; guards = v.guards; parties = set v.parties s.party (record { waiting = None; innermost = party.innermost }); held = records'; places = kinds'; running = running'; parks = parks' })
   denies_read party party_at last r r' parks' records' kinds' running' after hands =
@@ -243,7 +214,7 @@ module _ (h : List Event) (v : View) (s : Step) (n : ℕ) (t : Target) (p : Phas
 
   -- after it was given back
   pub denies_write : (party : PartyRow) → party ≡ get_or v.parties s.party party → (last : Given) (r r' : Holders) (parks' : Parking) (records' : List Holders) (kinds' : List LockerKind) (running' : List (Option ℕ))
-      → Released v.held v.places v.running v.parks t.cell r r' parks' records' kinds' running' → Hands t.cell (leave_write p r) v.parks last r' parks'
+      → Called v.held v.places v.running v.parks t.cell r r' parks' records' kinds' running' → Hands t.cell (leave_write p r) v.parks last r' parks'
       → FollowsStep h s (record { answer = answer.Access p; given = given_first g last }) v
       (record { cells = v.cells; guards = v.guards; parties = set v.parties s.party (record { waiting = None; innermost = party.innermost }); held = records'; places = kinds'; running = running'; parks = parks' })
   denies_write party party_at last r r' parks' records' kinds' running' after hands =

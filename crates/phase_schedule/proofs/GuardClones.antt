@@ -20,7 +20,8 @@ use Rattle.phase_schedule.specs.Kept.{kind_at}
 use Rattle.phase_schedule.specs.Tracks.{FollowsStep, plans}
 use Rattle.phase_schedule.specs.Ready.{IsHoldingNumbered}
 use Rattle.phase_schedule.proofs.Places.{set_there}
-use Rattle.phase_schedule.proofs.GuardSeen.{seen_locker, in_plan, held_shown, place_shown}
+use Rattle.phase_schedule.proofs.Called.{seen_locker}
+use Rattle.phase_schedule.proofs.GuardSeen.{in_plan, held_shown, place_shown}
 use Rattle.phase_schedule.proofs.GuardCloned.{cloned, not_cloned}
 
 module _ {L : Type 0} (held : L → Holders) (place : L → LockerKind) (h : List Event) (rows : Rows L) (s : Step) (n g c : ℕ) (k : IsHoldingNumbered h (view held place rows) s n (act.Clone g) g c false) (l l' : LazySequentializer L (Unit {0})) (at : l ≡ get_or rows.sequentializers.items c l) (same : place l'.locker ≡ place l.locker) (runs : l'.running ≡ l.running) where

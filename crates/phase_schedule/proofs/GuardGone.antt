@@ -24,6 +24,7 @@ use Rattle.phase_schedule.specs.Tracks.{NumbersBelow, Tracks}
 use Rattle.phase_schedule.proofs.Places.{row_at, other_number, same_number, set_view}
 use Rattle.phase_schedule.proofs.RowOpens.{no_run, numbered_removed, numbers_more, numbers_removed}
 use Rattle.phase_schedule.proofs.After.{IsSteadyWith}
+use Rattle.phase_schedule.specs.Ready.{IsHeld}
 
 -- one guard less is counted where it passes
 pub counted_one : (t : Guard → Bool) (g : ℕ) (gs : List Guard) (x : Guard) → numbered g gs ≡ Some x → t x ≡ true → count t gs ≡ count t (without_guard g gs) + 1
@@ -63,6 +64,10 @@ writes_not_there x c d e ne = by x.writes (other_number x.cell d (λ q. ne (q �
     by : (b : Bool) → (x.cell == d) ≡ false → cond b (x.cell == d) false ≡ false
     by true k = k
     by false k = refl
+
+-- a cell that a held guard reads has a reader
+pub some_reader : (h : List Event) (p g c : ℕ) → IsHeld h p g c false → 0 < count (reads_cell c) (guards h)
+some_reader h p g c k = found_counts (λ z. z.number == g) (reads_cell c) (guards h) k.guard k.found (reads_here k.guard c k.writes k.cell)
 
 module _ (cells : List CellPlan) (h : List Event) (v : View) (t : Tracks cells h v) (g : ℕ) (x : Guard) (is : numbered g (guards h) ≡ Some x) where
   -- the other guards are kept

@@ -32,9 +32,6 @@ module _ (cells : List CellPlan) (h : List Event) (v : View) (t : Tracks cells h
   abbrev pub open_put : List Wait → Open
   open_put ws = record { waits = ws; sections = sections h; guards = guards_put }
 
-  pub writer_before : find (writes_cell c) (guards h) ≡ Some x
-  writer_before = found_writer cells h v t g x is c at writes
-
   -- the guard is still the writer of its cell
   pub writer_after : find (writes_cell c) guards_put ≡ Some (put value x)
   writer_after =
@@ -47,7 +44,7 @@ module _ (cells : List CellPlan) (h : List Event) (v : View) (t : Tracks cells h
   writer_then : (d : ℕ) (y : Guard) → find (writes_cell d) guards_put ≡ Some y → (z : Guard) × (find (writes_cell d) (guards h) ≡ Some z) × (y.start ≡ z.start)
   writer_then d y e =
       elim (cases_eq d c) [
-        | inl q ↦ (x, ap (λ n. find (writes_cell n) (guards h)) q ∙ writer_before, ap (λ z. z.start) (same q))
+        | inl q ↦ (x, ap (λ n. find (writes_cell n) (guards h)) q ∙ (found_writer cells h v t g x is c at writes), ap (λ z. z.start) (same q))
         | inr ne ↦ (y, sym (writer_other d ne) ∙ e, refl)
       ]
     where
@@ -93,7 +90,7 @@ module _ (cells : List CellPlan) (h : List Event) (v : View) (t : Tracks cells h
     row_put =
         let row_is : row ≡ cell_row (cell_at cells c) c (replay cells c h) (inside cells h) (open_after cells h) = row_at v.cells c row _ found in_rows (t.kept.cell c in_rows) in
         let shown : put_section value (section_by c (inside cells h) (find (writes_cell c) (guards h)) (run_in c (sections h))) ≡ section_by c (inside cells h) (find (writes_cell c) guards_put) (run_in c (sections h)) =
-        ap (λ o. put_section value (section_by c (inside cells h) o (run_in c (sections h)))) writer_before ∙ ap (λ o. section_by c (inside cells h) o (run_in c (sections h))) (sym writer_after) in
+        ap (λ o. put_section value (section_by c (inside cells h) o (run_in c (sections h)))) (found_writer cells h v t g x is c at writes) ∙ ap (λ o. section_by c (inside cells h) o (run_in c (sections h))) (sym writer_after) in
         ap (put_row value) row_is ∙ (λ i. record { plan = cell_at cells c; value = (replay cells c h).value; section = shown i })
 
     pub cell_put : (d : ℕ) → d < length (set v.cells c (put_row value row)) → slice_get (set v.cells c (put_row value row)) d ≡ Some (cell_row (cell_at cells d) d (replay cells d h) (inside cells h) (open_put ws))

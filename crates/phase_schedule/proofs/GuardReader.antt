@@ -19,7 +19,6 @@ use Rattle.phase_schedule.specs.View.{View}
 use Rattle.phase_schedule.specs.Kept.{guard_row}
 use Rattle.phase_schedule.specs.Tracks.{NumbersBelow, Tracks}
 use Rattle.phase_schedule.proofs.Places.{other_number, same_number, set_view}
-use Rattle.phase_schedule.proofs.RowOpens.{numbers_more}
 use Rattle.phase_schedule.proofs.After.{IsSteadyWith}
 
 -- what does nothing to the rows leaves the others
@@ -72,13 +71,3 @@ module _ (cells : List CellPlan) (h : List Event) (ws : List Wait) (gs : List Gu
     section_started = a.section_started;
     section = a.section;
   }
-
--- where nothing is given back, what is open stays steady
-pub steady_same : (cells : List CellPlan) (h : List Event) (v : View) (ws : List Wait) → Tracks cells h v → IsSteadyWith cells h (record { waits = ws; sections = sections h; guards = guards h }) None
-steady_same cells h v ws t = record {
-  numbers = numbers_more (length h) (suc (length h)) (guards h) t.steady.numbers (omega arith);
-  guard_started = λ d y e. let old : _ = t.steady.guard_started d y e in omega arith;
-  guard = t.steady.guard;
-  section_started = λ d s e. let old : _ = t.steady.section_started d s e in omega arith;
-  section = t.steady.section;
-}

@@ -1,5 +1,6 @@
 pub mod Truth
 pub mod Places
+pub mod Called
 pub mod Each
 pub mod Finding
 pub mod Single

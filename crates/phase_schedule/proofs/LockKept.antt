@@ -33,7 +33,7 @@ use Rattle.phase_schedule.proofs.Keeping.{Fewer, fewer_reads, fewer_writes, fewe
 use Rattle.phase_schedule.proofs.LockBarred.{open_with}
 use Rattle.phase_schedule.proofs.LockCells.{AsBefore, before_then, before_reader, before_writer, before_section, guarded, sectioned, reader_more, writer_more, section_more}
 use Rattle.phase_schedule.proofs.LockLeft.{before_left, freed_writers}
-use Rattle.phase_schedule.proofs.LockOpened.{Opens, opened_at}
+use Rattle.phase_schedule.proofs.LockOpened.{Opens, opened_at, section_of}
 
 -- what is kept is a read share for a reader, or a write share or a drain for a writer
 abbrev pub IsKept : ℕ → WaitingCall → Option Nature → ℕ → Type 0
@@ -121,12 +121,9 @@ module _ (cells : List CellPlan) (h : List Event) (s : Step) (t : Target) (ws : 
         writers = sizes;
       }
 
-  abbrev section_of : Section
-  section_of = record { party = s.party; cell = t.cell; want = Calls t.call; start = length h }
-
   kept_opens : (ask : Bool) → (shares_write t.cell w ≡ true) ⊎ ((drains_on t.cell w ≡ true) × (readers_in t.cell (open_with h ws) ≡ 0))
-      → Opens t.cell (phase_at cells t.cell h) (open_with h ws) (if ask then sectioned section_of (open_with h (without_wait s.party ws)) else guarded (writer (length h) s.party t.cell) (open_with h (without_wait s.party ws))) parks parks' x'
-  kept_opens true has = kept_write (sectioned section_of (open_with h (without_wait s.party ws))) refl (λ d ne. before_section d section_of (open_with h (without_wait s.party ws)) ne) refl (section_more section_of (open_with h (without_wait s.party ws))) refl has
+      → Opens t.cell (phase_at cells t.cell h) (open_with h ws) (if ask then sectioned (section_of cells h s t) (open_with h (without_wait s.party ws)) else guarded (writer (length h) s.party t.cell) (open_with h (without_wait s.party ws))) parks parks' x'
+  kept_opens true has = kept_write (sectioned (section_of cells h s t) (open_with h (without_wait s.party ws))) refl (λ d ne. before_section d (section_of cells h s t) (open_with h (without_wait s.party ws)) ne) refl (section_more (section_of cells h s t) (open_with h (without_wait s.party ws))) refl has
   kept_opens false has = kept_write (guarded (writer (length h) s.party t.cell) (open_with h (without_wait s.party ws))) refl (λ d ne. before_writer d (length h) s.party t.cell (open_with h (without_wait s.party ws)) ne) refl (writer_more (length h) s.party t.cell (open_with h (without_wait s.party ws))) refl has
 
   -- what was kept is open

@@ -98,7 +98,7 @@ module _ (cells : List CellPlan) (h : List Event) (s : Step) (t : Target) where
   abbrev who_is : Who
   who_is = record { cell = t.cell; party = s.party }
 
-  abbrev section_of : Section
+  abbrev pub section_of : Section
   section_of = record { party = s.party; cell = t.cell; want = Calls t.call; start = length h }
 
   module _ (ws : List WaitingCall) (parks parks' : Parking) (x' : Holders) (apart : IsApart (open_with h ws) t.cell) (single : IsSingle ws) (shows : Shows ws parks) where

@@ -24,7 +24,8 @@ use Rattle.phase_schedule.specs.View.{View, view}
 use Rattle.phase_schedule.specs.Kept.{open_after, record_in, kind_at, runner_in}
 use Rattle.phase_schedule.specs.Tracks.{plans}
 use Rattle.phase_schedule.specs.Ready.{IsAttempt, IsAnswered}
-use Rattle.phase_schedule.proofs.Places.{row_at, inside_plan, mapped_at}
+use Rattle.phase_schedule.proofs.Places.{inside_plan, mapped_at}
+use Rattle.phase_schedule.proofs.RowInner.{cell_seen}
 
 -- ---- one sequentializer is changed
 
@@ -58,4 +59,4 @@ module _ {L : Type 0} (held : L → Holders) (place : L → LockerKind) (rows : 
 
 -- the plan of the cell that is attempted
 pub plan_seen : (h : List Event) (v : View) (s : Step) (n : ℕ) (t : Target) → IsAttempt h v s n t → (row : CellRow) → row ≡ get_or v.cells t.cell row → row.plan ≡ cell_at (plans v) t.cell
-plan_seen h v s n t is row at = ap (λ (r : CellRow). r.plan) (row_at v.cells t.cell row _ at is.cell (is.ready.follows.kept.cell t.cell is.cell))
+plan_seen h v s n t is row at = ap (λ (r : CellRow). r.plan) (cell_seen (plans v) h v is.ready.follows t.cell row at is.cell)

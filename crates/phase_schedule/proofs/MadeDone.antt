@@ -43,10 +43,11 @@ use Rattle.phase_schedule.specs.View.{View}
 use Rattle.phase_schedule.specs.Tracks.{Follows, FollowsStep, Tracks, event, plans}
 use Rattle.phase_schedule.specs.Ready.{IsInnermost, IsFailing, IsMadeToRead, IsMadeToWrite}
 use Rattle.phase_schedule.proofs.Places.{row_at, inside_plan, read_once}
-use Rattle.phase_schedule.proofs.RowOpens.{numbered_above, run_top}
+use Rattle.phase_schedule.proofs.RowOpens.{run_top, next_slot}
 use Rattle.phase_schedule.proofs.Alone.{runs_once, no_writer_here}
 use Rattle.phase_schedule.proofs.MadeKept.{closed_row, drafted_row}
-use Rattle.phase_schedule.proofs.MadeEnds.{Called, called, fits_read, write_open}
+use Rattle.phase_schedule.proofs.Called.{Called, called}
+use Rattle.phase_schedule.proofs.MadeEnds.{fits_read, write_open}
 use Rattle.phase_schedule.proofs.MadeRuns.{runner_is}
 use Rattle.phase_schedule.proofs.MadeFailed.{tracks_failed}
 use Rattle.phase_schedule.proofs.MadeReads.{tracks_read}
@@ -60,7 +61,7 @@ module _ (h : List Event) (v : View) (t : Follows h v) where
 
   -- the step to come has opened no guard
   pub slot_free : (n : ℕ) → n ≡ length h → length h < length v.guards → slice_get v.guards n ≡ Some guard.Free
-  slot_free n number room = rw number (t.kept.slot (length h) room ∙ ap (λ o. Some (guard_row o)) (numbered_above (length h) (length h) (guards h) t.steady.numbers (omega arith)))
+  slot_free n number room = next_slot h v.guards n t.kept.slot t.steady.numbers number room
 
   module _ (p : ℕ) (run : Run) (e : IsInnermost h v p run) where
     -- the section as the row of its cell shows it
@@ -141,7 +142,7 @@ module _ (h : List Event) (v : View) (t : Follows h v) where
       -- what it left
       pub finish_called : {L : Type 0} (held : L → Holders) (place : L → LockerKind) (runs : L → Option ℕ) (lockers : List L) (l l' : L) (parks' : Parking) → l ≡ get_or lockers run.cell l → run.cell < length lockers
           → OthersStay o.who.cell v.parks parks' → Fits (place l') (held l') parks' o.who.cell → place l' ≡ place l → runs l' ≡ None → SameSize v.parks parks'
-          → Called (map held lockers) (map place lockers) (map runs lockers) v.parks run.cell (held l) (held l') parks' (map held (set lockers run.cell l')) (map place (set lockers run.cell l')) (map runs (set lockers run.cell l'))
+          → Called (map held lockers) (map place lockers) (set (map runs lockers) run.cell None) v.parks run.cell (held l) (held l') parks' (map held (set lockers run.cell l')) (map place (set lockers run.cell l')) (map runs (set lockers run.cell l'))
       finish_called held place runs lockers l l' parks' at lt others fits same over size =
           called held place runs lockers v.parks run.cell l l' parks' at lt
           (subst (λ (q : SeqSection). OthersStay q.who.cell v.parks parks') is others)
@@ -150,14 +151,14 @@ module _ (h : List Event) (v : View) (t : Follows h v) where
 
 -- after a generator failed
 pub did_fail : (h : List Event) (v : View) (step : Step) (run : Run) (f : IsFailing h v step run) (row row' : CellRow) (party : PartyRow) (g : Given) (x x' : Holders) (parks' : Parking) (records' : List Holders) (kinds' : List LockerKind) (running' : List (Option ℕ))
-    → row ≡ get_or v.cells run.cell row → row' ≡ closed_row row.value row → party ≡ get_or v.parties step.party party → Called v.held v.places v.running v.parks run.cell x x' parks' records' kinds' running' → Hands run.cell (leave_write (phase_of 6) x) v.parks g x' parks'
+    → row ≡ get_or v.cells run.cell row → row' ≡ closed_row row.value row → party ≡ get_or v.parties step.party party → Called v.held v.places (set v.running run.cell None) v.parks run.cell x x' parks' records' kinds' running' → Hands run.cell (leave_write (phase_of 6) x) v.parks g x' parks'
     → FollowsStep h step (record { answer = answer.Failed; given = g }) v
     (record { cells = set v.cells run.cell row'; guards = v.guards; parties = set v.parties step.party (record { waiting = party.waiting; innermost = run.outer }); held = records'; places = kinds'; running = running'; parks = parks' })
 did_fail h v step run f row row' party g x x' parks' records' kinds' running' at row_is party_at call hands =
     record {
       follows =
           rw row_is
-          (subst (λ c. row ≡ get_or v.cells c row → c < length v.cells → Called v.held v.places v.running v.parks c x x' parks' records' kinds' running' → Hands c (leave_write (phase_of 6) x) v.parks g x' parks'
+          (subst (λ c. row ≡ get_or v.cells c row → c < length v.cells → Called v.held v.places (set v.running c None) v.parks c x x' parks' records' kinds' running' → Hands c (leave_write (phase_of 6) x) v.parks g x' parks'
           → Tracks (plans v) (event step (record { answer = answer.Failed; given = g }) ∷ h) (record { cells = set v.cells c (closed_row row.value row); guards = v.guards; parties = set v.parties step.party (record { waiting = party.waiting; innermost = run.outer }); held = records'; places = kinds'; running = running'; parks = parks' })) f.ended.cell
           (λ at_c in_cells call_c hands_c. tracks_failed (plans v) h v f.acting.ready.follows step f.ended.section f.ended.found f.acting.idle f.acting.acts g x x' parks' records' kinds' running' call_c hands_c row at_c in_cells party party_at f.acting.ready.party run.outer f.ended.outer f.acting.ready.room)
           at f.ended.inside call hands);
@@ -167,14 +168,14 @@ did_fail h v step run f row row' party g x x' parks' records' kinds' running' at
 
 -- after a generator made a value, and its caller reads on
 pub did_read : (h : List Event) (v : View) (step : Step) (n made : ℕ) (run : Run) (f : IsMadeToRead h v step n made run) (row row' : CellRow) (party : PartyRow) (g : Given) (x x' : Holders) (parks' : Parking) (records' : List Holders) (kinds' : List LockerKind) (running' : List (Option ℕ))
-    → row ≡ get_or v.cells run.cell row → row' ≡ closed_row (Some made) row → party ≡ get_or v.parties step.party party → Called v.held v.places v.running v.parks run.cell x x' parks' records' kinds' running' → Downgrades run.cell (phase_of 1) x v.parks g x' parks'
+    → row ≡ get_or v.cells run.cell row → row' ≡ closed_row (Some made) row → party ≡ get_or v.parties step.party party → Called v.held v.places (set v.running run.cell None) v.parks run.cell x x' parks' records' kinds' running' → Downgrades run.cell (phase_of 1) x v.parks g x' parks'
     → FollowsStep h step (record { answer = answer.ReadGuard; given = g }) v
     (record { cells = set v.cells run.cell row'; guards = set v.guards n (guard.Read step.party run.cell read_ticket); parties = set v.parties step.party (record { waiting = party.waiting; innermost = run.outer }); held = records'; places = kinds'; running = running'; parks = parks' })
 did_read h v step n made run f row row' party g x x' parks' records' kinds' running' at row_is party_at call downgrades =
     record {
       follows =
           rw (row_is, f.made.number)
-          (subst (λ c. row ≡ get_or v.cells c row → c < length v.cells → Called v.held v.places v.running v.parks c x x' parks' records' kinds' running' → Downgrades c (phase_of 1) x v.parks g x' parks'
+          (subst (λ c. row ≡ get_or v.cells c row → c < length v.cells → Called v.held v.places (set v.running c None) v.parks c x x' parks' records' kinds' running' → Downgrades c (phase_of 1) x v.parks g x' parks'
           → Tracks (plans v) (event step (record { answer = answer.ReadGuard; given = g }) ∷ h) (record { cells = set v.cells c (closed_row (Some made) row); guards = set v.guards (length h) (guard.Read step.party c read_ticket); parties = set v.parties step.party (record { waiting = party.waiting; innermost = run.outer }); held = records'; places = kinds'; running = running'; parks = parks' })) f.ended.cell
           (λ at_c in_cells call_c downgrades_c. tracks_read (plans v) h v f.made.acting.ready.follows step f.ended.section f.ended.found f.made.acting.idle made f.made.acting.acts g x x' parks' records' kinds' running' call_c downgrades_c f.made.acting.ready.party
           (f.ended.call ∙ f.reads) row at_c in_cells party party_at run.outer f.ended.outer f.made.acting.ready.room)

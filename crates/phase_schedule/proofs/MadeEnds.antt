@@ -28,42 +28,9 @@ use Rattle.phase_schedule.specs.Tracks.{Locked, Tracks}
 use Rattle.phase_schedule.specs.View.{View}
 use Rattle.phase_schedule.proofs.Places.{other_number, same_number, read_once}
 use Rattle.phase_schedule.proofs.Same.{agrees_core}
-use Rattle.phase_schedule.proofs.RowCounts.{row_free, write_open_shown}
+use Rattle.phase_schedule.proofs.RowCounts.{write_open_shown, free_party}
 use Rattle.phase_schedule.proofs.Alone.{runs_once, none_left, others_left}
 use Rattle.phase_schedule.proofs.MadeOpens.{writer_left, opened_write, apart_write}
-
--- what is read of a cell's locker, and what the end of a run left of the records, of the kinds, of who runs, and of the
--- rows of who is parked
-pub record Called (records : List Holders) (kinds : List LockerKind) (running : List (Option ℕ)) (parks : Parking) (c : ℕ) (x x' : Holders) (parks' : Parking) (records' : List Holders) (kinds' : List LockerKind) (running' : List (Option ℕ)) : Type 0 where
-  pub kind : LockerKind
-  pub held : slice_get records c ≡ Some x
-  pub place : slice_get kinds c ≡ Some kind
-  pub others : OthersStay c parks parks'
-  pub fits : Fits kind x' parks' c
-  pub size : SameSize parks parks'
-  pub records_are : records' ≡ set records c x'
-  pub kinds_are : kinds' ≡ kinds
-  pub running_are : running' ≡ set running c None
-
--- what is read of a list of sequentializers
-pub read_locker : {L X : Type 0} (f : L → X) (lockers : List L) (c : ℕ) (l : L) → l ≡ get_or lockers c l → c < length lockers → slice_get (map f lockers) c ≡ Some (f l)
-read_locker f lockers c l at lt = slice_get-map f lockers c ∙ ap (option_map f) (slice_get_read lockers (length lockers) c l refl lt at)
-
--- the end of a run
-pub called : {L : Type 0} (held : L → Holders) (place : L → LockerKind) (runs : L → Option ℕ) (lockers : List L) (parks : Parking) (c : ℕ) (l l' : L) (parks' : Parking) → l ≡ get_or lockers c l → c < length lockers → OthersStay c parks parks' → Fits (place l') (held l') parks' c → place l' ≡ place l → runs l' ≡ None → SameSize parks parks'
-    → Called (map held lockers) (map place lockers) (map runs lockers) parks c (held l) (held l') parks' (map held (set lockers c l')) (map place (set lockers c l')) (map runs (set lockers c l'))
-called held place runs lockers parks c l l' parks' at lt others fits same over size =
-    record {
-      kind = place l;
-      held = read_locker held lockers c l at lt;
-      place = read_locker place lockers c l at lt;
-      others = others;
-      fits = subst (λ k. Fits k (held l') parks' c) same fits;
-      size = size;
-      records_are = map-set held lockers c l';
-      kinds_are = map-set_same place lockers c l' l (same ∙ ap place at);
-      running_are = map-set runs lockers c l' ∙ ap (λ o. set (map runs lockers) c o) over;
-    }
 
 -- the record of a cell is that of as many holds
 pub record_counts : (d : ℕ) (ws : List Wait) (ss ss' : List Section) (gs gs' : List Guard) (q q' : ℕ) → q' ≡ q → count (reads_cell d) gs' ≡ count (reads_cell d) gs → count (writes_cell d) gs' + count (runs_in d) ss' ≡ count (writes_cell d) gs + count (runs_in d) ss
@@ -98,7 +65,7 @@ module _ (cells : List CellPlan) (h : List Event) (v : View) (t : Tracks cells h
 
   -- some party does not wait
   pub has_free : p < length v.parties → HasFree v.parks
-  has_free lt = record { party = p; inside = rw t.kept.parties lt; free = ap (λ r. r.waiting) (row_free p (waits cells h) v.parks t.locked.shows idle) }
+  has_free lt = free_party p (waits cells h) v.parks t.locked.shows idle (rw t.kept.parties lt)
 
   module _ (s : Section) (is : innermost p (sections h) ≡ Some s) where
     -- where a section goes on in a write guard the records stay

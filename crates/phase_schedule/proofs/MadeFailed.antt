@@ -45,7 +45,8 @@ use Rattle.phase_schedule.proofs.MadeRuns.{run_by_left}
 use Rattle.phase_schedule.proofs.MadeKept.{cell_inside, closed_row, kept_failed}
 use Rattle.phase_schedule.proofs.Lines.{legal_last, may_give_there}
 use Rattle.phase_schedule.proofs.MadeLegal.{free_by, section_failed}
-use Rattle.phase_schedule.proofs.MadeEnds.{Called, record_counts, kind_is, core_is}
+use Rattle.phase_schedule.proofs.Called.{Called}
+use Rattle.phase_schedule.proofs.MadeEnds.{record_counts, kind_is, core_is}
 
 module _ (cells : List CellPlan) (h : List Event) (v : View) (t : Tracks cells h v) (step : Step) (s : Section) (is : innermost step.party (sections h) ≡ Some s) (idle : wait_of step.party (waits cells h) ≡ None) (acts : step.act ≡ act.MadeFailed) where
   -- the step with this gift
@@ -124,7 +125,7 @@ module _ (cells : List CellPlan) (h : List Event) (v : View) (t : Tracks cells h
       by true = freed
       by false = freed
 
-  module _ (g : Given) (x x' : Holders) (parks' : Parking) (records' : List Holders) (kinds' : List LockerKind) (running' : List (Option ℕ)) (call : Called v.held v.places v.running v.parks s.cell x x' parks' records' kinds' running') (hands : Hands s.cell (leave_write (phase_of 6) x) v.parks g x' parks') where
+  module _ (g : Given) (x x' : Holders) (parks' : Parking) (records' : List Holders) (kinds' : List LockerKind) (running' : List (Option ℕ)) (call : Called v.held v.places (set v.running s.cell None) v.parks s.cell x x' parks' records' kinds' running') (hands : Hands s.cell (leave_write (phase_of 6) x) v.parks g x' parks') where
     listed : IsListed s.cell v.parks g
     listed = listed_hand s.cell (leave_write (phase_of 6) x) v.parks g hands.may
 

@@ -47,7 +47,8 @@ use Rattle.phase_schedule.proofs.MadeRuns.{run_by_left}
 use Rattle.phase_schedule.proofs.MadeKept.{cell_inside, closed_row, kept_read}
 use Rattle.phase_schedule.proofs.Lines.{legal_last, may_give_there}
 use Rattle.phase_schedule.proofs.MadeLegal.{section_made, due_read}
-use Rattle.phase_schedule.proofs.MadeEnds.{Called, record_counts, kind_is, core_is, has_free}
+use Rattle.phase_schedule.proofs.Called.{Called}
+use Rattle.phase_schedule.proofs.MadeEnds.{record_counts, kind_is, core_is, has_free}
 
 module _ (cells : List CellPlan) (h : List Event) (v : View) (t : Tracks cells h v) (step : Step) (s : Section) (is : innermost step.party (sections h) ≡ Some s) (idle : wait_of step.party (waits cells h) ≡ None) (made : ℕ) (acts : step.act ≡ act.Made made) where
   -- the step with this gift
@@ -147,7 +148,7 @@ module _ (cells : List CellPlan) (h : List Event) (v : View) (t : Tracks cells h
   line g reads m =
       legal_last cells h step (record { answer = answer.ReadGuard; given = g }) (section_made cells h step made (Some s) idle acts is) (due_read cells h step s made acts is reads) (may g m)
 
-  module _ (g : Given) (x x' : Holders) (parks' : Parking) (records' : List Holders) (kinds' : List LockerKind) (running' : List (Option ℕ)) (after : Called v.held v.places v.running v.parks s.cell x x' parks' records' kinds' running') (downgrades : Downgrades s.cell (phase_of 1) x v.parks g x' parks') (in_parties : step.party < length v.parties) where
+  module _ (g : Given) (x x' : Holders) (parks' : Parking) (records' : List Holders) (kinds' : List LockerKind) (running' : List (Option ℕ)) (after : Called v.held v.places (set v.running s.cell None) v.parks s.cell x x' parks' records' kinds' running') (downgrades : Downgrades s.cell (phase_of 1) x v.parks g x' parks') (in_parties : step.party < length v.parties) where
     locked : Locked cells (λ d. replay cells d (reading g ∷ h)) (open_after cells (reading g ∷ h)) (set v.held s.cell x') v.places parks'
     locked =
         hands_locked cells h v.held v.places v.parks t.locked (reading g) s.cell lt idle concerned refl (downgrade (phase_of 1) x) x' parks'

@@ -32,7 +32,7 @@ use Rattle.phase_schedule.specs.Tracks.{FollowsStep, Locked, RunBy, event, plans
 use Rattle.phase_schedule.specs.Ready.{IsAnswered, IsMade, IsOpening, IsReadGuard, IsRun, IsWriteGuard, if_made, waits_left, with_section, with_guard}
 use Rattle.phase_schedule.proofs.After.{tracks_after}
 use Rattle.phase_schedule.proofs.Places.{same_number, inside_plan}
-use Rattle.phase_schedule.proofs.RowOpens.{numbered_above}
+use Rattle.phase_schedule.proofs.RowOpens.{next_slot}
 use Rattle.phase_schedule.proofs.Within.{within_with}
 use Rattle.phase_schedule.proofs.RowTries.{becomes_wait, becomes_read, becomes_write, becomes_run, steady_same, steady_read, steady_write, steady_run}
 use Rattle.phase_schedule.proofs.RowKept.{with_open, planned_set, within_left, inner_is, party_got, party_waits, party_runs, slot_opened, guard_known, section_known, cell_is, section_none, cell_written, cell_runs}
@@ -40,7 +40,7 @@ use Rattle.phase_schedule.proofs.RowKept.{with_open, planned_set, within_left, i
 -- the row of the step is that of no guard
 pub slot_idle : (h : List Event) (v : View) (s : Step) (n : ℕ) (t : Target) (a : Attempt) (g : Given) → IsAnswered h v s n t a g → slice_get v.guards n ≡ Some guard.Free
 slot_idle h v s n t a g o =
-    subst (λ m. slice_get v.guards m ≡ Some guard.Free) (sym o.number) (o.kept.slot (length h) o.room ∙ ap (λ x. Some (guard_row x)) (numbered_above (length h) (length h) (guards h) o.steady.numbers (omega arith)))
+    next_slot h v.guards n o.kept.slot o.steady.numbers o.number o.room
 
 -- of the lock to write
 module _ (h : List Event) (v : View) (s : Step) (n : ℕ) (t : Target) (g : Given) where

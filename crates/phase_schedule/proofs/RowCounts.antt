@@ -1,5 +1,6 @@
 -- How many rows have a share or a claim of a cell is how many waiting calls have it; and which holds are open then.
 use Rattle.std.proofs.Common.{◌≡◌, ◌≢◌, ◌==◌, ℕ, ◌+◌, ◌<◌, ◌≤◌, List, [], ◌∷◌, length, refl, arith, Bool, true, false, cond, None, Some, ◌∙◌, ap, sym, inl, inr, ◌-◌}
+use Rattle.std.proofs.lemmas.Grind.{common_steps}
 use Rattle.std.proofs.Math.ListN.{get_or, set, length-replicate}
 use Rattle.std.proofs.lemmas.List.{get_or_past, ext_get_or}
 use Rattle.std.proofs.lemmas.List.Folds.{sum_by-replicate}
@@ -11,10 +12,9 @@ use Rattle.phase_locker.specs.declared.ways.How.{How}
 use Rattle.phase_locker.specs.declared.ways.How.TheVariants as how
 use Rattle.phase_locker.specs.declared.ways.Waiting.TheVariants as waiting
 use Rattle.phase_locker.specs.declared.ways.Row.{Row}
-use Rattle.phase_locker.specs.Rows.{Rows, row_of, free_row, shares_at, drains_at, claims_at, shares, drains, claims}
+use Rattle.phase_locker.specs.Rows.{Rows, row_of, free_row, shares_at, drains_at, claims_at, shares, drains, claims, HasFree}
 use Rattle.phase_locker.specs.Fits.{open_reads, IsWriteOpen}
 use Rattle.phase_locker.proofs.Counts.{one_if, count-set}
-use Rattle.phase_locker.proofs.Handed.{at_free}
 use Rattle.schedule_rules.specs.declared.plan.CellPlan.{CellPlan}
 use Rattle.schedule_rules.specs.Calls.{Want}
 use Rattle.schedule_rules.specs.History.{Event, count}
@@ -40,6 +40,10 @@ never_free how.Drain woken e = cc
 pub row_free : (p : ℕ) (ws : List Wait) (s : Rows) → Shows ws s → wait_of p ws ≡ None → row_of s p ≡ free_row
 row_free p ws s shows none = shows.row p ∙ ap wait_row none
 
+-- it has a free row
+pub free_party : (p : ℕ) (ws : List Wait) (s : Rows) → Shows ws s → wait_of p ws ≡ None → p < length s.rows → HasFree s
+free_party p ws s shows none lt = record { party = p; inside = lt; free = ap (λ (r : Row). r.waiting) (row_free p ws s shows none) }
+
 -- a party whose call waits has a row
 pub waits_inside : (p : ℕ) (rows : List Row) (w : Wait) → get_or rows p free_row ≡ wait_row (Some w) → p < length rows
 waits_inside p rows w e =
@@ -50,15 +54,18 @@ waits_inside p rows w e =
 
 -- ---- counts
 
--- where every row is free, none passes
-pub count_free : (f : Row → Bool) (rows : List Row) → f free_row ≡ false → ((p : ℕ) → get_or rows p free_row ≡ free_row) → count_by f rows ≡ 0
-count_free f rows fails all =
-    let same : rows ≡ replicate (length rows) free_row = ext_get_or free_row rows (replicate (length rows) free_row) (sym (length-replicate (length rows) free_row)) (λ p k. all p ∙ sym (at_free (length rows) p)) in
-    ap (λ (r : List Row). count_by f r) same ∙ sum_by-replicate (λ (r : Row). cond {A = ℕ} (f r) 1 0) (length rows) free_row ∙ rw fails (omega arith)
+-- where every row is as this one, which fails a test, none passes
+pub count_free : {X : Type 0} (d : X) (f : X → Bool) (rows : List X) → f d ≡ false → ((p : ℕ) → get_or rows p d ≡ d) → count_by f rows ≡ 0
+count_free {X = X} d f rows fails all =
+    let same : rows ≡ replicate (length rows) d = ext_get_or d rows (replicate (length rows) d) (sym (length-replicate (length rows) d)) (λ p k. all p ∙ sym (at_free (length rows) p)) in
+    ap (λ (r : List X). count_by f r) same ∙ sum_by-replicate (λ (r : X). cond {A = ℕ} (f r) 1 0) (length rows) d ∙ rw fails (omega arith)
+  where
+    at_free : (n p : ℕ) → get_or (replicate n d) p d ≡ d
+    at_free n p = grind (arith, common_steps)
 
 -- as many rows pass as waiting calls
 pub count_rows : (f : Row → Bool) (ws : List Wait) (rows : List Row) → f free_row ≡ false → IsSingle ws → ((p : ℕ) → get_or rows p free_row ≡ wait_row (wait_of p ws)) → count_by f rows ≡ count (λ (w : Wait). f (wait_row (Some w))) ws
-count_rows f [] rows fails single all = count_free f rows fails all
+count_rows f [] rows fails single all = count_free free_row f rows fails all
 count_rows f (w ∷ ws) rows fails single all =
     let here : get_or rows w.party free_row ≡ wait_row (Some w) = all w.party ∙ ap wait_row (found w ws) in
     let inside : w.party < length rows = waits_inside w.party rows w here in
@@ -87,9 +94,9 @@ count_rows f (w ∷ ws) rows fails single all =
     add false n m k e f = omega (arith, e, f)
 
 -- the same test, the same count
-pub count_test : (t u : Wait → Bool) (ws : List Wait) → ((w : Wait) → t w ≡ u w) → count t ws ≡ count u ws
+pub count_test : {X : Type 0} (t u : X → Bool) (xs : List X) → ((x : X) → t x ≡ u x) → count t xs ≡ count u xs
 count_test t u [] same = refl
-count_test t u (w ∷ ws) same = λ i. cond (same w i) (count_test t u ws same i + 1) (count_test t u ws same i)
+count_test t u (x ∷ xs) same = λ i. cond (same x i) (count_test t u xs same i + 1) (count_test t u xs same i)
 
 -- what the row of a call says
 pub row_shares : (c : ℕ) (w : Wait) → shares_at c (wait_row (Some w)) ≡ shares_read c w

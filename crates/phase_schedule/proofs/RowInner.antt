@@ -17,11 +17,12 @@ use Rattle.phase_schedule.specs.declared.rows.RunRow.{RunRow}
 use Rattle.phase_schedule.specs.View.{View}
 use Rattle.phase_schedule.specs.Kept.{call_of, cell_of, cell_row, open_after, open_run, party_row, run_in, section_by}
 use Rattle.phase_schedule.specs.Meets.{run_of}
-use Rattle.phase_schedule.specs.Tracks.{Follows, plans}
+use Rattle.phase_schedule.specs.Tracks.{Follows, plans, Tracks}
 use Rattle.phase_schedule.specs.Ready.{IsInnermost}
 use Rattle.phase_schedule.proofs.Places.{row_at, planned_length}
 use Rattle.phase_schedule.proofs.RowOpens.{run_top}
 use Rattle.phase_schedule.proofs.Alone.{found_here, no_writer_here, runs_once}
+use Rattle.schedule_rules.specs.declared.plan.CellPlan.{CellPlan}
 
 pub run_of_open : (c : ℕ) (r : Option RunRow) → run_of (open_run c r) ≡ r
 run_of_open c None = refl
@@ -31,6 +32,10 @@ run_of_open c (Some r) = refl
 pub run_shown : (c : ℕ) (within : Guard → _) (o : Option Guard) (r : Option RunRow) → o ≡ None → run_of (section_by c within o r) ≡ r
 run_shown c within None r e = run_of_open c r
 run_shown c within (Some x) r e = absurd (cc)
+
+-- a row of a cell is what is kept of the cell
+pub cell_seen : (cells : List CellPlan) (h : List Event) (v : View) (t : Tracks cells h v) (c : ℕ) (row : CellRow) → row ≡ get_or v.cells c row → c < length v.cells → row ≡ cell_row (cell_at cells c) c (replay cells c h) (inside cells h) (open_after cells h)
+cell_seen cells h v t c row at lt = row_at v.cells c row _ at lt (t.kept.cell c lt)
 
 section_of : (o : Option Section) (c : ℕ) → cell_of o ≡ Some c → (s : Section) × (o ≡ Some s) × (s.cell ≡ c)
 section_of None c e = absurd (cc)
@@ -54,12 +59,9 @@ module _ (h : List Event) (v : View) (t : Follows h v) (p c : ℕ) (row : PartyR
       ∙ ap (λ d. run_in d (sections h)) (sym its_section.2)
       ∙ run_top p (sections h) its_section.0 its_section.1 (omega (arith, runs_once (plans v) h p its_section.0 its_section.1 t.locked.apart))
 
-  kept_row : (r : CellRow) → r ≡ get_or v.cells c r → r ≡ cell_row (cell_at (plans v) c) c (replay (plans v) c h) (inside (plans v) h) (open_after (plans v) h)
-  kept_row r at = row_at v.cells c r _ at its_cell (t.kept.cell c its_cell)
-
   -- a row that shows no run is not the cell's
   pub never_idle : (r : CellRow) → r ≡ get_or v.cells c r → run_of r.section ≡ None → ⊥
-  never_idle r at e = let q : _ = its_run r (kept_row r at) in cc
+  never_idle r at e = let q : _ = its_run r (cell_seen (plans v) h v t c r at its_cell) in cc
 
   -- what is read of it
   pub run_is : (r : CellRow) (k : RunRow) → r ≡ get_or v.cells c r → run_of r.section ≡ Some k → IsInnermost h v p (record { cell = c; call = k.call; outer = k.outer })
@@ -74,4 +76,4 @@ module _ (h : List Event) (v : View) (t : Follows h v) (p c : ℕ) (row : PartyR
       }
     where
       k_is : k ≡ record { party = p; call = call_of its_section.0.want; outer = cell_of (innermost p (without_innermost p (sections h))) }
-      k_is = let a : _ = its_run r (kept_row r at) in cc
+      k_is = let a : _ = its_run r (cell_seen (plans v) h v t c r at its_cell) in cc

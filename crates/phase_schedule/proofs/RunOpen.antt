@@ -30,7 +30,7 @@ use Rattle.phase_schedule.specs.View.{View}
 use Rattle.phase_schedule.specs.Kept.{call_of, cell_of, cell_row, guard_row, kind_at, open_after, open_run, plans_in, run_in, runner_in, section_by, want_of}
 use Rattle.phase_schedule.specs.Tracks.{NumbersBelow, Tracks}
 use Rattle.phase_schedule.specs.Closing.{HoldsAt, HoldsLocks, IsOfCell, RunsAt, locks_of, reads_row, writes_row}
-use Rattle.phase_schedule.proofs.RowCounts.{open_reads_shown, write_open_shown}
+use Rattle.phase_schedule.proofs.RowCounts.{open_reads_shown, write_open_shown, count_free, count_test}
 use Rattle.phase_schedule.proofs.Places.{planned_length}
 use Rattle.phase_schedule.proofs.RowOpens.{numbered_above}
 use Rattle.phase_schedule.proofs.RunClosing.{count_set}
@@ -55,18 +55,9 @@ never_free x e = by x.writes e
 
 -- ---- counts
 
--- where every row is free, none passes
-none_pass : (f : GuardRow → Bool) (rows : List GuardRow) → f guard.Free ≡ false → ((g : ℕ) → get_or rows g guard.Free ≡ guard.Free) → count_by f rows ≡ 0
-none_pass f rows fails all =
-    let same : rows ≡ replicate (length rows) guard.Free = ext_get_or guard.Free rows (replicate (length rows) guard.Free) (sym (length-replicate (length rows) guard.Free)) (λ g k. all g ∙ sym (at_free (length rows) g)) in
-    ap (λ (r : List GuardRow). count_by f r) same ∙ sum_by-replicate (λ (r : GuardRow). cond {A = ℕ} (f r) 1 0) (length rows) guard.Free ∙ rw fails (omega arith)
-  where
-    at_free : (n g : ℕ) → get_or (replicate n guard.Free) g guard.Free ≡ guard.Free
-    at_free n g = grind (arith, common_steps)
-
 -- as many rows pass as guards
 count_slots : (f : GuardRow → Bool) (n : ℕ) (gs : List Guard) (rows : List GuardRow) → f guard.Free ≡ false → NumbersBelow n gs → ((g : ℕ) → get_or rows g guard.Free ≡ guard_row (numbered g gs)) → count_by f rows ≡ count (λ (x : Guard). f (guard_row (Some x))) gs
-count_slots f n [] rows fails below all = none_pass f rows fails all
+count_slots f n [] rows fails below all = count_free guard.Free f rows fails all
 count_slots f n (x ∷ gs) rows fails below all =
     let here : get_or rows x.number guard.Free ≡ guard_row (Some x) = all x.number ∙ ap guard_row (found_first x gs) in
     let lt : x.number < length rows = elim (cases_lt x.number (length rows)) [ inl k ↦ k | inr k ↦ absurd (never_free x (sym here ∙ get_or_past rows x.number guard.Free k)) ] in
@@ -78,11 +69,6 @@ count_slots f n (x ∷ gs) rows fails below all =
     add : (b : Bool) (n m k : ℕ) → n ≡ k → n + cond {A = ℕ} b 1 0 ≡ m + 0 → m ≡ cond b (k + 1) k
     add true n m k e f = omega (arith, e, f)
     add false n m k e f = omega (arith, e, f)
-
--- the same test, the same count
-count_test : (t u : Guard → Bool) (gs : List Guard) → ((x : Guard) → t x ≡ u x) → count t gs ≡ count u gs
-count_test t u [] same = refl
-count_test t u (x ∷ gs) same = λ i. cond (same x i) (count_test t u gs same i + 1) (count_test t u gs same i)
 
 row_reads : (c : ℕ) (x : Guard) → reads_row c (guard_row (Some x)) ≡ reads_cell c x
 row_reads c x = by x.writes

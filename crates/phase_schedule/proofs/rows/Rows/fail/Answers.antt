@@ -1,6 +1,6 @@
 use Rattle.std.proofs.Common.{◌<◌, length}
 use Rattle.phase_schedule.specs.View.{view}
-use Rattle.phase_schedule.proofs.MadeEnds.{read_locker}
+use Rattle.phase_schedule.proofs.Called.{read_locker}
 use Rattle.phase_schedule.proofs.Places.{inside_plan}
 use Rattle.phase_schedule.proofs.MadeDone.{generates, section_is, finish_cell, finish_runs, finish_fits, finish_failed, finish_called, in_lockers, did_fail}
 use Rattle.phase_schedule.proofs.rows.Rows.fail.Goals as goal

@@ -1,7 +1,7 @@
 use Rattle.std.proofs.Common.{◌<◌, length, sym, subst}
 use Rattle.phase_schedule.specs.View.{view}
 use Rattle.phase_schedule.specs.Meets.{IsReadingOn}
-use Rattle.phase_schedule.proofs.MadeEnds.{read_locker}
+use Rattle.phase_schedule.proofs.Called.{read_locker}
 use Rattle.phase_schedule.proofs.Places.{inside_plan}
 use Rattle.phase_schedule.proofs.MadeDone.{generates, section_is, finish_cell, finish_runs, finish_fits, finish_read, finish_called, in_lockers, slot_free, did_read}
 use Rattle.phase_schedule.proofs.rows.Rows.made_to_read.Goals as goal

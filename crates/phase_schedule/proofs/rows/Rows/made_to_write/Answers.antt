@@ -7,7 +7,7 @@ use Rattle.phase_seq.specs.declared.section.Finished.TheVariants as finished
 use Rattle.phase_schedule.specs.View.{view}
 use Rattle.phase_schedule.specs.Meets.{IsWritingOn}
 use Rattle.phase_schedule.proofs.Places.{row_at}
-use Rattle.phase_schedule.proofs.MadeEnds.{read_locker}
+use Rattle.phase_schedule.proofs.Called.{read_locker}
 use Rattle.phase_schedule.proofs.Places.{inside_plan}
 use Rattle.phase_schedule.proofs.MadeDone.{generates, section_is, finish_cell, finish_runs, finish_fits, finish_write, in_lockers, slot_free, drafted, did_write}
 use Rattle.phase_schedule.proofs.rows.Rows.made_to_write.Goals as goal
