@@ -1,4 +1,4 @@
--- What an answer of a sequentializer means for the call.
+-- What each answer of a sequentializer means for the call: a wait, a lock, a run, or that it was cyclic.
 use Rattle.std.proofs.Common.{◌≡◌, ◌≢◌, ℕ, List, refl, Bool, true, false, None, Some, ◌∙◌, ap, sym, subst, not, ◌&&◌, inl, inr}
 use Rattle.std.specs.Prelude.{if◌then◌else◌}
 use Rattle.std.specs.declared.option.Option.{Option}

@@ -1,4 +1,4 @@
--- After a call that may not access the value gave its lock back, the rows stand for the longer history.
+-- A call that may not access the value gives its lock back: the rows follow the step.
 use Rattle.std.proofs.Common.{◌≡◌, ℕ, ◌+◌, ◌<◌, List, length, map, set, get_or, refl, sym, ◌∙◌, ap, subst, arith, Bool, false, None, Some, length-set}
 use Rattle.std.specs.Prelude.{slice_get, if◌then◌else◌}
 use Rattle.std.proofs.lemmas.List.{length-map, map-set, set-get_or}

@@ -1,4 +1,4 @@
--- A hold that a call got and gives back in the same step: what stands open without it.
+-- What stands open without a hold that a call got and gives back in the same step, and the records then.
 use Rattle.std.proofs.Common.{◌≡◌, ◌≢◌, ℕ, ◌+◌, ◌<◌, ◌≤◌, List, length, set, refl, sym, ◌∙◌, ap, arith, Bool, true, false, cond}
 use Rattle.phase_bits.specs.declared.holders.Holders.{Holders}
 use Rattle.phase_locker.specs.declared.ways.Given.{Given}

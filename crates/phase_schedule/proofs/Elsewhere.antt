@@ -1,4 +1,4 @@
--- The records of the other cells stay as they are.
+-- The record of a cell stays where calls at another cell wait, are given shares or wait no longer.
 use Rattle.std.proofs.Common.{◌≡◌, ◌≢◌, ℕ, List, refl, arith, Bool, true, false, None, Some, ap, map}
 use Rattle.std.specs.List.{list_any}
 use Rattle.phase_locker.specs.declared.ways.How.{How}

@@ -1,4 +1,4 @@
--- When an act on a guard is refused.
+-- When an act on a guard is refused, and when not.
 use Rattle.std.proofs.Common.{◌≡◌, ℕ, List, ◌∙◌, ap, arith, Bool, None, Some}
 use Rattle.std.specs.Prelude.{is_some}
 use Rattle.std.specs.declared.option.Option.{Option}

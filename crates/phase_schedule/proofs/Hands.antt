@@ -1,4 +1,5 @@
--- The records of the lockers and the rows of who is parked after a step of a party that does not wait, which hands over.
+-- After a step of a party that does not wait, which hands over, the records of the lockers and the rows of who is
+-- parked are those of the longer history.
 use Rattle.std.proofs.Common.{◌≡◌, ◌≢◌, ℕ, ◌<◌, ◌^◌, List, ◌∷◌, length, set, refl, sym, ◌∙◌, ap, subst, Bool, None, Some, length-set, inl, inr}
 use Rattle.std.proofs.lemmas.Bool.{cases_eq}
 use Rattle.std.specs.Prelude.{◌⊎◌, slice_get, if◌then◌else◌}

@@ -1,4 +1,4 @@
--- A call that keeps what it has: its wait is over, and a hold more stands in its place.
+-- What a call has of a cell, it has alone: without its wait the cell has one read share, write share or drain fewer.
 use Rattle.std.proofs.Common.{◌≡◌, ℕ, ◌+◌, List, refl, arith, Bool, true, false, Some, ◌∙◌, ap, sym, ◌||◌}
 use Rattle.std.specs.Prelude.{nat_lt}
 use Rattle.phase_bits.specs.declared.holders.Holders.{Holders}

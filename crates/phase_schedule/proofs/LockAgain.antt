@@ -1,4 +1,4 @@
--- One more attempt of a call that waits, once its locker answered.
+-- After one more attempt of a call that waits, what its locker answered is due, and the records and rows are as told.
 use Rattle.std.proofs.Common.{◌≡◌, ℕ, ◌<◌, List, length, set, refl, arith, Bool, true, false, None, Some, ◌∙◌, ap, sym, subst, not, ◌&&◌, inl, inr}
 use Rattle.std.proofs.lemmas.Bool.{not_from_false}
 use Rattle.std.specs.Prelude.{MatchBool}

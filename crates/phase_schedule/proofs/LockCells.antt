@@ -1,4 +1,4 @@
--- The records and rows after a deed at one cell: there they are as told, and the other cells stand as before.
+-- After a deed at one cell its record and rows are as told, and the other cells stand as before.
 use Rattle.std.proofs.Common.{◌≡◌, ◌≢◌, ◌==◌, ℕ, ◌+◌, ◌<◌, ◌≤◌, List, ◌∷◌, length, set, refl, arith, Bool, true, false, cond, Some, ◌∙◌, ap, sym, subst, ◌||◌, ◌&&◌, inl, inr, length-set}
 use Rattle.std.proofs.lemmas.Bool.{cases_eq}
 use Rattle.std.specs.Prelude.{nat_lt}

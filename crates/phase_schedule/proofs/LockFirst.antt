@@ -1,4 +1,4 @@
--- A call of a party that does not wait, once its locker answered.
+-- After the first attempt of a call, what its locker answered is due, and the records and rows are as told.
 use Rattle.std.proofs.Common.{◌≡◌, ℕ, ◌<◌, List, length, set, refl, arith, Bool, true, false, None, ◌∙◌, ap, sym, subst, not, ◌&&◌}
 use Rattle.std.specs.Prelude.{if◌then◌else◌}
 use Rattle.std.specs.declared.option.Option.{Option}

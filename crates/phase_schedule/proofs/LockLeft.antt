@@ -1,4 +1,4 @@
--- What stands open once a wait is over and a share is given: the other cells as before, and lists that stay sound.
+-- What stands open once a wait is over and a share is given: as many lists, and the other cells as before.
 use Rattle.std.proofs.Common.{◌≡◌, ◌≢◌, ℕ, ◌+◌, ◌<◌, ◌^◌, List, length, refl, Bool, None, Some, ◌∙◌, ap, sym, length-set}
 use Rattle.std.specs.Prelude.{if◌then◌else◌}
 use Rattle.std.specs.declared.option.Option.{Option}

@@ -1,4 +1,4 @@
--- What stands open after a locker judged a call, and the records and rows then.
+-- What stands open after a locker judged a call that had nothing, and the records and rows then.
 use Rattle.std.proofs.Common.{◌≡◌, ◌≢◌, ◌==◌, ℕ, ◌<◌, List, length, refl, arith, Bool, true, false, None, Some, ◌∙◌, ap, sym, subst, ◌||◌, ◌&&◌, inl, inr, length-set}
 use Rattle.std.specs.Prelude.{nat_lt, if◌then◌else◌, ◌⊎◌}
 use Rattle.phase_bits.specs.declared.holders.Holders.{Holders}

@@ -1,4 +1,5 @@
--- The sequentializers of the rows as contracts see them: records, places, and who runs.
+-- What contracts see of the sequentializer of the cell that is attempted: its record, its kind, who runs, and that it
+-- fits.
 use Rattle.std.proofs.Common.{◌≡◌, ℕ, ◌<◌, List, length, set, get_or, refl, ◌∙◌, sym, ap, map, Some, Bool, true, false, ◌&&◌, arith}
 use Rattle.std.specs.Prelude.{slice_get, option_map}
 use Rattle.std.proofs.lemmas.List.{length-map, map-set}

@@ -1,4 +1,4 @@
--- What the outcomes of generators may count on, and what they leave.
+-- What the outcomes of generators ask for, and that each does what it says: the rows follow the step.
 use Rattle.std.proofs.Common.{◌≡◌, ◌≢◌, ℕ, ◌<◌, List, ◌∷◌, length, map, set, get_or, refl, sym, ◌∙◌, ap, subst, arith, true, false, None, Some, length-set}
 use Rattle.std.proofs.lemmas.List.{get_or-set_same, length-map}
 use Rattle.std.specs.Prelude.{slice_get}

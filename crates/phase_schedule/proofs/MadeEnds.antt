@@ -1,4 +1,4 @@
--- The records of the lockers after the outcome of a generator.
+-- The records of the lockers where a section runs, and after it goes on in a write guard.
 use Rattle.std.proofs.Common.{◌≡◌, ◌≢◌, ℕ, ◌+◌, ◌<◌, ◌≤◌, List, ◌∷◌, length, map, set, get_or, option_map, refl, sym, ◌∙◌, ap, subst, arith, None, Some, inl, inr}
 use Rattle.std.proofs.lemmas.Bool.{cases_eq}
 use Rattle.std.proofs.lemmas.List.{map-set}

@@ -1,4 +1,4 @@
--- The rows after the outcome of a generator.
+-- The rows of cells, steps and parties after the outcome of a generator.
 use Rattle.std.proofs.Common.{◌≡◌, ℕ, ◌<◌, List, ◌∷◌, length, set, get_or, refl, sym, ◌∙◌, ap, arith, None, Some, length-set}
 use Rattle.std.specs.Prelude.{slice_get}
 use Rattle.std.specs.List.{find}

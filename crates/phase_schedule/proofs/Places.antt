@@ -1,4 +1,5 @@
--- Places of lists, and the lists of what is kept there.
+-- What is read at a place of a list, what a write of one place leaves, and which cells with a row are cells of the
+-- plan.
 use Rattle.std.proofs.Common.{zero, suc, ◌≡◌, ◌≢◌, ℕ, ◌<◌, List, [], ◌∷◌, length, map, set, get_or, refl, sym, ◌∙◌, ap, subst, arith, true, false, Some, inl, inr, length-set}
 use Rattle.std.proofs.lemmas.Bool.{cases_eq}
 use Rattle.std.specs.Prelude.{◌==◌, ◌⊎◌, slice_get}

@@ -1,4 +1,4 @@
--- What the rows tell of a party's innermost section.
+-- What the rows show of a cell and of the innermost section of a party.
 use Rattle.std.proofs.Common.{◌≡◌, ℕ, ◌<◌, ◌≤◌, List, length, get_or, refl, sym, ◌∙◌, ap, subst, arith, None, Some}
 use Rattle.std.proofs.lemmas.List.{length-map}
 use Rattle.std.specs.Prelude.{◌+◌, ◌==◌}

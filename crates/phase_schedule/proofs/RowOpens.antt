@@ -1,4 +1,4 @@
--- Laws of what is open: the numbers of guards, and the rows of sections.
+-- The numbers of open guards, the row of the next step, and the runs of open sections.
 use Rattle.std.proofs.Common.{◌≡◌, ◌≢◌, ℕ, ◌<◌, ◌≤◌, List, [], ◌∷◌, refl, arith, true, false, cond, None, Some, length, ◌∙◌, ap}
 use Rattle.std.specs.Prelude.{◌==◌, slice_get}
 use Rattle.std.specs.List.{find}

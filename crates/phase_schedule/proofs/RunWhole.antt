@@ -1,4 +1,4 @@
--- Whole runs.
+-- Every step of a schedule without a cause can be made, and the transcript of all is legal.
 use Rattle.std.proofs.Common.{◌≡◌, ℕ, ◌<◌, ◌≤◌, ◌^◌, List, [], length, take, get_or, refl, sym, ◌∙◌, ap, subst, arith, None}
 use Rattle.std.proofs.lemmas.Grind.{common_steps}
 use Rattle.schedule_rules.specs.declared.plan.Plan.{Plan}

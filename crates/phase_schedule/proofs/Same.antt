@@ -1,4 +1,4 @@
--- Records of which the counts are the same, and the flags.
+-- The record of a cell is the same where as many hold it; whether it is locked, and its flags.
 use Rattle.std.proofs.Common.{◌≡◌, ◌==◌, ℕ, ◌+◌, List, refl, arith, Bool, true, false, ◌∙◌, ap, sym, not, ◌||◌}
 use Rattle.std.specs.Prelude.{nat_lt}
 use Rattle.std.specs.List.{list_any}

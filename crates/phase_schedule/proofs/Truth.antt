@@ -1,4 +1,4 @@
--- Tests: when both hold, when one of two holds, and what a test of a number says of it.
+-- Tests: when both of two hold, when one of two holds, and what a test of a number says of it.
 use Rattle.std.proofs.Common.{◌≡◌, ◌==◌, ℕ, ◌+◌, ◌<◌, refl, arith, Bool, true, false, not, ◌&&◌, ◌||◌}
 use Rattle.std.specs.Prelude.{nat_lt}
 

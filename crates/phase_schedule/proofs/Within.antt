@@ -1,4 +1,4 @@
--- The calls wait at known cells; and of no call, the rows are new.
+-- The calls wait at known cells, whatever happens to them; and where nobody waits, new rows show it.
 use Rattle.std.proofs.Common.{zero, suc, ◌≡◌, ◌≢◌, ℕ, ◌<◌, List, [], refl, None, Some, ◌∙◌, sym, subst, map, inl, inr, false, ◌⊎◌}
 use Rattle.std.specs.Prelude.{replicate, slice_index_or}
 use Rattle.std.proofs.lemmas.Bool.{cases_eq}
