@@ -2,6 +2,7 @@
 pub mod Truth
 pub mod Places
 pub mod Slots
+pub mod Passing
 
 -- The calls that wait: what becomes of one, and who waits, in which order, and how many
 pub mod Each

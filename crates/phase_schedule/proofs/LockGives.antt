@@ -30,6 +30,7 @@ use Rattle.phase_schedule.specs.declared.rows.Target.{Target}
 use Rattle.phase_schedule.specs.Kept.{readers_in, writers_in, drains_in, record_in, kind_at}
 use Rattle.phase_schedule.specs.Shown.{Shows, IsSingle, Agrees, waiting_of}
 use Rattle.phase_schedule.specs.Tracks.{IsApart}
+use Rattle.phase_schedule.proofs.Truth.{none_stands}
 use Rattle.phase_schedule.proofs.Single.{single_without}
 use Rattle.phase_schedule.proofs.Lists.{readers_without, writers_without}
 use Rattle.phase_schedule.proofs.Counted.{count_without, write_shares_beside_readers, drains_beside_readers}
@@ -228,7 +229,4 @@ module _ (cells : List CellPlan) (h : List Event) (s : Step) (t : Target) (ws : 
   pub gift_free : Gift → is_free_with t.cell h rest ≡ true
   gift_free gift =
       let free = rest_free gift.idle in
-      zero (readers_with t.cell h rest) (writers_with t.cell h rest) (drains_with t.cell rest) free.0 free.1 free.2
-    where
-      zero : (a b c : ℕ) → a ≡ 0 → b ≡ 0 → c ≡ 0 → (a + b + c == 0) ≡ true
-      zero a b c e f g = grind (arith, e, f, g)
+      none_stands (readers_with t.cell h rest) (writers_with t.cell h rest) (drains_with t.cell rest) free.0 free.1 free.2

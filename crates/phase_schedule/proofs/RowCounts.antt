@@ -23,6 +23,7 @@ use Rattle.schedule_rules.specs.Holds.{read_guards, write_holds, writers_with, d
 use Rattle.schedule_rules.proofs.Found.{none_found}
 use Rattle.phase_schedule.specs.Shown.{Shows, IsSingle, Agrees, waiting_of, wait_row}
 use Rattle.phase_schedule.proofs.Slots.{set_shows}
+use Rattle.phase_schedule.proofs.Passing.{count_set, count_before, count_free, count_test}
 use Rattle.phase_schedule.proofs.Same.{locked_by_write}
 
 -- ---- a party that does not wait has a free row, and no other
@@ -54,15 +55,6 @@ waits_inside p rows w e =
 
 -- ---- counts
 
--- where every row is as this one, which fails a test, none passes
-pub count_free : {X : Type 0} (d : X) (f : X → Bool) (rows : List X) → f d ≡ false → ((p : ℕ) → get_or rows p d ≡ d) → count_by f rows ≡ 0
-count_free {X = X} d f rows fails all =
-    let same : rows ≡ replicate (length rows) d = ext_get_or d rows (replicate (length rows) d) (sym (length-replicate (length rows) d)) (λ p k. all p ∙ sym (at_free (length rows) p)) in
-    ap (λ (r : List X). count_by f r) same ∙ sum_by-replicate (λ (r : X). cond {A = ℕ} (f r) 1 0) (length rows) d ∙ rw fails (omega arith)
-  where
-    at_free : (n p : ℕ) → get_or (replicate n d) p d ≡ d
-    at_free n p = grind (arith, common_steps)
-
 -- as many rows pass as waiting calls
 pub count_rows : (f : Row → Bool) (ws : List Wait) (rows : List Row) → f free_row ≡ false → IsSingle ws → ((p : ℕ) → get_or rows p free_row ≡ wait_row (wait_of p ws)) → count_by f rows ≡ count (λ (w : Wait). f (wait_row (Some w))) ws
 count_rows f [] rows fails single all = count_free free_row f rows fails all
@@ -70,8 +62,8 @@ count_rows f (w ∷ ws) rows fails single all =
     let here : get_or rows w.party free_row ≡ wait_row (Some w) = all w.party ∙ ap wait_row (found w ws) in
     let inside : w.party < length rows = waits_inside w.party rows w here in
     let rest = count_rows f ws (set rows w.party free_row) fails (λ r. tail r (single r)) (set_shows rows w.party free_row free_row (λ p. wait_row (wait_of p (w ∷ ws))) (λ p. wait_row (wait_of p ws)) all (λ p ne. ap wait_row (beside w ws p ne)) inside (sym (ap wait_row (none_found (λ (v : Wait). v.party == w.party) ws (alone w ws (single w.party)))))) in
-    let one = rw (here, fails) at (count-set f rows w.party free_row inside) in
-    add (f (wait_row (Some w))) _ _ _ rest one
+    let one = rw (here, fails) at (count_set f rows w.party free_row free_row inside) in
+    count_before (f (wait_row (Some w))) _ _ _ rest one
   where
     found : (w : Wait) (ws : List Wait) → wait_of w.party (w ∷ ws) ≡ Some w
     found w ws = grind arith
@@ -88,15 +80,6 @@ count_rows f (w ∷ ws) rows fails single all =
 
     beside : (w : Wait) (ws : List Wait) (p : ℕ) → p ≢ w.party → wait_of p ws ≡ wait_of p (w ∷ ws)
     beside w ws p ne = grind (arith, ne)
-
-    add : (b : Bool) (n m k : ℕ) → n ≡ k → n + one_if b ≡ m + 0 → m ≡ cond b (k + 1) k
-    add true n m k e f = omega (arith, e, f)
-    add false n m k e f = omega (arith, e, f)
-
--- the same test, the same count
-pub count_test : {X : Type 0} (t u : X → Bool) (xs : List X) → ((x : X) → t x ≡ u x) → count t xs ≡ count u xs
-count_test t u [] same = refl
-count_test t u (x ∷ xs) same = λ i. cond (same x i) (count_test t u xs same i + 1) (count_test t u xs same i)
 
 -- what the row of a call says
 pub row_shares : (c : ℕ) (w : Wait) → shares_at c (wait_row (Some w)) ≡ shares_read c w

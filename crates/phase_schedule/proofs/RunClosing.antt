@@ -29,16 +29,9 @@ use Rattle.phase_schedule.specs.declared.rows.OpenSection.TheVariants as open_as
 use Rattle.phase_schedule.specs.View.{View}
 use Rattle.phase_schedule.specs.Closing.{AreFree, AreIdle, HoldsAt, HoldsLocks, IsClosedAt, IsIdle, IsOfCell, IsSectionAt, RunsAt, locks_of, reads_row, writes_row}
 use Rattle.phase_schedule.proofs.Places.{slice_get_set_same, slice_get_set_other, same_number, other_number, mapped_at}
+use Rattle.phase_schedule.proofs.Passing.{count_set}
 
 -- ---- lists
-
--- one for a row that passes
-abbrev one_of : Bool → ℕ
-one_of b = cond b 1 0
-
--- how many rows pass, after one is replaced
-pub count_set : (t : GuardRow → Bool) (gs : List GuardRow) (g : ℕ) (r d : GuardRow) → g < length gs → count_by t (set gs g r) + one_of (t (get_or gs g d)) ≡ count_by t gs + one_of (t r)
-count_set t gs g r d lt = sum_by-set (λ x. one_of (t x)) gs g r d lt
 
 one_less : (t : GuardRow → Bool) (gs : List GuardRow) (g : ℕ) (r d : GuardRow) → g < length gs → t (get_or gs g d) ≡ true → t r ≡ false → count_by t (set gs g r) + 1 ≡ count_by t gs
 one_less t gs g r d lt before after = let e = rw (before, after) at (count_set t gs g r d lt) in omega (arith, e)

@@ -30,10 +30,10 @@ use Rattle.phase_schedule.specs.View.{View}
 use Rattle.phase_schedule.specs.Kept.{call_of, cell_of, cell_row, guard_row, kind_at, open_after, open_run, plans_in, run_in, runner_in, section_by, want_of}
 use Rattle.phase_schedule.specs.Tracks.{NumbersBelow, Tracks}
 use Rattle.phase_schedule.specs.Closing.{HoldsAt, HoldsLocks, IsOfCell, RunsAt, locks_of, reads_row, writes_row}
-use Rattle.phase_schedule.proofs.RowCounts.{open_reads_shown, write_open_shown, count_free, count_test}
+use Rattle.phase_schedule.proofs.Passing.{count_free, count_test, count_set, count_before}
+use Rattle.phase_schedule.proofs.RowCounts.{open_reads_shown, write_open_shown}
 use Rattle.phase_schedule.proofs.Places.{planned_length}
 use Rattle.phase_schedule.proofs.RowOpens.{numbered_above}
-use Rattle.phase_schedule.proofs.RunClosing.{count_set}
 use Rattle.phase_schedule.proofs.Same.{agrees_core}
 use Rattle.phase_schedule.proofs.Slots.{set_shows}
 
@@ -64,11 +64,7 @@ count_slots f n (x ∷ gs) rows fails below all =
     let none : numbered x.number gs ≡ None = numbered_above x.number x.number gs below.1 (omega arith) in
     let rest = count_slots f x.number gs (set rows x.number guard.Free) fails below.1 (set_shows rows x.number guard.Free guard.Free (λ g. guard_row (numbered g (x ∷ gs))) (λ g. guard_row (numbered g gs)) all (λ g ne. ap guard_row (found_beside x gs g ne)) lt (sym (ap guard_row none))) in
     let one = rw (here, fails) at (count_set f rows x.number guard.Free guard.Free lt) in
-    add (f (guard_row (Some x))) _ _ _ rest one
-  where
-    add : (b : Bool) (n m k : ℕ) → n ≡ k → n + cond {A = ℕ} b 1 0 ≡ m + 0 → m ≡ cond b (k + 1) k
-    add true n m k e f = omega (arith, e, f)
-    add false n m k e f = omega (arith, e, f)
+    count_before (f (guard_row (Some x))) _ _ _ rest one
 
 row_reads : (c : ℕ) (x : Guard) → reads_row c (guard_row (Some x)) ≡ reads_cell c x
 row_reads c x = by x.writes
