@@ -1,21 +1,18 @@
 -- A section that runs is alone at its cell: nobody else holds it.
-use Rattle.std.proofs.Common.{◌≡◌, ◌≢◌, ℕ, suc, ◌+◌, ◌<◌, List, [], ◌∷◌, length, refl, sym, ◌∙◌, arith, true, None, Some, inl, inr}
+use Rattle.std.proofs.Common.{◌≡◌, ◌≢◌, ℕ, ◌+◌, ◌<◌, List, sym, ◌∙◌, arith, Some, inl, inr}
 use Rattle.std.proofs.lemmas.Bool.{cases_eq}
 use Rattle.std.specs.Prelude.{◌==◌}
 use Rattle.std.specs.List.{find}
-use Rattle.std.specs.declared.option.Option.{Option}
 use Rattle.schedule_rules.specs.declared.plan.CellPlan.{CellPlan}
-use Rattle.schedule_rules.specs.Changes.{Change, Ran}
-use Rattle.schedule_rules.specs.History.{Event, before, count}
+use Rattle.schedule_rules.specs.History.{Event, count}
 use Rattle.schedule_rules.specs.Sections.{Section, innermost, without_innermost, runs_in, sections}
-use Rattle.schedule_rules.specs.Guards.{Guard, guards, reader}
-use Rattle.schedule_rules.specs.Replay.{Back, content_after_back, replay}
-use Rattle.schedule_rules.specs.Waits.{Wait, shares_read, shares_write, drains_on, waits}
+use Rattle.schedule_rules.specs.Guards.{guards}
+use Rattle.schedule_rules.specs.Waits.{shares_read, shares_write, drains_on, waits}
 use Rattle.schedule_rules.specs.Holds.{reads_cell, writes_cell}
-use Rattle.schedule_rules.proofs.Found.{found_counts, found_passes, none_found, only_one}
+use Rattle.schedule_rules.proofs.Found.{found_counts, none_found, only_one}
 use Rattle.schedule_rules.proofs.Opened.{count_ended, section_kept}
-use Rattle.phase_schedule.specs.Kept.{Open, open_after}
-use Rattle.phase_schedule.specs.Tracks.{IsApart, IsSteady}
+use Rattle.phase_schedule.specs.Kept.{open_after}
+use Rattle.phase_schedule.specs.Tracks.{IsApart}
 use Rattle.phase_schedule.proofs.Places.{other_number, same_number}
 
 module _ (cells : List CellPlan) (h : List Event) (p : ℕ) (s : Section) (is : innermost p (sections h) ≡ Some s) (apart : (c : ℕ) → IsApart (open_after cells h) c) where

@@ -1,33 +1,22 @@
 -- What stands open stays apart: where no more hold a cell, and where a cell is given to its parked calls.
-use Rattle.std.proofs.Common.{◌≡◌, ◌≢◌, ℕ, ◌+◌, ◌<◌, ◌≤◌, List, ◌∷◌, length, map, refl, sym, ◌∙◌, ap, subst, arith, Bool, true, false, None, Some, inl, inr}
+use Rattle.std.proofs.Common.{◌≡◌, ◌≢◌, ℕ, ◌+◌, ◌<◌, ◌≤◌, List, length, map, sym, ◌∙◌, ap, subst, arith, inl, inr}
 use Rattle.std.proofs.lemmas.Bool.{cases_eq}
-use Rattle.std.specs.Prelude.{◌==◌, ◌&&◌, ◌||◌, nat_lt}
 use Rattle.phase_bits.specs.declared.holders.Holders.{Holders}
 use Rattle.phase_bits.specs.Records.{most_readers}
 use Rattle.phase_locker.specs.declared.ways.Given.{Given}
 use Rattle.phase_locker.specs.declared.ways.Given.TheVariants as given
 use Rattle.phase_locker.specs.Rows.{Rows as Parking, readers_of, IsSound}
-use Rattle.phase_locker.specs.Fits.{Fits, IsIdle}
+use Rattle.phase_locker.specs.Fits.{IsIdle}
 use Rattle.phase_locker.specs.Gifts.{MayHand}
-use Rattle.phase_locker.proofs.Holding.{listed_once}
 use Rattle.schedule_rules.specs.declared.plan.CellPlan.{CellPlan}
-use Rattle.schedule_rules.specs.declared.plan.Place.{Place}
-use Rattle.schedule_rules.specs.declared.plan.Place.TheVariants as place
-use Rattle.schedule_rules.specs.declared.step.Step.{Step}
-use Rattle.schedule_rules.specs.declared.line.Answer.{Answer}
-use Rattle.schedule_rules.specs.Kinds.{cell_at, is_parking}
 use Rattle.schedule_rules.specs.History.{Event}
 use Rattle.schedule_rules.specs.Sections.{Section}
 use Rattle.schedule_rules.specs.Guards.{Guard}
-use Rattle.schedule_rules.specs.Waits.{Wait, wait_of, wake_reader, wake_writer, waits, other_waits, cell_concerned}
-use Rattle.schedule_rules.specs.Holds.{readers_with, writers_with, drains_with, is_free_with}
-use Rattle.schedule_rules.specs.Refusals.{refusal}
-use Rattle.schedule_rules.specs.Due.{due_answer}
-use Rattle.schedule_rules.specs.Gifts.{reaches, is_readers, downgrades, is_freed_last, may_give_on, may_give_last}
-use Rattle.schedule_rules.specs.Legal.{IsLegalLine, Last, answer_of}
-use Rattle.phase_schedule.specs.Kept.{Open, readers_in, writers_in, drains_in, kind_at}
+use Rattle.schedule_rules.specs.Waits.{Wait, wake_reader, wake_writer}
+use Rattle.schedule_rules.specs.Holds.{readers_with, writers_with, drains_with}
+use Rattle.phase_schedule.specs.Kept.{Open, readers_in, writers_in, drains_in}
 use Rattle.phase_schedule.specs.Shown.{Shows, IsSingle, Agrees}
-use Rattle.phase_schedule.specs.Tracks.{IsApart, event}
+use Rattle.phase_schedule.specs.Tracks.{IsApart}
 use Rattle.phase_schedule.proofs.Truth.{no_claims}
 use Rattle.phase_schedule.proofs.Counted.{read_shares_woken, read_shares_woken_other, write_shares_beside_readers, drains_beside_readers}
 use Rattle.phase_schedule.proofs.Members.{write_shares_woken, write_shares_woken_other, read_shares_beside_writer, drains_beside_writer}

@@ -1,5 +1,5 @@
 -- What a sequentializer answered to a call, and what it left, is told of the rows.
-use Rattle.std.proofs.Common.{◌≡◌, ◌≢◌, ℕ, List, set, get_or, map, refl, Bool, true, false, None, Some, ◌∙◌, ap, sym, subst, ◌&&◌, inl, inr}
+use Rattle.std.proofs.Common.{◌≡◌, ◌≢◌, ℕ, List, set, get_or, map, true, false, None, Some, ◌∙◌, ap, sym, subst, ◌&&◌, inl, inr}
 use Rattle.std.specs.declared.option.Option.{Option}
 use Rattle.std.proofs.Math.Seq.{map-set_same}
 use Rattle.phase_bits.specs.declared.holders.Holders.{Holders}

@@ -1,18 +1,14 @@
 -- What a call of one sequentializer left of the records, of the kinds, of who runs, and of the rows of who is parked.
-use Rattle.std.proofs.Common.{◌≡◌, ◌≢◌, ℕ, ◌+◌, ◌<◌, ◌≤◌, List, ◌∷◌, length, map, set, get_or, option_map, refl, sym, ◌∙◌, ap, subst, arith, None, Some, inl, inr}
-use Rattle.std.proofs.lemmas.Bool.{cases_eq}
+use Rattle.std.proofs.Common.{◌≡◌, ℕ, ◌<◌, List, length, map, set, get_or, option_map, refl, sym, ◌∙◌, ap, subst, None, Some}
 use Rattle.std.proofs.lemmas.List.{map-set}
 use Rattle.std.proofs.lemmas.Option.{slice_get-map, slice_get_read}
 use Rattle.std.proofs.Math.Seq.{map-set_same}
-use Rattle.std.specs.Prelude.{◌||◌, ◌⊎◌, nat_lt, slice_get}
-use Rattle.std.specs.List.{list_any}
+use Rattle.std.specs.Prelude.{slice_get}
 use Rattle.std.specs.declared.option.Option.{Option}
 use Rattle.phase_bits.specs.declared.holders.Holders.{Holders}
-use Rattle.phase_bits.specs.Number.{phase_of}
-use Rattle.phase_bits.specs.Records.{most_readers}
 use Rattle.phase_locker.specs.declared.ways.LockerKind.{LockerKind}
-use Rattle.phase_locker.specs.Rows.{Rows as Parking, SameSize, HasFree}
-use Rattle.phase_locker.specs.Fits.{Fits, IsWriteOpen}
+use Rattle.phase_locker.specs.Rows.{Rows as Parking, SameSize}
+use Rattle.phase_locker.specs.Fits.{Fits}
 use Rattle.phase_locker.specs.Others.{OthersStay}
 
 -- what is read of the locker of a cell, and what a call of it left of the records, of the kinds, of who runs, and of the

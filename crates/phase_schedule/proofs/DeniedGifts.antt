@@ -11,7 +11,6 @@ use Rattle.schedule_rules.specs.declared.plan.CellPlan.{CellPlan}
 use Rattle.schedule_rules.specs.History.{Event, count}
 use Rattle.schedule_rules.specs.Waits.{Wait, parks_to_read, parks_to_write, parked_readers, shares_read, shares_write, is_parked_writer, wait_woken, wake_reader, wake_writer}
 use Rattle.schedule_rules.specs.Gifts.{reaches}
-use Rattle.phase_schedule.specs.Meets.{given_first}
 use Rattle.phase_schedule.specs.Shown.{Agrees}
 use Rattle.phase_schedule.proofs.Truth.{both_are}
 use Rattle.phase_schedule.proofs.Each.{woken_to_write}

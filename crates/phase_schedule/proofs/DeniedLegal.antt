@@ -1,7 +1,7 @@
 -- The line of a call that may not access the value is legal: it gives what its attempt gave, or what the lock gives that
 -- it gives back.
-use Rattle.std.proofs.Common.{◌≡◌, ℕ, ◌+◌, List, refl, sym, ◌∙◌, ap, subst, Bool, true, false, Some}
-use Rattle.std.specs.Prelude.{◌==◌, ◌&&◌, ◌||◌, IsTrue}
+use Rattle.std.proofs.Common.{◌≡◌, List, refl, sym, ap, subst, true, Some}
+use Rattle.std.specs.Prelude.{◌&&◌, ◌||◌, IsTrue}
 use Rattle.phase_bits.specs.declared.holders.Holders.{Holders}
 use Rattle.phase_bits.specs.declared.phase.Phase.{Phase}
 use Rattle.phase_locker.specs.declared.ways.Given.{Given}
@@ -10,15 +10,13 @@ use Rattle.phase_locker.specs.Rows.{Rows as Parking}
 use Rattle.phase_locker.specs.Fits.{Fits, IsIdle}
 use Rattle.phase_locker.specs.Gifts.{MayHand}
 use Rattle.schedule_rules.specs.declared.plan.CellPlan.{CellPlan}
-use Rattle.schedule_rules.specs.declared.step.Act.{Act}
-use Rattle.schedule_rules.specs.declared.step.Act.TheVariants as act
 use Rattle.schedule_rules.specs.declared.step.Step.{Step}
 use Rattle.schedule_rules.specs.declared.line.Answer.{Answer}
 use Rattle.schedule_rules.specs.declared.line.Answer.TheVariants as answer
 use Rattle.schedule_rules.specs.Kinds.{cell_at, is_parking}
 use Rattle.schedule_rules.specs.Calls.{Calls}
 use Rattle.schedule_rules.specs.History.{Event}
-use Rattle.schedule_rules.specs.Waits.{waits, attempt_with, other_waits, cell_concerned, cell_concerned_with, cell_of_attempt}
+use Rattle.schedule_rules.specs.Waits.{waits, other_waits}
 use Rattle.schedule_rules.specs.Refusals.{refusal}
 use Rattle.schedule_rules.specs.Gifts.{reaches, is_readers, downgrades, is_freed_first, is_freed_last, may_give_first, may_give_last, may_give_on}
 use Rattle.schedule_rules.specs.Legal.{Moment, First, Last, IsLegalLine, answer_of, due_at, may_give, may_give_at}
@@ -26,7 +24,7 @@ use Rattle.phase_schedule.specs.declared.rows.Target.{Target}
 use Rattle.phase_schedule.specs.Kept.{kind_at}
 use Rattle.phase_schedule.specs.Meets.{given_first}
 use Rattle.phase_schedule.specs.Shown.{Agrees, Shows}
-use Rattle.phase_schedule.specs.Ready.{Tries, is_try, waits_left}
+use Rattle.phase_schedule.specs.Ready.{Tries, waits_left}
 use Rattle.phase_schedule.proofs.Truth.{both_are, or_right, none_stands}
 use Rattle.phase_schedule.proofs.GivenOn.{given_on, given_concerned, IsListed, listed_hand, reaches_given}
 use Rattle.phase_schedule.proofs.Apart.{idle_counts}
@@ -35,7 +33,6 @@ use Rattle.phase_schedule.proofs.LockAgain.{concerned}
 use Rattle.phase_schedule.proofs.DeniedGifts.{given_once}
 
 module _ (cells : List CellPlan) (h : List Event) (s : Step) (t : Target) (is : Tries cells h s t) where
-
   -- it gives on its cell
   pub left_is : (g : Given) → waits_left cells h s t g ≡ given_on t.cell g (other_waits cells h s)
   left_is g = given_concerned cells (waits cells h) h s t.cell g (other_waits cells h s) (concerned cells h s t is)

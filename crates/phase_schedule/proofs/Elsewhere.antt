@@ -1,5 +1,5 @@
 -- The record of a cell stays where calls at another cell wait, are given shares or wait no longer.
-use Rattle.std.proofs.Common.{◌≡◌, ◌≢◌, ℕ, List, refl, arith, Bool, true, false, None, Some, ap, map}
+use Rattle.std.proofs.Common.{◌≡◌, ◌≢◌, ℕ, List, refl, arith, Bool, true, false, Some, map}
 use Rattle.std.specs.List.{list_any}
 use Rattle.phase_locker.specs.declared.ways.How.{How}
 use Rattle.phase_locker.specs.declared.ways.How.TheVariants as how
@@ -49,7 +49,6 @@ writers_woken_other q c d ws w single is parks ne =
     omega (arith, e)
 
 module _ (cells : List CellPlan) (d : ℕ) (h : List Event) where
-
   -- readers of another cell are given shares
   pub core_readers_other : (c : ℕ) (ws : List Wait) → d ≢ c → core_with cells d h (map (wake_reader c) ws) ≡ core_with cells d h ws
   core_readers_other c ws ne =

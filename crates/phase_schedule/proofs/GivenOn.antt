@@ -6,14 +6,14 @@ use Rattle.phase_locker.specs.declared.ways.How.{How}
 use Rattle.phase_locker.specs.declared.ways.Who.{Who}
 use Rattle.phase_locker.specs.declared.ways.Given.{Given}
 use Rattle.phase_locker.specs.declared.ways.Given.TheVariants as given
-use Rattle.phase_locker.specs.Rows.{Rows, readers_of, writers_of, is_empty, occurs, freed, IsSound}
+use Rattle.phase_locker.specs.Rows.{Rows, readers_of, writers_of, is_empty, occurs, IsSound}
 use Rattle.phase_locker.specs.Fits.{flagged}
 use Rattle.phase_locker.specs.Attempts.{rows_waiting, held_waiting}
 use Rattle.phase_locker.specs.Gifts.{rows_handed, held_handed, MayHand, MayShare}
 use Rattle.schedule_rules.specs.declared.plan.CellPlan.{CellPlan}
 use Rattle.schedule_rules.specs.declared.step.Step.{Step}
 use Rattle.schedule_rules.specs.History.{Event}
-use Rattle.schedule_rules.specs.Waits.{Wait, Attempt, wait_of, without_wait, with_wait, wake_reader, wake_writer, wake_readers, waits_given_with, cell_concerned_with, wait_woken}
+use Rattle.schedule_rules.specs.Waits.{Wait, Attempt, wait_of, with_wait, wake_reader, wake_writer, wake_readers, waits_given_with, cell_concerned_with, wait_woken}
 use Rattle.schedule_rules.specs.Gifts.{reaches}
 use Rattle.schedule_rules.specs.Core.{core_with}
 use Rattle.phase_schedule.specs.Shown.{Shows, IsSingle, AreWithin, Agrees}

@@ -23,7 +23,6 @@ use Rattle.schedule_rules.specs.Core.{core, core_with}
 use Rattle.schedule_rules.specs.Waits.{wait_of, waits, other_waits, cell_concerned_with, cell_of_guard}
 use Rattle.schedule_rules.specs.Holds.{reads_cell, writes_cell, readers_with, writers_with, holding_with, is_barred}
 use Rattle.schedule_rules.specs.Due.{due_act, due_answer, due_clone}
-use Rattle.schedule_rules.proofs.Found.{found_counts}
 use Rattle.phase_schedule.specs.declared.rows.GuardRow.TheVariants as guard
 use Rattle.phase_schedule.specs.View.{View}
 use Rattle.phase_schedule.specs.Kept.{Open, kind_at, open_after}

@@ -1,5 +1,5 @@
 -- A clone does what it says: the rows follow the step.
-use Rattle.std.proofs.Common.{◌≡◌, ◌≢◌, ℕ, ◌<◌, List, length, map, set, get_or, refl, sym, ◌∙◌, ap, subst, false, Some, arith, length-set}
+use Rattle.std.proofs.Common.{◌≡◌, ◌≢◌, ℕ, ◌<◌, List, length, map, set, get_or, refl, sym, ◌∙◌, ap, subst, false, Some, length-set}
 use Rattle.phase_bits.specs.declared.holders.Holders.{Holders}
 use Rattle.phase_bits.specs.Records.{admit_read, most_readers}
 use Rattle.phase_locker.specs.declared.ways.Given.TheVariants as given

@@ -1,7 +1,7 @@
 -- After a write guard becomes a read guard the rows stand for the longer history.
-use Rattle.std.proofs.Common.{◌≡◌, ◌≢◌, ℕ, ◌+◌, ◌<◌, List, ◌∷◌, length, set, get_or, refl, sym, ◌∙◌, ap, subst, arith, Bool, true, false, None, Some, inl, inr, length-set}
+use Rattle.std.proofs.Common.{◌≡◌, ◌≢◌, ℕ, ◌+◌, ◌<◌, List, ◌∷◌, length, set, get_or, refl, sym, ◌∙◌, ap, subst, arith, true, false, None, Some, inl, inr, length-set}
 use Rattle.std.proofs.lemmas.Bool.{cases_eq}
-use Rattle.std.specs.Prelude.{◌||◌, ◌&&◌, if◌then◌else◌}
+use Rattle.std.specs.Prelude.{◌&&◌, if◌then◌else◌}
 use Rattle.std.specs.declared.option.Option.{Option}
 use Rattle.std.proofs.Math.Seq.{map-set_same}
 use Rattle.phase_bits.specs.declared.holders.Holders.{Holders}

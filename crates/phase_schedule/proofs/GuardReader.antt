@@ -1,5 +1,5 @@
 -- What is open, and what the rows show, once one more read guard is open.
-use Rattle.std.proofs.Common.{◌≡◌, ◌≢◌, ℕ, suc, ◌+◌, ◌<◌, List, ◌∷◌, length, set, refl, sym, ◌∙◌, ap, arith, cond, None, Some, inl, inr}
+use Rattle.std.proofs.Common.{◌≡◌, ◌≢◌, ℕ, ◌+◌, ◌<◌, List, ◌∷◌, length, set, refl, sym, ◌∙◌, ap, arith, cond, Some, inl, inr}
 use Rattle.std.proofs.lemmas.Bool.{cases_eq}
 use Rattle.std.specs.Prelude.{slice_get}
 use Rattle.std.specs.declared.option.Option.{Option}
@@ -9,15 +9,14 @@ use Rattle.phase_locker.specs.Others.{OthersStay}
 use Rattle.schedule_rules.specs.declared.plan.CellPlan.{CellPlan}
 use Rattle.schedule_rules.specs.History.{Event, count}
 use Rattle.schedule_rules.specs.Sections.{sections}
-use Rattle.schedule_rules.specs.Guards.{Guard, numbered, guards, reader}
+use Rattle.schedule_rules.specs.Guards.{Guard, numbered, reader}
 use Rattle.schedule_rules.specs.Replay.{Back}
 use Rattle.schedule_rules.specs.Waits.{Wait}
 use Rattle.schedule_rules.specs.Holds.{reads_cell}
 use Rattle.phase_schedule.specs.declared.rows.GuardRow.{GuardRow}
 use Rattle.phase_schedule.specs.declared.rows.GuardRow.TheVariants as guard
-use Rattle.phase_schedule.specs.View.{View}
 use Rattle.phase_schedule.specs.Kept.{guard_row}
-use Rattle.phase_schedule.specs.Tracks.{NumbersBelow, Tracks}
+use Rattle.phase_schedule.specs.Tracks.{NumbersBelow}
 use Rattle.phase_schedule.proofs.Places.{other_number, same_number, set_view}
 use Rattle.phase_schedule.proofs.After.{IsSteadyWith}
 

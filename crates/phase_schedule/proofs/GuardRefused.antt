@@ -1,15 +1,13 @@
 -- When an act on a guard is refused, and when not.
 use Rattle.std.proofs.Common.{◌≡◌, ℕ, List, ◌∙◌, ap, arith, Bool, None, Some}
-use Rattle.std.specs.Prelude.{is_some}
 use Rattle.std.specs.declared.option.Option.{Option}
 use Rattle.schedule_rules.specs.declared.plan.CellPlan.{CellPlan}
-use Rattle.schedule_rules.specs.declared.step.Act.{Act}
 use Rattle.schedule_rules.specs.declared.step.Act.TheVariants as act
 use Rattle.schedule_rules.specs.declared.step.Step.{Step}
 use Rattle.schedule_rules.specs.History.{Event}
 use Rattle.schedule_rules.specs.Guards.{Guard, own, guard_of, guards}
 use Rattle.schedule_rules.specs.Waits.{wait_of, waits}
-use Rattle.schedule_rules.specs.Refusals.{refusal, refusal_by, refusal_free, no_guard, no_writer, no_reader, writes_of}
+use Rattle.schedule_rules.specs.Refusals.{refusal, no_guard, no_writer, no_reader, writes_of}
 use Rattle.phase_schedule.specs.Ready.{IsHeld}
 use Rattle.phase_schedule.proofs.RowRefused.{refusal_idle}
 
@@ -21,7 +19,6 @@ pub guard_is : (h : List Event) (p g c : ℕ) (w : Bool) → (k : IsHeld h p g c
 guard_is h p g c w k = ap (λ o. own p o) k.found ∙ own_same p k.guard k.party
 
 module _ (cells : List CellPlan) (h : List Event) (s : Step) (g : ℕ) (idle : wait_of s.party (waits cells h) ≡ None) where
-
   -- by what the guard holds
   pub look_of : (o : Option Guard) → s.act ≡ act.Look g → guard_of g s.party (guards h) ≡ o → refusal cells h s ≡ no_guard (writes_of o)
   look_of o acts is = refusal_idle cells h s (act.Look g) idle acts ∙ ap (λ x. no_guard (writes_of x)) is

@@ -1,7 +1,5 @@
 -- What the rows show of the guard that a step names, and of its cell and its locker.
 use Rattle.std.proofs.Common.{◌≡◌, ℕ, ◌<◌, List, length, map, set, get_or, sym, ◌∙◌, ap, subst, arith, Bool, true, false, Some}
-use Rattle.std.proofs.lemmas.List.{length-map, get_or-map}
-use Rattle.std.proofs.Math.Seq.{map-set, map-set_same}
 use Rattle.std.specs.Prelude.{◌==◌, slice_get}
 use Rattle.std.specs.List.{find}
 use Rattle.phase_bits.specs.declared.holders.Holders.{Holders}
@@ -17,7 +15,7 @@ use Rattle.schedule_rules.specs.Guards.{guards}
 use Rattle.schedule_rules.specs.Replay.{replay, inside}
 use Rattle.schedule_rules.specs.Core.{core}
 use Rattle.schedule_rules.specs.Waits.{waits}
-use Rattle.schedule_rules.specs.Holds.{reads_cell, writes_cell}
+use Rattle.schedule_rules.specs.Holds.{writes_cell}
 use Rattle.schedule_rules.proofs.Found.{found_counts}
 use Rattle.phase_schedule.specs.declared.rows.CellRow.{CellRow}
 use Rattle.phase_schedule.specs.declared.rows.Draft.{Draft}
@@ -54,7 +52,6 @@ module _ (h : List Event) (v : View) (s : Step) (a : Act) (g c : ℕ) (w : Bool)
   cell_shown row at = cell_seen (plans v) h v k.acting.ready.follows c row at k.inside
 
   module _ {L : Type 0} (held : L → Holders) (place : L → LockerKind) (ls : List L) (l : L) (at : l ≡ get_or ls c l) (records : map held ls ≡ v.held) (kinds : map place ls ≡ v.places) where
-
     -- the record of its locker
     pub held_shown : held l ≡ core (plans v) c h
     held_shown = mapped_at held ls c l (core (plans v) c h) l at (ap (λ (xs : List Holders). slice_get xs c) records ∙ k.acting.ready.follows.locked.held c in_plan)
@@ -88,7 +85,6 @@ next_free_then h v s n a g c w k =
 
 -- a read guard is open at the locker
 module _ (h : List Event) (v : View) (s : Step) (a : Act) (g c : ℕ) (k : IsHolding h v s a g c false) where
-
   pub read_open : (x : Holders) → x ≡ core (plans v) c h → 0 < open_reads x v.parks c
   read_open x e =
       subst (λ (y : Holders). 0 < open_reads y v.parks c) (sym e)

@@ -1,10 +1,9 @@
 -- A step of a party that does not wait, on one cell, whose locker hands over: the rows stand for the longer history.
-use Rattle.std.proofs.Common.{◌≡◌, ◌≢◌, ℕ, suc, ◌<◌, ◌≤◌, List, ◌∷◌, length, set, refl, sym, ◌∙◌, ap, subst, Bool, true, false, None, Some}
-use Rattle.std.specs.Prelude.{◌&&◌, ◌==◌, slice_get, if◌then◌else◌}
+use Rattle.std.proofs.Common.{◌≡◌, ◌≢◌, ℕ, suc, ◌<◌, ◌≤◌, List, ◌∷◌, length, set, sym, ◌∙◌, ap, subst, None, Some}
+use Rattle.std.specs.Prelude.{slice_get}
 use Rattle.std.specs.declared.option.Option.{Option}
 use Rattle.phase_bits.specs.declared.holders.Holders.{Holders}
 use Rattle.phase_locker.specs.declared.ways.Given.{Given}
-use Rattle.phase_locker.specs.declared.ways.Given.TheVariants as given
 use Rattle.phase_locker.specs.Rows.{Rows as Parking, SameSize}
 use Rattle.phase_locker.specs.Fits.{Fits, flagged}
 use Rattle.phase_locker.specs.Gifts.{rows_handed, held_handed}
@@ -18,7 +17,7 @@ use Rattle.schedule_rules.specs.Sections.{sections}
 use Rattle.schedule_rules.specs.Guards.{Guard, numbered, guards}
 use Rattle.schedule_rules.specs.Replay.{Back, back_of_step, replay, inside}
 use Rattle.schedule_rules.specs.Core.{core, core_with}
-use Rattle.schedule_rules.specs.Waits.{Wait, wait_of, wake_reader, wake_writer, waits, waits_given, other_waits, cell_concerned, parks_to_read, is_parked_writer}
+use Rattle.schedule_rules.specs.Waits.{Wait, wait_of, waits, waits_given, other_waits, cell_concerned}
 use Rattle.schedule_rules.specs.Legal.{IsLegalLine}
 use Rattle.phase_schedule.specs.declared.rows.CellRow.{CellRow}
 use Rattle.phase_schedule.specs.declared.rows.GuardRow.{GuardRow}

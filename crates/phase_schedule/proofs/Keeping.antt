@@ -1,18 +1,12 @@
 -- What a call has of a cell, it has alone: without its wait the cell has one read share, write share or drain fewer.
-use Rattle.std.proofs.Common.{◌≡◌, ℕ, ◌+◌, List, refl, arith, Bool, true, false, Some, ◌∙◌, ap, sym, ◌||◌}
-use Rattle.std.specs.Prelude.{nat_lt}
-use Rattle.phase_bits.specs.declared.holders.Holders.{Holders}
-use Rattle.phase_bits.specs.Number.{phase_of}
+use Rattle.std.proofs.Common.{◌≡◌, ℕ, ◌+◌, List, refl, arith, Bool, true, false, Some}
 use Rattle.phase_locker.specs.declared.ways.How.{How}
 use Rattle.phase_locker.specs.declared.ways.How.TheVariants as how
-use Rattle.schedule_rules.specs.declared.plan.CellPlan.{CellPlan}
 use Rattle.schedule_rules.specs.Calls.{Want}
-use Rattle.schedule_rules.specs.History.{Event, count}
-use Rattle.schedule_rules.specs.Replay.{phase_at}
+use Rattle.schedule_rules.specs.History.{Event}
 use Rattle.schedule_rules.specs.Waits.{Wait, wait_of, without_wait, shares_read, shares_write, drains_on}
-use Rattle.schedule_rules.specs.Holds.{read_guards, write_holds, readers_with, writers_with, drains_with}
-use Rattle.schedule_rules.specs.Core.{is_locked_with}
-use Rattle.phase_schedule.specs.Shown.{IsSingle, Agrees}
+use Rattle.schedule_rules.specs.Holds.{readers_with, writers_with, drains_with}
+use Rattle.phase_schedule.specs.Shown.{IsSingle}
 use Rattle.phase_schedule.proofs.Counted.{count_without_wait}
 
 -- what a call has of the cell, it has alone

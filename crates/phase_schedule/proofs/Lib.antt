@@ -3,7 +3,6 @@ pub mod Truth
 pub mod Places
 pub mod Slots
 pub mod Passing
-
 -- The calls that wait: what becomes of one, and who waits, in which order, and how many
 pub mod Each
 pub mod Finding
@@ -12,14 +11,12 @@ pub mod Lists
 pub mod Counted
 pub mod Members
 pub mod Added
-
 -- The rows show who waits
 pub mod Reaching
 pub mod ShowsFreed
 pub mod ShowsWaiting
 pub mod ShowsHanded
 pub mod Within
-
 -- The records of the lockers
 pub mod Same
 pub mod Records
@@ -29,25 +26,21 @@ pub mod GivenOn
 pub mod KeptShares
 pub mod RowCounts
 pub mod Few
-
 -- What stands open, and rows that stand for a history with one event more
 pub mod RowOpens
 pub mod Alone
 pub mod Apart
 pub mod After
-
 -- A step that hands over, its line, and what a call of a sequentializer left
 pub mod Hands
 pub mod Lines
 pub mod Called
-
 -- What the rows keep of an answered attempt
 pub mod RowInner
 pub mod RowTries
 pub mod RowKept
 pub mod RowAnswered
 pub mod RowRefused
-
 -- The attempt of a call, at its locker
 pub mod LockBarred
 pub mod LockDue
@@ -61,14 +54,12 @@ pub mod LockLeft
 pub mod LockKept
 pub mod LockGives
 pub mod LockAgain
-
 -- The attempt of a call, at its sequentializer
 pub mod BegunAsks
 pub mod BegunRuns
 pub mod BegunWaits
 pub mod BegunSplit
 pub mod BegunTried
-
 -- Acts on guards
 pub mod GuardPhase
 pub mod GuardRefused
@@ -86,7 +77,6 @@ pub mod GuardCloned
 pub mod GuardClones
 pub mod GuardDowngraded
 pub mod GuardDowns
-
 -- The outcomes of generators
 pub mod MadeLegal
 pub mod MadeOpens
@@ -97,13 +87,11 @@ pub mod MadeWrites
 pub mod MadeReads
 pub mod MadeFailed
 pub mod MadeDone
-
 -- Calls that may not access the value
 pub mod DeniedGifts
 pub mod DeniedHolds
 pub mod DeniedLegal
 pub mod Denied
-
 -- Runs: which schedules run, how a run begins, goes on and ends
 pub mod RunUnknown
 pub mod RunValid

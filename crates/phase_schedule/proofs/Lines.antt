@@ -1,16 +1,13 @@
 -- A line is legal where its answer is due and its gift is one that is allowed last.
-use Rattle.std.proofs.Common.{◌≡◌, ◌≢◌, ℕ, ◌+◌, ◌<◌, ◌≤◌, List, ◌∷◌, length, map, refl, sym, ◌∙◌, ap, subst, arith, Bool, true, false, None, Some, inl, inr}
-use Rattle.std.proofs.lemmas.Bool.{cases_eq}
-use Rattle.std.specs.Prelude.{◌==◌, ◌&&◌, ◌||◌, nat_lt, IsTrue}
-use Rattle.std.specs.declared.option.Option.{Option}
+use Rattle.std.proofs.Common.{◌≡◌, ℕ, List, ◌∷◌, refl, sym, ◌∙◌, ap, subst, true, false, None, Some}
+use Rattle.std.specs.Prelude.{◌&&◌, ◌||◌, IsTrue}
 use Rattle.phase_bits.specs.declared.holders.Holders.{Holders}
-use Rattle.phase_bits.specs.Records.{most_readers}
 use Rattle.phase_locker.specs.declared.ways.Given.{Given}
 use Rattle.phase_locker.specs.declared.ways.Given.TheVariants as given
-use Rattle.phase_locker.specs.Rows.{Rows as Parking, readers_of, IsSound}
+use Rattle.phase_locker.specs.Rows.{Rows as Parking}
 use Rattle.phase_locker.specs.Fits.{Fits, IsIdle}
 use Rattle.phase_locker.specs.Gifts.{MayHand}
-use Rattle.phase_locker.proofs.Holding.{listed_once, listed_in}
+use Rattle.phase_locker.proofs.Holding.{listed_in}
 use Rattle.schedule_rules.specs.declared.plan.CellPlan.{CellPlan}
 use Rattle.schedule_rules.specs.declared.plan.Place.{Place}
 use Rattle.schedule_rules.specs.declared.plan.Place.TheVariants as place
@@ -18,22 +15,16 @@ use Rattle.schedule_rules.specs.declared.step.Step.{Step}
 use Rattle.schedule_rules.specs.declared.line.Answer.{Answer}
 use Rattle.schedule_rules.specs.Kinds.{cell_at, is_parking}
 use Rattle.schedule_rules.specs.History.{Event}
-use Rattle.schedule_rules.specs.Sections.{Section, innermost, sections}
-use Rattle.schedule_rules.specs.Guards.{Guard}
-use Rattle.schedule_rules.specs.Waits.{Wait, wait_of, wake_reader, wake_writer, waits, other_waits, cell_concerned}
-use Rattle.schedule_rules.specs.Holds.{readers_with, writers_with, drains_with, is_free_with, is_free}
-use Rattle.schedule_rules.specs.Refusals.{refusal, no_section}
-use Rattle.schedule_rules.specs.Due.{due_answer, due_act, due_made, answer_of_made, call_answer_of_made}
+use Rattle.schedule_rules.specs.Waits.{wait_of, waits, other_waits, cell_concerned}
+use Rattle.schedule_rules.specs.Holds.{is_free_with}
+use Rattle.schedule_rules.specs.Refusals.{refusal}
+use Rattle.schedule_rules.specs.Due.{due_answer}
 use Rattle.schedule_rules.specs.Gifts.{reaches, is_readers, downgrades, is_freed_last, may_give_on, may_give_last, is_nobody}
 use Rattle.schedule_rules.specs.Legal.{IsLegalLine, Last, answer_of, may_give}
-use Rattle.schedule_rules.specs.declared.plan.Call.TheVariants as call
-use Rattle.schedule_rules.specs.declared.step.Act.TheVariants as act
-use Rattle.schedule_rules.specs.declared.line.Answer.TheVariants as answer
 use Rattle.schedule_rules.specs.declared.line.Line.{Line}
-use Rattle.schedule_rules.specs.Calls.{Want, Calls}
-use Rattle.phase_schedule.specs.Kept.{Open, readers_in, writers_in, drains_in, kind_at, open_after, call_of}
-use Rattle.phase_schedule.specs.Shown.{Shows, IsSingle, Agrees}
-use Rattle.phase_schedule.specs.Tracks.{IsApart, event}
+use Rattle.phase_schedule.specs.Kept.{kind_at}
+use Rattle.phase_schedule.specs.Shown.{Shows, Agrees}
+use Rattle.phase_schedule.specs.Tracks.{event}
 use Rattle.phase_schedule.proofs.Truth.{or_right, none_stands}
 use Rattle.phase_schedule.proofs.Counted.{none_without}
 use Rattle.phase_schedule.proofs.GivenOn.{IsListed, reaches_given}

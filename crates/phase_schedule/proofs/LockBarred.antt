@@ -1,5 +1,5 @@
 -- A locker bars as the rules do, and a barred call waits in a way that is due.
-use Rattle.std.proofs.Common.{◌≡◌, ◌==◌, ℕ, ◌<◌, List, refl, arith, Bool, true, false, None, Some, ◌∙◌, ap, sym, not, ◌||◌, ◌&&◌}
+use Rattle.std.proofs.Common.{◌≡◌, ◌==◌, ℕ, List, refl, Bool, true, false, None, Some, ◌∙◌, ap, sym, not, ◌||◌, ◌&&◌}
 use Rattle.std.specs.Prelude.{nat_lt}
 use Rattle.std.specs.declared.option.Option.{Option}
 use Rattle.phase_bits.specs.Records.{most_readers}

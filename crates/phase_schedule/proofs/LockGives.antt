@@ -1,5 +1,5 @@
 -- What a waiting call gives up, and to whom its locker hands it.
-use Rattle.std.proofs.Common.{◌≡◌, ◌==◌, ℕ, ◌+◌, ◌<◌, ◌^◌, List, [], length, refl, arith, Bool, true, false, Some, ◌∙◌, ap, sym, subst, ◌||◌, inl, inr}
+use Rattle.std.proofs.Common.{◌≡◌, ℕ, ◌<◌, ◌^◌, List, [], length, refl, arith, Bool, true, false, Some, ◌∙◌, ap, sym, subst, ◌||◌, inl, inr}
 use Rattle.std.proofs.lemmas.List.Sums.{count_by-le-length}
 use Rattle.std.specs.Prelude.{◌⊎◌}
 use Rattle.phase_bits.specs.declared.holders.Holders.{Holders}

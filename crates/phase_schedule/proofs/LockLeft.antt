@@ -1,12 +1,10 @@
 -- What stands open once a wait is over and a share is given: as many lists, and the other cells as before.
-use Rattle.std.proofs.Common.{◌≡◌, ◌≢◌, ℕ, ◌+◌, ◌<◌, ◌^◌, List, length, refl, Bool, None, Some, ◌∙◌, ap, sym, length-set}
-use Rattle.std.specs.Prelude.{if◌then◌else◌}
-use Rattle.std.specs.declared.option.Option.{Option}
+use Rattle.std.proofs.Common.{◌≡◌, ◌≢◌, ℕ, ◌+◌, ◌<◌, length, refl, Some, ap, length-set}
 use Rattle.phase_locker.specs.declared.ways.Given.{Given}
 use Rattle.phase_locker.specs.declared.ways.Given.TheVariants as given
 use Rattle.phase_locker.specs.declared.ways.Waiting.{Waiting}
 use Rattle.phase_locker.specs.declared.ways.Waiting.TheVariants as waiting_as
-use Rattle.phase_locker.specs.Rows.{Rows as Parking, row_of, occurs, reads_at, writes_at, left, freed, readers_of, IsSound}
+use Rattle.phase_locker.specs.Rows.{Rows as Parking, row_of, left, freed, readers_of, IsSound}
 use Rattle.phase_locker.specs.Gifts.{rows_handed}
 use Rattle.phase_locker.proofs.Shares.{length-shared}
 use Rattle.schedule_rules.specs.History.{count}

@@ -37,7 +37,7 @@ use Rattle.phase_schedule.specs.declared.rows.CellRow.{CellRow}
 use Rattle.phase_schedule.specs.declared.rows.GuardRow.TheVariants as guard
 use Rattle.phase_schedule.specs.declared.rows.PartyRow.{PartyRow}
 use Rattle.phase_schedule.specs.declared.rows.OpenSection.TheVariants as open_as
-use Rattle.phase_schedule.specs.Kept.{cell_of, guard_row, open_run, run_in, runner_in, section_by, section_of, want_of}
+use Rattle.phase_schedule.specs.Kept.{cell_of, open_run, run_in, runner_in, section_by, section_of, want_of}
 use Rattle.phase_schedule.specs.Meets.{IsGenerating, section_in}
 use Rattle.phase_schedule.specs.View.{View}
 use Rattle.phase_schedule.specs.Tracks.{Follows, FollowsStep, Tracks, event, plans}
@@ -58,7 +58,6 @@ pub in_lockers : {L X : Type 0} (f : L → X) (lockers : List L) (n c : ℕ) →
 in_lockers f lockers n c size lt = let same : length (map f lockers) ≡ length lockers = length-map _ _ in omega (arith, size, same, lt)
 
 module _ (h : List Event) (v : View) (t : Follows h v) where
-
   -- the step to come has opened no guard
   pub slot_free : (n : ℕ) → n ≡ length h → length h < length v.guards → slice_get v.guards n ≡ Some guard.Free
   slot_free n number room = next_slot h v.guards n t.kept.slot t.steady.numbers number room

@@ -1,26 +1,20 @@
 -- The records of the lockers where a section runs, and after it goes on in a write guard.
-use Rattle.std.proofs.Common.{◌≡◌, ◌≢◌, ℕ, ◌+◌, ◌<◌, ◌≤◌, List, ◌∷◌, length, map, set, get_or, option_map, refl, sym, ◌∙◌, ap, subst, arith, None, Some, inl, inr}
+use Rattle.std.proofs.Common.{◌≡◌, ◌≢◌, ℕ, ◌+◌, ◌<◌, List, ◌∷◌, length, refl, sym, ◌∙◌, ap, subst, arith, None, Some, inl, inr}
 use Rattle.std.proofs.lemmas.Bool.{cases_eq}
-use Rattle.std.proofs.lemmas.List.{map-set}
-use Rattle.std.proofs.lemmas.Option.{slice_get-map, slice_get_read}
-use Rattle.std.proofs.Math.Seq.{map-set_same}
 use Rattle.std.specs.Prelude.{◌||◌, ◌⊎◌, nat_lt, slice_get}
 use Rattle.std.specs.List.{list_any}
-use Rattle.std.specs.declared.option.Option.{Option}
 use Rattle.phase_bits.specs.declared.holders.Holders.{Holders}
 use Rattle.phase_bits.specs.Number.{phase_of}
-use Rattle.phase_bits.specs.Records.{most_readers}
 use Rattle.phase_locker.specs.declared.ways.LockerKind.{LockerKind}
-use Rattle.phase_locker.specs.Rows.{Rows as Parking, SameSize, HasFree}
+use Rattle.phase_locker.specs.Rows.{HasFree}
 use Rattle.phase_locker.specs.Fits.{Fits, IsWriteOpen}
-use Rattle.phase_locker.specs.Others.{OthersStay}
 use Rattle.schedule_rules.specs.declared.plan.CellPlan.{CellPlan}
 use Rattle.schedule_rules.specs.Kinds.{cell_at}
 use Rattle.schedule_rules.specs.History.{Event, count}
 use Rattle.schedule_rules.specs.Sections.{Section, innermost, without_innermost, runs_in, sections}
 use Rattle.schedule_rules.specs.Guards.{Guard, guards}
 use Rattle.schedule_rules.specs.Replay.{replay}
-use Rattle.schedule_rules.specs.Waits.{Wait, wait_of, waits, shares_read, shares_write, drains_on, parks_to_read, parks_to_write, parked_readers}
+use Rattle.schedule_rules.specs.Waits.{Wait, wait_of, waits, shares_read, shares_write, drains_on, parks_to_read, parks_to_write}
 use Rattle.schedule_rules.specs.Holds.{reads_cell, writes_cell, write_holds}
 use Rattle.schedule_rules.specs.Core.{core}
 use Rattle.phase_schedule.specs.Kept.{record_in, kind_at}

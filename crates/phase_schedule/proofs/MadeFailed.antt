@@ -15,7 +15,6 @@ use Rattle.schedule_rules.specs.declared.plan.CellPlan.{CellPlan}
 use Rattle.schedule_rules.specs.declared.step.Act.TheVariants as act
 use Rattle.schedule_rules.specs.declared.step.Step.{Step}
 use Rattle.schedule_rules.specs.declared.line.Answer.TheVariants as answer
-use Rattle.schedule_rules.specs.Kinds.{cell_at}
 use Rattle.schedule_rules.specs.History.{Event, count}
 use Rattle.schedule_rules.specs.Sections.{Section, innermost, without_innermost, runs_in, sections, sections_ended}
 use Rattle.schedule_rules.specs.Guards.{guards}
@@ -24,7 +23,7 @@ use Rattle.schedule_rules.specs.Waits.{wait_of, waits, other_waits, cell_concern
 use Rattle.schedule_rules.specs.Holds.{writers_with}
 use Rattle.schedule_rules.specs.Core.{core, core_with}
 use Rattle.schedule_rules.specs.Due.{due_act}
-use Rattle.schedule_rules.specs.Gifts.{reaches, is_readers, downgrades, is_freed_last}
+use Rattle.schedule_rules.specs.Gifts.{is_readers, downgrades, is_freed_last}
 use Rattle.schedule_rules.specs.Legal.{IsLegalLine}
 use Rattle.phase_schedule.specs.declared.rows.CellRow.{CellRow}
 use Rattle.phase_schedule.specs.declared.rows.PartyRow.{PartyRow}

@@ -1,33 +1,20 @@
 -- Which outcome of a generator is refused, and which answer is due.
-use Rattle.std.proofs.Common.{◌≡◌, ◌≢◌, ℕ, ◌+◌, List, refl, sym, ◌∙◌, ap, subst, true, false, None, Some}
-use Rattle.std.specs.Prelude.{◌==◌, ◌&&◌, ◌||◌, IsTrue}
+use Rattle.std.proofs.Common.{◌≡◌, ◌≢◌, ℕ, ◌+◌, List, refl, sym, ◌∙◌, ap, true, false, None, Some}
+use Rattle.std.specs.Prelude.{◌==◌}
 use Rattle.std.specs.declared.option.Option.{Option}
-use Rattle.phase_bits.specs.declared.holders.Holders.{Holders}
-use Rattle.phase_locker.specs.declared.ways.Given.{Given}
-use Rattle.phase_locker.specs.declared.ways.Given.TheVariants as given
-use Rattle.phase_locker.specs.Rows.{Rows as Parking}
-use Rattle.phase_locker.specs.Fits.{Fits}
-use Rattle.phase_locker.proofs.Holding.{listed_in}
 use Rattle.schedule_rules.specs.declared.plan.Call.TheVariants as call
 use Rattle.schedule_rules.specs.declared.plan.CellPlan.{CellPlan}
-use Rattle.schedule_rules.specs.declared.plan.Place.{Place}
-use Rattle.schedule_rules.specs.declared.plan.Place.TheVariants as place
 use Rattle.schedule_rules.specs.declared.step.Act.TheVariants as act
 use Rattle.schedule_rules.specs.declared.step.Step.{Step}
-use Rattle.schedule_rules.specs.declared.line.Answer.{Answer}
 use Rattle.schedule_rules.specs.declared.line.Answer.TheVariants as answer
-use Rattle.schedule_rules.specs.declared.line.Line.{Line}
-use Rattle.schedule_rules.specs.Kinds.{cell_at, is_parking}
 use Rattle.schedule_rules.specs.Calls.{Want, Calls}
 use Rattle.schedule_rules.specs.History.{Event}
 use Rattle.schedule_rules.specs.Sections.{Section, innermost, sections}
-use Rattle.schedule_rules.specs.Waits.{wait_of, waits, other_waits, cell_concerned}
+use Rattle.schedule_rules.specs.Waits.{wait_of, waits, other_waits}
 use Rattle.schedule_rules.specs.Holds.{is_free}
 use Rattle.schedule_rules.specs.Refusals.{refusal, no_section}
 use Rattle.schedule_rules.specs.Due.{due_answer, due_act, due_made, answer_of_made, call_answer_of_made}
-use Rattle.schedule_rules.specs.Gifts.{reaches, is_nobody, is_readers, downgrades, is_freed_last, may_give_last, may_give_on}
-use Rattle.schedule_rules.specs.Legal.{Last, IsLegalLine, answer_of, may_give}
-use Rattle.phase_schedule.specs.Kept.{Open, open_after, call_of, kind_at, readers_in, writers_in, drains_in}
+use Rattle.phase_schedule.specs.Kept.{Open, open_after, call_of, readers_in, writers_in, drains_in}
 use Rattle.phase_schedule.proofs.RowRefused.{refusal_idle}
 
 -- nothing holds the cell where nothing stands open at it

@@ -1,19 +1,18 @@
 -- What stands open after the outcome of a generator is apart and steady.
-use Rattle.std.proofs.Common.{◌≡◌, ◌≢◌, ℕ, suc, ◌+◌, ◌<◌, List, [], ◌∷◌, length, refl, sym, ◌∙◌, arith, true, None, Some, inl, inr}
+use Rattle.std.proofs.Common.{◌≡◌, ◌≢◌, ℕ, suc, List, [], ◌∷◌, length, refl, arith, true, None, Some, inl, inr}
 use Rattle.std.proofs.lemmas.Bool.{cases_eq}
-use Rattle.std.specs.Prelude.{◌==◌}
 use Rattle.std.specs.List.{find}
 use Rattle.std.specs.declared.option.Option.{Option}
 use Rattle.schedule_rules.specs.declared.plan.CellPlan.{CellPlan}
 use Rattle.schedule_rules.specs.Changes.{Change, Ran}
-use Rattle.schedule_rules.specs.History.{Event, before, count}
+use Rattle.schedule_rules.specs.History.{Event, before}
 use Rattle.schedule_rules.specs.Sections.{Section, innermost, without_innermost, runs_in, sections}
 use Rattle.schedule_rules.specs.Guards.{Guard, guards, reader}
 use Rattle.schedule_rules.specs.Replay.{Back, content_after_back, replay}
-use Rattle.schedule_rules.specs.Waits.{Wait, shares_read, shares_write, drains_on, waits}
-use Rattle.schedule_rules.specs.Holds.{reads_cell, writes_cell}
-use Rattle.schedule_rules.proofs.Found.{found_counts, found_passes, none_found, only_one}
-use Rattle.schedule_rules.proofs.Opened.{count_ended, section_kept}
+use Rattle.schedule_rules.specs.Waits.{Wait, waits}
+use Rattle.schedule_rules.specs.Holds.{writes_cell}
+use Rattle.schedule_rules.proofs.Found.{found_counts, found_passes}
+use Rattle.schedule_rules.proofs.Opened.{count_ended}
 use Rattle.phase_schedule.specs.Kept.{Open, open_after}
 use Rattle.phase_schedule.specs.Tracks.{IsApart, IsSteady}
 use Rattle.phase_schedule.proofs.Places.{other_number, same_number}
@@ -48,7 +47,6 @@ module _ (cells : List CellPlan) (h : List Event) (p : ℕ) (s : Section) (is : 
   opened_failed ws = record { waits = ws; sections = rest; guards = guards h }
 
   module _ (apart : (c : ℕ) → IsApart (open_after cells h) c) where
-
     -- what stands open excludes each other, before the gift
     pub apart_failed : (d : ℕ) → IsApart (opened_failed (waits cells h)) d
     apart_failed d =

@@ -17,7 +17,6 @@ use Rattle.schedule_rules.specs.declared.plan.Call.TheVariants as call
 use Rattle.schedule_rules.specs.declared.step.Act.TheVariants as act
 use Rattle.schedule_rules.specs.declared.step.Step.{Step}
 use Rattle.schedule_rules.specs.declared.line.Answer.TheVariants as answer
-use Rattle.schedule_rules.specs.Kinds.{cell_at}
 use Rattle.schedule_rules.specs.History.{Event, act_by, count}
 use Rattle.schedule_rules.specs.Sections.{Section, innermost, without_innermost, runs_in, sections, sections_ended}
 use Rattle.schedule_rules.specs.Guards.{guards, reader, reader_made, with_reader}
@@ -25,7 +24,7 @@ use Rattle.schedule_rules.specs.Replay.{back_read, back_of_run, back_of_step, co
 use Rattle.schedule_rules.specs.Waits.{wait_of, waits, cell_concerned, cell_concerned_with, cell_of_section}
 use Rattle.schedule_rules.specs.Holds.{reads_cell, writes_cell, writers_with}
 use Rattle.schedule_rules.specs.Core.{core, core_with}
-use Rattle.schedule_rules.specs.Gifts.{reaches, turns_to_read, is_freed_last, may_give_last}
+use Rattle.schedule_rules.specs.Gifts.{turns_to_read, is_freed_last, may_give_last}
 use Rattle.schedule_rules.specs.Legal.{IsLegalLine}
 use Rattle.phase_schedule.specs.declared.rows.CellRow.{CellRow}
 use Rattle.phase_schedule.specs.declared.rows.GuardRow.TheVariants as guard

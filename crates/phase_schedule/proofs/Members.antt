@@ -1,7 +1,7 @@
 -- Who is in the lists of parked calls, where each party waits at most once.
 use Rattle.std.proofs.Common.{◌≡◌, ◌≢◌, ◌==◌, ℕ, ◌+◌, ◌≤◌, List, [], ◌∷◌, refl, arith, Bool, true, false, cond, None, Some, ◌∙◌, ap, map}
 use Rattle.phase_locker.specs.Rows.{occurs}
-use Rattle.phase_locker.proofs.Filters.{occurs-append, without_absent}
+use Rattle.phase_locker.proofs.Filters.{occurs-append}
 use Rattle.schedule_rules.specs.History.{count}
 use Rattle.schedule_rules.specs.Waits.{Wait, party_if, parks_to_read, parks_to_write, shares_read, shares_write, drains_on, parked_readers, parked_writers, wait_of, wake_writer}
 use Rattle.schedule_rules.proofs.Found.{none_found}

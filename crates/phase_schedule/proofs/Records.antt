@@ -1,5 +1,5 @@
 -- The record of a cell agrees with the history through the moves of its lock, while no hold opens or ends.
-use Rattle.std.proofs.Common.{◌≡◌, ◌==◌, ℕ, ◌+◌, ◌≤◌, List, length, refl, arith, Bool, true, false, cond, None, Some, ◌∙◌, ap, sym, map}
+use Rattle.std.proofs.Common.{◌≡◌, ◌==◌, ℕ, ◌+◌, ◌≤◌, List, length, refl, arith, Bool, true, false, cond, Some, ◌∙◌, ap, sym, map}
 use Rattle.phase_bits.specs.declared.holders.Holders.{Holders}
 use Rattle.phase_bits.specs.Records.{give_readers, give_writer}
 use Rattle.phase_locker.specs.declared.ways.How.{How}

@@ -1,7 +1,6 @@
 -- After what its locker answered is kept, the rows stand for the longer history.
-use Rattle.std.proofs.Common.{◌≡◌, ℕ, ◌<◌, List, length, set, get_or, refl, sym, ◌∙◌, ap, subst, arith, true, false, None, Some, length-set}
+use Rattle.std.proofs.Common.{◌≡◌, ℕ, List, length, set, get_or, refl, sym, ◌∙◌, ap, subst, arith, true, false, None, Some, length-set}
 use Rattle.std.specs.Prelude.{Bool, if◌then◌else◌, slice_get}
-use Rattle.std.proofs.lemmas.List.{length-map}
 use Rattle.phase_bits.specs.declared.phase.Phase.{Phase}
 use Rattle.phase_bits.specs.Number.{phase_of}
 use Rattle.phase_locker.specs.declared.tickets.Attempt.{Attempt}
@@ -27,7 +26,7 @@ use Rattle.phase_schedule.specs.declared.rows.OpenSection.TheVariants as open_as
 use Rattle.phase_schedule.specs.declared.rows.PartyRow.{PartyRow}
 use Rattle.phase_schedule.specs.declared.rows.Target.{Target}
 use Rattle.phase_schedule.specs.View.{View}
-use Rattle.phase_schedule.specs.Kept.{guard_row, section_of}
+use Rattle.phase_schedule.specs.Kept.{section_of}
 use Rattle.phase_schedule.specs.Tracks.{FollowsStep, Locked, RunBy, event, plans}
 use Rattle.phase_schedule.specs.Ready.{IsAnswered, IsMade, IsOpening, IsReadGuard, IsRun, IsWriteGuard, if_made, waits_left, with_section, with_guard}
 use Rattle.phase_schedule.proofs.After.{tracks_after}

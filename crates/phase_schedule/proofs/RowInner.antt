@@ -1,16 +1,14 @@
 -- What the rows show of a cell and of the innermost section of a party.
-use Rattle.std.proofs.Common.{◌≡◌, ℕ, ◌<◌, ◌≤◌, List, length, get_or, refl, sym, ◌∙◌, ap, subst, arith, None, Some}
-use Rattle.std.proofs.lemmas.List.{length-map}
-use Rattle.std.specs.Prelude.{◌+◌, ◌==◌}
+use Rattle.std.proofs.Common.{◌≡◌, ℕ, ◌<◌, List, length, get_or, refl, sym, ◌∙◌, ap, subst, arith, None, Some}
 use Rattle.std.specs.List.{find}
 use Rattle.std.specs.declared.option.Option.{Option}
 use Rattle.schedule_rules.specs.Kinds.{cell_at}
-use Rattle.schedule_rules.specs.History.{Event, count}
-use Rattle.schedule_rules.specs.Sections.{Section, innermost, without_innermost, runs_in, sections}
+use Rattle.schedule_rules.specs.History.{Event}
+use Rattle.schedule_rules.specs.Sections.{Section, innermost, without_innermost, sections}
 use Rattle.schedule_rules.specs.Guards.{Guard, guards}
 use Rattle.schedule_rules.specs.Replay.{replay, inside}
 use Rattle.schedule_rules.specs.Holds.{writes_cell}
-use Rattle.schedule_rules.proofs.Found.{found_counts, only_one, none_found}
+use Rattle.schedule_rules.proofs.Found.{none_found}
 use Rattle.phase_schedule.specs.declared.rows.CellRow.{CellRow}
 use Rattle.phase_schedule.specs.declared.rows.PartyRow.{PartyRow}
 use Rattle.phase_schedule.specs.declared.rows.RunRow.{RunRow}

@@ -1,15 +1,13 @@
 -- The numbers of open guards, the row of the next step, and the runs of open sections.
 use Rattle.std.proofs.Common.{◌≡◌, ◌≢◌, ℕ, ◌<◌, ◌≤◌, List, [], ◌∷◌, refl, arith, true, false, cond, None, Some, length, ◌∙◌, ap}
 use Rattle.std.specs.Prelude.{◌==◌, slice_get}
-use Rattle.std.specs.List.{find}
 use Rattle.schedule_rules.specs.Changes.{Put}
 use Rattle.schedule_rules.specs.History.{count, Event}
-use Rattle.schedule_rules.specs.Sections.{Section, innermost, without_innermost, runs_in, generates_for}
+use Rattle.schedule_rules.specs.Sections.{Section, innermost, without_innermost, runs_in}
 use Rattle.schedule_rules.specs.Guards.{Guard, numbered, without_guard, put_in, guards}
 use Rattle.schedule_rules.proofs.Found.{found_counts}
 use Rattle.schedule_rules.proofs.Opened.{innermost_kept}
 use Rattle.phase_schedule.specs.Kept.{run_in, cell_of, call_of, guard_row}
-use Rattle.phase_schedule.specs.Meets.{ran_by}
 use Rattle.phase_schedule.specs.Tracks.{NumbersBelow}
 use Rattle.phase_schedule.specs.declared.rows.GuardRow.{GuardRow}
 use Rattle.phase_schedule.specs.declared.rows.GuardRow.TheVariants as guard

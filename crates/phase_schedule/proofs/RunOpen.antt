@@ -1,12 +1,10 @@
 -- The locks that the rows of a run hold are open at its lockers.
-use Rattle.std.proofs.Common.{◌≡◌, ◌≢◌, ◌==◌, ℕ, ◌+◌, ◌<◌, ◌≤◌, ◌^◌, Bool, true, false, List, [], ◌∷◌, length, map, refl, sym, ◌∙◌, ap, subst, arith, cond, inl, inr, None, Some}
-use Rattle.std.proofs.Math.ListN.{get_or, set, length-replicate}
-use Rattle.std.proofs.lemmas.List.{get_or_past, ext_get_or}
-use Rattle.std.proofs.lemmas.List.Folds.{sum_by-replicate}
+use Rattle.std.proofs.Common.{◌≡◌, ◌≢◌, ◌==◌, ℕ, ◌+◌, ◌<◌, ◌≤◌, ◌^◌, Bool, true, false, List, [], ◌∷◌, length, refl, sym, ◌∙◌, ap, subst, arith, cond, inl, inr, None, Some}
+use Rattle.std.proofs.Math.ListN.{get_or, set}
+use Rattle.std.proofs.lemmas.List.{get_or_past}
 use Rattle.std.proofs.lemmas.Bool.{cases_lt}
 use Rattle.std.proofs.lemmas.Option.{get_or_from_slice_get}
-use Rattle.std.proofs.lemmas.Grind.{common_steps}
-use Rattle.std.specs.Prelude.{count_by, replicate}
+use Rattle.std.specs.Prelude.{count_by}
 use Rattle.std.specs.List.{find}
 use Rattle.std.specs.declared.option.Option.{Option}
 use Rattle.phase_locker.specs.Natures.{read_ticket, write_ticket}
@@ -27,7 +25,7 @@ use Rattle.phase_schedule.specs.declared.rows.GuardRow.{GuardRow}
 use Rattle.phase_schedule.specs.declared.rows.GuardRow.TheVariants as guard
 use Rattle.phase_schedule.specs.declared.rows.RunRow.{RunRow}
 use Rattle.phase_schedule.specs.View.{View}
-use Rattle.phase_schedule.specs.Kept.{call_of, cell_of, cell_row, guard_row, kind_at, open_after, open_run, plans_in, run_in, runner_in, section_by, want_of}
+use Rattle.phase_schedule.specs.Kept.{call_of, cell_of, cell_row, guard_row, kind_at, open_after, open_run, run_in, runner_in, section_by, want_of}
 use Rattle.phase_schedule.specs.Tracks.{NumbersBelow, Tracks}
 use Rattle.phase_schedule.specs.Closing.{HoldsAt, HoldsLocks, IsOfCell, RunsAt, locks_of, reads_row, writes_row}
 use Rattle.phase_schedule.proofs.Passing.{count_free, count_test, count_set, count_before}

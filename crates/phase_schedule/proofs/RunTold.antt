@@ -5,7 +5,6 @@ use Rattle.std.specs.Prelude.{slice_get}
 use Rattle.std.proofs.lemmas.Grind.{common_steps}
 use Rattle.phase_bits.specs.declared.holders.Holders.{Holders}
 use Rattle.phase_bits.specs.declared.phase.Phase.{Phase}
-use Rattle.schedule_rules.specs.declared.plan.CellPlan.{CellPlan}
 use Rattle.schedule_rules.specs.declared.step.Step.{Step}
 use Rattle.schedule_rules.specs.declared.line.Line.{Line}
 use Rattle.schedule_rules.specs.declared.transcript.Final.{Final}
@@ -15,7 +14,7 @@ use Rattle.schedule_rules.specs.Replay.{replay, inside}
 use Rattle.schedule_rules.specs.Transcripts.{AreFinals, final_of, told}
 use Rattle.phase_schedule.specs.declared.rows.CellRow.{CellRow}
 use Rattle.phase_schedule.specs.View.{Made, View}
-use Rattle.phase_schedule.specs.Kept.{cell_row, last_of, open_after, plans_in, record_in}
+use Rattle.phase_schedule.specs.Kept.{cell_row, last_of, open_after, record_in}
 use Rattle.phase_schedule.specs.Tracks.{Follows, FollowsStep, Tracks, event, plans}
 use Rattle.phase_schedule.specs.Ready.{IsNext}
 use Rattle.phase_schedule.specs.Progress.{CanStep, HasStepped, finals_by, finals_of, past}

@@ -5,14 +5,11 @@ use Rattle.std.specs.declared.option.Option.{Option}
 use Rattle.phase_locker.specs.declared.ways.How.{How}
 use Rattle.phase_locker.specs.declared.ways.Given.{Given}
 use Rattle.phase_locker.specs.declared.ways.Given.TheVariants as given
-use Rattle.schedule_rules.specs.declared.line.Answer.{Answer}
-use Rattle.schedule_rules.specs.declared.line.Answer.TheVariants as answer
 use Rattle.schedule_rules.specs.declared.step.Step.{Step}
 use Rattle.schedule_rules.specs.declared.plan.CellPlan.{CellPlan}
 use Rattle.schedule_rules.specs.History.{Event, count}
-use Rattle.schedule_rules.specs.Waits.{Wait, Attempt, wait_of, without_wait, with_wait, wake_reader, wake_writer, wake_readers, waits, waits_answered, waits_given_with, attempt_with, cell_concerned_with}
+use Rattle.schedule_rules.specs.Waits.{Wait, Attempt, wait_of, without_wait, with_wait, wake_reader, wake_writer, wake_readers, waits_given_with, cell_concerned_with}
 use Rattle.phase_schedule.specs.Shown.{IsSingle}
-use Rattle.schedule_rules.proofs.Opened.{wait_removed}
 use Rattle.phase_schedule.proofs.Each.{reader_party, writer_party}
 use Rattle.phase_schedule.proofs.Finding.{changed, wait_readers, wait_writer}
 
@@ -52,7 +49,6 @@ single_with p way (Some a) ws none single = λ r. at r (none_counted p ws none) 
     at r zero one = grind arith
 
 module _ (cells : List CellPlan) where
-
   -- a party that does not wait is given nothing
   pub none_given : (all : List Wait) (h : List Event) (s : Step) (g : Given) (ws : List Wait) (p : ℕ) → wait_of p ws ≡ None → wait_of p (waits_given_with cells all h s g ws) ≡ None
   none_given all h s given.Nobody ws p none = none
