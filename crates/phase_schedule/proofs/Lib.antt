@@ -35,6 +35,7 @@ pub mod After
 pub mod Hands
 pub mod Lines
 pub mod Called
+pub mod Waited
 -- What the rows keep of an answered attempt
 pub mod RowInner
 pub mod RowTries

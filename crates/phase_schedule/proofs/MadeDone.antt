@@ -43,7 +43,7 @@ use Rattle.phase_schedule.specs.View.{View}
 use Rattle.phase_schedule.specs.Tracks.{Follows, FollowsStep, Tracks, event, plans}
 use Rattle.phase_schedule.specs.Ready.{IsInnermost, IsFailing, IsMadeToRead, IsMadeToWrite}
 use Rattle.phase_schedule.proofs.Places.{row_at, inside_plan, read_once}
-use Rattle.phase_schedule.proofs.RowOpens.{run_top, next_slot}
+use Rattle.phase_schedule.proofs.RowOpens.{run_top, next_slot, asked_run}
 use Rattle.phase_schedule.proofs.Alone.{runs_once, no_writer_here}
 use Rattle.phase_schedule.proofs.MadeKept.{closed_row, drafted_row}
 use Rattle.phase_schedule.proofs.Called.{Called, called}
@@ -88,15 +88,10 @@ module _ (h : List Event) (v : View) (t : Follows h v) where
     running_run x runs idle held run_at =
         record {
           party = read_once v.running run.cell runs _ run_at (t.run_by.each run.cell (inside_plan v run.cell e.inside)) ∙ subst (λ c. runner_in c (sections h) ≡ Some p) e.cell (runner_is (plans v) h p e.section e.found t.locked.apart);
-          asked = asked_of run.call;
+          asked = asked_run run.call;
           locked = open_run_here x idle held;
         }
       where
-        asked_of : (k : Call) → initializes (want_of k) ≡ true
-        asked_of call.Phase = refl
-        asked_of call.Read = refl
-        asked_of call.Write = refl
-
         open_run_here : (x : Holders) → wait_of p (waits (plans v) h) ≡ None → slice_get v.held run.cell ≡ Some x → IsWriteOpen x v.parks run.cell
         open_run_here x idle held =
             subst (λ c. slice_get v.held c ≡ Some x → c < length (plans v) → IsWriteOpen x v.parks c) e.cell (λ is lt. write_open (plans v) h v t p idle e.section e.found x lt is) held (inside_plan v run.cell e.inside)

@@ -7,10 +7,13 @@ use Rattle.schedule_rules.specs.Sections.{Section, innermost, without_innermost,
 use Rattle.schedule_rules.specs.Guards.{Guard, numbered, without_guard, put_in, guards}
 use Rattle.schedule_rules.proofs.Found.{found_counts}
 use Rattle.schedule_rules.proofs.Opened.{innermost_kept}
-use Rattle.phase_schedule.specs.Kept.{run_in, cell_of, call_of, guard_row}
+use Rattle.phase_schedule.specs.Kept.{run_in, cell_of, call_of, guard_row, want_of}
 use Rattle.phase_schedule.specs.Tracks.{NumbersBelow}
 use Rattle.phase_schedule.specs.declared.rows.GuardRow.{GuardRow}
 use Rattle.phase_schedule.specs.declared.rows.GuardRow.TheVariants as guard
+use Rattle.phase_seq.specs.Asks.{initializes}
+use Rattle.schedule_rules.specs.declared.plan.Call.{Call}
+use Rattle.schedule_rules.specs.declared.plan.Call.TheVariants as call
 
 -- no guard has a greater number
 pub numbered_above : (n g : ℕ) (gs : List Guard) → NumbersBelow n gs → n ≤ g → numbered g gs ≡ None
@@ -65,3 +68,9 @@ run_kept c p (x ∷ ss) s e ne = grind (arith, run_kept c p ss s, innermost_kept
 pub run_top : (p : ℕ) (ss : List Section) (s : Section) → innermost p ss ≡ Some s → count (runs_in s.cell) ss ≤ 1 → run_in s.cell ss ≡ Some (record { party = p; call = call_of s.want; outer = cell_of (innermost p (without_innermost p ss)) })
 run_top p [] s e n = cc
 run_top p (x ∷ ss) s e n = grind (arith, run_top p ss s, found_counts (λ y. y.party == p) (runs_in s.cell) ss s)
+
+-- the call of every run asked for it
+pub asked_run : (k : Call) → initializes (want_of k) ≡ true
+asked_run call.Phase = refl
+asked_run call.Read = refl
+asked_run call.Write = refl

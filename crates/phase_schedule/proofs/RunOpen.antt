@@ -31,7 +31,7 @@ use Rattle.phase_schedule.specs.Closing.{HoldsAt, HoldsLocks, IsOfCell, RunsAt, 
 use Rattle.phase_schedule.proofs.Passing.{count_free, count_test, count_set, count_before}
 use Rattle.phase_schedule.proofs.RowCounts.{open_reads_shown, write_open_shown}
 use Rattle.phase_schedule.proofs.Places.{planned_length}
-use Rattle.phase_schedule.proofs.RowOpens.{numbered_above}
+use Rattle.phase_schedule.proofs.RowOpens.{numbered_above, asked_run}
 use Rattle.phase_schedule.proofs.Same.{agrees_core}
 use Rattle.phase_schedule.proofs.Slots.{set_shows}
 
@@ -90,12 +90,6 @@ section_counted c within None ss = run_counted ss
         by : (b : Bool) (r : RunRow) → locks_of (open_run c (run_in c ss)) ≤ count (runs_in c) ss → locks_of (open_run c (cond b (Some r) (run_in c ss))) ≤ cond b (count (runs_in c) ss + 1) (count (runs_in c) ss)
         by true r le = omega arith
         by false r le = le
-
--- a call that runs a generator asked for the run
-asked_run : (k : Call) → initializes (want_of k) ≡ true
-asked_run call.Phase = refl
-asked_run call.Read = refl
-asked_run call.Write = refl
 
 -- a section that generates is that of the party that runs
 section_runs : (c : ℕ) (within : Guard → Content) (o : Option Guard) (ss : List Section) → RunsAt c (runner_in c ss) (section_by c within o (run_in c ss))
