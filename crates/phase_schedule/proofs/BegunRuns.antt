@@ -1,5 +1,6 @@
 -- Who runs the generator of each cell after an attempt.
 use Rattle.std.proofs.Common.{◌≡◌, ◌≢◌, ℕ, ◌<◌, List, length, set, refl, sym, ◌∙◌, ap, subst, arith, Bool, true, false, Some, length-set, inl, inr}
+use Rattle.std.proofs.lemmas.Bool.{cases_eq}
 use Rattle.std.specs.Prelude.{slice_get, if◌then◌else◌}
 use Rattle.std.specs.declared.option.Option.{Option}
 use Rattle.phase_bits.specs.Number.{phase_of}
@@ -22,13 +23,13 @@ use Rattle.phase_schedule.specs.declared.rows.Target.{Target}
 use Rattle.phase_schedule.specs.Kept.{runner_in}
 use Rattle.phase_schedule.specs.Tracks.{RunBy}
 use Rattle.phase_schedule.specs.Ready.{Lock, asks_run, who_of, opened_by, opened_by_lock, waits_left, with_section, with_guard}
-use Rattle.phase_schedule.proofs.Places.{eq_or_not, same_number, other_number, slice_get_set_same, slice_get_set_other}
+use Rattle.phase_schedule.proofs.Places.{same_number, other_number, slice_get_set_same, slice_get_set_other}
 
 -- one place is written
 pub run_by_set : (cells : List CellPlan) (ss ss' : List Section) (running : List (Option ℕ)) (c : ℕ) (r : Option ℕ) → RunBy cells ss running → c < length cells → r ≡ runner_in c ss' → ((d : ℕ) → d ≢ c → runner_in d ss' ≡ runner_in d ss) → RunBy cells ss' (set running c r)
 run_by_set cells ss ss' running c r b lt here others =
     record {
-      each = λ d dt. elim (eq_or_not d c) [
+      each = λ d dt. elim (cases_eq d c) [
         | inl e ↦ subst (λ x. slice_get (set running c r) x ≡ Some (runner_in x ss')) (sym e) (slice_get_set_same running c r (let n = b.count in omega (arith, n, lt)) ∙ ap (λ x. Some x) here)
         | inr ne ↦ slice_get_set_other running c d r ne ∙ b.each d dt ∙ ap (λ x. Some x) (sym (others d ne))
       ];

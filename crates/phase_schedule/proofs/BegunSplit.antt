@@ -1,4 +1,4 @@
--- What an answer of a sequentializer means for the call.
+-- What each answer of a sequentializer means for the call: a wait, a lock, a run, or that it was cyclic.
 use Rattle.std.proofs.Common.{◌≡◌, ◌≢◌, ℕ, List, refl, Bool, true, false, None, Some, ◌∙◌, ap, sym, subst, not, ◌&&◌, inl, inr}
 use Rattle.std.specs.Prelude.{if◌then◌else◌}
 use Rattle.std.specs.declared.option.Option.{Option}
@@ -39,9 +39,9 @@ use Rattle.phase_schedule.specs.View.{View}
 use Rattle.phase_schedule.specs.Meets.{ask_of}
 use Rattle.phase_schedule.specs.Tracks.{plans}
 use Rattle.phase_schedule.specs.Ready.{Tries, IsAnswered, IsBegun, IsFirst, IsOpeningAt, IsReadAt, IsRun, IsTried, asks_run, begun_for, who_of}
+use Rattle.phase_schedule.proofs.Truth.{both_true}
 use Rattle.phase_schedule.proofs.LockDue.{tried}
 use Rattle.phase_schedule.proofs.LockRun.{due_try}
-use Rattle.phase_schedule.proofs.LockView.{both_true}
 use Rattle.phase_schedule.proofs.BegunAsks.{AsksAs, asks_as}
 
 -- ---- only a call for the phase is answered by it

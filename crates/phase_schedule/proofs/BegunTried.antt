@@ -1,5 +1,5 @@
 -- What a sequentializer answered to a call, and what it left, is told of the rows.
-use Rattle.std.proofs.Common.{◌≡◌, ◌≢◌, ℕ, List, set, get_or, map, refl, Bool, true, false, None, Some, ◌∙◌, ap, sym, subst, ◌&&◌, inl, inr}
+use Rattle.std.proofs.Common.{◌≡◌, ◌≢◌, ℕ, List, set, get_or, map, true, false, None, Some, ◌∙◌, ap, sym, subst, ◌&&◌, inl, inr}
 use Rattle.std.specs.declared.option.Option.{Option}
 use Rattle.std.proofs.Math.Seq.{map-set_same}
 use Rattle.phase_bits.specs.declared.holders.Holders.{Holders}
@@ -31,21 +31,15 @@ use Rattle.phase_schedule.specs.View.{View, view}
 use Rattle.phase_schedule.specs.Meets.{ask_of}
 use Rattle.phase_schedule.specs.Tracks.{RunBy, plans}
 use Rattle.phase_schedule.specs.Ready.{IsAgain, IsAnswered, IsAttempt, IsBegun, IsFirst, IsTried, IsTurnedBack, begun_for, opened_by, who_of}
+use Rattle.phase_schedule.proofs.Truth.{both_are}
+use Rattle.phase_schedule.proofs.Places.{inside_plan}
 use Rattle.phase_schedule.proofs.LockRun.{runner_runs}
-use Rattle.phase_schedule.proofs.LockFirst.{first_answered, inside_plan}
+use Rattle.phase_schedule.proofs.LockFirst.{first_answered}
 use Rattle.phase_schedule.proofs.LockAgain.{again_answered, calm, waits_at}
 use Rattle.phase_schedule.proofs.LockView.{answered_seen, held_seen, place_seen, running_seen}
 use Rattle.phase_schedule.proofs.BegunAsks.{AsksAs, asks_as}
 use Rattle.phase_schedule.proofs.BegunRuns.{opened_runs}
 use Rattle.phase_schedule.proofs.BegunWaits.{waits_ask}
-
-first_true : (a b : Bool) → (a && b) ≡ true → a ≡ true
-first_true true b e = refl
-first_true false b e = absurd (cc)
-
-last_true : (a b : Bool) → (a && b) ≡ true → b ≡ true
-last_true true b e = e
-last_true false b e = absurd (cc)
 
 some_not : {X : Type 0} (o : Option X) (x : X) → o ≡ Some x → o ≢ None
 some_not o x e f = cc
@@ -130,8 +124,8 @@ module _ {L : Type 0} (held : L → Holders) (place : L → LockerKind) (rows : 
               first = subst (λ v. IsFirst h v s n t) (sym (same_after back)) is;
               begun = ap (λ (b : Begun × Given). b.0) back.answer;
               given = ap (λ (b : Begun × Given). b.1) back.answer;
-              asks = first_true (call_initializes t.call) (runs s.party t.cell h) both;
-              runs = last_true (call_initializes t.call) (runs s.party t.cell h) both;
+              asks = (both_are (call_initializes t.call) (runs s.party t.cell h) both).0;
+              runs = (both_are (call_initializes t.call) (runs s.party t.cell h) both).1;
             }
 
         tried : is_cyclic ask.want s.party q.running ≡ false → MakesAttempt (place q.locker) (who_of s t) ask (held q.locker) rows.parks r (held q'.locker) parks' → IsTried h after s n t r.0 r.1

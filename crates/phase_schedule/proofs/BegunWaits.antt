@@ -1,5 +1,6 @@
 -- A call that waits is none for the phase alone: that would have been answered.
 use Rattle.std.proofs.Common.{◌≡◌, ◌≢◌, ℕ, List, [], ◌∷◌, refl, Bool, true, false, None, Some, ◌∙◌, ap, sym, subst, not, ◌&&◌, inl, inr}
+use Rattle.std.proofs.lemmas.Bool.{cases_eq}
 use Rattle.std.specs.Prelude.{if◌then◌else◌}
 use Rattle.std.specs.declared.option.Option.{Option}
 use Rattle.phase_bits.specs.declared.phase.Phase.{Phase}
@@ -20,10 +21,8 @@ use Rattle.schedule_rules.specs.Answers.{Meeting, answer_of_attempt}
 use Rattle.schedule_rules.specs.Due.{due_answer, due_tried, meeting}
 use Rattle.schedule_rules.specs.Legal.{IsLegal, IsLegalLine, Moment, First, Last, due_at}
 use Rattle.schedule_rules.proofs.Opened.{wait_removed}
-use Rattle.phase_schedule.proofs.Places.{eq_or_not}
-use Rattle.phase_schedule.proofs.Finding.{wait_added}
-use Rattle.phase_schedule.proofs.Single.{none_given}
-use Rattle.phase_schedule.proofs.LockCalm.{attempt_beside, due_by, not_refused}
+use Rattle.phase_schedule.proofs.Waited.{waiting_due, while_waiting}
+use Rattle.schedule_rules.specs.Sections.{Section}
 
 -- what is attempted is no call for the phase alone
 abbrev Asks : Option Attempt → Type 0
@@ -39,41 +38,14 @@ never x w m way chosen e is = by m.kept _ _ (e ∙ ap (λ v. answer_of_attempt x
     by false z q f = cc
 
 module _ (cells : List CellPlan) where
-  module _ (h : List Event) (s : Step) (way : How) (a : Attempt) (has : attempt cells h s ≡ Some a) where
-    due_asks : (ws : List Wait) (chosen : Bool) → answer.Waiting way ≡ due_answer cells h s ws chosen → a.want ≢ Calls call.Phase
-    due_asks ws chosen e =
-        never (cell_at cells a.cell) a.want (meeting cells h s.party a ws) way chosen
-        (e ∙ due_by cells h s way a has ws chosen s.act has ∙ ap (λ o. due_tried cells h s.party o ws chosen) has)
+  -- a call that begins to wait asks for more than the phase
+  asks_begun : (h : List Event) (s : Step) (way : How) (a : Attempt) → attempt cells h s ≡ Some a → IsLegal cells h → (l : Line) → IsLegalLine cells h s l → l.answer ≡ answer.Waiting way → Asks (Some (record { cell = a.cell; want = a.want }))
+  asks_begun h s way a has legal l line e = let due = waiting_due cells h s way a has l line e in never (cell_at cells a.cell) a.want (meeting cells h s.party a due.0) way line.chosen due.1
 
-    at_moment : (m : Moment) (g : Given) (chosen : Bool) → answer.Waiting way ≡ due_at cells m h s g chosen → a.want ≢ Calls call.Phase
-    at_moment First g chosen e = due_asks (waits_given cells h s g (other_waits cells h s)) chosen e
-    at_moment Last g chosen e = due_asks (other_waits cells h s) chosen e
+  asks_nothing : (p : ℕ) (ss : List Section) → Asks None
+  asks_nothing p ss = tt
 
-    waiting_asks : (l : Line) → IsLegalLine cells h s l → l.answer ≡ answer.Waiting way → a.want ≢ Calls call.Phase
-    waiting_asks l is e = at_moment is.moment l.given is.chosen (not_refused cells h s way a has (refusal cells h s) _ (sym e ∙ is.answered))
-
-  module _ (h : List Event) (s : Step) (l : Line) (line : IsLegalLine cells h s l) (IH : Asks (attempt_of_wait (wait_of s.party (waits cells h)))) where
-    gone : Asks (attempt_of_wait (wait_of s.party (waits_given_with cells (waits cells h) h s l.given (without_wait s.party (waits cells h)))))
-    gone = subst (λ o. Asks (attempt_of_wait o)) (sym (none_given cells (waits cells h) h s l.given (without_wait s.party (waits cells h)) s.party (wait_removed s.party (waits cells h)))) tt
-
-    begins : (way : How) → l.answer ≡ answer.Waiting way → (o : Option Attempt) → attempt cells h s ≡ o → Asks (attempt_of_wait (wait_of s.party (with_wait s.party way o (waits_given_with cells (waits cells h) h s l.given (without_wait s.party (waits cells h))))))
-    begins way e None has = gone
-    begins way e (Some a) has =
-        subst (λ o. Asks (attempt_of_wait o)) (sym (wait_added s.party way a (waits_given_with cells (waits cells h) h s l.given (without_wait s.party (waits cells h))))) (waiting_asks h s way a has l line e)
-
-    steps : (b : Answer) → l.answer ≡ b → Asks (attempt_of_wait (wait_of s.party (waits_answered cells h s l.given b (waits cells h))))
-    steps (answer.Refused r) e = IH
-    steps (answer.Waiting way) e = begins way e (attempt cells h s) refl
-    steps _ e = gone
-
-  asks : (p : ℕ) (h : List Event) → IsLegal cells h → Asks (attempt_of_wait (wait_of p (waits cells h)))
-  asks p [] legal = tt
-  asks p (e ∷ h) legal =
-      elim (eq_or_not e.step.party p) [
-        | inl q ↦ subst (λ r. Asks (attempt_of_wait (wait_of r (waits cells (e ∷ h))))) q (steps h e.step e.line legal.0 (asks e.step.party h legal.2) e.line.answer refl)
-        | inr ne ↦ subst (λ o. Asks o) (sym (attempt_beside cells h e.step e.line.given p (waits cells h) ne e.line.answer)) (asks p h legal.2)
-      ]
-
-  -- a call that waits asks for more than the phase
+  -- so does one that waits
   pub waits_ask : (p : ℕ) (h : List Event) (w : Wait) → IsLegal cells h → wait_of p (waits cells h) ≡ Some w → w.want ≢ Calls call.Phase
-  waits_ask p h w legal is = subst (λ o. Asks (attempt_of_wait o)) is (asks p h legal)
+  waits_ask p h w legal is =
+      subst (λ o. Asks (attempt_of_wait o)) is (while_waiting cells (λ r ss o. Asks o) asks_nothing asks_begun (λ g s r ne a ss o k. k) p h legal)

@@ -1,9 +1,6 @@
--- After a call that may not access the value gave its lock back, the rows stand for the longer history.
-use Rattle.std.proofs.Common.{◌≡◌, ℕ, ◌+◌, ◌<◌, List, length, map, set, get_or, refl, sym, ◌∙◌, ap, subst, arith, Bool, false, None, Some, length-set}
+-- A call that may not access the value gives its lock back: the rows follow the step.
+use Rattle.std.proofs.Common.{◌≡◌, ℕ, ◌+◌, ◌<◌, List, length, set, get_or, refl, sym, ◌∙◌, ap, subst, arith, Bool, false, None, Some, length-set}
 use Rattle.std.specs.Prelude.{slice_get, if◌then◌else◌}
-use Rattle.std.proofs.lemmas.List.{length-map, map-set, set-get_or}
-use Rattle.std.proofs.lemmas.Option.{get_or_from_slice_get}
-use Rattle.std.proofs.Math.Seq.{map-set_same}
 use Rattle.std.specs.declared.option.Option.{Option}
 use Rattle.phase_bits.specs.declared.holders.Holders.{Holders}
 use Rattle.phase_bits.specs.declared.phase.Phase.{Phase}
@@ -15,10 +12,9 @@ use Rattle.phase_locker.specs.declared.tickets.LockResult.TheVariants as got
 use Rattle.phase_locker.specs.declared.ways.Given.{Given}
 use Rattle.phase_locker.specs.declared.ways.LockerKind.{LockerKind}
 use Rattle.phase_locker.specs.Natures.{read_ticket, write_ticket}
-use Rattle.phase_locker.specs.Rows.{Rows as Parking, SameSize}
+use Rattle.phase_locker.specs.Rows.{Rows as Parking}
 use Rattle.phase_locker.specs.Fits.{Fits, IsWriteOpen, open_reads}
 use Rattle.phase_locker.specs.Gifts.{Hands}
-use Rattle.phase_locker.specs.Others.{OthersStay}
 use Rattle.schedule_rules.specs.declared.step.Step.{Step}
 use Rattle.schedule_rules.specs.declared.line.Answer.TheVariants as answer
 use Rattle.schedule_rules.specs.Kinds.{cell_at}
@@ -36,6 +32,8 @@ use Rattle.phase_schedule.specs.Meets.{given_first}
 use Rattle.phase_schedule.specs.Shown.{Agrees}
 use Rattle.phase_schedule.specs.Tracks.{FollowsStep, Locked, RunBy, event, plans}
 use Rattle.phase_schedule.specs.Ready.{IsAnswered, IsDeniedRead, IsDeniedWrite, answer_by, asks_run, if_made, opened_by, still_open, waits_left, with_guard, with_section}
+use Rattle.phase_schedule.proofs.Truth.{or_left, lt_more}
+use Rattle.phase_schedule.proofs.Places.{inside_plan, set_there, read_once}
 use Rattle.phase_schedule.proofs.After.{tracks_after}
 use Rattle.phase_schedule.proofs.GivenOn.{given_on}
 use Rattle.phase_schedule.proofs.RowTries.{steady_same}
@@ -43,43 +41,10 @@ use Rattle.phase_schedule.proofs.RowKept.{inner_is, party_got, within_left}
 use Rattle.phase_schedule.proofs.RowCounts.{shares_shown, claims_shown}
 use Rattle.phase_schedule.proofs.Same.{unlocked}
 use Rattle.phase_schedule.proofs.GuardPhase.{phase_known}
-use Rattle.phase_schedule.proofs.LockCells.{lt_more, reader_more, writer_more}
-use Rattle.phase_schedule.proofs.MadeEnds.{read_locker, read_once}
+use Rattle.phase_schedule.proofs.LockCells.{reader_more, writer_more}
+use Rattle.phase_schedule.proofs.Called.{Called}
 use Rattle.phase_schedule.proofs.DeniedHolds.{locked_left}
 use Rattle.phase_schedule.proofs.DeniedLegal.{line_denied}
-
--- what is read of the locker of a cell, and what a release left of the records, of the kinds, of who runs, and of the
--- rows of who is parked
-pub record Released (records : List Holders) (kinds : List LockerKind) (running : List (Option ℕ)) (parks : Parking) (c : ℕ) (x x' : Holders) (parks' : Parking) (records' : List Holders) (kinds' : List LockerKind) (running' : List (Option ℕ)) : Type 0 where
-  pub kind : LockerKind
-  pub held : slice_get records c ≡ Some x
-  pub place : slice_get kinds c ≡ Some kind
-  pub others : OthersStay c parks parks'
-  pub fits : Fits kind x' parks' c
-  pub size : SameSize parks parks'
-  pub records_are : records' ≡ set records c x'
-  pub kinds_are : kinds' ≡ kinds
-  pub running_are : running' ≡ running
-
--- a release of a cell's locker
-pub released : {L : Type 0} (held : L → Holders) (place : L → LockerKind) (runs : L → Option ℕ) (lockers : List L) (parks : Parking) (c : ℕ) (l l' : L) (parks' : Parking) → l ≡ get_or lockers c l → c < length lockers → OthersStay c parks parks' → Fits (place l') (held l') parks' c → place l' ≡ place l → runs l' ≡ runs l → SameSize parks parks'
-    → Released (map held lockers) (map place lockers) (map runs lockers) parks c (held l) (held l') parks' (map held (set lockers c l')) (map place (set lockers c l')) (map runs (set lockers c l'))
-released held place runs lockers parks c l l' parks' at lt others fits same runs_on size =
-    record {
-      kind = place l;
-      held = read_locker held lockers c l at lt;
-      place = read_locker place lockers c l at lt;
-      others = others;
-      fits = subst (λ k. Fits k (held l') parks' c) same fits;
-      size = size;
-      records_are = map-set held lockers c l';
-      kinds_are = map-set_same place lockers c l' l (same ∙ ap place at);
-      running_are = map-set_same runs lockers c l' l (runs_on ∙ ap runs at);
-    }
-
--- what is read and written again stays
-set_read : {X : Type 0} (xs : List X) (i : ℕ) (x : X) → slice_get xs i ≡ Some x → set xs i x ≡ xs
-set_read xs i x e = ap (λ y. set xs i y) (sym (get_or_from_slice_get xs i x x e)) ∙ set-get_or xs i x
 
 module _ (h : List Event) (v : View) (s : Step) (n : ℕ) (t : Target) (g : Given) where
   -- the calls that wait once the attempt is made
@@ -89,7 +54,7 @@ module _ (h : List Event) (v : View) (s : Step) (n : ℕ) (t : Target) (g : Give
   -- a call that has this hold, as a guard that is open for as long as the step takes
   module _ (a : Attempt) (k : IsAnswered h v s n t a g) (x : Guard) (at : x.cell ≡ t.cell) (opened : opened_by (plans v) h s t a g ≡ with_guard (plans v) h s t x ws) where
     pub in_plan : t.cell < length (plans v)
-    in_plan = let lt : t.cell < length v.cells = k.cell in let same : length (plans v) ≡ length v.cells = length-map v.cells (λ r. r.plan) in omega (arith, lt, same)
+    in_plan = inside_plan v t.cell k.cell
 
     pub locked_with : Locked (plans v) (λ c. replay (plans v) c h) (with_guard (plans v) h s t x ws) v.held v.places v.parks
     locked_with = subst (λ o. Locked (plans v) (λ c. replay (plans v) c h) o v.held v.places v.parks) opened k.locked
@@ -105,7 +70,7 @@ module _ (h : List Event) (v : View) (s : Step) (n : ℕ) (t : Target) (g : Give
     kind_with k is = read_once v.places t.cell k _ is (locked_with.place t.cell in_plan)
 
     set_kind : (k : LockerKind) → slice_get v.places t.cell ≡ Some k → set v.places t.cell k ≡ v.places
-    set_kind k is = set_read v.places t.cell k is
+    set_kind k is = set_there v.places t.cell k is
 
     -- it fits the rows
     pub fits_with : (r : Holders) (k : LockerKind) → slice_get v.held t.cell ≡ Some r → slice_get v.places t.cell ≡ Some k → Fits k r v.parks t.cell
@@ -113,7 +78,7 @@ module _ (h : List Event) (v : View) (s : Step) (n : ℕ) (t : Target) (g : Give
 
     -- the lock was given back, and handed on
     module _ (p : Phase) (answers : answer_by (plans v) h s t a ≡ answer.Access p) (party : PartyRow) (party_at : party ≡ get_or v.parties s.party party) (y : Holders) (agrees : Agrees (plans v) t.cell h ws y)
-        (last : Given) (r r' : Holders) (parks' : Parking) (records' : List Holders) (kinds' : List LockerKind) (running' : List (Option ℕ)) (after : Released v.held v.places v.running v.parks t.cell r r' parks' records' kinds' running') (hands : Hands t.cell y v.parks last r' parks') where
+        (last : Given) (r r' : Holders) (parks' : Parking) (records' : List Holders) (kinds' : List LockerKind) (running' : List (Option ℕ)) (after : Called v.held v.places v.running v.parks t.cell r r' parks' records' kinds' running') (hands : Hands t.cell y v.parks last r' parks') where
       line_with : IsLegalLine (plans v) h s (record { answer = answer.Access p; given = g })
       line_with = subst (λ b. IsLegalLine (plans v) h s (record { answer = b; given = g })) answers k.line
 
@@ -186,7 +151,7 @@ module _ (h : List Event) (v : View) (s : Step) (n : ℕ) (t : Target) (p : Phas
 
   -- after it was given back
   pub denies_read : (party : PartyRow) → party ≡ get_or v.parties s.party party → (last : Given) (r r' : Holders) (parks' : Parking) (records' : List Holders) (kinds' : List LockerKind) (running' : List (Option ℕ))
-      → Released v.held v.places v.running v.parks t.cell r r' parks' records' kinds' running' → Hands t.cell (leave_read r) v.parks last r' parks'
+      → Called v.held v.places v.running v.parks t.cell r r' parks' records' kinds' running' → Hands t.cell (leave_read r) v.parks last r' parks'
       → FollowsStep h s (record { answer = answer.Access p; given = given_first g last }) v
       (record { cells = v.cells; guards = v.guards; parties = set v.parties s.party (record { waiting = None; innermost = party.innermost }); held = records'; places = kinds'; running = running'; parks = parks' })
   denies_read party party_at last r r' parks' records' kinds' running' after hands =
@@ -233,7 +198,7 @@ module _ (h : List Event) (v : View) (s : Step) (n : ℕ) (t : Target) (p : Phas
       let no_drain : _ = none_else.1 in
       subst (λ (q : Holders). IsWriteOpen q v.parks t.cell) (sym (record_with h v s n t g _ d.opening.opening.answered write_hold refl opened_write r is))
       (record {
-        locked = lt_more _ _ _ one_write;
+        locked = or_left _ _ (lt_more _ _ one_write);
         unclaimed = claims_shown t.cell (waits_left (plans v) h s t g) v.parks k.single k.shows ∙ omega (arith, no_writer, no_drain);
       })
 
@@ -245,7 +210,7 @@ module _ (h : List Event) (v : View) (s : Step) (n : ℕ) (t : Target) (p : Phas
 
   -- after it was given back
   pub denies_write : (party : PartyRow) → party ≡ get_or v.parties s.party party → (last : Given) (r r' : Holders) (parks' : Parking) (records' : List Holders) (kinds' : List LockerKind) (running' : List (Option ℕ))
-      → Released v.held v.places v.running v.parks t.cell r r' parks' records' kinds' running' → Hands t.cell (leave_write p r) v.parks last r' parks'
+      → Called v.held v.places v.running v.parks t.cell r r' parks' records' kinds' running' → Hands t.cell (leave_write p r) v.parks last r' parks'
       → FollowsStep h s (record { answer = answer.Access p; given = given_first g last }) v
       (record { cells = v.cells; guards = v.guards; parties = set v.parties s.party (record { waiting = None; innermost = party.innermost }); held = records'; places = kinds'; running = running'; parks = parks' })
   denies_write party party_at last r r' parks' records' kinds' running' after hands =

@@ -11,13 +11,13 @@ use Rattle.schedule_rules.specs.declared.plan.CellPlan.{CellPlan}
 use Rattle.schedule_rules.specs.History.{Event, count}
 use Rattle.schedule_rules.specs.Waits.{Wait, parks_to_read, parks_to_write, parked_readers, shares_read, shares_write, is_parked_writer, wait_woken, wake_reader, wake_writer}
 use Rattle.schedule_rules.specs.Gifts.{reaches}
-use Rattle.phase_schedule.specs.Meets.{given_first}
 use Rattle.phase_schedule.specs.Shown.{Agrees}
+use Rattle.phase_schedule.proofs.Truth.{both_are}
 use Rattle.phase_schedule.proofs.Each.{woken_to_write}
 use Rattle.phase_schedule.proofs.Lists.{any_readers}
 use Rattle.phase_schedule.proofs.Counted.{read_shares_woken}
 use Rattle.phase_schedule.proofs.GivenOn.{given_on}
-use Rattle.phase_schedule.proofs.GuardHands.{idle_counts}
+use Rattle.phase_schedule.proofs.Apart.{idle_counts}
 
 -- ---- a share that is given is left on its cell
 
@@ -31,13 +31,9 @@ some_read_share c ws e =
     let all : _ = read_shares_woken c ws in
     omega (arith, some, all)
 
-both : (a b : Bool) → (a && b) ≡ true → (a ≡ true) × (b ≡ true)
-both true b e = (refl, e)
-both false b e = absurd (cc)
-
 writer_share : (c q : ℕ) (w : Wait) → ((w.party == q) && parks_to_write c w) ≡ true → shares_write c (wake_writer q w) ≡ true
 writer_share c q w e =
-    let parts = both (w.party == q) (parks_to_write c w) e in
+    let parts = both_are (w.party == q) (parks_to_write c w) e in
     let woken = woken_to_write c w parts.1 in
     let is : ((w.party == q) && is_parked_writer w.way w.woken) ≡ true = rw (parts.0, woken.parked) refl in
     let same : wake_writer q w ≡ wait_woken w = ap (λ b. cond b (wait_woken w) w) is in
@@ -76,9 +72,3 @@ module _ (cells : List CellPlan) (c : ℕ) (h : List Event) (ws : List Wait) (s 
       let none : _ = (idle_counts cells c h (given_on c given.Readers ws) s y a i).0 in
       let share : _ = some_read_share c ws reached in
       omega (arith, none, share)) may
-
--- the one gift is that of the attempt, or the last
-pub first_is : (g last : Given) → g ≢ given.Nobody → given_first g last ≡ g
-first_is given.Nobody last some = absurd (some refl)
-first_is (given.Writer q) last some = refl
-first_is given.Readers last some = refl

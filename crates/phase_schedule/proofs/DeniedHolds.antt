@@ -1,4 +1,4 @@
--- A hold that a call got and gives back in the same step: what stands open without it.
+-- What stands open without a hold that a call got and gives back in the same step, and the records then.
 use Rattle.std.proofs.Common.{◌≡◌, ◌≢◌, ℕ, ◌+◌, ◌<◌, ◌≤◌, List, length, set, refl, sym, ◌∙◌, ap, arith, Bool, true, false, cond}
 use Rattle.phase_bits.specs.declared.holders.Holders.{Holders}
 use Rattle.phase_locker.specs.declared.ways.Given.{Given}
@@ -23,7 +23,7 @@ use Rattle.phase_schedule.specs.Tracks.{IsApart, Locked}
 use Rattle.phase_schedule.specs.Ready.{still_open, with_guard}
 use Rattle.phase_schedule.proofs.GivenOn.{given_on, IsListed, listed_hand, single_on, shows_on, core_on}
 use Rattle.phase_schedule.proofs.Hands.{sound_of, handed_writers}
-use Rattle.phase_schedule.proofs.GuardHands.{apart_less, apart_given, hand_adds}
+use Rattle.phase_schedule.proofs.Apart.{apart_less, apart_given, hand_adds}
 use Rattle.phase_schedule.proofs.GuardGone.{reads_not_there, writes_not_there}
 use Rattle.phase_schedule.proofs.LockCells.{AsBefore, before_then, locked_at}
 use Rattle.phase_schedule.proofs.LockLeft.{before_given}

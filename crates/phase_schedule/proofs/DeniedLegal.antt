@@ -1,7 +1,7 @@
 -- The line of a call that may not access the value is legal: it gives what its attempt gave, or what the lock gives that
 -- it gives back.
-use Rattle.std.proofs.Common.{◌≡◌, ℕ, ◌+◌, List, refl, sym, ◌∙◌, ap, subst, Bool, true, false, Some}
-use Rattle.std.specs.Prelude.{◌==◌, ◌&&◌, ◌||◌, IsTrue}
+use Rattle.std.proofs.Common.{◌≡◌, List, refl, sym, ap, subst, true, Some}
+use Rattle.std.specs.Prelude.{◌&&◌, ◌||◌, IsTrue}
 use Rattle.phase_bits.specs.declared.holders.Holders.{Holders}
 use Rattle.phase_bits.specs.declared.phase.Phase.{Phase}
 use Rattle.phase_locker.specs.declared.ways.Given.{Given}
@@ -10,15 +10,13 @@ use Rattle.phase_locker.specs.Rows.{Rows as Parking}
 use Rattle.phase_locker.specs.Fits.{Fits, IsIdle}
 use Rattle.phase_locker.specs.Gifts.{MayHand}
 use Rattle.schedule_rules.specs.declared.plan.CellPlan.{CellPlan}
-use Rattle.schedule_rules.specs.declared.step.Act.{Act}
-use Rattle.schedule_rules.specs.declared.step.Act.TheVariants as act
 use Rattle.schedule_rules.specs.declared.step.Step.{Step}
 use Rattle.schedule_rules.specs.declared.line.Answer.{Answer}
 use Rattle.schedule_rules.specs.declared.line.Answer.TheVariants as answer
 use Rattle.schedule_rules.specs.Kinds.{cell_at, is_parking}
 use Rattle.schedule_rules.specs.Calls.{Calls}
 use Rattle.schedule_rules.specs.History.{Event}
-use Rattle.schedule_rules.specs.Waits.{waits, attempt_with, other_waits, cell_concerned, cell_concerned_with, cell_of_attempt}
+use Rattle.schedule_rules.specs.Waits.{waits, other_waits}
 use Rattle.schedule_rules.specs.Refusals.{refusal}
 use Rattle.schedule_rules.specs.Gifts.{reaches, is_readers, downgrades, is_freed_first, is_freed_last, may_give_first, may_give_last, may_give_on}
 use Rattle.schedule_rules.specs.Legal.{Moment, First, Last, IsLegalLine, answer_of, due_at, may_give, may_give_at}
@@ -26,58 +24,30 @@ use Rattle.phase_schedule.specs.declared.rows.Target.{Target}
 use Rattle.phase_schedule.specs.Kept.{kind_at}
 use Rattle.phase_schedule.specs.Meets.{given_first}
 use Rattle.phase_schedule.specs.Shown.{Agrees, Shows}
-use Rattle.phase_schedule.specs.Ready.{Tries, is_try, waits_left}
+use Rattle.phase_schedule.specs.Ready.{Tries, waits_left}
+use Rattle.phase_schedule.proofs.Truth.{both_are, or_right, none_stands}
 use Rattle.phase_schedule.proofs.GivenOn.{given_on, given_concerned, IsListed, listed_hand, reaches_given}
-use Rattle.phase_schedule.proofs.GuardHands.{idle_counts}
-use Rattle.phase_schedule.proofs.MadeLegal.{may_last, parks_there}
+use Rattle.phase_schedule.proofs.Apart.{idle_counts}
+use Rattle.phase_schedule.proofs.Lines.{may_last, parks_there}
+use Rattle.phase_schedule.proofs.LockAgain.{concerned}
 use Rattle.phase_schedule.proofs.DeniedGifts.{given_once}
 
-second : (a b : Bool) → (a && b) ≡ true → b ≡ true
-second true b e = e
-second false b e = absurd (cc)
-
-first_of : (a b : Bool) → (a && b) ≡ true → a ≡ true
-first_of true b e = refl
-first_of false b e = absurd (cc)
-
-or_true : (a b : Bool) → b ≡ true → (a || b) ≡ true
-or_true true b e = refl
-or_true false b e = e
-
-stands_none : (a b d : ℕ) → a ≡ 0 → b ≡ 0 → d ≡ 0 → (a + b + d == 0) ≡ true
-stands_none a b d e f k = rw (e, f, k) refl
-
 module _ (cells : List CellPlan) (h : List Event) (s : Step) (t : Target) (is : Tries cells h s t) where
-  -- an attempt concerns its cell
-  concerned : cell_concerned cells h s ≡ Some t.cell
-  concerned = by s.act is.tries ∙ ap cell_of_attempt is.attempted
-    where
-      by : (a : Act) → is_try a ≡ true → cell_concerned_with cells (waits cells h) h s.party a ≡ cell_of_attempt (attempt_with cells (waits cells h) h s.party a)
-      by (act.Call c k) e = refl
-      by act.Again e = refl
-      by (act.Made v) e = absurd (cc)
-      by act.MadeFailed e = absurd (cc)
-      by (act.Look g) e = absurd (cc)
-      by (act.Set g v) e = absurd (cc)
-      by (act.Release g) e = absurd (cc)
-      by (act.Downgrade g) e = absurd (cc)
-      by (act.Clone g) e = absurd (cc)
-
   -- it gives on its cell
   pub left_is : (g : Given) → waits_left cells h s t g ≡ given_on t.cell g (other_waits cells h s)
-  left_is g = given_concerned cells (waits cells h) h s t.cell g (other_waits cells h s) concerned
+  left_is g = given_concerned cells (waits cells h) h s t.cell g (other_waits cells h s) (concerned cells h s t is)
 
   -- whom it gives something
   on_reaches : (a : Answer) (g : Given) → IsTrue (may_give_on cells h s (Some t.cell) a g) → reaches t.cell g (other_waits cells h s) ≡ true
-  on_reaches a g may = first_of (reaches t.cell g (other_waits cells h s)) _ (second (is_parking (cell_at cells t.cell).place) _ may)
+  on_reaches a g may = (both_are (reaches t.cell g (other_waits cells h s)) _ (both_are (is_parking (cell_at cells t.cell).place) _ may).1).0
 
   last_reaches : (a : Answer) (g : Given) → IsTrue (may_give_last cells h s a g) → reaches t.cell g (other_waits cells h s) ≡ true
   last_reaches a given.Nobody may = refl
-  last_reaches a (given.Writer q) may = on_reaches a (given.Writer q) (subst (λ o. IsTrue (may_give_on cells h s o a (given.Writer q))) concerned may)
-  last_reaches a given.Readers may = on_reaches a given.Readers (subst (λ o. IsTrue (may_give_on cells h s o a given.Readers)) concerned may)
+  last_reaches a (given.Writer q) may = on_reaches a (given.Writer q) (subst (λ o. IsTrue (may_give_on cells h s o a (given.Writer q))) (concerned cells h s t is) may)
+  last_reaches a given.Readers may = on_reaches a given.Readers (subst (λ o. IsTrue (may_give_on cells h s o a given.Readers)) (concerned cells h s t is) may)
 
   at_reaches : (m : Moment) (a : Answer) (g : Given) → IsTrue (may_give_at cells m h s (record { answer = a; given = g })) → reaches t.cell g (other_waits cells h s) ≡ true
-  at_reaches First a g may = second (is_freed_first cells h s (record { cell = t.cell; want = Calls t.call })) _ (subst (λ o. IsTrue (may_give_first cells h s o g)) is.attempted may)
+  at_reaches First a g may = (both_are (is_freed_first cells h s (record { cell = t.cell; want = Calls t.call })) _ (subst (λ o. IsTrue (may_give_first cells h s o g)) is.attempted may)).1
   at_reaches Last a g may = last_reaches a g may
 
   pub line_reaches : (a : Answer) (g : Given) → IsLegalLine cells h s (record { answer = a; given = g }) → reaches t.cell g (other_waits cells h s) ≡ true
@@ -101,18 +71,18 @@ module _ (cells : List CellPlan) (h : List Event) (s : Step) (t : Target) (is : 
     freed : Agrees cells t.cell h (other_waits cells h s) y → IsIdle y → is_freed_last cells h s (answer.Access p) t.cell ≡ true
     freed agrees i =
         let none : _ = idle_counts cells t.cell h (other_waits cells h s) parks y agrees i in
-        stands_none _ _ _ none.0 none.1 none.2
+        none_stands _ _ _ none.0 none.1 none.2
 
     may_give_some : (last : Given) → Shows (other_waits cells h s) parks → IsListed t.cell parks last → ((is_readers last && downgrades s (answer.Access p)) || is_freed_last cells h s (answer.Access p) t.cell) ≡ true → IsTrue (may_give_last cells h s (answer.Access p) last)
     may_give_some last shows listed free =
-        may_last cells h s (answer.Access p) t.cell concerned last (λ some. parks_there (cell_at cells t.cell).place x parks t.cell last fits listed some)
+        may_last cells h s (answer.Access p) t.cell (concerned cells h s t is) last (λ some. parks_there (cell_at cells t.cell).place x parks t.cell last fits listed some)
         (reaches_given t.cell last (other_waits cells h s) parks shows listed) free
 
     -- what the lock gives that is given back
     may_give_back : (last : Given) → Shows (other_waits cells h s) parks → Agrees cells t.cell h (other_waits cells h s) y → MayHand t.cell y parks last → IsTrue (may_give_last cells h s (answer.Access p) last)
     may_give_back given.Nobody shows agrees may = refl
-    may_give_back (given.Writer q) shows agrees may = may_give_some (given.Writer q) shows (listed_hand t.cell y parks (given.Writer q) may) (or_true (is_readers (given.Writer q) && downgrades s (answer.Access p)) _ (freed agrees may.0))
-    may_give_back given.Readers shows agrees may = may_give_some given.Readers shows (listed_hand t.cell y parks given.Readers may) (or_true (is_readers given.Readers && downgrades s (answer.Access p)) _ (freed agrees may.0))
+    may_give_back (given.Writer q) shows agrees may = may_give_some (given.Writer q) shows (listed_hand t.cell y parks (given.Writer q) may) (or_right (is_readers (given.Writer q) && downgrades s (answer.Access p)) _ (freed agrees may.0))
+    may_give_back given.Readers shows agrees may = may_give_some given.Readers shows (listed_hand t.cell y parks given.Readers may) (or_right (is_readers given.Readers && downgrades s (answer.Access p)) _ (freed agrees may.0))
 
     -- the line, and who waits then
     pub line_denied : (g last : Given) → IsLegalLine cells h s (record { answer = answer.Access p; given = g }) → Shows (waits_left cells h s t g) parks → Agrees cells t.cell h (waits_left cells h s t g) y → MayHand t.cell y parks last

@@ -1,4 +1,4 @@
--- What a share makes of one waiting call.
+-- What a share makes of one waiting call: which tests it passes then, and which it passed.
 use Rattle.std.proofs.Common.{◌≡◌, ◌≢◌, ℕ, ◌+◌, refl, arith, Bool, true, false, cond}
 use Rattle.std.specs.Prelude.{◌==◌}
 use Rattle.phase_locker.specs.declared.ways.How.{How}

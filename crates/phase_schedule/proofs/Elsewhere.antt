@@ -1,5 +1,5 @@
--- The records of the other cells stay as they are.
-use Rattle.std.proofs.Common.{◌≡◌, ◌≢◌, ℕ, List, refl, arith, Bool, true, false, None, Some, ap, map}
+-- The record of a cell stays where calls at another cell wait, are given shares or wait no longer.
+use Rattle.std.proofs.Common.{◌≡◌, ◌≢◌, ℕ, List, refl, arith, Bool, true, false, Some, map}
 use Rattle.std.specs.List.{list_any}
 use Rattle.phase_locker.specs.declared.ways.How.{How}
 use Rattle.phase_locker.specs.declared.ways.How.TheVariants as how
@@ -9,9 +9,8 @@ use Rattle.schedule_rules.specs.Waits.{Wait, Attempt, wait_of, without_wait, wit
 use Rattle.schedule_rules.specs.Core.{core_with}
 use Rattle.phase_schedule.specs.Shown.{IsSingle}
 use Rattle.phase_schedule.proofs.Each.{woken_to_read, woken_to_write, writer_reads}
-use Rattle.phase_schedule.proofs.Counted.{count_without_wait, none_without, any_map, count_woken, read_shares_woken_other, write_shares_beside_readers, drains_beside_readers}
+use Rattle.phase_schedule.proofs.Counted.{count_without_wait, any_map, count_woken, read_shares_woken_other, write_shares_beside_readers, drains_beside_readers}
 use Rattle.phase_schedule.proofs.Members.{write_shares_woken_other, read_shares_beside_writer, drains_beside_writer}
-use Rattle.phase_schedule.proofs.Added.{read_shares_added, write_shares_added, drains_added_other}
 use Rattle.phase_schedule.proofs.Same.{core_same, any_same}
 
 -- a call at another cell passes no test of this one
@@ -50,22 +49,6 @@ writers_woken_other q c d ws w single is parks ne =
     omega (arith, e)
 
 module _ (cells : List CellPlan) (d : ℕ) (h : List Event) where
-  -- the wait of a call at another cell is taken off
-  pub core_without_other : (p : ℕ) (ws : List Wait) (w : Wait) → IsSingle ws → wait_of p ws ≡ Some w → w.cell ≢ d → core_with cells d h (without_wait p ws) ≡ core_with cells d h ws
-  core_without_other p ws w single is ne =
-      let a = apart_from d w ne in
-      core_same cells d h ws (without_wait p ws) (count_kept (shares_read d) p ws w single is a.read) (count_kept (shares_write d) p ws w single is a.write) (count_kept (drains_on d) p ws w single is a.drain)
-      (any_same (parks_to_read d) ws (without_wait p ws) (count_kept (parks_to_read d) p ws w single is a.reads)) (any_same (parks_to_write d) ws (without_wait p ws) (count_kept (parks_to_write d) p ws w single is a.writes))
-
-  -- a party that does not wait takes nothing off
-  pub core_without_none : (p : ℕ) (ws : List Wait) → wait_of p ws ≡ None → core_with cells d h (without_wait p ws) ≡ core_with cells d h ws
-  core_without_none p ws none = ap (core_with cells d h) (none_without p ws none)
-
-  -- a call began to wait at another cell
-  pub core_waiting_other : (p : ℕ) (way : How) (a : Attempt) (ws : List Wait) → a.cell ≢ d → core_with cells d h (with_wait p way (Some a) ws) ≡ core_with cells d h ws
-  core_waiting_other p way a ws ne =
-      core_same cells d h ws (with_wait p way (Some a) ws) (read_shares_added d p way (Some a) ws) (write_shares_added d p way (Some a) ws) (drains_added_other d p way a ws ne) (any_added_reads d p way a ws ne) (any_added_writes d p way a ws ne)
-
   -- readers of another cell are given shares
   pub core_readers_other : (c : ℕ) (ws : List Wait) → d ≢ c → core_with cells d h (map (wake_reader c) ws) ≡ core_with cells d h ws
   core_readers_other c ws ne =

@@ -1,4 +1,4 @@
--- What the wait of a party becomes.
+-- What the wait of a party becomes, where the waits change one by one or one more begins.
 use Rattle.std.proofs.Common.{◌≡◌, ◌≢◌, ℕ, List, [], ◌∷◌, refl, arith, Bool, true, false, cond, None, Some, ap, map}
 use Rattle.std.specs.Prelude.{◌==◌}
 use Rattle.std.specs.declared.option.Option.{Option}

@@ -1,31 +1,32 @@
 -- What a gift on one cell makes of the waits, the rows and the records, whomever it is for.
-use Rattle.std.proofs.Common.{◌≡◌, ◌≢◌, ℕ, ◌<◌, List, length, refl, true, false, None, Some, ◌∙◌, ap, sym, subst, map}
+use Rattle.std.proofs.Common.{◌≡◌, ◌≢◌, ℕ, ◌<◌, List, length, refl, true, false, None, Some, ◌∙◌, ap, sym, subst, map, Bool, cond}
+use Rattle.std.specs.declared.option.Option.{Option}
 use Rattle.phase_bits.specs.declared.holders.Holders.{Holders}
 use Rattle.phase_locker.specs.declared.ways.How.{How}
 use Rattle.phase_locker.specs.declared.ways.Who.{Who}
 use Rattle.phase_locker.specs.declared.ways.Given.{Given}
 use Rattle.phase_locker.specs.declared.ways.Given.TheVariants as given
-use Rattle.phase_locker.specs.Rows.{Rows, readers_of, writers_of, is_empty, occurs, freed, IsSound}
+use Rattle.phase_locker.specs.Rows.{Rows, readers_of, writers_of, is_empty, occurs, IsSound}
 use Rattle.phase_locker.specs.Fits.{flagged}
 use Rattle.phase_locker.specs.Attempts.{rows_waiting, held_waiting}
 use Rattle.phase_locker.specs.Gifts.{rows_handed, held_handed, MayHand, MayShare}
 use Rattle.schedule_rules.specs.declared.plan.CellPlan.{CellPlan}
 use Rattle.schedule_rules.specs.declared.step.Step.{Step}
 use Rattle.schedule_rules.specs.History.{Event}
-use Rattle.schedule_rules.specs.Waits.{Wait, Attempt, wait_of, without_wait, with_wait, wake_reader, wake_writer, wake_readers, waits_given_with, cell_concerned_with}
+use Rattle.schedule_rules.specs.Waits.{Wait, Attempt, wait_of, with_wait, wake_reader, wake_writer, wake_readers, waits_given_with, cell_concerned_with, wait_woken}
 use Rattle.schedule_rules.specs.Gifts.{reaches}
 use Rattle.schedule_rules.specs.Core.{core_with}
 use Rattle.phase_schedule.specs.Shown.{Shows, IsSingle, AreWithin, Agrees}
 use Rattle.phase_schedule.proofs.Finding.{changed, wait_readers, wait_writer}
 use Rattle.phase_schedule.proofs.Single.{single_readers, single_writer}
 use Rattle.phase_schedule.proofs.Reaching.{parked_writer, reaches_writer, reaches_readers}
-use Rattle.phase_schedule.proofs.ShowsFreed.{shows_freed}
 use Rattle.phase_schedule.proofs.ShowsWaiting.{shows_waiting_at}
 use Rattle.phase_schedule.proofs.ShowsHanded.{shows_handed_readers, shows_handed_writer}
 use Rattle.phase_schedule.proofs.Same.{flagged_core}
 use Rattle.phase_schedule.proofs.Records.{agrees_readers, agrees_writer, agrees_waiting}
 use Rattle.phase_schedule.proofs.Elsewhere.{core_readers_other, core_writer_other}
 use Rattle.phase_schedule.proofs.Within.{within_readers, within_writer}
+use Rattle.phase_schedule.specs.Kept.{target_of}
 
 -- the waits after a gift on the cell
 abbrev pub given_on : ℕ → Given → List Wait → List Wait
@@ -56,6 +57,20 @@ pub given_concerned : (cells : List CellPlan) (all : List Wait) (h : List Event)
 given_concerned cells all h s c given.Nobody ws e = refl
 given_concerned cells all h s c (given.Writer q) ws e = refl
 given_concerned cells all h s c given.Readers ws e = ap (λ o. wake_readers o ws) e
+
+-- what the calls that wait ask stays
+target_changed : (f : Wait → Wait) → ((w : Wait) → target_of (Some (f w)) ≡ target_of (Some w)) → (o : Option Wait) → target_of (changed f o) ≡ target_of o
+target_changed f same None = refl
+target_changed f same (Some w) = same w
+
+target_woken : (b : Bool) (w : Wait) → target_of (Some (cond b (wait_woken w) w)) ≡ target_of (Some w)
+target_woken true w = refl
+target_woken false w = refl
+
+pub target_given : (c : ℕ) (g : Given) (ws : List Wait) (p : ℕ) → target_of (wait_of p (given_on c g ws)) ≡ target_of (wait_of p ws)
+target_given c given.Nobody ws p = refl
+target_given c (given.Writer q) ws p = rw (wait_writer q p ws) (target_changed (wake_writer q) (λ w. target_woken _ w) (wait_of p ws))
+target_given c given.Readers ws p = rw (wait_readers c p ws) (target_changed (wake_reader c) (λ w. target_woken _ w) (wait_of p ws))
 
 -- the gift reaches those that it is for
 pub reaches_given : (c : ℕ) (g : Given) (ws : List Wait) (s : Rows) → Shows ws s → IsListed c s g → reaches c g ws ≡ true
@@ -116,8 +131,3 @@ module _ (cells : List CellPlan) (c : ℕ) (h : List Event) where
   core_waiting w way a ws s s' x x' ew ea shows party in_readers in_writers agrees es ex =
       let shown : Shows (with_wait w.party way (Some a) ws) (rows_waiting way w s) = shows_waiting_at w way a ws s (ea ∙ sym ew) shows party (rw ew in_readers) (rw ew in_writers) in
       ex ∙ flagged_core cells c h (with_wait w.party way (Some a) ws) s' (held_waiting way x) (subst (λ (t : Rows). Shows (with_wait w.party way (Some a) ws) t) (sym es) shown) (agrees_waiting cells c h w.party way a ws x ea agrees)
-
-  -- and where a party waits no longer, and nothing is handed over
-  pub core_freed : (p : ℕ) (ws : List Wait) (s s' : Rows) (x x' : Holders) → IsSound s → Shows ws s → Agrees cells c h (without_wait p ws) x → s' ≡ freed p s → x' ≡ flagged c s' x → x' ≡ core_with cells c h (without_wait p ws)
-  core_freed p ws s s' x x' sound shows agrees es ex =
-      ex ∙ flagged_core cells c h (without_wait p ws) s' x (subst (λ (t : Rows). Shows (without_wait p ws) t) (sym es) (shows_freed p ws s sound shows)) agrees

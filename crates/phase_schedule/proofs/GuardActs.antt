@@ -22,8 +22,8 @@ use Rattle.phase_schedule.specs.View.{View}
 use Rattle.phase_schedule.specs.Meets.{put_row}
 use Rattle.phase_schedule.specs.Tracks.{FollowsStep, Tracks, plans}
 use Rattle.phase_schedule.specs.Ready.{IsDraft, IsHeld, IsHolding}
-use Rattle.phase_schedule.proofs.GuardHands.{legal_quiet}
-use Rattle.phase_schedule.proofs.GuardReader.{steady_same}
+use Rattle.phase_schedule.proofs.Lines.{legal_quiet}
+use Rattle.phase_schedule.proofs.RowTries.{steady_same}
 use Rattle.phase_schedule.proofs.GuardRefused.{look_free, set_held}
 use Rattle.phase_schedule.proofs.GuardPut.{steady_put, slot_put, guard_put, cell_put}
 use Rattle.phase_schedule.proofs.GuardQuiet.{quiet_step}
@@ -47,7 +47,7 @@ module _ (cells : List CellPlan) (h : List Event) (v : View) (t : Tracks cells h
   pub looked : answer.Value value ≡ answer_of_value (if w then inside cells h k.guard else replay cells c h) → Tracks cells (told s (answer.Value value) given.Nobody ∷ h) v
   looked e =
       quiet_step cells h v t s (answer.Value value) c lt idle concerned refl (guards h) sections_are refl refl (λ d. refl) (λ d. refl) v.cells v.guards
-      (legal_quiet cells h s (answer.Value value) (look_free cells h s g idle c w k acts) (due_of ∙ sym e)) (steady_same cells h v (waits cells (told s (answer.Value value) given.Nobody ∷ h)) t)
+      (legal_quiet cells h s (answer.Value value) (look_free cells h s g idle c w k acts) (due_of ∙ sym e)) (steady_same cells h t.steady (waits cells (told s (answer.Value value) given.Nobody ∷ h)))
       t.kept.planned t.kept.cell t.kept.slot t.kept.guard_cell room
 
 module _ (cells : List CellPlan) (h : List Event) (v : View) (t : Tracks cells h v) (s : Step) (g c : ℕ) (k : IsHeld h s.party g c true) (value : ℕ) (acts : s.act ≡ act.Set g value) (lt : c < length cells) (idle : wait_of s.party (waits cells h) ≡ None) (room : length h < length v.guards)

@@ -1,5 +1,6 @@
 -- After a read guard is cloned, or is not, the rows stand for the longer history.
 use Rattle.std.proofs.Common.{◌≡◌, ◌≢◌, ℕ, ◌+◌, ◌<◌, List, ◌∷◌, length, set, refl, sym, ◌∙◌, ap, subst, arith, Bool, true, false, None, Some, inl, inr, length-set}
+use Rattle.std.proofs.lemmas.Bool.{cases_eq}
 use Rattle.std.specs.Prelude.{◌==◌, ◌&&◌, ◌||◌, nat_lt, if◌then◌else◌}
 use Rattle.phase_bits.specs.declared.holders.Holders.{Holders}
 use Rattle.phase_bits.specs.Number.{phase_of}
@@ -22,19 +23,19 @@ use Rattle.schedule_rules.specs.Core.{core, core_with}
 use Rattle.schedule_rules.specs.Waits.{wait_of, waits, other_waits, cell_concerned_with, cell_of_guard}
 use Rattle.schedule_rules.specs.Holds.{reads_cell, writes_cell, readers_with, writers_with, holding_with, is_barred}
 use Rattle.schedule_rules.specs.Due.{due_act, due_answer, due_clone}
-use Rattle.schedule_rules.proofs.Found.{found_counts}
 use Rattle.phase_schedule.specs.declared.rows.GuardRow.TheVariants as guard
 use Rattle.phase_schedule.specs.View.{View}
 use Rattle.phase_schedule.specs.Kept.{Open, kind_at, open_after}
 use Rattle.phase_schedule.specs.Shown.{Agrees}
 use Rattle.phase_schedule.specs.Tracks.{IsApart, Tracks}
 use Rattle.phase_schedule.specs.Ready.{IsHeld}
-use Rattle.phase_schedule.proofs.Places.{eq_or_not}
 use Rattle.phase_schedule.proofs.Counted.{none_without}
-use Rattle.phase_schedule.proofs.GuardHands.{apart_less, legal_quiet}
-use Rattle.phase_schedule.proofs.GuardGone.{reads_here}
+use Rattle.phase_schedule.proofs.Lines.{legal_quiet}
+use Rattle.phase_schedule.proofs.Apart.{apart_less}
+use Rattle.phase_schedule.proofs.GuardGone.{some_reader}
 use Rattle.phase_schedule.proofs.GuardQuiet.{quiet_step}
-use Rattle.phase_schedule.proofs.GuardReader.{nobody_moved, size_same, reads_more, reads_elsewhere, slot_read, known_read, steady_reader, steady_same}
+use Rattle.phase_schedule.proofs.RowTries.{steady_same}
+use Rattle.phase_schedule.proofs.GuardReader.{nobody_moved, size_same, reads_more, reads_elsewhere, slot_read, known_read, steady_reader}
 use Rattle.phase_schedule.proofs.GuardRefused.{clone_held}
 use Rattle.phase_schedule.proofs.GuardStep.{told, handed_over, kept_now}
 
@@ -47,14 +48,10 @@ module _ (cells : List CellPlan) (h : List Event) (v : View) (t : Tracks cells h
   concerned : cell_concerned_with cells (waits cells h) h s.party s.act ≡ Some c
   concerned = ap (λ a. cell_concerned_with cells (waits cells h) h s.party a) acts ∙ ap cell_of_guard k.found ∙ ap Some k.cell
 
-  -- the party's guard reads the cell
-  some_reader : 0 < count (reads_cell c) (guards h)
-  some_reader = found_counts (λ z. z.number == g) (reads_cell c) (guards h) k.guard k.found (reads_here k.guard c k.writes k.cell)
-
   -- so nothing writes it
   not_written : nat_lt 0 (writers_with c h (waits cells h)) ≡ false
   not_written =
-      let some : _ = some_reader in
+      let some : _ = some_reader h s.party g c k in
       let no_reader : _ = (t.locked.apart c).no_reader in
       by (nat_lt 0 (writers_with c h (waits cells h))) refl
     where
@@ -63,11 +60,11 @@ module _ (cells : List CellPlan) (h : List Event) (v : View) (t : Tracks cells h
       by true e =
           let lt : 0 < writers_with c h (waits cells h) = grind arith in
           let none : _ = (t.locked.apart c).no_reader lt in
-          let some : _ = some_reader in
+          let some : _ = some_reader h s.party g c k in
           absurd (omega (arith, none, some))
 
   is_read : (readers_with c h (waits cells h) == 0) ≡ false
-  is_read = let some : _ = some_reader in grind (arith, some)
+  is_read = let some : _ = some_reader h s.party g c k in grind (arith, some)
 
   -- the answer
   due : (b : Bool) → (readers_with c h (waits cells h) == most_readers) ≡ b → due_answer cells h s (other_waits cells h s) false ≡ (if b then answer.Borrowed else answer.ReadGuard)
@@ -127,7 +124,7 @@ module _ (cells : List CellPlan) (h : List Event) (v : View) (t : Tracks cells h
 
     apart : (d : ℕ) → IsApart open_then d
     apart d =
-        elim (eq_or_not d c) [
+        elim (cases_eq d c) [
           | inl e ↦ subst (λ n. IsApart open_then n) (sym e) here
           | inr ne ↦ other ne
         ]
@@ -140,7 +137,7 @@ module _ (cells : List CellPlan) (h : List Event) (v : View) (t : Tracks cells h
             let one : _ = (t.locked.apart c).one in
             let most : _ = (t.locked.apart c).limit in
             let no_reader : _ = (t.locked.apart c).no_reader in
-            let some : _ = some_reader in
+            let some : _ = some_reader h s.party g c k in
             record {
               one = omega (arith, w, m, one);
               no_reader = λ wr. let none : _ = no_reader (omega (arith, wr, w, m)) in absurd (omega (arith, none, some));
@@ -165,7 +162,7 @@ module _ (cells : List CellPlan) (h : List Event) (v : View) (t : Tracks cells h
         v.cells (set v.guards (length h) (guard.Read s.party c read_ticket)) (admit_read (core cells c h)) v.parks (size_same v.parks) (admit_read (core cells c h))
         (legal_quiet cells h s answer.ReadGuard (clone_held cells h s g idle c false k acts) (due false (grind (arith, few)))) agrees stay tt tt apart
         refl (flagged_core (admit_read (core cells c h)) refl refl) fits (nobody_moved c v.parks)
-        (steady_reader cells h (waits cells (told s answer.ReadGuard given.Nobody ∷ h)) (guards h) s.party c None t.steady.numbers (steady_same cells h v (waits cells (told s answer.ReadGuard given.Nobody ∷ h)) t))
+        (steady_reader cells h (waits cells (told s answer.ReadGuard given.Nobody ∷ h)) (guards h) s.party c None t.steady.numbers (steady_same cells h t.steady (waits cells (told s answer.ReadGuard given.Nobody ∷ h))))
         (kept_now cells h v t s answer.ReadGuard given.Nobody c lt idle concerned refl (reader (length h) s.party c ∷ guards h) None sections_are guards_are back_is
         v.cells (set v.guards (length h) (guard.Read s.party c read_ticket)) (admit_read (core cells c h)) v.parks (size_same v.parks) t.kept.planned t.kept.cell
         (slot_read (length h) s.party c (guards h) v.guards t.kept.slot) (known_read (length h) s.party c (guards h) (length cells) lt t.kept.guard_cell))
@@ -175,5 +172,5 @@ module _ (cells : List CellPlan) (h : List Event) (v : View) (t : Tracks cells h
   pub not_cloned : readers_with c h (waits cells h) ≡ most_readers → Tracks cells (told s answer.Borrowed given.Nobody ∷ h) v
   not_cloned full =
       quiet_step cells h v t s answer.Borrowed c lt idle concerned refl (guards h) (ap (λ a. sections_ended a s.party (sections h)) acts) refl refl (λ d. refl) (λ d. refl) v.cells v.guards
-      (legal_quiet cells h s answer.Borrowed (clone_held cells h s g idle c false k acts) (due true (grind (arith, full)))) (steady_same cells h v (waits cells (told s answer.Borrowed given.Nobody ∷ h)) t)
+      (legal_quiet cells h s answer.Borrowed (clone_held cells h s g idle c false k acts) (due true (grind (arith, full)))) (steady_same cells h t.steady (waits cells (told s answer.Borrowed given.Nobody ∷ h)))
       t.kept.planned t.kept.cell t.kept.slot t.kept.guard_cell room

@@ -1,5 +1,5 @@
 -- A clone does what it says: the rows follow the step.
-use Rattle.std.proofs.Common.{◌≡◌, ◌≢◌, ℕ, ◌<◌, List, length, map, set, get_or, refl, sym, ◌∙◌, ap, subst, false, Some, arith, length-set}
+use Rattle.std.proofs.Common.{◌≡◌, ◌≢◌, ℕ, ◌<◌, List, length, map, set, get_or, refl, sym, ◌∙◌, ap, subst, false, Some, length-set}
 use Rattle.phase_bits.specs.declared.holders.Holders.{Holders}
 use Rattle.phase_bits.specs.Records.{admit_read, most_readers}
 use Rattle.phase_locker.specs.declared.ways.Given.TheVariants as given
@@ -19,8 +19,9 @@ use Rattle.phase_schedule.specs.View.{view}
 use Rattle.phase_schedule.specs.Kept.{kind_at}
 use Rattle.phase_schedule.specs.Tracks.{FollowsStep, plans}
 use Rattle.phase_schedule.specs.Ready.{IsHoldingNumbered}
-use Rattle.phase_schedule.proofs.GuardSeen.{seen_locker, in_plan, held_shown, place_shown}
-use Rattle.phase_schedule.proofs.GuardQuiet.{set_there}
+use Rattle.phase_schedule.proofs.Places.{set_there}
+use Rattle.phase_schedule.proofs.Called.{seen_locker}
+use Rattle.phase_schedule.proofs.GuardSeen.{in_plan, held_shown, place_shown}
 use Rattle.phase_schedule.proofs.GuardCloned.{cloned, not_cloned}
 
 module _ {L : Type 0} (held : L → Holders) (place : L → LockerKind) (h : List Event) (rows : Rows L) (s : Step) (n g c : ℕ) (k : IsHoldingNumbered h (view held place rows) s n (act.Clone g) g c false) (l l' : LazySequentializer L (Unit {0})) (at : l ≡ get_or rows.sequentializers.items c l) (same : place l'.locker ≡ place l.locker) (runs : l'.running ≡ l.running) where
@@ -73,5 +74,5 @@ module _ {L : Type 0} (held : L → Holders) (place : L → LockerKind) (h : Lis
     where
       unmoved : set (map (λ q. held q.locker) rows.sequentializers.items) c (held l'.locker) ≡ map (λ q. held q.locker) rows.sequentializers.items
       unmoved =
-          set_there (map (λ q. held q.locker) rows.sequentializers.items) c (held l'.locker) (let size : length (map (λ q. held q.locker) rows.sequentializers.items) ≡ length (plans (view held place rows)) = k.holding.acting.ready.follows.locked.held_count in omega (arith, size, lt))
+          set_there (map (λ q. held q.locker) rows.sequentializers.items) c (held l'.locker)
           (k.holding.acting.ready.follows.locked.held c lt ∙ ap Some (sym (still ∙ record_is)))

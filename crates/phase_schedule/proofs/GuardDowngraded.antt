@@ -1,6 +1,7 @@
 -- After a write guard becomes a read guard the rows stand for the longer history.
-use Rattle.std.proofs.Common.{◌≡◌, ◌≢◌, ℕ, ◌+◌, ◌<◌, List, ◌∷◌, length, set, get_or, refl, sym, ◌∙◌, ap, subst, arith, Bool, true, false, None, Some, inl, inr, length-set}
-use Rattle.std.specs.Prelude.{◌||◌, ◌&&◌, if◌then◌else◌}
+use Rattle.std.proofs.Common.{◌≡◌, ◌≢◌, ℕ, ◌+◌, ◌<◌, List, ◌∷◌, length, set, get_or, refl, sym, ◌∙◌, ap, subst, arith, true, false, None, Some, inl, inr, length-set}
+use Rattle.std.proofs.lemmas.Bool.{cases_eq}
+use Rattle.std.specs.Prelude.{◌&&◌, if◌then◌else◌}
 use Rattle.std.specs.declared.option.Option.{Option}
 use Rattle.std.proofs.Math.Seq.{map-set_same}
 use Rattle.phase_bits.specs.declared.holders.Holders.{Holders}
@@ -36,20 +37,19 @@ use Rattle.phase_schedule.specs.Kept.{Open, open_after, cell_row, draft_of, kind
 use Rattle.phase_schedule.specs.Shown.{Agrees}
 use Rattle.phase_schedule.specs.Tracks.{IsApart, Tracks}
 use Rattle.phase_schedule.specs.Ready.{IsHeld}
-use Rattle.phase_schedule.proofs.Places.{eq_or_not, set_view}
+use Rattle.phase_schedule.proofs.Truth.{or_left}
+use Rattle.phase_schedule.proofs.Places.{set_view}
 use Rattle.phase_schedule.proofs.Same.{unlocked}
 use Rattle.phase_schedule.proofs.RowOpens.{numbers_removed}
 use Rattle.phase_schedule.proofs.GivenOn.{listed_share}
 use Rattle.phase_schedule.proofs.Hands.{locked_sound}
-use Rattle.phase_schedule.proofs.GuardFew.{fewer_parked}
-use Rattle.phase_schedule.proofs.GuardHands.{MayAdd, apart_less, legal_answer, may_give_there}
+use Rattle.phase_schedule.proofs.Few.{fewer_readers}
+use Rattle.phase_schedule.proofs.Lines.{may_give_there, legal_last}
+use Rattle.phase_schedule.proofs.Apart.{MayAdd, apart_less}
 use Rattle.phase_schedule.proofs.GuardGone.{counted_one, counted_none, never_reads, writes_here, writes_not_there, guard_was, slot_removed, no_writer_left, writer_elsewhere, back_given, content_elsewhere, content_here, steady_write, row_shown}
 use Rattle.phase_schedule.proofs.GuardReader.{reads_more, reads_elsewhere, slot_read, known_read, steady_reader}
 use Rattle.phase_schedule.proofs.GuardRefused.{downgrade_held}
 use Rattle.phase_schedule.proofs.GuardStep.{told, handed_over, kept_now}
-
-or_left : (a b : Bool) → a ≡ true → (a || b) ≡ true
-or_left a b e = rw e refl
 
 module _ (cells : List CellPlan) (h : List Event) (v : View) (t : Tracks cells h v) (s : Step) (g c : ℕ) (k : IsHeld h s.party g c true) (acts : s.act ≡ act.Downgrade g) (lt : c < length cells) (idle : wait_of s.party (waits cells h) ≡ None) (room : length h < length v.guards) (l : Given)
     (draft : Draft) (drafts : draft ≡ draft_of (inside cells h k.guard)) (row : CellRow) (at : row ≡ get_or v.cells c row) (in_rows : c < length v.cells) where
@@ -122,7 +122,7 @@ module _ (cells : List CellPlan) (h : List Event) (v : View) (t : Tracks cells h
 
   apart : (d : ℕ) → IsApart open_then d
   apart d =
-      elim (eq_or_not d c) [
+      elim (cases_eq d c) [
         | inl e ↦ subst (λ n. IsApart open_then n) (sym e) here
         | inr ne ↦ other ne
       ]
@@ -165,9 +165,8 @@ module _ (cells : List CellPlan) (h : List Event) (v : View) (t : Tracks cells h
   adds (given.Writer q) may free = absurd may
   adds given.Readers may free =
       let r : _ = alone.0 in
-      let fewer : _ = fewer_parked c v.parks (rw t.locked.readers_count lt) (locked_sound cells h v.held v.places v.parks t.locked) free in
-      let most : _ = t.locked.few in
-      (alone.1, omega (arith, r, fewer, most))
+      let fewer : _ = fewer_readers c v.parks (rw t.locked.readers_count lt) (locked_sound cells h v.held v.places v.parks t.locked) free in
+      (alone.1, omega (arith, r, fewer))
 
   turns : downgrades s answer.ReadGuard ≡ true
   turns = ap turns_to_read acts
@@ -177,7 +176,7 @@ module _ (cells : List CellPlan) (h : List Event) (v : View) (t : Tracks cells h
   allowed (given.Writer q) may = absurd may
   allowed given.Readers may =
       may_give_there cells h s answer.ReadGuard c v.parks (core cells c h) idle concerned t.locked.shows (t.locked.fits c lt) given.Readers may
-      (λ ne. or_left (is_readers given.Readers && downgrades s answer.ReadGuard) (is_freed_last cells h s answer.ReadGuard c) turns)
+      (or_left (is_readers given.Readers && downgrades s answer.ReadGuard) (is_freed_last cells h s answer.ReadGuard c) turns)
 
   -- a write guard becomes a read guard
   pub read_on : (x' : Holders) (parks' : Parking) → Downgrades c draft.phase (core cells c h) v.parks l x' parks' → HasFree v.parks → Fits (kind_at (cell_at cells c).place) x' parks' c → OthersStay c v.parks parks' → SameSize v.parks parks'
@@ -185,7 +184,7 @@ module _ (cells : List CellPlan) (h : List Event) (v : View) (t : Tracks cells h
   read_on x' parks' moves free fits others size =
       handed_over cells h v t s answer.ReadGuard l c lt idle concerned refl guards_now back_now sections_are guards_are back_is
       (set v.cells c (record { plan = row.plan; value = draft.value; section = None })) (set (set v.guards g guard.Free) (length h) (guard.Read s.party c read_ticket)) x' parks' size (downgrade draft.phase (core cells c h))
-      (legal_answer cells h s answer.ReadGuard l (downgrade_held cells h s g idle c true k acts) (ap (λ a. due_act cells h s (other_waits cells h s) false a) acts) (allowed l moves.may))
+      (legal_last cells h s (record { answer = answer.ReadGuard; given = l }) (downgrade_held cells h s g idle c true k acts) (sym (ap (λ a. due_act cells h s (other_waits cells h s) false a) acts)) (allowed l moves.may))
       agrees stay (listed_share c v.parks l moves.may) (adds l moves.may free) apart
       moves.rows moves.held fits others
       (steady_reader cells h (waits cells (downgraded ∷ h)) (without_guard g (guards h)) s.party c back_now (numbers_removed (length h) g (guards h) t.steady.numbers) (steady_write cells h v t g k.guard k.found c k.cell k.writes (waits cells (downgraded ∷ h))))

@@ -20,7 +20,8 @@ use Rattle.phase_schedule.specs.declared.rows.Rows.{Rows}
 use Rattle.phase_schedule.specs.View.{view}
 use Rattle.phase_schedule.specs.Tracks.{FollowsStep, plans}
 use Rattle.phase_schedule.specs.Ready.{IsDraft, IsHoldingNumbered}
-use Rattle.phase_schedule.proofs.GuardSeen.{seen_locker, in_plan, held_shown, place_shown, writer_shown, has_free}
+use Rattle.phase_schedule.proofs.Called.{seen_locker}
+use Rattle.phase_schedule.proofs.GuardSeen.{in_plan, held_shown, place_shown, writer_shown, has_free}
 use Rattle.phase_schedule.proofs.GuardDowngraded.{read_on}
 
 -- a write guard becomes a read guard

@@ -1,5 +1,6 @@
 -- What is open, and what the rows show, once a guard is given back.
 use Rattle.std.proofs.Common.{◌≡◌, ◌≢◌, ℕ, suc, ◌+◌, ◌<◌, ◌≤◌, List, length, set, get_or, refl, sym, ◌∙◌, ap, subst, arith, Bool, true, false, cond, None, Some, inl, inr}
+use Rattle.std.proofs.lemmas.Bool.{cases_eq}
 use Rattle.std.specs.Prelude.{◌==◌, slice_get}
 use Rattle.std.specs.List.{find}
 use Rattle.std.specs.declared.option.Option.{Option}
@@ -20,9 +21,10 @@ use Rattle.phase_schedule.specs.declared.rows.GuardRow.TheVariants as guard
 use Rattle.phase_schedule.specs.View.{View}
 use Rattle.phase_schedule.specs.Kept.{Open, cell_row, draft_of, guard_row, open_after, run_in, section_by}
 use Rattle.phase_schedule.specs.Tracks.{NumbersBelow, Tracks}
-use Rattle.phase_schedule.proofs.Places.{eq_or_not, row_at, other_number, same_number, set_view}
+use Rattle.phase_schedule.proofs.Places.{row_at, other_number, same_number, set_view}
 use Rattle.phase_schedule.proofs.RowOpens.{no_run, numbered_removed, numbers_more, numbers_removed}
 use Rattle.phase_schedule.proofs.After.{IsSteadyWith}
+use Rattle.phase_schedule.specs.Ready.{IsHeld}
 
 -- one guard less is counted where it passes
 pub counted_one : (t : Guard → Bool) (g : ℕ) (gs : List Guard) (x : Guard) → numbered g gs ≡ Some x → t x ≡ true → count t gs ≡ count t (without_guard g gs) + 1
@@ -63,11 +65,15 @@ writes_not_there x c d e ne = by x.writes (other_number x.cell d (λ q. ne (q �
     by true k = k
     by false k = refl
 
+-- a cell that a held guard reads has a reader
+pub some_reader : (h : List Event) (p g c : ℕ) → IsHeld h p g c false → 0 < count (reads_cell c) (guards h)
+some_reader h p g c k = found_counts (λ z. z.number == g) (reads_cell c) (guards h) k.guard k.found (reads_here k.guard c k.writes k.cell)
+
 module _ (cells : List CellPlan) (h : List Event) (v : View) (t : Tracks cells h v) (g : ℕ) (x : Guard) (is : numbered g (guards h) ≡ Some x) where
   -- the other guards are kept
   pub guard_was : (k : ℕ) (y : Guard) → numbered k (without_guard g (guards h)) ≡ Some y → numbered k (guards h) ≡ Some y
   guard_was k y e =
-      elim (eq_or_not k g) [
+      elim (cases_eq k g) [
         | inl q ↦ absurd (gone q)
         | inr ne ↦ sym (guard_kept g k (guards h) ne) ∙ e
       ]

@@ -1,4 +1,4 @@
--- The guard that a step names, by what its row says.
+-- Which guard a step names, by what its row says.
 use Rattle.std.proofs.Common.{◌≡◌, ◌≢◌, ℕ, ◌<◌, List, length, refl, arith, Bool, true, false, None, Some}
 use Rattle.std.proofs.lemmas.List.{length-map}
 use Rattle.std.specs.Prelude.{◌==◌, if◌then◌else◌}

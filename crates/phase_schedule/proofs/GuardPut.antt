@@ -1,5 +1,6 @@
 -- What is open, and what the rows show, once the holder of a write guard set a value.
 use Rattle.std.proofs.Common.{◌≡◌, ◌≢◌, ℕ, suc, ◌<◌, List, length, set, get_or, refl, sym, ◌∙◌, ap, subst, arith, true, None, Some, inl, inr}
+use Rattle.std.proofs.lemmas.Bool.{cases_eq}
 use Rattle.std.specs.Prelude.{◌==◌, slice_get}
 use Rattle.std.specs.List.{find}
 use Rattle.schedule_rules.specs.declared.plan.CellPlan.{CellPlan}
@@ -17,7 +18,7 @@ use Rattle.phase_schedule.specs.View.{View}
 use Rattle.phase_schedule.specs.Kept.{Open, cell_row, guard_row, open_after, run_in, section_by}
 use Rattle.phase_schedule.specs.Meets.{put_row, put_section}
 use Rattle.phase_schedule.specs.Tracks.{Tracks}
-use Rattle.phase_schedule.proofs.Places.{eq_or_not, row_at, same_view, set_view}
+use Rattle.phase_schedule.proofs.Places.{row_at, same_view, set_view}
 use Rattle.phase_schedule.proofs.RowOpens.{numbers_more, numbers_put}
 use Rattle.phase_schedule.proofs.After.{IsSteadyWith}
 use Rattle.phase_schedule.proofs.GuardGone.{found_writer, writes_here}
@@ -31,9 +32,6 @@ module _ (cells : List CellPlan) (h : List Event) (v : View) (t : Tracks cells h
   abbrev pub open_put : List Wait → Open
   open_put ws = record { waits = ws; sections = sections h; guards = guards_put }
 
-  pub writer_before : find (writes_cell c) (guards h) ≡ Some x
-  writer_before = found_writer cells h v t g x is c at writes
-
   -- the guard is still the writer of its cell
   pub writer_after : find (writes_cell c) guards_put ≡ Some (put value x)
   writer_after =
@@ -45,8 +43,8 @@ module _ (cells : List CellPlan) (h : List Event) (v : View) (t : Tracks cells h
 
   writer_then : (d : ℕ) (y : Guard) → find (writes_cell d) guards_put ≡ Some y → (z : Guard) × (find (writes_cell d) (guards h) ≡ Some z) × (y.start ≡ z.start)
   writer_then d y e =
-      elim (eq_or_not d c) [
-        | inl q ↦ (x, ap (λ n. find (writes_cell n) (guards h)) q ∙ writer_before, ap (λ z. z.start) (same q))
+      elim (cases_eq d c) [
+        | inl q ↦ (x, ap (λ n. find (writes_cell n) (guards h)) q ∙ (found_writer cells h v t g x is c at writes), ap (λ z. z.start) (same q))
         | inr ne ↦ (y, sym (writer_other d ne) ∙ e, refl)
       ]
     where
@@ -71,14 +69,14 @@ module _ (cells : List CellPlan) (h : List Event) (v : View) (t : Tracks cells h
     where
       same : (k : ℕ) → guard_row (numbered k guards_put) ≡ guard_row (numbered k (guards h))
       same k =
-          elim (eq_or_not k g) [
+          elim (cases_eq k g) [
             | inl q ↦ ap (λ j. guard_row (numbered j guards_put)) q ∙ ap guard_row (numbered_put g value (guards h) x is) ∙ sym (ap guard_row is) ∙ ap (λ j. guard_row (numbered j (guards h))) (sym q)
             | inr ne ↦ ap guard_row (numbered_put_other g k value (guards h) ne)
           ]
 
   pub guard_put : (k : ℕ) (y : Guard) → numbered k guards_put ≡ Some y → y.cell < length cells
   guard_put k y e =
-      elim (eq_or_not k g) [
+      elim (cases_eq k g) [
         | inl q ↦ subst (λ n. n < length cells) (sym (ap (λ z. z.cell) (same q))) (t.kept.guard_cell g x is)
         | inr ne ↦ t.kept.guard_cell k y (sym (numbered_put_other g k value (guards h) ne) ∙ e)
       ]
@@ -92,7 +90,7 @@ module _ (cells : List CellPlan) (h : List Event) (v : View) (t : Tracks cells h
     row_put =
         let row_is : row ≡ cell_row (cell_at cells c) c (replay cells c h) (inside cells h) (open_after cells h) = row_at v.cells c row _ found in_rows (t.kept.cell c in_rows) in
         let shown : put_section value (section_by c (inside cells h) (find (writes_cell c) (guards h)) (run_in c (sections h))) ≡ section_by c (inside cells h) (find (writes_cell c) guards_put) (run_in c (sections h)) =
-        ap (λ o. put_section value (section_by c (inside cells h) o (run_in c (sections h)))) writer_before ∙ ap (λ o. section_by c (inside cells h) o (run_in c (sections h))) (sym writer_after) in
+        ap (λ o. put_section value (section_by c (inside cells h) o (run_in c (sections h)))) (found_writer cells h v t g x is c at writes) ∙ ap (λ o. section_by c (inside cells h) o (run_in c (sections h))) (sym writer_after) in
         ap (put_row value) row_is ∙ (λ i. record { plan = cell_at cells c; value = (replay cells c h).value; section = shown i })
 
     pub cell_put : (d : ℕ) → d < length (set v.cells c (put_row value row)) → slice_get (set v.cells c (put_row value row)) d ≡ Some (cell_row (cell_at cells d) d (replay cells d h) (inside cells h) (open_put ws))

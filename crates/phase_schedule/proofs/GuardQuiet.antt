@@ -1,7 +1,5 @@
 -- A step that moves no lock: the rows stand for the longer history.
-use Rattle.std.proofs.Common.{◌≡◌, ℕ, suc, ◌<◌, ◌≤◌, List, ◌∷◌, length, set, get_or, refl, sym, ◌∙◌, ap, subst, arith, None, Some}
-use Rattle.std.proofs.lemmas.Grind.{common_steps}
-use Rattle.std.proofs.lemmas.Option.{gets}
+use Rattle.std.proofs.Common.{◌≡◌, ℕ, suc, ◌<◌, ◌≤◌, List, ◌∷◌, length, refl, sym, ◌∙◌, ap, subst, arith, None, Some}
 use Rattle.std.specs.Prelude.{slice_get}
 use Rattle.phase_bits.specs.declared.holders.Holders.{Holders}
 use Rattle.phase_locker.specs.declared.ways.Given.TheVariants as given
@@ -26,16 +24,11 @@ use Rattle.phase_schedule.specs.View.{View}
 use Rattle.phase_schedule.specs.Kept.{Open, cell_row, guard_row, kind_at, open_after, plans_in}
 use Rattle.phase_schedule.specs.Shown.{Agrees}
 use Rattle.phase_schedule.specs.Tracks.{IsApart, Tracks}
+use Rattle.phase_schedule.proofs.Places.{set_there}
 use Rattle.phase_schedule.proofs.After.{IsSteadyWith}
-use Rattle.phase_schedule.proofs.GuardHands.{apart_less}
+use Rattle.phase_schedule.proofs.Apart.{apart_less}
 use Rattle.phase_schedule.proofs.GuardReader.{nobody_moved, size_same}
 use Rattle.phase_schedule.proofs.GuardStep.{told, handed_over, kept_now}
-
--- a write of what stands there changes nothing
-pub set_there : {X : Type 0} (xs : List X) (i : ℕ) (x : X) → i < length xs → slice_get xs i ≡ Some x → set xs i x ≡ xs
-set_there xs i x lt e =
-    let at : get_or xs i x ≡ x = grind (arith, common_steps, gets) in
-    ap (λ y. set xs i y) (sym at) ∙ grind (arith, common_steps)
 
 module _ (cells : List CellPlan) (h : List Event) (v : View) (t : Tracks cells h v) (s : Step) (a : Answer) (c : ℕ) (lt : c < length cells) (idle : wait_of s.party (waits cells h) ≡ None) (concerned : cell_concerned cells h s ≡ Some c)
     (waits_are : waits cells (told s a given.Nobody ∷ h) ≡ other_waits cells h s) (gs : List Guard) (ss_are : sections (told s a given.Nobody ∷ h) ≡ sections h) (gs_are : guards (told s a given.Nobody ∷ h) ≡ gs) (back_is : back_of_step h s a ≡ None)
@@ -85,6 +78,6 @@ module _ (cells : List CellPlan) (h : List Event) (v : View) (t : Tracks cells h
       → Tracks cells (told s a given.Nobody ∷ h) (record { cells = rows; guards = slots; parties = v.parties; held = v.held; places = v.places; running = v.running; parks = v.parks })
   quiet_step rows slots line steady planned row slot known room =
       subst (λ hs. Tracks cells (told s a given.Nobody ∷ h) (record { cells = rows; guards = slots; parties = v.parties; held = hs; places = v.places; running = v.running; parks = v.parks }))
-      (set_there v.held c (core cells c h) (let size : length v.held ≡ length cells = t.locked.held_count in omega (arith, size, lt)) (t.locked.held c lt))
+      (set_there v.held c (core cells c h) (t.locked.held c lt))
       (handed_over cells h v t s a given.Nobody c lt idle concerned waits_are gs None ss_are gs_are back_is rows slots (core cells c h) v.parks (size_same v.parks) (core cells c h) line agrees (λ d ne. core_stays d) tt tt apart refl flags (t.locked.fits c lt) (nobody_moved c v.parks) steady
       (kept_now cells h v t s a given.Nobody c lt idle concerned waits_are gs None ss_are gs_are back_is rows slots (core cells c h) v.parks (size_same v.parks) planned row slot known) room)

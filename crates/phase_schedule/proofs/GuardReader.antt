@@ -1,5 +1,6 @@
 -- What is open, and what the rows show, once one more read guard is open.
-use Rattle.std.proofs.Common.{◌≡◌, ◌≢◌, ℕ, suc, ◌+◌, ◌<◌, List, ◌∷◌, length, set, refl, sym, ◌∙◌, ap, arith, cond, None, Some, inl, inr}
+use Rattle.std.proofs.Common.{◌≡◌, ◌≢◌, ℕ, ◌+◌, ◌<◌, List, ◌∷◌, length, set, refl, sym, ◌∙◌, ap, arith, cond, Some, inl, inr}
+use Rattle.std.proofs.lemmas.Bool.{cases_eq}
 use Rattle.std.specs.Prelude.{slice_get}
 use Rattle.std.specs.declared.option.Option.{Option}
 use Rattle.phase_locker.specs.Natures.{read_ticket}
@@ -8,17 +9,15 @@ use Rattle.phase_locker.specs.Others.{OthersStay}
 use Rattle.schedule_rules.specs.declared.plan.CellPlan.{CellPlan}
 use Rattle.schedule_rules.specs.History.{Event, count}
 use Rattle.schedule_rules.specs.Sections.{sections}
-use Rattle.schedule_rules.specs.Guards.{Guard, numbered, guards, reader}
+use Rattle.schedule_rules.specs.Guards.{Guard, numbered, reader}
 use Rattle.schedule_rules.specs.Replay.{Back}
 use Rattle.schedule_rules.specs.Waits.{Wait}
 use Rattle.schedule_rules.specs.Holds.{reads_cell}
 use Rattle.phase_schedule.specs.declared.rows.GuardRow.{GuardRow}
 use Rattle.phase_schedule.specs.declared.rows.GuardRow.TheVariants as guard
-use Rattle.phase_schedule.specs.View.{View}
 use Rattle.phase_schedule.specs.Kept.{guard_row}
-use Rattle.phase_schedule.specs.Tracks.{NumbersBelow, Tracks}
-use Rattle.phase_schedule.proofs.Places.{eq_or_not, other_number, same_number, set_view}
-use Rattle.phase_schedule.proofs.RowOpens.{numbers_more}
+use Rattle.phase_schedule.specs.Tracks.{NumbersBelow}
+use Rattle.phase_schedule.proofs.Places.{other_number, same_number, set_view}
 use Rattle.phase_schedule.proofs.After.{IsSteadyWith}
 
 -- what does nothing to the rows leaves the others
@@ -52,7 +51,7 @@ module _ (n p c : ℕ) (gs : List Guard) where
   -- its cell is known
   pub known_read : (m : ℕ) → c < m → ((k : ℕ) (y : Guard) → numbered k gs ≡ Some y → y.cell < m) → (k : ℕ) (y : Guard) → numbered k (reader n p c ∷ gs) ≡ Some y → y.cell < m
   known_read m lt all k y e =
-      elim (eq_or_not k n) [
+      elim (cases_eq k n) [
         | inl q ↦ at (sym found_new ∙ ap (λ j. numbered j (reader n p c ∷ gs)) (sym q) ∙ e)
         | inr ne ↦ all k y (sym (found_old k ne) ∙ e)
       ]
@@ -71,13 +70,3 @@ module _ (cells : List CellPlan) (h : List Event) (ws : List Wait) (gs : List Gu
     section_started = a.section_started;
     section = a.section;
   }
-
--- where nothing is given back, what is open stays steady
-pub steady_same : (cells : List CellPlan) (h : List Event) (v : View) (ws : List Wait) → Tracks cells h v → IsSteadyWith cells h (record { waits = ws; sections = sections h; guards = guards h }) None
-steady_same cells h v ws t = record {
-  numbers = numbers_more (length h) (suc (length h)) (guards h) t.steady.numbers (omega arith);
-  guard_started = λ d y e. let old : _ = t.steady.guard_started d y e in omega arith;
-  guard = t.steady.guard;
-  section_started = λ d s e. let old : _ = t.steady.section_started d s e in omega arith;
-  section = t.steady.section;
-}

@@ -1,16 +1,15 @@
--- When an act on a guard is refused.
+-- When an act on a guard is refused, and when not.
 use Rattle.std.proofs.Common.{◌≡◌, ℕ, List, ◌∙◌, ap, arith, Bool, None, Some}
-use Rattle.std.specs.Prelude.{is_some}
 use Rattle.std.specs.declared.option.Option.{Option}
 use Rattle.schedule_rules.specs.declared.plan.CellPlan.{CellPlan}
-use Rattle.schedule_rules.specs.declared.step.Act.{Act}
 use Rattle.schedule_rules.specs.declared.step.Act.TheVariants as act
 use Rattle.schedule_rules.specs.declared.step.Step.{Step}
 use Rattle.schedule_rules.specs.History.{Event}
 use Rattle.schedule_rules.specs.Guards.{Guard, own, guard_of, guards}
 use Rattle.schedule_rules.specs.Waits.{wait_of, waits}
-use Rattle.schedule_rules.specs.Refusals.{refusal, refusal_by, refusal_free, no_guard, no_writer, no_reader, writes_of}
+use Rattle.schedule_rules.specs.Refusals.{refusal, no_guard, no_writer, no_reader, writes_of}
 use Rattle.phase_schedule.specs.Ready.{IsHeld}
+use Rattle.phase_schedule.proofs.RowRefused.{refusal_idle}
 
 own_same : (p : ℕ) (x : Guard) → x.party ≡ p → own p (Some x) ≡ Some x
 own_same p x e = grind arith
@@ -20,25 +19,21 @@ pub guard_is : (h : List Event) (p g c : ℕ) (w : Bool) → (k : IsHeld h p g c
 guard_is h p g c w k = ap (λ o. own p o) k.found ∙ own_same p k.guard k.party
 
 module _ (cells : List CellPlan) (h : List Event) (s : Step) (g : ℕ) (idle : wait_of s.party (waits cells h) ≡ None) where
-  -- the refusal of a party that does not wait
-  refusal_idle : (a : Act) → s.act ≡ a → refusal cells h s ≡ refusal_free cells h s.party a
-  refusal_idle a acts = ap (λ o. refusal_by cells (is_some o) h s.party s.act) idle ∙ ap (λ x. refusal_free cells h s.party x) acts
-
   -- by what the guard holds
   pub look_of : (o : Option Guard) → s.act ≡ act.Look g → guard_of g s.party (guards h) ≡ o → refusal cells h s ≡ no_guard (writes_of o)
-  look_of o acts is = refusal_idle (act.Look g) acts ∙ ap (λ x. no_guard (writes_of x)) is
+  look_of o acts is = refusal_idle cells h s (act.Look g) idle acts ∙ ap (λ x. no_guard (writes_of x)) is
 
   pub set_of : (v : ℕ) (o : Option Guard) → s.act ≡ act.Set g v → guard_of g s.party (guards h) ≡ o → refusal cells h s ≡ no_writer (writes_of o)
-  set_of v o acts is = refusal_idle (act.Set g v) acts ∙ ap (λ x. no_writer (writes_of x)) is
+  set_of v o acts is = refusal_idle cells h s (act.Set g v) idle acts ∙ ap (λ x. no_writer (writes_of x)) is
 
   pub release_of : (o : Option Guard) → s.act ≡ act.Release g → guard_of g s.party (guards h) ≡ o → refusal cells h s ≡ no_guard (writes_of o)
-  release_of o acts is = refusal_idle (act.Release g) acts ∙ ap (λ x. no_guard (writes_of x)) is
+  release_of o acts is = refusal_idle cells h s (act.Release g) idle acts ∙ ap (λ x. no_guard (writes_of x)) is
 
   pub downgrade_of : (o : Option Guard) → s.act ≡ act.Downgrade g → guard_of g s.party (guards h) ≡ o → refusal cells h s ≡ no_writer (writes_of o)
-  downgrade_of o acts is = refusal_idle (act.Downgrade g) acts ∙ ap (λ x. no_writer (writes_of x)) is
+  downgrade_of o acts is = refusal_idle cells h s (act.Downgrade g) idle acts ∙ ap (λ x. no_writer (writes_of x)) is
 
   pub clone_of : (o : Option Guard) → s.act ≡ act.Clone g → guard_of g s.party (guards h) ≡ o → refusal cells h s ≡ no_reader (writes_of o)
-  clone_of o acts is = refusal_idle (act.Clone g) acts ∙ ap (λ x. no_reader (writes_of x)) is
+  clone_of o acts is = refusal_idle cells h s (act.Clone g) idle acts ∙ ap (λ x. no_reader (writes_of x)) is
 
   -- the party's own guard is not refused, where it does what the act needs
   module _ (c : ℕ) (w : Bool) (k : IsHeld h s.party g c w) where

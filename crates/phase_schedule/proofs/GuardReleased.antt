@@ -38,7 +38,8 @@ use Rattle.phase_schedule.proofs.Places.{set_view}
 use Rattle.phase_schedule.proofs.Same.{unlocked}
 use Rattle.phase_schedule.proofs.GivenOn.{listed_hand}
 use Rattle.phase_schedule.proofs.Hands.{locked_sound}
-use Rattle.phase_schedule.proofs.GuardHands.{MayAdd, apart_less, hand_adds, legal_answer, may_hand_there}
+use Rattle.phase_schedule.proofs.Lines.{may_hand_there, legal_last}
+use Rattle.phase_schedule.proofs.Apart.{MayAdd, apart_less, hand_adds}
 use Rattle.phase_schedule.proofs.GuardGone.{counted_one, counted_none, counted_less, reads_here, reads_not_there, never_reads, writes_here, never_writes, writes_not_there, guard_was, slot_removed, writer_same, steady_read, writer_elsewhere, back_given, content_elsewhere, content_here, steady_write, row_shown}
 use Rattle.phase_schedule.proofs.GuardRefused.{release_free}
 use Rattle.phase_schedule.proofs.GuardStep.{told, handed_over, kept_now}
@@ -92,7 +93,7 @@ module _ (cells : List CellPlan) (h : List Event) (v : View) (t : Tracks cells h
   -- the line is legal
   line : (x x' : Holders) (parks' : Parking) → Hands c x v.parks l x' parks' → Agrees cells c (released ∷ h) (waits cells h) x → IsLegalLine cells h s (record { answer = answer.Done; given = l })
   line x x' parks' hands agrees =
-      legal_answer cells h s answer.Done l (release_free cells h s g idle c w k acts) (ap (λ a. due_act cells h s (other_waits cells h s) false a) acts)
+      legal_last cells h s (record { answer = answer.Done; given = l }) (release_free cells h s g idle c w k acts) (sym (ap (λ a. due_act cells h s (other_waits cells h s) false a) acts))
       (may_hand_there cells h s answer.Done c v.parks (core cells c h) idle concerned t.locked.shows (t.locked.fits c lt) l x agrees hands.may refl)
 
   -- what the gift adds

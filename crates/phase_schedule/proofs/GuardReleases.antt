@@ -20,7 +20,8 @@ use Rattle.phase_schedule.specs.declared.rows.Rows.{Rows}
 use Rattle.phase_schedule.specs.View.{view}
 use Rattle.phase_schedule.specs.Tracks.{FollowsStep, plans}
 use Rattle.phase_schedule.specs.Ready.{IsDraft, IsHolding}
-use Rattle.phase_schedule.proofs.GuardSeen.{seen_locker, in_plan, held_shown, place_shown, writer_shown}
+use Rattle.phase_schedule.proofs.Called.{seen_locker}
+use Rattle.phase_schedule.proofs.GuardSeen.{in_plan, held_shown, place_shown, writer_shown}
 use Rattle.phase_schedule.proofs.GuardReleased.{released_read, released_write}
 
 module _ {L : Type 0} (held : L → Holders) (place : L → LockerKind) (h : List Event) (rows : Rows L) (s : Step) (g c : ℕ) where

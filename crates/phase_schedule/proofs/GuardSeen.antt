@@ -1,7 +1,5 @@
 -- What the rows show of the guard that a step names, and of its cell and its locker.
 use Rattle.std.proofs.Common.{◌≡◌, ℕ, ◌<◌, List, length, map, set, get_or, sym, ◌∙◌, ap, subst, arith, Bool, true, false, Some}
-use Rattle.std.proofs.lemmas.List.{length-map, get_or-map}
-use Rattle.std.proofs.Math.Seq.{map-set, map-set_same}
 use Rattle.std.specs.Prelude.{◌==◌, slice_get}
 use Rattle.std.specs.List.{find}
 use Rattle.phase_bits.specs.declared.holders.Holders.{Holders}
@@ -17,7 +15,7 @@ use Rattle.schedule_rules.specs.Guards.{guards}
 use Rattle.schedule_rules.specs.Replay.{replay, inside}
 use Rattle.schedule_rules.specs.Core.{core}
 use Rattle.schedule_rules.specs.Waits.{waits}
-use Rattle.schedule_rules.specs.Holds.{reads_cell, writes_cell}
+use Rattle.schedule_rules.specs.Holds.{writes_cell}
 use Rattle.schedule_rules.proofs.Found.{found_counts}
 use Rattle.phase_schedule.specs.declared.rows.CellRow.{CellRow}
 use Rattle.phase_schedule.specs.declared.rows.Draft.{Draft}
@@ -28,32 +26,18 @@ use Rattle.phase_schedule.specs.Kept.{cell_row, guard_row, kind_at, open_after, 
 use Rattle.phase_schedule.specs.Meets.{IsGuarded, IsReading, IsWriting}
 use Rattle.phase_schedule.specs.Tracks.{plans}
 use Rattle.phase_schedule.specs.Ready.{HasWriter, IsDraft, IsHolding, IsHoldingNumbered}
-use Rattle.phase_schedule.proofs.Places.{row_at, slice_get_set_other}
+use Rattle.phase_schedule.proofs.Places.{row_at, slice_get_set_other, inside_plan, mapped_at}
 use Rattle.phase_schedule.proofs.Same.{agrees_core}
-use Rattle.phase_schedule.proofs.RowCounts.{open_reads_shown, row_free, write_open_shown}
-use Rattle.phase_schedule.proofs.RowOpens.{found_below, numbered_above}
+use Rattle.phase_schedule.proofs.RowCounts.{open_reads_shown, write_open_shown, free_party}
+use Rattle.phase_schedule.proofs.RowOpens.{found_below, next_slot}
+use Rattle.phase_schedule.proofs.RowInner.{cell_seen}
 use Rattle.phase_schedule.proofs.GuardPhase.{inside_known}
-use Rattle.phase_schedule.proofs.GuardGone.{found_writer, reads_here, writes_here}
-
--- what is kept of an element that is read
-pub mapped_at : {X Y : Type 0} (f : X → Y) (xs : List X) (i : ℕ) (x : X) (y : Y) → x ≡ get_or xs i x → i < length xs → slice_get (map f xs) i ≡ Some y → f x ≡ y
-mapped_at f xs i x y at lt q = row_at (map f xs) i (f x) y (ap f at ∙ sym (get_or-map f xs i x (f x) lt)) (rw length-map lt) q
-
--- the records, kinds and runs after a sequentializer is written that keeps its kind and who runs
-pub seen_locker : {L R : Type 0} (held : L → Holders) (place : L → LockerKind) (runner : L → R) (ls : List L) (c : ℕ) (l l' : L) → l ≡ get_or ls c l → place l' ≡ place l → runner l' ≡ runner l
-    → (P : List Holders → List LockerKind → List R → Type 0) → P (set (map held ls) c (held l')) (map place ls) (map runner ls) → P (map held (set ls c l')) (map place (set ls c l')) (map runner (set ls c l'))
-seen_locker {R = R} held place runner ls c l l' at same runs P p =
-    let records : map held (set ls c l') ≡ set (map held ls) c (held l') = map-set held ls c l' in
-    let kinds : map place (set ls c l') ≡ map place ls = map-set_same place ls c l' l (same ∙ ap place at) in
-    let runners : map runner (set ls c l') ≡ map runner ls = map-set_same runner ls c l' l (runs ∙ ap runner at) in
-    subst (λ (hs : List Holders). P hs (map place (set ls c l')) (map runner (set ls c l'))) (sym records)
-    (subst (λ (ks : List LockerKind). P (set (map held ls) c (held l')) ks (map runner (set ls c l'))) (sym kinds)
-    (subst (λ (rs : List R). P (set (map held ls) c (held l')) (map place ls) rs) (sym runners) p))
+use Rattle.phase_schedule.proofs.GuardGone.{found_writer, writes_here, some_reader}
 
 module _ (h : List Event) (v : View) (s : Step) (a : Act) (g c : ℕ) (w : Bool) (k : IsHolding h v s a g c w) where
   -- its cell is in the plan
   pub in_plan : c < length (plans v)
-  in_plan = rw length-map k.inside
+  in_plan = inside_plan v c k.inside
 
   -- a held guard has a row
   pub slot_inside : g < length v.guards
@@ -65,24 +49,16 @@ module _ (h : List Event) (v : View) (s : Step) (a : Act) (g c : ℕ) (w : Bool)
 
   -- the row of its cell
   pub cell_shown : (row : CellRow) → row ≡ get_or v.cells c row → row ≡ cell_row (cell_at (plans v) c) c (replay (plans v) c h) (inside (plans v) h) (open_after (plans v) h)
-  cell_shown row at = row_at v.cells c row _ at k.inside (k.acting.ready.follows.kept.cell c k.inside)
+  cell_shown row at = cell_seen (plans v) h v k.acting.ready.follows c row at k.inside
 
   module _ {L : Type 0} (held : L → Holders) (place : L → LockerKind) (ls : List L) (l : L) (at : l ≡ get_or ls c l) (records : map held ls ≡ v.held) (kinds : map place ls ≡ v.places) where
-    locker_inside : c < length ls
-    locker_inside =
-        let same : length (map held ls) ≡ length v.held = ap (λ (xs : List Holders). length xs) records in
-        let size : length (map held ls) ≡ length ls = length-map _ _ in
-        let count : length v.held ≡ length (plans v) = k.acting.ready.follows.locked.held_count in
-        let lt : c < length (plans v) = in_plan in
-        omega (arith, same, size, count, lt)
-
     -- the record of its locker
     pub held_shown : held l ≡ core (plans v) c h
-    held_shown = mapped_at held ls c l (core (plans v) c h) at locker_inside (ap (λ (xs : List Holders). slice_get xs c) records ∙ k.acting.ready.follows.locked.held c in_plan)
+    held_shown = mapped_at held ls c l (core (plans v) c h) l at (ap (λ (xs : List Holders). slice_get xs c) records ∙ k.acting.ready.follows.locked.held c in_plan)
 
     -- and where its calls wait
     pub place_shown : place l ≡ kind_at (cell_at (plans v) c).place
-    place_shown = mapped_at place ls c l (kind_at (cell_at (plans v) c).place) at locker_inside (ap (λ (xs : List LockerKind). slice_get xs c) kinds ∙ k.acting.ready.follows.locked.place c in_plan)
+    place_shown = mapped_at place ls c l (kind_at (cell_at (plans v) c).place) l at (ap (λ (xs : List LockerKind). slice_get xs c) kinds ∙ k.acting.ready.follows.locked.place c in_plan)
 
     -- record and rows fit
     pub locker_fits : Fits (place l) (held l) v.parks c
@@ -90,17 +66,15 @@ module _ (h : List Event) (v : View) (s : Step) (a : Act) (g c : ℕ) (w : Bool)
 
   -- the party does not wait
   pub has_free : HasFree v.parks
-  has_free = record {
-    party = s.party;
-    inside = let size : _ = k.acting.ready.follows.kept.parties in let lt : _ = k.acting.ready.party in omega (arith, size, lt);
-    free = ap (λ r. r.waiting) (row_free s.party (waits (plans v) h) v.parks k.acting.ready.follows.locked.shows k.acting.idle);
-  }
+  has_free =
+      let size : _ = k.acting.ready.follows.kept.parties in
+      let lt : _ = k.acting.ready.party in
+      free_party s.party (waits (plans v) h) v.parks k.acting.ready.follows.locked.shows k.acting.idle (omega (arith, size, lt))
 
 -- the row of the next step is free
 pub next_free : (h : List Event) (v : View) (s : Step) (n : ℕ) (a : Act) (g c : ℕ) (w : Bool) → IsHoldingNumbered h v s n a g c w → slice_get v.guards n ≡ Some guard.Free
 next_free h v s n a g c w k =
-    ap (λ m. slice_get v.guards m) k.number ∙ k.holding.acting.ready.follows.kept.slot (length h) k.holding.acting.ready.room
-    ∙ ap (λ o. Some (guard_row o)) (numbered_above (length h) (length h) (guards h) k.holding.acting.ready.follows.steady.numbers (omega arith))
+    next_slot h v.guards n k.holding.acting.ready.follows.kept.slot k.holding.acting.ready.follows.steady.numbers k.number k.holding.acting.ready.room
 
 -- and it still is once the guard is given back
 pub next_free_then : (h : List Event) (v : View) (s : Step) (n : ℕ) (a : Act) (g c : ℕ) (w : Bool) → IsHoldingNumbered h v s n a g c w → slice_get (set v.guards g guard.Free) n ≡ Some guard.Free
@@ -111,16 +85,13 @@ next_free_then h v s n a g c w k =
 
 -- a read guard is open at the locker
 module _ (h : List Event) (v : View) (s : Step) (a : Act) (g c : ℕ) (k : IsHolding h v s a g c false) where
-  pub some_reads : 0 < count (reads_cell c) (guards h)
-  some_reads = found_counts (λ z. z.number == g) (reads_cell c) (guards h) k.held.guard k.held.found (reads_here k.held.guard c k.held.writes k.held.cell)
-
   pub read_open : (x : Holders) → x ≡ core (plans v) c h → 0 < open_reads x v.parks c
   read_open x e =
       subst (λ (y : Holders). 0 < open_reads y v.parks c) (sym e)
-      (rw (open_reads_shown c (waits (plans v) h) v.parks k.acting.ready.follows.locked.single k.acting.ready.follows.locked.shows (plans v) h (core (plans v) c h) (agrees_core (plans v) c h (waits (plans v) h))) some_reads)
+      (rw (open_reads_shown c (waits (plans v) h) v.parks k.acting.ready.follows.locked.single k.acting.ready.follows.locked.shows (plans v) h (core (plans v) c h) (agrees_core (plans v) c h (waits (plans v) h))) (some_reader h s.party g c k.held))
 
   pub some_readers : (x : Holders) → x ≡ core (plans v) c h → 0 < x.readers
-  some_readers x e = let same : x.readers ≡ (core (plans v) c h).readers = ap (λ (y : Holders). y.readers) e in let some : _ = some_reads in omega (arith, same, some)
+  some_readers x e = let same : x.readers ≡ (core (plans v) c h).readers = ap (λ (y : Holders). y.readers) e in let some : _ = some_reader h s.party g c k.held in omega (arith, same, some)
 
   pub reading : (row : GuardRow) → row ≡ get_or v.guards g row → IsReading row
   reading row at = subst IsReading (sym (slot_shown h v s a g c false k row at)) (by k.held.guard.writes k.held.writes)

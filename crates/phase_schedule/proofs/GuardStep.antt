@@ -1,10 +1,9 @@
 -- A step of a party that does not wait, on one cell, whose locker hands over: the rows stand for the longer history.
-use Rattle.std.proofs.Common.{◌≡◌, ◌≢◌, ℕ, suc, ◌<◌, ◌≤◌, List, ◌∷◌, length, set, refl, sym, ◌∙◌, ap, subst, Bool, true, false, None, Some}
-use Rattle.std.specs.Prelude.{◌&&◌, ◌==◌, slice_get, if◌then◌else◌}
+use Rattle.std.proofs.Common.{◌≡◌, ◌≢◌, ℕ, suc, ◌<◌, ◌≤◌, List, ◌∷◌, length, set, sym, ◌∙◌, ap, subst, None, Some}
+use Rattle.std.specs.Prelude.{slice_get}
 use Rattle.std.specs.declared.option.Option.{Option}
 use Rattle.phase_bits.specs.declared.holders.Holders.{Holders}
 use Rattle.phase_locker.specs.declared.ways.Given.{Given}
-use Rattle.phase_locker.specs.declared.ways.Given.TheVariants as given
 use Rattle.phase_locker.specs.Rows.{Rows as Parking, SameSize}
 use Rattle.phase_locker.specs.Fits.{Fits, flagged}
 use Rattle.phase_locker.specs.Gifts.{rows_handed, held_handed}
@@ -18,7 +17,7 @@ use Rattle.schedule_rules.specs.Sections.{sections}
 use Rattle.schedule_rules.specs.Guards.{Guard, numbered, guards}
 use Rattle.schedule_rules.specs.Replay.{Back, back_of_step, replay, inside}
 use Rattle.schedule_rules.specs.Core.{core, core_with}
-use Rattle.schedule_rules.specs.Waits.{Wait, wait_of, wake_reader, wake_writer, waits, waits_given, other_waits, cell_concerned, parks_to_read, is_parked_writer}
+use Rattle.schedule_rules.specs.Waits.{Wait, wait_of, waits, waits_given, other_waits, cell_concerned}
 use Rattle.schedule_rules.specs.Legal.{IsLegalLine}
 use Rattle.phase_schedule.specs.declared.rows.CellRow.{CellRow}
 use Rattle.phase_schedule.specs.declared.rows.GuardRow.{GuardRow}
@@ -27,34 +26,10 @@ use Rattle.phase_schedule.specs.Kept.{Open, open_after, cell_row, guard_row, par
 use Rattle.phase_schedule.specs.Shown.{Agrees}
 use Rattle.phase_schedule.specs.Tracks.{IsApart, Kept, Locked, Tracks, event}
 use Rattle.phase_schedule.proofs.Places.{same_view}
-use Rattle.phase_schedule.proofs.Finding.{changed, wait_readers, wait_writer}
-use Rattle.phase_schedule.proofs.GivenOn.{given_on, IsListed, within_on}
+use Rattle.phase_schedule.proofs.GivenOn.{given_on, IsListed, within_on, target_given}
 use Rattle.phase_schedule.proofs.After.{Becomes, IsSteadyWith, content_with, tracks_after}
 use Rattle.phase_schedule.proofs.Hands.{locked_sound, waits_then, hands_locked, handed_writers}
-use Rattle.phase_schedule.proofs.GuardHands.{MayAdd, apart_given}
-
--- a gift leaves the call that waits
-reader_target : (c : ℕ) (o : Option Wait) → target_of (changed (wake_reader c) o) ≡ target_of o
-reader_target c None = refl
-reader_target c (Some w) = by (parks_to_read c w)
-  where
-    by : (b : Bool) → target_of (Some (if b then (record w { woken = true }) else w)) ≡ target_of (Some w)
-    by true = refl
-    by false = refl
-
-writer_target : (q : ℕ) (o : Option Wait) → target_of (changed (wake_writer q) o) ≡ target_of o
-writer_target q None = refl
-writer_target q (Some w) = by (w.party == q) (is_parked_writer w.way w.woken)
-  where
-    by : (b d : Bool) → target_of (Some (if b && d then (record w { woken = true }) else w)) ≡ target_of (Some w)
-    by true true = refl
-    by true false = refl
-    by false d = refl
-
-pub target_given : (c p : ℕ) (l : Given) (ws : List Wait) → target_of (wait_of p (given_on c l ws)) ≡ target_of (wait_of p ws)
-target_given c p given.Nobody ws = refl
-target_given c p (given.Writer q) ws = ap target_of (wait_writer q p ws) ∙ writer_target q (wait_of p ws)
-target_given c p given.Readers ws = ap target_of (wait_readers c p ws) ∙ reader_target c (wait_of p ws)
+use Rattle.phase_schedule.proofs.Apart.{MayAdd, apart_given}
 
 -- the step with this answer and gift
 abbrev pub told : Step → Answer → Given → Event
@@ -99,7 +74,7 @@ module _ (cells : List CellPlan) (h : List Event) (v : View) (t : Tracks cells h
             cell = row;
             slot = slot;
             party = same_view v.parties (λ p. party_row p (open_after cells h)) (λ p. party_row p opened_now) t.kept.party
-                (λ p. λ i. record { waiting = (ap (λ ws. target_of (wait_of p ws)) waits_now ∙ target_given c p l (waits cells h)) i; innermost = (party_row p (open_after cells h)).innermost });
+                (λ p. λ i. record { waiting = (ap (λ ws. target_of (wait_of p ws)) waits_now ∙ target_given c l (waits cells h) p) i; innermost = (party_row p (open_after cells h)).innermost });
             parties = size.parties ∙ t.kept.parties;
             section_cell = t.kept.section_cell;
             guard_cell = known;

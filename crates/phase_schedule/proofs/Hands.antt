@@ -1,6 +1,8 @@
--- The records of the lockers and the rows of who is parked after a step of a party that does not wait, which hands over.
+-- After a step of a party that does not wait, which hands over, the records of the lockers and the rows of who is
+-- parked are those of the longer history.
 use Rattle.std.proofs.Common.{◌≡◌, ◌≢◌, ℕ, ◌<◌, ◌^◌, List, ◌∷◌, length, set, refl, sym, ◌∙◌, ap, subst, Bool, None, Some, length-set, inl, inr}
-use Rattle.std.specs.Prelude.{◌⊎◌, slice_get, if◌then◌else◌}
+use Rattle.std.proofs.lemmas.Bool.{cases_eq}
+use Rattle.std.specs.Prelude.{◌⊎◌, if◌then◌else◌}
 use Rattle.std.specs.declared.option.Option.{Option}
 use Rattle.phase_bits.specs.declared.holders.Holders.{Holders}
 use Rattle.phase_locker.specs.declared.ways.Given.{Given}
@@ -20,7 +22,7 @@ use Rattle.schedule_rules.specs.Waits.{Wait, wait_of, waits, waits_given, other_
 use Rattle.phase_schedule.specs.Kept.{open_after, kind_at}
 use Rattle.phase_schedule.specs.Shown.{Shows, IsSingle, Agrees}
 use Rattle.phase_schedule.specs.Tracks.{IsApart, Locked}
-use Rattle.phase_schedule.proofs.Places.{eq_or_not, slice_get_set_same, slice_get_set_other}
+use Rattle.phase_schedule.proofs.Places.{set_kept}
 use Rattle.phase_schedule.proofs.Counted.{one_of, none_without}
 use Rattle.phase_schedule.proofs.Members.{occurs_readers, occurs_writers}
 use Rattle.phase_schedule.proofs.Reaching.{passes, row_reads, row_writes}
@@ -40,22 +42,10 @@ sound_of ws s single shows sizes few =
       few = few;
     }
 
--- a write of one place of a list of what is kept
-pub set_kept : {X : Type 0} (n : ℕ) (xs : List X) (i : ℕ) (x : X) (f g : ℕ → X) → length xs ≡ n → ((j : ℕ) → j < n → slice_get xs j ≡ Some (f j)) → ((j : ℕ) → j ≢ i → g j ≡ f j) → x ≡ g i → (j : ℕ) → j < n → slice_get (set xs i x) j ≡ Some (g j)
-set_kept n xs i x f g size all others here j lt =
-    elim (eq_or_not j i) [
-      | inl e ↦ rw (e, ← here) (slice_get_set_same xs i x (rw (size, ← e) lt))
-      | inr ne ↦ slice_get_set_other xs i j x ne ∙ all j lt ∙ ap Some (sym (others j ne))
-    ]
-
 module _ (cells : List CellPlan) (h : List Event) (records : List Holders) (kinds : List LockerKind) (parks : Parking) (k : Locked cells (λ c. replay cells c h) (open_after cells h) records kinds parks) where
   -- the rows are sound
   pub locked_sound : IsSound parks
   locked_sound = sound_of (waits cells h) parks k.single k.shows (k.writers_count ∙ sym k.readers_count) k.few
-
-  -- the record of the cell's locker
-  pub held_is : (c : ℕ) → c < length cells → slice_get records c ≡ Some (core cells c h)
-  held_is c lt = k.held c lt
 
   module _ (e : Event) (c : ℕ) (lt : c < length cells) (idle : wait_of e.step.party (waits cells h) ≡ None) (concerned : cell_concerned cells h e.step ≡ Some c)
       (waits_are : waits cells (e ∷ h) ≡ waits_given cells h e.step e.line.given (other_waits cells h e.step)) where
@@ -74,7 +64,7 @@ module _ (cells : List CellPlan) (h : List Event) (records : List Holders) (kind
         record {
           held = set_kept (length cells) records c x' (λ d. core cells d h) (λ d. core cells d (e ∷ h)) k.held_count k.held there here;
           place = k.place;
-          fits = λ d in_d. by_cell d in_d (eq_or_not d c);
+          fits = λ d in_d. by_cell d in_d (cases_eq d c);
           shows = rw waits_then (subst (λ (t : Parking). Shows (given_on c e.line.given (waits cells h)) t) (sym rows_are) (shows_on c e.line.given (waits cells h) parks inside locked_sound k.shows listed));
           single = rw waits_then (single_on c e.line.given (waits cells h) k.single);
           apart = apart;
@@ -101,5 +91,5 @@ module _ (cells : List CellPlan) (h : List Event) (records : List Holders) (kind
 -- a hand-over keeps how many lists there are
 pub handed_writers : (c : ℕ) (g : Given) (s : Parking) → length (rows_handed c g s).writers ≡ length s.writers
 handed_writers c given.Nobody s = refl
-handed_writers c (given.Writer q) s = length-set _ _ _
+handed_writers c (given.Writer q) s = length-set s.writers c _
 handed_writers c given.Readers s = refl

@@ -1,20 +1,13 @@
--- A call that keeps what it has: its wait is over, and a hold more stands in its place.
-use Rattle.std.proofs.Common.{◌≡◌, ℕ, ◌+◌, List, refl, arith, Bool, true, false, Some, ◌∙◌, ap, sym, ◌||◌}
-use Rattle.std.specs.Prelude.{nat_lt}
-use Rattle.phase_bits.specs.declared.holders.Holders.{Holders}
-use Rattle.phase_bits.specs.Number.{phase_of}
+-- What a call has of a cell, it has alone: without its wait the cell has one read share, write share or drain fewer.
+use Rattle.std.proofs.Common.{◌≡◌, ℕ, ◌+◌, List, refl, arith, Bool, true, false, Some}
 use Rattle.phase_locker.specs.declared.ways.How.{How}
 use Rattle.phase_locker.specs.declared.ways.How.TheVariants as how
-use Rattle.schedule_rules.specs.declared.plan.CellPlan.{CellPlan}
 use Rattle.schedule_rules.specs.Calls.{Want}
-use Rattle.schedule_rules.specs.History.{Event, count}
-use Rattle.schedule_rules.specs.Replay.{phase_at}
+use Rattle.schedule_rules.specs.History.{Event}
 use Rattle.schedule_rules.specs.Waits.{Wait, wait_of, without_wait, shares_read, shares_write, drains_on}
-use Rattle.schedule_rules.specs.Holds.{read_guards, write_holds, readers_with, writers_with, drains_with}
-use Rattle.schedule_rules.specs.Core.{is_locked_with}
-use Rattle.phase_schedule.specs.Shown.{IsSingle, Agrees}
+use Rattle.schedule_rules.specs.Holds.{readers_with, writers_with, drains_with}
+use Rattle.phase_schedule.specs.Shown.{IsSingle}
 use Rattle.phase_schedule.proofs.Counted.{count_without_wait}
-use Rattle.phase_schedule.proofs.Same.{locked_by_write, locked_by_drain}
 
 -- what a call has of the cell, it has alone
 pub read_share_alone : (c : ℕ) (w : Wait) → shares_read c w ≡ true → (shares_write c w ≡ false) × (drains_on c w ≡ false)
@@ -77,52 +70,3 @@ module _ (c p : ℕ) (h : List Event) (ws : List Wait) (w : Wait) (single : IsSi
       let s = rw alone.1 at (count_without_wait (shares_write c) p ws w single is) in
       let d = rw has at (count_without_wait (drains_on c) p ws w single is) in
       record { readers = omega (arith, r); writers = omega (arith, s); drains = omega (arith, d) }
-
--- the record where one hold more stands and what was kept is gone: the sums are as they were
-module _ (cells : List CellPlan) (c p : ℕ) (h h' : List Event) (ws : List Wait) (w : Wait) (x : Holders) (single : IsSingle ws) (is : wait_of p ws ≡ Some w) (phase : phase_at cells c h' ≡ phase_at cells c h) (a : Agrees cells c h ws x) where
-  -- a read share became a read guard
-  pub agrees_kept_read : shares_read c w ≡ true → read_guards c h' ≡ read_guards c h + 1 → write_holds c h' ≡ write_holds c h → Agrees cells c h' (without_wait p ws) x
-  agrees_kept_read has read write =
-      let f = fewer_reads c p h ws w single is has in
-      let fr = f.readers in
-      let fw = f.writers in
-      let fd = f.drains in
-      let ar = a.readers in
-      let ew : writers_with c h ws ≡ writers_with c h' (without_wait p ws) = omega (arith, fw, write) in
-      let ed : drains_with c ws ≡ drains_with c (without_wait p ws) = omega (arith, fd) in
-      record {
-        phase = a.phase ∙ ap phase_of (sym phase);
-        readers = omega (arith, fr, ar, read);
-        locked = a.locked ∙ (λ i. nat_lt 0 (ew i) || nat_lt 0 (ed i));
-      }
-
-  -- a write share became a write hold
-  pub agrees_kept_write : shares_write c w ≡ true → read_guards c h' ≡ read_guards c h → write_holds c h' ≡ write_holds c h + 1 → Agrees cells c h' (without_wait p ws) x
-  agrees_kept_write has read write =
-      let f = fewer_writes c p h ws w single is has in
-      let fr = f.readers in
-      let fw = f.writers in
-      let fd = f.drains in
-      let ar = a.readers in
-      let ew : writers_with c h ws ≡ writers_with c h' (without_wait p ws) = omega (arith, fw, write) in
-      let ed : drains_with c ws ≡ drains_with c (without_wait p ws) = omega (arith, fd) in
-      record {
-        phase = a.phase ∙ ap phase_of (sym phase);
-        readers = omega (arith, fr, ar, read);
-        locked = a.locked ∙ (λ i. nat_lt 0 (ew i) || nat_lt 0 (ed i));
-      }
-
-  -- a drain became a write hold
-  pub agrees_kept_drain : drains_on c w ≡ true → read_guards c h' ≡ read_guards c h → write_holds c h' ≡ write_holds c h + 1 → Agrees cells c h' (without_wait p ws) x
-  agrees_kept_drain has read write =
-      let f = fewer_drains c p h ws w single is has in
-      let fr = f.readers in
-      let fd = f.drains in
-      let ar = a.readers in
-      let was : is_locked_with c h ws ≡ true = locked_by_drain c h ws (drains_with c (without_wait p ws)) (sym fd) in
-      let now : is_locked_with c h' (without_wait p ws) ≡ true = locked_by_write c h' (without_wait p ws) (write_holds c h + count (shares_write c) (without_wait p ws)) (omega (arith, write)) in
-      record {
-        phase = a.phase ∙ ap phase_of (sym phase);
-        readers = omega (arith, fr, ar, read);
-        locked = a.locked ∙ was ∙ sym now;
-      }

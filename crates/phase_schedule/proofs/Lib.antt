@@ -1,3 +1,9 @@
+-- Tests, and places of lists
+pub mod Truth
+pub mod Places
+pub mod Slots
+pub mod Passing
+-- The calls that wait: what becomes of one, and who waits, in which order, and how many
 pub mod Each
 pub mod Finding
 pub mod Single
@@ -5,82 +11,93 @@ pub mod Lists
 pub mod Counted
 pub mod Members
 pub mod Added
-pub mod Slots
+-- The rows show who waits
 pub mod Reaching
 pub mod ShowsFreed
 pub mod ShowsWaiting
 pub mod ShowsHanded
+pub mod Within
+-- The records of the lockers
 pub mod Same
 pub mod Records
 pub mod Keeping
 pub mod Elsewhere
-pub mod Within
 pub mod GivenOn
-pub mod RowCounts
 pub mod KeptShares
-pub mod Places
-pub mod After
-pub mod Hands
+pub mod RowCounts
+pub mod Few
+-- What stands open, and rows that stand for a history with one event more
 pub mod RowOpens
+pub mod Alone
+pub mod Apart
+pub mod After
+-- A step that hands over, its line, and what a call of a sequentializer left
+pub mod Hands
+pub mod Lines
+pub mod Called
+pub mod Waited
+-- What the rows keep of an answered attempt
 pub mod RowInner
 pub mod RowTries
 pub mod RowKept
 pub mod RowAnswered
 pub mod RowRefused
-pub mod RunUnknown
-pub mod RunValid
-pub mod RunFresh
-pub mod RunClosing
-pub mod RunOpen
-pub mod RunTold
-pub mod GuardFew
-pub mod GuardPhase
-pub mod GuardHands
-pub mod GuardGone
-pub mod GuardStep
-pub mod GuardRefused
-pub mod GuardReleased
-pub mod GuardSeen
-pub mod GuardReleases
-pub mod GuardReader
-pub mod GuardCloned
-pub mod GuardClones
+-- The attempt of a call, at its locker
 pub mod LockBarred
 pub mod LockDue
 pub mod LockCells
 pub mod LockRun
 pub mod LockOpened
-pub mod BegunAsks
-pub mod BegunRuns
 pub mod LockFirst
 pub mod LockView
 pub mod LockCalm
-pub mod MadeApart
-pub mod MadeOpens
-pub mod MadeRuns
-pub mod MadeGiven
-pub mod MadeKept
-pub mod MadeLegal
-pub mod MadeEnds
-pub mod MadeFailed
-pub mod MadeReads
-pub mod MadeWrites
-pub mod MadeDone
-pub mod RunWhole
 pub mod LockLeft
 pub mod LockKept
 pub mod LockGives
 pub mod LockAgain
+-- The attempt of a call, at its sequentializer
+pub mod BegunAsks
+pub mod BegunRuns
 pub mod BegunWaits
 pub mod BegunSplit
 pub mod BegunTried
+-- Acts on guards
+pub mod GuardPhase
+pub mod GuardRefused
+pub mod GuardHolds
+pub mod GuardGone
+pub mod GuardReader
+pub mod GuardPut
+pub mod GuardStep
+pub mod GuardQuiet
+pub mod GuardSeen
+pub mod GuardActs
+pub mod GuardReleased
+pub mod GuardReleases
+pub mod GuardCloned
+pub mod GuardClones
 pub mod GuardDowngraded
 pub mod GuardDowns
-pub mod GuardQuiet
-pub mod GuardPut
-pub mod GuardActs
-pub mod GuardHolds
+-- The outcomes of generators
+pub mod MadeLegal
+pub mod MadeOpens
+pub mod MadeRuns
+pub mod MadeEnds
+pub mod MadeKept
+pub mod MadeWrites
+pub mod MadeReads
+pub mod MadeFailed
+pub mod MadeDone
+-- Calls that may not access the value
 pub mod DeniedGifts
 pub mod DeniedHolds
 pub mod DeniedLegal
 pub mod Denied
+-- Runs: which schedules run, how a run begins, goes on and ends
+pub mod RunUnknown
+pub mod RunValid
+pub mod RunFresh
+pub mod RunTold
+pub mod RunClosing
+pub mod RunOpen
+pub mod RunWhole

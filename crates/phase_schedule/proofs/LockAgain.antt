@@ -1,5 +1,6 @@
--- One more attempt of a call that waits, once its locker answered.
+-- After one more attempt of a call that waits, what its locker answered is due, and the records and rows are as told.
 use Rattle.std.proofs.Common.{◌≡◌, ℕ, ◌<◌, List, length, set, refl, arith, Bool, true, false, None, Some, ◌∙◌, ap, sym, subst, not, ◌&&◌, inl, inr}
+use Rattle.std.proofs.lemmas.Bool.{not_from_false}
 use Rattle.std.specs.Prelude.{MatchBool}
 use Rattle.std.specs.declared.option.Option.{Option}
 use Rattle.phase_bits.specs.declared.holders.Holders.{Holders}
@@ -37,17 +38,18 @@ use Rattle.phase_schedule.specs.Kept.{open_after, record_in, kind_at, target_of,
 use Rattle.phase_schedule.specs.Meets.{some_nature, lock_nature}
 use Rattle.phase_schedule.specs.Tracks.{RunBy, Tracks, plans}
 use Rattle.phase_schedule.specs.Ready.{Tries, is_try, IsAgain, IsAnswered, answer_by, opened_by, waits_left}
+use Rattle.phase_schedule.proofs.Truth.{both_true}
 use Rattle.phase_schedule.proofs.KeptShares.{row_kept}
 use Rattle.phase_schedule.proofs.GivenOn.{given_on, given_concerned, listed_hand, reaches_given}
+use Rattle.phase_schedule.proofs.Places.{inside_plan}
+use Rattle.phase_schedule.proofs.Hands.{sound_of}
 use Rattle.phase_schedule.proofs.LockBarred.{open_with}
 use Rattle.phase_schedule.proofs.LockDue.{chosen_by, tried, kept_due, judged_due}
 use Rattle.phase_schedule.proofs.LockRun.{due_try}
 use Rattle.phase_schedule.proofs.LockCells.{locked_at}
 use Rattle.phase_schedule.proofs.LockOpened.{Opens, opened_at, opened_is}
-use Rattle.phase_schedule.proofs.LockFirst.{legal_quiet, view_with, kept_with, inside_plan}
-use Rattle.phase_schedule.proofs.LockView.{both_true}
+use Rattle.phase_schedule.proofs.LockFirst.{view_with, kept_with, legal_tried}
 use Rattle.phase_schedule.proofs.LockCalm.{waits_calm}
-use Rattle.phase_schedule.proofs.LockLeft.{sound_shown}
 use Rattle.phase_schedule.proofs.LockKept.{kept_is, opens_kept}
 use Rattle.phase_schedule.proofs.LockGives.{rest_shown, after_apart, between_is, opens_given, gift_or_none, gift_parks, gift_taken, gift_free}
 
@@ -100,10 +102,6 @@ module _ (cells : List CellPlan) (h : List Event) (s : Step) (t : Target) (is : 
         gave = ap (λ r. may_give cells r First h s (record { answer = a; given = g })) is.free ∙ ap (λ o. may_give_first cells h s o g) is.attempted ∙ both_true (is_freed_first cells h s (tried t)) (reaches t.cell g (other_waits cells h s)) freed to;
       }
 
-not_true : (b : Bool) → b ≡ false → not b ≡ true
-not_true true e = absurd (cc)
-not_true false e = refl
-
 module _ (h : List Event) (v : View) (s : Step) (n : ℕ) (t : Target) (is : IsAgain h v s n t) where
   abbrev track : Tracks (plans v) h v
   track = is.attempt.ready.follows
@@ -122,7 +120,7 @@ module _ (h : List Event) (v : View) (s : Step) (n : ℕ) (t : Target) (is : IsA
   sound =
       let rc = track.locked.readers_count in
       let wc = track.locked.writers_count in
-      sound_shown (waits (plans v) h) v.parks track.locked.single track.locked.shows (omega (arith, rc, wc)) track.locked.few
+      sound_of (waits (plans v) h) v.parks track.locked.single track.locked.shows (omega (arith, rc, wc)) track.locked.few
 
   -- the locker keeps what the rule keeps
   kept_same : (nature : LockNature) → nature ≡ lock_nature (rule (cell_at (plans v) t.cell) (Calls t.call) (phase_at (plans v) t.cell h)) → row_keeps (row_of v.parks s.party).waiting nature record_is ≡ keeps_own (plans v) h s.party (tried t)
@@ -159,7 +157,7 @@ module _ (h : List Event) (v : View) (s : Step) (n : ℕ) (t : Target) (is : IsA
         opens_kept (plans v) h s t (waits (plans v) h) at.wait at.is at.cell v.parks parks' x' (track.locked.apart t.cell) track.locked.single track.locked.shows sound q.rows q.held
         (rule (cell_at (plans v) t.cell) (Calls t.call) (phase_at (plans v) t.cell h)) (kept_is t.cell at.wait (rule (cell_at (plans v) t.cell) (Calls t.call) (phase_at (plans v) t.cell h)) (readers (plans v) t.cell h) at.cell way) in
         let due : answer_by (plans v) h s t a ≡ due_attempt (plans v) h s.party (tried t) (other_waits (plans v) h s) false = ap (answer_by (plans v) h s t) q.answer ∙ kept_due (plans v) h s t (other_waits (plans v) h s) calm nature en own in
-        answered (rw (q.answer, q.given, en) opens) (subst (λ y. IsLegalLine (plans v) h s (record { answer = answer_by (plans v) h s t a; given = y })) (sym q.given) (legal_quiet (plans v) h s t is.attempt.tries (answer_by (plans v) h s t a) false due))
+        answered (rw (q.answer, q.given, en) opens) (subst (λ y. IsLegalLine (plans v) h s (record { answer = answer_by (plans v) h s t a; given = y })) (sym q.given) (legal_tried (plans v) h s t is.attempt.tries (answer_by (plans v) h s t a) false due))
 
     -- a call that gives up what it has
     gave_answered : (fresh : Bool) (wake nature : LockNature) (between : Holders) (rows : Parking) → nature ≡ lock_nature (rule (cell_at (plans v) t.cell) (Calls t.call) (phase_at (plans v) t.cell h)) → wake ≡ some_nature (waking_nature (Calls t.call)) → row_keeps (row_of v.parks s.party).waiting nature record_is ≡ false
@@ -187,14 +185,14 @@ module _ (h : List Event) (v : View) (s : Step) (n : ℕ) (t : Target) (is : IsA
         (subst (λ o. Opens t.cell (phase_at (plans v) t.cell h) (open_after (plans v) h) o v.parks parks' x') (sym (opened_is (plans v) h s t a g ∙ ap (λ ws. opened_at (plans v) h s t ws a) el)) opens)
         (elim (gift_or_none (plans v) h s t (waits (plans v) h) at.wait at.is at.cell v.parks apart single shows sound g hands.may) [
           | inl e ↦ subst (λ y. IsLegalLine (plans v) h s (record { answer = answer_by (plans v) h s t a; given = y })) (sym e)
-              (legal_quiet (plans v) h s t is.attempt.tries (answer_by (plans v) h s t a) (chosen_by a) (due ∙ ap (λ y. due_attempt (plans v) h s.party (tried t) (given_on t.cell y (other_waits (plans v) h s)) (chosen_by a)) e))
+              (legal_tried (plans v) h s t is.attempt.tries (answer_by (plans v) h s t a) (chosen_by a) (due ∙ ap (λ y. due_attempt (plans v) h s.party (tried t) (given_on t.cell y (other_waits (plans v) h s)) (chosen_by a)) e))
           | inr gift ↦ legal_first (plans v) h s t is.attempt.tries (answer_by (plans v) h s t a) g (chosen_by a) (due ∙ ap (λ ws. due_attempt (plans v) h s.party (tried t) ws (chosen_by a)) (sym el))
               (both_true (is_parking (cell_at (plans v) t.cell).place) _
               (gift_parks (plans v) h s t (waits (plans v) h) at.wait at.is at.cell v.parks apart single shows sound (cell_at (plans v) t.cell).place (track.locked.fits t.cell known) gift)
               (both_true _ (is_free_with t.cell h (other_waits (plans v) h s))
               (both_true (has_own (wait_of s.party (waits (plans v) h))) (not (keeps_own (plans v) h s.party (tried t)))
               (ap has_own at.is ∙ gift_taken (plans v) h s t (waits (plans v) h) at.wait at.is at.cell v.parks apart single shows sound (kind_at (cell_at (plans v) t.cell).place) (track.locked.fits t.cell known) gift)
-              (not_true (keeps_own (plans v) h s.party (tried t)) own))
+              (not_from_false (keeps_own (plans v) h s.party (tried t)) own))
               (gift_free (plans v) h s t (waits (plans v) h) at.wait at.is at.cell v.parks apart single shows sound gift)))
               (reaches_given t.cell g (other_waits (plans v) h s) (freed s.party v.parks) (rest_shown (plans v) h s t (waits (plans v) h) at.wait at.is at.cell v.parks apart single shows sound)
               (listed_hand t.cell (given_up (row_of v.parks s.party).waiting record_is) (freed s.party v.parks) g hands.may))

@@ -1,5 +1,5 @@
 -- A locker bars as the rules do, and a barred call waits in a way that is due.
-use Rattle.std.proofs.Common.{◌≡◌, ◌==◌, ℕ, ◌<◌, List, refl, arith, Bool, true, false, None, Some, ◌∙◌, ap, sym, not, ◌||◌, ◌&&◌}
+use Rattle.std.proofs.Common.{◌≡◌, ◌==◌, ℕ, List, refl, Bool, true, false, None, Some, ◌∙◌, ap, sym, not, ◌||◌, ◌&&◌}
 use Rattle.std.specs.Prelude.{nat_lt}
 use Rattle.std.specs.declared.option.Option.{Option}
 use Rattle.phase_bits.specs.Records.{most_readers}
@@ -21,24 +21,13 @@ use Rattle.schedule_rules.specs.Answers.{way_at, way_parked}
 use Rattle.phase_schedule.specs.Kept.{Open, record_in, kind_at}
 use Rattle.phase_schedule.specs.Meets.{some_nature, lock_nature}
 use Rattle.phase_schedule.specs.Tracks.{IsApart}
+use Rattle.phase_schedule.proofs.Truth.{lt_true, lt_not, zero_is}
 
 -- what stands open where these calls wait
 abbrev pub open_with : List Event → List Wait → Open
 open_with h ws = record { waits = ws; sections = sections h; guards = guards h }
 
 -- ---- tests
-
-pub lt_true : (n : ℕ) → nat_lt 0 n ≡ true → 0 < n
-lt_true n e = grind (arith, e)
-
-pub lt_false : (n : ℕ) → nat_lt 0 n ≡ false → n ≡ 0
-lt_false n e = grind (arith, e)
-
-pub lt_not : (n : ℕ) → nat_lt 0 n ≡ not (n == 0)
-lt_not n = grind arith
-
-zero_is : (n : ℕ) → n ≡ 0 → (n == 0) ≡ true
-zero_is n e = grind (arith, e)
 
 read_same : (w d e m : Bool) → (w ≡ true → e ≡ true) → (((w || d) && e) || m) ≡ (w || ((d && e) || m))
 read_same true d e m f = by e (f refl)

@@ -1,5 +1,6 @@
 -- A call that waits asks no run of a cell that its own party runs: it would have been cyclic.
 use Rattle.std.proofs.Common.{◌≡◌, ◌≢◌, ◌==◌, ℕ, ◌≤◌, List, [], ◌∷◌, refl, arith, Bool, true, false, None, Some, ◌∙◌, ap, sym, subst, ◌&&◌, ◌||◌, inl, inr}
+use Rattle.std.proofs.lemmas.Bool.{cases_eq}
 use Rattle.std.specs.Prelude.{if◌then◌else◌}
 use Rattle.std.specs.List.{find}
 use Rattle.std.specs.declared.option.Option.{Option}
@@ -22,9 +23,7 @@ use Rattle.schedule_rules.specs.Due.{due_answer, due_act, due_tried}
 use Rattle.schedule_rules.specs.Legal.{IsLegal, IsLegalLine, Moment, First, Last, answer_of, due_at}
 use Rattle.schedule_rules.proofs.Opened.{wait_removed, wait_kept}
 use Rattle.schedule_rules.proofs.GoesOn.{attempt_given}
-use Rattle.phase_schedule.proofs.Places.{eq_or_not}
-use Rattle.phase_schedule.proofs.Finding.{wait_added, wait_beside}
-use Rattle.phase_schedule.proofs.Single.{none_given}
+use Rattle.phase_schedule.proofs.Waited.{waiting_due, while_waiting}
 
 -- ---- the sections of a party at a cell
 
@@ -93,86 +92,27 @@ module _ (cells : List CellPlan) where
   one_section [] legal c = omega arith
   one_section (e ∷ h) legal c = let one = (legal.1 c).one_writer in omega (arith, one)
 
-  -- ---- a step of another party
+  -- a step of another party leaves it calm
+  calm_beside : (h : List Event) (s : Step) (p : ℕ) → s.party ≢ p → (a : Answer) (ss : List Section) (o : Option Attempt) → Calm p ss o → Calm p (sections_after h s a ss) o
+  calm_beside h s p ne (answer.Refused r) ss o k = k
+  calm_beside h s p ne (answer.Access q) ss o k = k
+  calm_beside h s p ne answer.Running ss o k = calm_run p s.party _ _ ss o ne k
+  calm_beside h s p ne _ ss o k = calm_ended p s.party s.act ss o k
 
-  module _ (h : List Event) (s : Step) (g : Given) (p : ℕ) (ws : List Wait) (ne : s.party ≢ p) where
-    attempt_left : attempt_of_wait (wait_of p (waits_given_with cells ws h s g (without_wait s.party ws))) ≡ attempt_of_wait (wait_of p ws)
-    attempt_left = attempt_given cells ws h s g p (without_wait s.party ws) ∙ ap attempt_of_wait (wait_kept s.party p ws (λ e. ne (sym e)))
+  -- a call that begins to wait is not cyclic
+  calm_begun : (h : List Event) (s : Step) (way : How) (a : Attempt) → attempt cells h s ≡ Some a → IsLegal cells h → (l : Line) → IsLegalLine cells h s l → l.answer ≡ answer.Waiting way → Calm s.party (sections_ended s.act s.party (sections h)) (Some (record { cell = a.cell; want = a.want }))
+  calm_begun h s way a has legal l line e =
+      calm_ended s.party s.party s.act (sections h) (Some (record { cell = a.cell; want = a.want }))
+      (calm_by (initializes a.want) (runs s.party a.cell h) (own s.party a.cell (sections h)) (runs_own s.party a.cell (sections h) (one_section h legal a.cell)) (never (initializes a.want && runs s.party a.cell h) _ (waiting_due cells h s way a has l line e).1))
+    where
+      never : (i : Bool) (z : Answer) → answer.Waiting way ≡ (if i then answer.Cyclic else z) → i ≡ false
+      never true z f = absurd (cc)
+      never false z f = refl
 
-    pub attempt_beside : (a : Answer) → attempt_of_wait (wait_of p (waits_answered cells h s g a ws)) ≡ attempt_of_wait (wait_of p ws)
-    attempt_beside (answer.Refused r) = refl
-    attempt_beside (answer.Waiting way) =
-        ap attempt_of_wait (wait_beside s.party p way (attempt_with cells ws h s.party s.act) (waits_given_with cells ws h s g (without_wait s.party ws)) (λ e. ne (sym e))) ∙ attempt_left
-    attempt_beside _ = attempt_left
-
-    calm_sections : (a : Answer) (ss : List Section) (o : Option Attempt) → Calm p ss o → Calm p (sections_after h s a ss) o
-    calm_sections (answer.Refused r) ss o k = k
-    calm_sections (answer.Access q) ss o k = k
-    calm_sections answer.Running ss o k = calm_run p s.party _ _ ss o ne k
-    calm_sections _ ss o k = calm_ended p s.party s.act ss o k
-
-  -- ---- a step of the party itself
-
-  -- a call that waits is not cyclic
-  module _ (h : List Event) (s : Step) (way : How) (a : Attempt) (has : attempt cells h s ≡ Some a) where
-    pub due_by : (ws : List Wait) (chosen : Bool) (b : Act) → attempt_with cells (waits cells h) h s.party b ≡ Some a → due_act cells h s ws chosen b ≡ due_tried cells h s.party (attempt cells h s) ws chosen
-    due_by ws chosen (act.Call c k) e = refl
-    due_by ws chosen act.Again e = refl
-    due_by ws chosen (act.Made v) e = absurd (cc)
-    due_by ws chosen act.MadeFailed e = absurd (cc)
-    due_by ws chosen (act.Look g) e = absurd (cc)
-    due_by ws chosen (act.Set g v) e = absurd (cc)
-    due_by ws chosen (act.Release g) e = absurd (cc)
-    due_by ws chosen (act.Downgrade g) e = absurd (cc)
-    due_by ws chosen (act.Clone g) e = absurd (cc)
-
-    never : (i : Bool) (z : Answer) → answer.Waiting way ≡ (if i then answer.Cyclic else z) → i ≡ false
-    never true z e = absurd (cc)
-    never false z e = refl
-
-    pub not_refused : (r : Option Refusal) (z : Answer) → answer.Waiting way ≡ answer_of r z → answer.Waiting way ≡ z
-    not_refused None z e = e
-    not_refused (Some r) z e = absurd (cc)
-
-    due_calm : (ws : List Wait) (chosen : Bool) → answer.Waiting way ≡ due_answer cells h s ws chosen → (initializes a.want && runs s.party a.cell h) ≡ false
-    due_calm ws chosen e = never (initializes a.want && runs s.party a.cell h) _ (e ∙ due_by ws chosen s.act has ∙ ap (λ o. due_tried cells h s.party o ws chosen) has)
-
-    at_moment : (m : Moment) (g : Given) (chosen : Bool) → answer.Waiting way ≡ due_at cells m h s g chosen → (initializes a.want && runs s.party a.cell h) ≡ false
-    at_moment First g chosen e = due_calm (waits_given cells h s g (other_waits cells h s)) chosen e
-    at_moment Last g chosen e = due_calm (other_waits cells h s) chosen e
-
-    waiting_calm : (l : Line) → IsLegalLine cells h s l → l.answer ≡ answer.Waiting way → (initializes a.want && runs s.party a.cell h) ≡ false
-    waiting_calm l is e = at_moment is.moment l.given is.chosen (not_refused (refusal cells h s) _ (sym e ∙ is.answered))
-
-  module _ (h : List Event) (s : Step) (l : Line) (legal : IsLegal cells h) (line : IsLegalLine cells h s l) (IH : Calm s.party (sections h) (attempt_of_wait (wait_of s.party (waits cells h)))) where
-    gone : (ss : List Section) → Calm s.party ss (attempt_of_wait (wait_of s.party (waits_given_with cells (waits cells h) h s l.given (without_wait s.party (waits cells h)))))
-    gone ss = subst (λ o. Calm s.party ss (attempt_of_wait o)) (sym (none_given cells (waits cells h) h s l.given (without_wait s.party (waits cells h)) s.party (wait_removed s.party (waits cells h)))) tt
-
-    begins : (way : How) → l.answer ≡ answer.Waiting way → (o : Option Attempt) → attempt cells h s ≡ o
-        → Calm s.party (sections_ended s.act s.party (sections h)) (attempt_of_wait (wait_of s.party (with_wait s.party way o (waits_given_with cells (waits cells h) h s l.given (without_wait s.party (waits cells h))))))
-    begins way e None has = gone (sections_ended s.act s.party (sections h))
-    begins way e (Some a) has =
-        subst (λ o. Calm s.party (sections_ended s.act s.party (sections h)) (attempt_of_wait o)) (sym (wait_added s.party way a (waits_given_with cells (waits cells h) h s l.given (without_wait s.party (waits cells h)))))
-        (calm_ended s.party s.party s.act (sections h) (Some (record { cell = a.cell; want = a.want }))
-        (calm_by (initializes a.want) (runs s.party a.cell h) (own s.party a.cell (sections h)) (runs_own s.party a.cell (sections h) (one_section h legal a.cell)) (waiting_calm h s way a has l line e)))
-
-    steps : (b : Answer) → l.answer ≡ b → Calm s.party (sections_after h s b (sections h)) (attempt_of_wait (wait_of s.party (waits_answered cells h s l.given b (waits cells h))))
-    steps (answer.Refused r) e = IH
-    steps (answer.Waiting way) e = begins way e (attempt cells h s) refl
-    steps _ e = gone _
-
-  -- ---- over the history
-
-  calm : (p : ℕ) (h : List Event) → IsLegal cells h → Calm p (sections h) (attempt_of_wait (wait_of p (waits cells h)))
-  calm p [] legal = tt
-  calm p (e ∷ h) legal =
-      elim (eq_or_not e.step.party p) [
-        | inl q ↦ subst (λ r. Calm r (sections (e ∷ h)) (attempt_of_wait (wait_of r (waits cells (e ∷ h))))) q (steps h e.step e.line legal.2 legal.0 (calm e.step.party h legal.2) e.line.answer refl)
-        | inr ne ↦ subst (λ o. Calm p (sections (e ∷ h)) o) (sym (attempt_beside h e.step e.line.given p (waits cells h) ne e.line.answer))
-            (calm_sections h e.step e.line.given p (waits cells h) ne e.line.answer (sections h) (attempt_of_wait (wait_of p (waits cells h))) (calm p h legal.2))
-      ]
+  calm_nothing : (p : ℕ) (ss : List Section) → Calm p ss None
+  calm_nothing p ss = tt
 
   -- a call that waits asks no run that its own party has open
   pub waits_calm : (p : ℕ) (h : List Event) (w : Wait) → IsLegal cells h → wait_of p (waits cells h) ≡ Some w → (initializes w.want && runs p w.cell h) ≡ false
   waits_calm p h w legal is =
-      calm_by (initializes w.want) (own p w.cell (sections h)) (runs p w.cell h) (own_runs p w.cell (sections h)) (subst (λ o. Calm p (sections h) (attempt_of_wait o)) is (calm p h legal))
+      calm_by (initializes w.want) (own p w.cell (sections h)) (runs p w.cell h) (own_runs p w.cell (sections h)) (subst (λ o. Calm p (sections h) (attempt_of_wait o)) is (while_waiting cells (λ r ss o. Calm r ss o) calm_nothing calm_begun calm_beside p h legal))

@@ -1,5 +1,6 @@
--- The records and rows after a deed at one cell: there they are as told, and the other cells stand as before.
+-- After a deed at one cell its record and rows are as told, and the other cells stand as before.
 use Rattle.std.proofs.Common.{◌≡◌, ◌≢◌, ◌==◌, ℕ, ◌+◌, ◌<◌, ◌≤◌, List, ◌∷◌, length, set, refl, arith, Bool, true, false, cond, Some, ◌∙◌, ap, sym, subst, ◌||◌, ◌&&◌, inl, inr, length-set}
+use Rattle.std.proofs.lemmas.Bool.{cases_eq}
 use Rattle.std.specs.Prelude.{nat_lt}
 use Rattle.std.specs.List.{list_any}
 use Rattle.phase_bits.specs.declared.holders.Holders.{Holders}
@@ -22,7 +23,8 @@ use Rattle.schedule_rules.specs.Holds.{reads_cell, writes_cell}
 use Rattle.phase_schedule.specs.Kept.{Open, readers_in, writers_in, drains_in, record_in, kind_at}
 use Rattle.phase_schedule.specs.Shown.{Shows, IsSingle}
 use Rattle.phase_schedule.specs.Tracks.{IsApart, Locked}
-use Rattle.phase_schedule.proofs.Places.{eq_or_not, slice_get_set_same, slice_get_set_other}
+use Rattle.phase_schedule.proofs.Truth.{or_left, lt_more}
+use Rattle.phase_schedule.proofs.Places.{slice_get_set_same, slice_get_set_other}
 use Rattle.phase_schedule.proofs.Reaching.{flag_readers, flag_writers}
 use Rattle.phase_schedule.proofs.Added.{read_shares_added, write_shares_added, drains_added, drains_added_other}
 use Rattle.phase_schedule.proofs.Elsewhere.{any_added_reads, any_added_writes}
@@ -115,12 +117,6 @@ section_more s o = let e = here s.cell (count (runs_in s.cell) o.sections) in om
 
 -- ---- the records of the cell itself
 
-pub lt_more : (m n : ℕ) (b : Bool) → m ≡ n + 1 → (nat_lt 0 m || b) ≡ true
-lt_more m n b e = rw e (by n b)
-  where
-    by : (n : ℕ) (b : Bool) → (nat_lt 0 (n + 1) || b) ≡ true
-    by n b = grind arith
-
 module _ (c phase : ℕ) (o : Open) (s : Parking) (shows : Shows o.waits s) where
   -- nothing more is open
   pub record_flagged : flagged c s (record_in c phase o) ≡ record_in c phase o
@@ -132,7 +128,7 @@ module _ (c phase : ℕ) (o : Open) (s : Parking) (shows : Shows o.waits s) wher
 
   record_locked : (o' : Open) → o'.waits ≡ o.waits → readers_in c o' ≡ readers_in c o → writers_in c o' ≡ writers_in c o + 1 → flagged c s (admit_write (record_in c phase o)) ≡ record_in c phase o'
   record_locked o' ws r w =
-      let l : (nat_lt 0 (writers_in c o') || nat_lt 0 (drains_in c o')) ≡ true = lt_more (writers_in c o') (writers_in c o) (nat_lt 0 (drains_in c o')) w in
+      let l : (nat_lt 0 (writers_in c o') || nat_lt 0 (drains_in c o')) ≡ true = or_left (nat_lt 0 (writers_in c o')) (nat_lt 0 (drains_in c o')) (lt_more (writers_in c o') (writers_in c o) w) in
       λ i. record { phase = phase_of phase; readers = sym r i; locked = sym l i; read_waiters = (flag_readers c o.waits s shows ∙ ap (list_any (parks_to_read c)) (sym ws)) i; write_waiters = (flag_writers c o.waits s shows ∙ ap (list_any (parks_to_write c)) (sym ws)) i }
 
   -- one writer more
@@ -195,24 +191,24 @@ module _ (cells : List CellPlan) (content : ℕ → Content) (o o' : Open) (reco
   locked_at k inside ex ek before apart fits others size writers shows single =
       record {
         held = λ d lt.
-            elim (eq_or_not d c) [
+            elim (cases_eq d c) [
               | inl e ↦ rw e (slice_get_set_same records c x' (omega (arith, inside, k.held_count)) ∙ ap Some ex)
               | inr ne ↦ slice_get_set_other records c d x' ne ∙ k.held d lt ∙ ap Some (sym (record_before d (content d).phase o o' (before d ne)))
             ];
         place = λ d lt.
-            elim (eq_or_not d c) [
+            elim (cases_eq d c) [
               | inl e ↦ rw e (slice_get_set_same kinds c k' (omega (arith, inside, k.place_count)) ∙ ap Some ek)
               | inr ne ↦ slice_get_set_other kinds c d k' ne ∙ k.place d lt
             ];
         fits = λ d lt.
-            elim (eq_or_not d c) [
+            elim (cases_eq d c) [
               | inl e ↦ rw (e, sym ex, sym ek) fits
               | inr ne ↦ rw (record_before d (content d).phase o o' (before d ne)) (fits_beside (kind_at (cell_at cells d).place) (record_in d (content d).phase o) parks parks' c d (k.fits d lt) others ne)
             ];
         shows = shows;
         single = single;
         apart = λ d.
-            elim (eq_or_not d c) [
+            elim (cases_eq d c) [
               | inl e ↦ rw e apart
               | inr ne ↦ apart_before d o o' (before d ne) (k.apart d)
             ];

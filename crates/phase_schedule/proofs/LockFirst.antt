@@ -1,8 +1,7 @@
--- A call of a party that does not wait, once its locker answered.
+-- After the first attempt of a call, what its locker answered is due, and the records and rows are as told.
 use Rattle.std.proofs.Common.{◌≡◌, ℕ, ◌<◌, List, length, set, refl, arith, Bool, true, false, None, ◌∙◌, ap, sym, subst, not, ◌&&◌}
 use Rattle.std.specs.Prelude.{if◌then◌else◌}
 use Rattle.std.specs.declared.option.Option.{Option}
-use Rattle.std.proofs.lemmas.List.{length-map}
 use Rattle.phase_bits.specs.declared.holders.Holders.{Holders}
 use Rattle.phase_bits.specs.Number.{number, phase_of}
 use Rattle.phase_locker.specs.declared.tickets.LockNature.{LockNature}
@@ -38,6 +37,7 @@ use Rattle.phase_schedule.specs.Kept.{Open, open_after, record_in, kind_at}
 use Rattle.phase_schedule.specs.Meets.{some_nature, lock_nature}
 use Rattle.phase_schedule.specs.Tracks.{Kept, Locked, RunBy, Tracks, FollowsStep, event, plans}
 use Rattle.phase_schedule.specs.Ready.{Tries, IsFirst, IsAnswered, answer_by, opened_by}
+use Rattle.phase_schedule.proofs.Places.{inside_plan}
 use Rattle.phase_schedule.proofs.After.{tracks_after}
 use Rattle.phase_schedule.proofs.RowTries.{try_ends, steady_same}
 use Rattle.phase_schedule.proofs.Counted.{none_without}
@@ -51,8 +51,8 @@ use Rattle.phase_schedule.proofs.LockOpened.{opened_at, opened_is, opens_judged}
 
 module _ (cells : List CellPlan) (h : List Event) (s : Step) (t : Target) (is : Tries cells h s t) where
   -- a line that gives nothing is legal where its answer is due
-  pub legal_quiet : (a : Answer) (chosen : Bool) → a ≡ due_attempt cells h s.party (tried t) (other_waits cells h s) chosen → IsLegalLine cells h s (record { answer = a; given = Nobody })
-  legal_quiet a chosen e =
+  pub legal_tried : (a : Answer) (chosen : Bool) → a ≡ due_attempt cells h s.party (tried t) (other_waits cells h s) chosen → IsLegalLine cells h s (record { answer = a; given = Nobody })
+  legal_tried a chosen e =
       record {
         moment = Last;
         chosen = chosen;
@@ -78,10 +78,6 @@ kept_with cells content within o v c x k r parks size a =
       guard_cell = a.guard_cell;
       wait_cell = a.wait_cell;
     }
-
--- a cell of the rows is one of the plan
-pub inside_plan : (v : View) (c : ℕ) → c < length v.cells → c < length (plans v)
-inside_plan v c lt = rw length-map lt
 
 -- ---- a call of a party that does not wait
 
@@ -127,7 +123,7 @@ module _ (h : List Event) (v : View) (s : Step) (n : ℕ) (t : Target) (is : IsF
           cell = is.attempt.cell;
           number = is.attempt.number;
           tries = is.attempt.tries;
-          line = legal_quiet (plans v) h s t is.attempt.tries (answer_by (plans v) h s t a) (chosen_by a)
+          line = legal_tried (plans v) h s t is.attempt.tries (answer_by (plans v) h s t a) (chosen_by a)
               (judged_due (plans v) h s t (other_waits (plans v) h s) calm keeps_none (locked.apart t.cell) true (record { cell = t.cell; party = s.party }) wake nature v.parks a x' parks' en' ew j');
         }
 
@@ -154,7 +150,7 @@ module _ (h : List Event) (v : View) (s : Step) (n : ℕ) (t : Target) (is : IsF
   pub cyclic_follows : (l : Line) → l ≡ record { answer = answer.Cyclic; given = Nobody } → (call_initializes t.call && runs s.party t.cell h) ≡ true → FollowsStep h s l v v
   cyclic_follows l e cyclic =
       stay_follows answer.Cyclic (try_ends s.act s.party (sections h) is.attempt.tries.tries) refl refl refl
-      (legal_quiet (plans v) h s t is.attempt.tries answer.Cyclic false
+      (legal_tried (plans v) h s t is.attempt.tries answer.Cyclic false
       (sym (is_cyclic (call_initializes t.call && runs s.party t.cell h) answer.Cyclic _ cyclic))) l e
 
   -- the answer of the call for the phase
@@ -167,5 +163,5 @@ module _ (h : List Event) (v : View) (s : Step) (n : ℕ) (t : Target) (is : IsF
   pub told_follows : (l : Line) (x : Holders) → x ≡ record_in t.cell (phase_at (plans v) t.cell h) (open_after (plans v) h) → l ≡ record { answer = answer.Phase x.phase; given = Nobody } → t.call ≡ call.Phase → FollowsStep h s l v v
   told_follows l x ex e only =
       stay_follows (answer.Phase (phase_of (phase_at (plans v) t.cell h))) (try_ends s.act s.party (sections h) is.attempt.tries.tries) refl refl refl
-      (legal_quiet (plans v) h s t is.attempt.tries (answer.Phase (phase_of (phase_at (plans v) t.cell h))) false
+      (legal_tried (plans v) h s t is.attempt.tries (answer.Phase (phase_of (phase_at (plans v) t.cell h))) false
       (phase_due t.call only (meeting (plans v) h s.party (tried t) (other_waits (plans v) h s)) keeps_none)) l (e ∙ ap (λ (y : Holders). record { answer = answer.Phase y.phase; given = Nobody }) ex)

@@ -1,5 +1,5 @@
 -- What a waiting call gives up, and to whom its locker hands it.
-use Rattle.std.proofs.Common.{◌≡◌, ◌==◌, ℕ, ◌+◌, ◌<◌, ◌^◌, List, [], length, refl, arith, Bool, true, false, Some, ◌∙◌, ap, sym, subst, ◌||◌, inl, inr}
+use Rattle.std.proofs.Common.{◌≡◌, ℕ, ◌<◌, ◌^◌, List, [], length, refl, arith, Bool, true, false, Some, ◌∙◌, ap, sym, subst, ◌||◌, inl, inr}
 use Rattle.std.proofs.lemmas.List.Sums.{count_by-le-length}
 use Rattle.std.specs.Prelude.{◌⊎◌}
 use Rattle.phase_bits.specs.declared.holders.Holders.{Holders}
@@ -30,6 +30,7 @@ use Rattle.phase_schedule.specs.declared.rows.Target.{Target}
 use Rattle.phase_schedule.specs.Kept.{readers_in, writers_in, drains_in, record_in, kind_at}
 use Rattle.phase_schedule.specs.Shown.{Shows, IsSingle, Agrees, waiting_of}
 use Rattle.phase_schedule.specs.Tracks.{IsApart}
+use Rattle.phase_schedule.proofs.Truth.{none_stands}
 use Rattle.phase_schedule.proofs.Single.{single_without}
 use Rattle.phase_schedule.proofs.Lists.{readers_without, writers_without}
 use Rattle.phase_schedule.proofs.Counted.{count_without, write_shares_beside_readers, drains_beside_readers}
@@ -40,9 +41,10 @@ use Rattle.phase_schedule.proofs.Same.{agrees_core}
 use Rattle.phase_schedule.proofs.Records.{row_waits, agrees_row_given_up}
 use Rattle.phase_schedule.proofs.RowCounts.{shares_shown}
 use Rattle.phase_schedule.proofs.GivenOn.{given_on, IsListed, listed_hand, single_on, none_on, shows_on, core_on}
+use Rattle.phase_schedule.proofs.Hands.{sound_of, handed_writers}
 use Rattle.phase_schedule.proofs.LockBarred.{open_with}
 use Rattle.phase_schedule.proofs.LockCells.{before_then}
-use Rattle.phase_schedule.proofs.LockLeft.{sound_shown, before_left, before_given, freed_writers, handed_writers, handed_readers, handed_rows}
+use Rattle.phase_schedule.proofs.LockLeft.{before_left, before_given, freed_writers, handed_readers, handed_rows}
 use Rattle.phase_schedule.proofs.LockOpened.{Opens, opened_at, opens_judged, unlocked_none}
 
 module _ (cells : List CellPlan) (h : List Event) (s : Step) (t : Target) (ws : List WaitingCall) (w : WaitingCall) (is : wait_of s.party ws ≡ Some w) (here : w.cell ≡ t.cell) (parks : Parking) (apart : IsApart (open_with h ws) t.cell) (single : IsSingle ws) (shows : Shows ws parks) (sound : IsSound parks) where
@@ -73,7 +75,7 @@ module _ (cells : List CellPlan) (h : List Event) (s : Step) (t : Target) (ws : 
       let e0 = size.0 in
       let e1 = size.1 in
       let few = sound.few in
-      sound_shown rest (freed s.party parks) rest_single rest_shown (freed_writers s.party parks ∙ sound.cells ∙ sym e1) (omega (arith, e0, few))
+      sound_of rest (freed s.party parks) rest_single rest_shown (freed_writers s.party parks ∙ sound.cells ∙ sym e1) (omega (arith, e0, few))
 
   pub rest_apart : IsApart (open_with h rest) t.cell
   rest_apart =
@@ -227,7 +229,4 @@ module _ (cells : List CellPlan) (h : List Event) (s : Step) (t : Target) (ws : 
   pub gift_free : Gift → is_free_with t.cell h rest ≡ true
   gift_free gift =
       let free = rest_free gift.idle in
-      zero (readers_with t.cell h rest) (writers_with t.cell h rest) (drains_with t.cell rest) free.0 free.1 free.2
-    where
-      zero : (a b c : ℕ) → a ≡ 0 → b ≡ 0 → c ≡ 0 → (a + b + c == 0) ≡ true
-      zero a b c e f g = grind (arith, e, f, g)
+      none_stands (readers_with t.cell h rest) (writers_with t.cell h rest) (drains_with t.cell rest) free.0 free.1 free.2

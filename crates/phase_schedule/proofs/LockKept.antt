@@ -12,9 +12,8 @@ use Rattle.phase_locker.specs.Rows.{Rows as Parking, freed, IsSound}
 use Rattle.phase_locker.specs.Fits.{flagged}
 use Rattle.schedule_rules.specs.declared.plan.CellPlan.{CellPlan}
 use Rattle.schedule_rules.specs.declared.step.Step.{Step}
-use Rattle.schedule_rules.specs.Calls.{Nature, Reads, Writes, Want, Calls}
+use Rattle.schedule_rules.specs.Calls.{Nature, Reads, Writes, Want}
 use Rattle.schedule_rules.specs.History.{Event}
-use Rattle.schedule_rules.specs.Sections.{Section}
 use Rattle.schedule_rules.specs.Guards.{reader, writer}
 use Rattle.schedule_rules.specs.Replay.{phase_at}
 use Rattle.schedule_rules.specs.Waits.{Wait as WaitingCall, wait_of, without_wait, shares_read, shares_write, drains_on}
@@ -25,14 +24,15 @@ use Rattle.phase_schedule.specs.Meets.{lock_nature}
 use Rattle.phase_schedule.specs.Shown.{Shows, IsSingle}
 use Rattle.phase_schedule.specs.Tracks.{IsApart}
 use Rattle.phase_schedule.specs.Ready.{asks_run}
+use Rattle.phase_schedule.proofs.Truth.{or_left, or_right, lt_more}
 use Rattle.phase_schedule.proofs.Single.{single_without}
 use Rattle.phase_schedule.proofs.ShowsFreed.{shows_freed}
 use Rattle.phase_schedule.proofs.Reaching.{flag_readers, flag_writers}
 use Rattle.phase_schedule.proofs.Keeping.{Fewer, fewer_reads, fewer_writes, fewer_drains}
 use Rattle.phase_schedule.proofs.LockBarred.{open_with}
-use Rattle.phase_schedule.proofs.LockCells.{AsBefore, before_then, before_reader, before_writer, before_section, guarded, sectioned, reader_more, writer_more, section_more, lt_more}
+use Rattle.phase_schedule.proofs.LockCells.{AsBefore, before_then, before_reader, before_writer, before_section, guarded, sectioned, reader_more, writer_more, section_more}
 use Rattle.phase_schedule.proofs.LockLeft.{before_left, freed_writers}
-use Rattle.phase_schedule.proofs.LockOpened.{Opens, opened_at}
+use Rattle.phase_schedule.proofs.LockOpened.{Opens, opened_at, section_of}
 
 -- what is kept is a read share for a reader, or a write share or a drain for a writer
 abbrev pub IsKept : ℕ → WaitingCall → Option Nature → ℕ → Type 0
@@ -69,10 +69,6 @@ pub record_moved : (c phase : ℕ) (o o' : Open) (s : Parking) → Shows o'.wait
     → flagged c s (record_in c phase o) ≡ record_in c phase o'
 record_moved c phase o o' s shows er el =
     λ i. record { phase = phase_of phase; readers = er i; locked = el i; read_waiters = flag_readers c o'.waits s shows i; write_waiters = flag_writers c o'.waits s shows i }
-
-right_more : (m n : ℕ) (b : Bool) → m ≡ n + 1 → (b || nat_lt 0 m) ≡ true
-right_more m n true e = refl
-right_more m n false e = grind (arith, e)
 
 module _ (cells : List CellPlan) (h : List Event) (s : Step) (t : Target) (ws : List WaitingCall) (w : WaitingCall) (is : wait_of s.party ws ≡ Some w) (here : w.cell ≡ t.cell) (parks parks' : Parking) (x' : Holders) (apart : IsApart (open_with h ws) t.cell) (single : IsSingle ws) (shows : Shows ws parks) (sound : IsSound parks)
     (rows : parks' ≡ freed s.party parks) (held : x' ≡ flagged t.cell parks' (record_in t.cell (phase_at cells t.cell h) (open_with h ws))) where
@@ -115,8 +111,8 @@ module _ (cells : List CellPlan) (h : List Event) (s : Step) (t : Target) (ws : 
       let shown : Shows o'.waits parks' = subst (λ vs. Shows vs parks') (sym ew) now in
       record {
         held = held ∙ record_moved t.cell (phase_at cells t.cell h) (open_with h ws) o' parks' shown er
-            (right_more (drains_in t.cell (open_with h ws)) (drains_in t.cell (open_with h (without_wait s.party ws))) (nat_lt 0 (writers_in t.cell (open_with h ws))) (sym fd)
-            ∙ sym (lt_more (writers_in t.cell o') (writers_in t.cell (open_with h (without_wait s.party ws))) (nat_lt 0 (drains_in t.cell o')) ew'));
+            (or_right (nat_lt 0 (writers_in t.cell (open_with h ws))) (nat_lt 0 (drains_in t.cell (open_with h ws))) (lt_more (drains_in t.cell (open_with h ws)) (drains_in t.cell (open_with h (without_wait s.party ws))) (sym fd))
+            ∙ sym (or_left (nat_lt 0 (writers_in t.cell o')) (nat_lt 0 (drains_in t.cell o')) (lt_more (writers_in t.cell o') (writers_in t.cell (open_with h (without_wait s.party ws))) ew')));
         before = λ d ne. before_then d (open_with h ws) (open_with h (without_wait s.party ws)) o' (elsewhere d ne) (before d ne);
         apart = record { one = omega (arith, one, fw, fd, ew', ed'); no_reader = λ lt. sym er ∙ has.1; limit = let l = apart.limit in omega (arith, er, l) };
         shows = shown;
@@ -124,12 +120,9 @@ module _ (cells : List CellPlan) (h : List Event) (s : Step) (t : Target) (ws : 
         writers = sizes;
       }
 
-  abbrev section_of : Section
-  section_of = record { party = s.party; cell = t.cell; want = Calls t.call; start = length h }
-
   kept_opens : (ask : Bool) → (shares_write t.cell w ≡ true) ⊎ ((drains_on t.cell w ≡ true) × (readers_in t.cell (open_with h ws) ≡ 0))
-      → Opens t.cell (phase_at cells t.cell h) (open_with h ws) (if ask then sectioned section_of (open_with h (without_wait s.party ws)) else guarded (writer (length h) s.party t.cell) (open_with h (without_wait s.party ws))) parks parks' x'
-  kept_opens true has = kept_write (sectioned section_of (open_with h (without_wait s.party ws))) refl (λ d ne. before_section d section_of (open_with h (without_wait s.party ws)) ne) refl (section_more section_of (open_with h (without_wait s.party ws))) refl has
+      → Opens t.cell (phase_at cells t.cell h) (open_with h ws) (if ask then sectioned (section_of cells h s t) (open_with h (without_wait s.party ws)) else guarded (writer (length h) s.party t.cell) (open_with h (without_wait s.party ws))) parks parks' x'
+  kept_opens true has = kept_write (sectioned (section_of cells h s t) (open_with h (without_wait s.party ws))) refl (λ d ne. before_section d (section_of cells h s t) (open_with h (without_wait s.party ws)) ne) refl (section_more (section_of cells h s t) (open_with h (without_wait s.party ws))) refl has
   kept_opens false has = kept_write (guarded (writer (length h) s.party t.cell) (open_with h (without_wait s.party ws))) refl (λ d ne. before_writer d (length h) s.party t.cell (open_with h (without_wait s.party ws)) ne) refl (writer_more (length h) s.party t.cell (open_with h (without_wait s.party ws))) refl has
 
   -- what was kept is open

@@ -1,12 +1,10 @@
--- What stands open once a wait is over and a share is given: the other cells as before, and lists that stay sound.
-use Rattle.std.proofs.Common.{◌≡◌, ◌≢◌, ℕ, ◌+◌, ◌<◌, ◌^◌, List, length, refl, Bool, None, Some, ◌∙◌, ap, sym, length-set}
-use Rattle.std.specs.Prelude.{if◌then◌else◌}
-use Rattle.std.specs.declared.option.Option.{Option}
+-- What stands open once a wait is over and a share is given: as many lists, and the other cells as before.
+use Rattle.std.proofs.Common.{◌≡◌, ◌≢◌, ℕ, ◌+◌, ◌<◌, length, refl, Some, ap, length-set}
 use Rattle.phase_locker.specs.declared.ways.Given.{Given}
 use Rattle.phase_locker.specs.declared.ways.Given.TheVariants as given
 use Rattle.phase_locker.specs.declared.ways.Waiting.{Waiting}
 use Rattle.phase_locker.specs.declared.ways.Waiting.TheVariants as waiting_as
-use Rattle.phase_locker.specs.Rows.{Rows as Parking, row_of, occurs, reads_at, writes_at, left, freed, readers_of, IsSound}
+use Rattle.phase_locker.specs.Rows.{Rows as Parking, row_of, left, freed, readers_of, IsSound}
 use Rattle.phase_locker.specs.Gifts.{rows_handed}
 use Rattle.phase_locker.proofs.Shares.{length-shared}
 use Rattle.schedule_rules.specs.History.{count}
@@ -16,30 +14,13 @@ use Rattle.schedule_rules.specs.Holds.{reads_cell, writes_cell}
 use Rattle.phase_schedule.specs.Kept.{Open}
 use Rattle.phase_schedule.specs.Shown.{Shows, IsSingle}
 use Rattle.phase_schedule.proofs.Each.{woken_to_read, writer_reads}
-use Rattle.phase_schedule.proofs.Counted.{one_of, any_map, read_shares_woken_other, write_shares_beside_readers, drains_beside_readers}
-use Rattle.phase_schedule.proofs.Members.{occurs_readers, occurs_writers, write_shares_woken_other, read_shares_beside_writer, drains_beside_writer}
+use Rattle.phase_schedule.proofs.Counted.{any_map, read_shares_woken_other, write_shares_beside_readers, drains_beside_readers}
+use Rattle.phase_schedule.proofs.Members.{write_shares_woken_other, read_shares_beside_writer, drains_beside_writer}
 use Rattle.phase_schedule.proofs.Same.{any_same}
-use Rattle.phase_schedule.proofs.Reaching.{passes, row_reads, row_writes, parked_writer}
+use Rattle.phase_schedule.proofs.Reaching.{parked_writer}
 use Rattle.phase_schedule.proofs.Elsewhere.{apart_from, count_kept, writers_woken_other}
 use Rattle.phase_schedule.proofs.GivenOn.{given_on, IsListed}
 use Rattle.phase_schedule.proofs.LockCells.{AsBefore, before_refl, waiting}
-
--- ---- rows that show who waits are sound
-
-one_passes : (t : Wait → Bool) (o : Option Wait) → one_of t o ≡ (if passes t o then 1 else 0)
-one_passes t None = refl
-one_passes t (Some w) = refl
-
-pub sound_shown : (ws : List Wait) (s : Parking) → IsSingle ws → Shows ws s → length s.writers ≡ length s.readers → length s.rows < 2 ^ 20 → IsSound s
-sound_shown ws s single shows cells few =
-    record {
-      readers = λ c p lt. ap (occurs p) (shows.readers c) ∙ occurs_readers c p ws single ∙ one_passes (parks_to_read c) (wait_of p ws)
-          ∙ sym (ap {A = Bool} {B = ℕ} (λ b. if b then 1 else 0) (ap (reads_at c) (shows.row p) ∙ row_reads c (wait_of p ws)));
-      writers = λ c p lt. ap (occurs p) (shows.writers c) ∙ occurs_writers c p ws single ∙ one_passes (parks_to_write c) (wait_of p ws)
-          ∙ sym (ap {A = Bool} {B = ℕ} (λ b. if b then 1 else 0) (ap (writes_at c) (shows.row p) ∙ row_writes c (wait_of p ws)));
-      cells = cells;
-      few = few;
-    }
 
 -- ---- sizes
 
@@ -54,11 +35,6 @@ left_writers waiting_as.ShareWrite c p s = refl
 
 pub freed_writers : (p : ℕ) (s : Parking) → length (freed p s).writers ≡ length s.writers
 freed_writers p s = left_writers (row_of s p).waiting (row_of s p).cell p s
-
-pub handed_writers : (c : ℕ) (g : Given) (s : Parking) → length (rows_handed c g s).writers ≡ length s.writers
-handed_writers c given.Nobody s = refl
-handed_writers c (given.Writer q) s = length-set s.writers c _
-handed_writers c given.Readers s = refl
 
 pub handed_readers : (c : ℕ) (g : Given) (s : Parking) → length (rows_handed c g s).readers ≡ length s.readers
 handed_readers c given.Nobody s = refl

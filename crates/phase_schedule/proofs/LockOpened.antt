@@ -1,4 +1,4 @@
--- What stands open after a locker judged a call, and the records and rows then.
+-- What stands open after a locker judged a call that had nothing, and the records and rows then.
 use Rattle.std.proofs.Common.{◌≡◌, ◌≢◌, ◌==◌, ℕ, ◌<◌, List, length, refl, arith, Bool, true, false, None, Some, ◌∙◌, ap, sym, subst, ◌||◌, ◌&&◌, inl, inr, length-set}
 use Rattle.std.specs.Prelude.{nat_lt, if◌then◌else◌, ◌⊎◌}
 use Rattle.phase_bits.specs.declared.holders.Holders.{Holders}
@@ -31,11 +31,12 @@ use Rattle.phase_schedule.specs.Kept.{Open, readers_in, writers_in, drains_in, r
 use Rattle.phase_schedule.specs.Shown.{Shows, IsSingle}
 use Rattle.phase_schedule.specs.Tracks.{IsApart}
 use Rattle.phase_schedule.specs.Ready.{asks_run, still_open, opened_by_lock, opened_by, waits_left}
+use Rattle.phase_schedule.proofs.Truth.{lt_true, lt_false, no_claims, or_left}
 use Rattle.phase_schedule.proofs.Single.{single_with}
 use Rattle.phase_schedule.proofs.ShowsWaiting.{shows_waiting_at}
 use Rattle.phase_schedule.proofs.Same.{agrees_core}
 use Rattle.phase_schedule.proofs.GivenOn.{core_waiting}
-use Rattle.phase_schedule.proofs.LockBarred.{open_with, lt_true, lt_false}
+use Rattle.phase_schedule.proofs.LockBarred.{open_with}
 use Rattle.phase_schedule.proofs.LockDue.{tried}
 use Rattle.phase_schedule.proofs.LockCells.{AsBefore, before_refl, before_waiting, before_reader, before_writer, before_section, guarded, sectioned, writer_more, section_more, record_flagged, record_read, record_write, record_run, apart_reader, apart_more, apart_waiting}
 
@@ -50,15 +51,10 @@ pub record Opens (c phase : ℕ) (o o' : Open) (parks parks' : Parking) (x' : Ho
 
 -- ---- tests
 
-neither : (a b : Bool) → (a || b) ≡ false → (a ≡ false) × (b ≡ false)
-neither true b e = absurd (cc)
-neither false b e = (refl, e)
-
 -- what is not locked has no writer and no drain
 pub unlocked_none : (c phase : ℕ) (o : Open) → (record_in c phase o).locked ≡ false → (writers_in c o ≡ 0) × (drains_in c o ≡ 0)
 unlocked_none c phase o e =
-    let k = neither (nat_lt 0 (writers_in c o)) (nat_lt 0 (drains_in c o)) e in
-    (lt_false (writers_in c o) k.0, lt_false (drains_in c o) k.1)
+    no_claims (writers_in c o) (drains_in c o) e
 
 -- a reader is admitted beside no writer, below the limit
 few_test : (l : Bool) (r : ℕ) → ((l && (r == 0)) || (r == most_readers)) ≡ false → r ≢ most_readers
@@ -67,9 +63,6 @@ few_test l r e = grind (arith, e)
 free_test : (l : Bool) (r : ℕ) → ((l && (r == 0)) || (r == most_readers)) ≡ false → l ≡ true → r ≡ 0 → ⊥
 free_test l r e f g = grind (arith, rw (f, g) at e)
 
-more_true : (n : ℕ) (b : Bool) → 0 < n → (nat_lt 0 n || b) ≡ true
-more_true n b lt = grind (arith, lt)
-
 no_writer : (c phase : ℕ) (o : Open) → IsApart o c → bars_read (record_in c phase o) ≡ false → writers_in c o ≡ 0
 no_writer c phase o a e = by (nat_lt 0 (writers_in c o)) refl
   where
@@ -77,7 +70,7 @@ no_writer c phase o a e = by (nat_lt 0 (writers_in c o)) refl
     by false q = lt_false (writers_in c o) q
     by true q =
         let lt = lt_true (writers_in c o) q in
-        absurd (free_test (nat_lt 0 (writers_in c o) || nat_lt 0 (drains_in c o)) (readers_in c o) e (more_true (writers_in c o) (nat_lt 0 (drains_in c o)) lt) (a.no_reader lt))
+        absurd (free_test (nat_lt 0 (writers_in c o) || nat_lt 0 (drains_in c o)) (readers_in c o) e (or_left (nat_lt 0 (writers_in c o)) (nat_lt 0 (drains_in c o)) q) (a.no_reader lt))
 
 -- a call drains only where nothing is locked
 drain_free : (k : LockerKind) (fresh : Bool) (wake n : LockNature) (x : Holders) (way : How) → MayWait k fresh wake n x way → is_drain way ≡ true → x.locked ≡ false
@@ -105,7 +98,7 @@ module _ (cells : List CellPlan) (h : List Event) (s : Step) (t : Target) where
   abbrev who_is : Who
   who_is = record { cell = t.cell; party = s.party }
 
-  abbrev section_of : Section
+  abbrev pub section_of : Section
   section_of = record { party = s.party; cell = t.cell; want = Calls t.call; start = length h }
 
   module _ (ws : List WaitingCall) (parks parks' : Parking) (x' : Holders) (apart : IsApart (open_with h ws) t.cell) (single : IsSingle ws) (shows : Shows ws parks) where

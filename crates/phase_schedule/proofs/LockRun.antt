@@ -1,4 +1,4 @@
--- Who runs the generator of a cell is the party of its section, and an attempt's due answer is that of the attempt.
+-- Who runs the generator of a cell, and which answer is due for an attempt.
 use Rattle.std.proofs.Common.{◌≡◌, ℕ, List, [], ◌∷◌, refl, ◌∙◌, ap, arith, Bool, true}
 use Rattle.std.specs.List.{find}
 use Rattle.phase_seq.specs.Begins.{runs}

@@ -1,8 +1,7 @@
--- The sequentializers of the rows as contracts see them: records, places, and who runs.
-use Rattle.std.proofs.Common.{◌≡◌, ℕ, ◌<◌, List, length, set, get_or, refl, ◌∙◌, sym, ap, map, Some, Bool, true, false, ◌&&◌, arith}
-use Rattle.std.specs.Prelude.{slice_get, option_map}
-use Rattle.std.proofs.lemmas.List.{length-map, map-set}
-use Rattle.std.proofs.lemmas.Option.{slice_get-map, slice_get_read}
+-- What contracts see of the sequentializer of the cell that is attempted: its record, its kind, who runs, and that it
+-- fits.
+use Rattle.std.proofs.Common.{◌≡◌, ℕ, ◌<◌, List, length, set, get_or, ap, map}
+use Rattle.std.proofs.lemmas.List.{map-set}
 use Rattle.phase_bits.specs.declared.holders.Holders.{Holders}
 use Rattle.phase_locker.specs.declared.ways.Given.{Given}
 use Rattle.phase_locker.specs.declared.ways.LockerKind.{LockerKind}
@@ -24,17 +23,8 @@ use Rattle.phase_schedule.specs.View.{View, view}
 use Rattle.phase_schedule.specs.Kept.{open_after, record_in, kind_at, runner_in}
 use Rattle.phase_schedule.specs.Tracks.{plans}
 use Rattle.phase_schedule.specs.Ready.{IsAttempt, IsAnswered}
-use Rattle.phase_schedule.proofs.Places.{row_at}
-use Rattle.phase_schedule.proofs.LockFirst.{inside_plan}
-
--- what is seen of the locker that stands there
-pub seen_at : {A B : Type 0} (f : A → B) (ls : List A) (i : ℕ) (x : A) (y : B) → x ≡ get_or ls i x → i < length (map f ls) → slice_get (map f ls) i ≡ Some y → f x ≡ y
-seen_at f ls i x y at lt e =
-    let there : slice_get ls i ≡ Some x = slice_get_read ls (length ls) i x refl (rw length-map at lt) at in
-    some (ap (λ o. option_map f o) (sym there) ∙ sym (slice_get-map f ls i) ∙ e)
-  where
-    some : Some (f x) ≡ Some y → f x ≡ y
-    some q = cc
+use Rattle.phase_schedule.proofs.Places.{inside_plan, mapped_at}
+use Rattle.phase_schedule.proofs.RowInner.{cell_seen}
 
 -- ---- one sequentializer is changed
 
@@ -52,37 +42,20 @@ module _ {L : Type 0} (held : L → Holders) (place : L → LockerKind) (rows : 
 
   -- its record
   pub held_seen : held q.locker ≡ record_in t.cell (phase_at (plans (view held place rows)) t.cell h) (open_after (plans (view held place rows)) h)
-  held_seen = seen_at (λ x. held x.locker) rows.sequentializers.items t.cell q (record_in t.cell (phase_at (plans (view held place rows)) t.cell h) (open_after (plans (view held place rows)) h)) at
-      (let k = known in let e = is.ready.follows.locked.held_count in omega (arith, k, e)) (is.ready.follows.locked.held t.cell known)
+  held_seen = mapped_at (λ x. held x.locker) rows.sequentializers.items t.cell q (record_in t.cell (phase_at (plans (view held place rows)) t.cell h) (open_after (plans (view held place rows)) h)) q at (is.ready.follows.locked.held t.cell known)
 
   -- its kind
   pub place_seen : place q.locker ≡ kind_at (cell_at (plans (view held place rows)) t.cell).place
-  place_seen = seen_at (λ x. place x.locker) rows.sequentializers.items t.cell q (kind_at (cell_at (plans (view held place rows)) t.cell).place) at
-      (let k = known in let e = is.ready.follows.locked.place_count in omega (arith, k, e)) (is.ready.follows.locked.place t.cell known)
+  place_seen = mapped_at (λ x. place x.locker) rows.sequentializers.items t.cell q (kind_at (cell_at (plans (view held place rows)) t.cell).place) q at (is.ready.follows.locked.place t.cell known)
 
   -- who runs
   pub running_seen : q.running ≡ runner_in t.cell (sections h)
-  running_seen = seen_at (λ x. x.running) rows.sequentializers.items t.cell q (runner_in t.cell (sections h)) at
-      (let k = known in let e = is.ready.follows.run_by.count in omega (arith, k, e)) (is.ready.follows.run_by.each t.cell known)
+  running_seen = mapped_at (λ x. x.running) rows.sequentializers.items t.cell q (runner_in t.cell (sections h)) q at (is.ready.follows.run_by.each t.cell known)
 
   -- it fits the parked rows
   pub fits_seen : Fits (place q.locker) (held q.locker) rows.parks t.cell
   fits_seen = rw (held_seen, place_seen) (is.ready.follows.locked.fits t.cell known)
 
-  -- its cell has lists of who is parked
-  pub inside_seen : t.cell < length rows.parks.readers
-  inside_seen = let k = known in let e = is.ready.follows.locked.readers_count in omega (arith, k, e)
-
-  -- and its party a row
-  pub party_seen : s.party < length rows.parks.rows
-  party_seen = let k = is.ready.party in let e = is.ready.follows.kept.parties in omega (arith, k, e)
-
 -- the plan of the cell that is attempted
 pub plan_seen : (h : List Event) (v : View) (s : Step) (n : ℕ) (t : Target) → IsAttempt h v s n t → (row : CellRow) → row ≡ get_or v.cells t.cell row → row.plan ≡ cell_at (plans v) t.cell
-plan_seen h v s n t is row at = ap (λ (r : CellRow). r.plan) (row_at v.cells t.cell row _ at is.cell (is.ready.follows.kept.cell t.cell is.cell))
-
--- ---- tests
-
-pub both_true : (a b : Bool) → a ≡ true → b ≡ true → (a && b) ≡ true
-both_true true b e f = f
-both_true false b e f = absurd (cc)
+plan_seen h v s n t is row at = ap (λ (r : CellRow). r.plan) (cell_seen (plans v) h v is.ready.follows t.cell row at is.cell)

@@ -1,4 +1,4 @@
--- What the outcomes of generators may count on, and what they leave.
+-- What the outcomes of generators ask for, and that each does what it says: the rows follow the step.
 use Rattle.std.proofs.Common.{◌≡◌, ◌≢◌, ℕ, ◌<◌, List, ◌∷◌, length, map, set, get_or, refl, sym, ◌∙◌, ap, subst, arith, true, false, None, Some, length-set}
 use Rattle.std.proofs.lemmas.List.{get_or-set_same, length-map}
 use Rattle.std.specs.Prelude.{slice_get}
@@ -37,16 +37,17 @@ use Rattle.phase_schedule.specs.declared.rows.CellRow.{CellRow}
 use Rattle.phase_schedule.specs.declared.rows.GuardRow.TheVariants as guard
 use Rattle.phase_schedule.specs.declared.rows.PartyRow.{PartyRow}
 use Rattle.phase_schedule.specs.declared.rows.OpenSection.TheVariants as open_as
-use Rattle.phase_schedule.specs.Kept.{cell_of, guard_row, open_run, run_in, runner_in, section_by, section_of, want_of}
+use Rattle.phase_schedule.specs.Kept.{cell_of, open_run, run_in, runner_in, section_by, section_of, want_of}
 use Rattle.phase_schedule.specs.Meets.{IsGenerating, section_in}
 use Rattle.phase_schedule.specs.View.{View}
 use Rattle.phase_schedule.specs.Tracks.{Follows, FollowsStep, Tracks, event, plans}
 use Rattle.phase_schedule.specs.Ready.{IsInnermost, IsFailing, IsMadeToRead, IsMadeToWrite}
-use Rattle.phase_schedule.proofs.Places.{row_at}
-use Rattle.phase_schedule.proofs.RowOpens.{numbered_above, run_top}
-use Rattle.phase_schedule.proofs.MadeOpens.{runs_once, no_writer_here}
+use Rattle.phase_schedule.proofs.Places.{row_at, inside_plan, read_once}
+use Rattle.phase_schedule.proofs.RowOpens.{run_top, next_slot, asked_run}
+use Rattle.phase_schedule.proofs.Alone.{runs_once, no_writer_here}
 use Rattle.phase_schedule.proofs.MadeKept.{closed_row, drafted_row}
-use Rattle.phase_schedule.proofs.MadeEnds.{Called, called, fits_read, read_once, write_open}
+use Rattle.phase_schedule.proofs.Called.{Called, called}
+use Rattle.phase_schedule.proofs.MadeEnds.{fits_read, write_open}
 use Rattle.phase_schedule.proofs.MadeRuns.{runner_is}
 use Rattle.phase_schedule.proofs.MadeFailed.{tracks_failed}
 use Rattle.phase_schedule.proofs.MadeReads.{tracks_read}
@@ -57,13 +58,9 @@ pub in_lockers : {L X : Type 0} (f : L → X) (lockers : List L) (n c : ℕ) →
 in_lockers f lockers n c size lt = let same : length (map f lockers) ≡ length lockers = length-map _ _ in omega (arith, size, same, lt)
 
 module _ (h : List Event) (v : View) (t : Follows h v) where
-  -- a cell is one of the plan
-  pub in_plan : (c : ℕ) → c < length v.cells → c < length (plans v)
-  in_plan c lt = rw (length-map {A = CellRow}) lt
-
   -- the step to come has opened no guard
   pub slot_free : (n : ℕ) → n ≡ length h → length h < length v.guards → slice_get v.guards n ≡ Some guard.Free
-  slot_free n number room = rw number (t.kept.slot (length h) room ∙ ap (λ o. Some (guard_row o)) (numbered_above (length h) (length h) (guards h) t.steady.numbers (omega arith)))
+  slot_free n number room = next_slot h v.guards n t.kept.slot t.steady.numbers number room
 
   module _ (p : ℕ) (run : Run) (e : IsInnermost h v p run) where
     -- the section as the row of its cell shows it
@@ -90,28 +87,23 @@ module _ (h : List Event) (v : View) (t : Follows h v) where
     pub running_run : (x : Holders) (runs : Option ℕ) → wait_of p (waits (plans v) h) ≡ None → slice_get v.held run.cell ≡ Some x → slice_get v.running run.cell ≡ Some runs → IsRunning (section_of run.cell p run.call) runs x v.parks
     running_run x runs idle held run_at =
         record {
-          party = read_once v.running run.cell runs _ run_at (t.run_by.each run.cell (in_plan run.cell e.inside)) ∙ subst (λ c. runner_in c (sections h) ≡ Some p) e.cell (runner_is (plans v) h p e.section e.found t.locked.apart);
-          asked = asked_of run.call;
+          party = read_once v.running run.cell runs _ run_at (t.run_by.each run.cell (inside_plan v run.cell e.inside)) ∙ subst (λ c. runner_in c (sections h) ≡ Some p) e.cell (runner_is (plans v) h p e.section e.found t.locked.apart);
+          asked = asked_run run.call;
           locked = open_run_here x idle held;
         }
       where
-        asked_of : (k : Call) → initializes (want_of k) ≡ true
-        asked_of call.Phase = refl
-        asked_of call.Read = refl
-        asked_of call.Write = refl
-
         open_run_here : (x : Holders) → wait_of p (waits (plans v) h) ≡ None → slice_get v.held run.cell ≡ Some x → IsWriteOpen x v.parks run.cell
         open_run_here x idle held =
-            subst (λ c. slice_get v.held c ≡ Some x → c < length (plans v) → IsWriteOpen x v.parks c) e.cell (λ is lt. write_open (plans v) h v t p idle e.section e.found x lt is) held (in_plan run.cell e.inside)
+            subst (λ c. slice_get v.held c ≡ Some x → c < length (plans v) → IsWriteOpen x v.parks c) e.cell (λ is lt. write_open (plans v) h v t p idle e.section e.found x lt is) held (inside_plan v run.cell e.inside)
 
     -- the record of its locker fits the rows
     pub fits_run : (x : Holders) (k : LockerKind) → wait_of p (waits (plans v) h) ≡ None → slice_get v.held run.cell ≡ Some x → slice_get v.places run.cell ≡ Some k → Fits k x v.parks run.cell
-    fits_run x k idle held place = fits_read (plans v) h v t p idle run.cell x k (in_plan run.cell e.inside) held place
+    fits_run x k idle held place = fits_read (plans v) h v t p idle run.cell x k (inside_plan v run.cell e.inside) held place
 
     -- what the end of the run asks for, and what it does, with the section that was taken out of the row
     module _ (idle : wait_of p (waits (plans v) h) ≡ None) (o : SeqSection) (is : o ≡ section_of run.cell p run.call) where
       pub finish_cell : o.who.cell < length v.parks.readers
-      finish_cell = rw (is, t.locked.readers_count) (in_plan run.cell e.inside)
+      finish_cell = rw (is, t.locked.readers_count) (inside_plan v run.cell e.inside)
 
       pub finish_runs : (x : Holders) (runs : Option ℕ) → slice_get v.held run.cell ≡ Some x → slice_get v.running run.cell ≡ Some runs → IsRunning o runs x v.parks
       finish_runs x runs held run_at = subst (λ (q : SeqSection). IsRunning q runs x v.parks) (sym is) (running_run x runs idle held run_at)
@@ -144,7 +136,7 @@ module _ (h : List Event) (v : View) (t : Follows h v) where
       -- what it left
       pub finish_called : {L : Type 0} (held : L → Holders) (place : L → LockerKind) (runs : L → Option ℕ) (lockers : List L) (l l' : L) (parks' : Parking) → l ≡ get_or lockers run.cell l → run.cell < length lockers
           → OthersStay o.who.cell v.parks parks' → Fits (place l') (held l') parks' o.who.cell → place l' ≡ place l → runs l' ≡ None → SameSize v.parks parks'
-          → Called (map held lockers) (map place lockers) (map runs lockers) v.parks run.cell (held l) (held l') parks' (map held (set lockers run.cell l')) (map place (set lockers run.cell l')) (map runs (set lockers run.cell l'))
+          → Called (map held lockers) (map place lockers) (set (map runs lockers) run.cell None) v.parks run.cell (held l) (held l') parks' (map held (set lockers run.cell l')) (map place (set lockers run.cell l')) (map runs (set lockers run.cell l'))
       finish_called held place runs lockers l l' parks' at lt others fits same over size =
           called held place runs lockers v.parks run.cell l l' parks' at lt
           (subst (λ (q : SeqSection). OthersStay q.who.cell v.parks parks') is others)
@@ -153,14 +145,14 @@ module _ (h : List Event) (v : View) (t : Follows h v) where
 
 -- after a generator failed
 pub did_fail : (h : List Event) (v : View) (step : Step) (run : Run) (f : IsFailing h v step run) (row row' : CellRow) (party : PartyRow) (g : Given) (x x' : Holders) (parks' : Parking) (records' : List Holders) (kinds' : List LockerKind) (running' : List (Option ℕ))
-    → row ≡ get_or v.cells run.cell row → row' ≡ closed_row row.value row → party ≡ get_or v.parties step.party party → Called v.held v.places v.running v.parks run.cell x x' parks' records' kinds' running' → Hands run.cell (leave_write (phase_of 6) x) v.parks g x' parks'
+    → row ≡ get_or v.cells run.cell row → row' ≡ closed_row row.value row → party ≡ get_or v.parties step.party party → Called v.held v.places (set v.running run.cell None) v.parks run.cell x x' parks' records' kinds' running' → Hands run.cell (leave_write (phase_of 6) x) v.parks g x' parks'
     → FollowsStep h step (record { answer = answer.Failed; given = g }) v
     (record { cells = set v.cells run.cell row'; guards = v.guards; parties = set v.parties step.party (record { waiting = party.waiting; innermost = run.outer }); held = records'; places = kinds'; running = running'; parks = parks' })
 did_fail h v step run f row row' party g x x' parks' records' kinds' running' at row_is party_at call hands =
     record {
       follows =
           rw row_is
-          (subst (λ c. row ≡ get_or v.cells c row → c < length v.cells → Called v.held v.places v.running v.parks c x x' parks' records' kinds' running' → Hands c (leave_write (phase_of 6) x) v.parks g x' parks'
+          (subst (λ c. row ≡ get_or v.cells c row → c < length v.cells → Called v.held v.places (set v.running c None) v.parks c x x' parks' records' kinds' running' → Hands c (leave_write (phase_of 6) x) v.parks g x' parks'
           → Tracks (plans v) (event step (record { answer = answer.Failed; given = g }) ∷ h) (record { cells = set v.cells c (closed_row row.value row); guards = v.guards; parties = set v.parties step.party (record { waiting = party.waiting; innermost = run.outer }); held = records'; places = kinds'; running = running'; parks = parks' })) f.ended.cell
           (λ at_c in_cells call_c hands_c. tracks_failed (plans v) h v f.acting.ready.follows step f.ended.section f.ended.found f.acting.idle f.acting.acts g x x' parks' records' kinds' running' call_c hands_c row at_c in_cells party party_at f.acting.ready.party run.outer f.ended.outer f.acting.ready.room)
           at f.ended.inside call hands);
@@ -170,14 +162,14 @@ did_fail h v step run f row row' party g x x' parks' records' kinds' running' at
 
 -- after a generator made a value, and its caller reads on
 pub did_read : (h : List Event) (v : View) (step : Step) (n made : ℕ) (run : Run) (f : IsMadeToRead h v step n made run) (row row' : CellRow) (party : PartyRow) (g : Given) (x x' : Holders) (parks' : Parking) (records' : List Holders) (kinds' : List LockerKind) (running' : List (Option ℕ))
-    → row ≡ get_or v.cells run.cell row → row' ≡ closed_row (Some made) row → party ≡ get_or v.parties step.party party → Called v.held v.places v.running v.parks run.cell x x' parks' records' kinds' running' → Downgrades run.cell (phase_of 1) x v.parks g x' parks'
+    → row ≡ get_or v.cells run.cell row → row' ≡ closed_row (Some made) row → party ≡ get_or v.parties step.party party → Called v.held v.places (set v.running run.cell None) v.parks run.cell x x' parks' records' kinds' running' → Downgrades run.cell (phase_of 1) x v.parks g x' parks'
     → FollowsStep h step (record { answer = answer.ReadGuard; given = g }) v
     (record { cells = set v.cells run.cell row'; guards = set v.guards n (guard.Read step.party run.cell read_ticket); parties = set v.parties step.party (record { waiting = party.waiting; innermost = run.outer }); held = records'; places = kinds'; running = running'; parks = parks' })
 did_read h v step n made run f row row' party g x x' parks' records' kinds' running' at row_is party_at call downgrades =
     record {
       follows =
           rw (row_is, f.made.number)
-          (subst (λ c. row ≡ get_or v.cells c row → c < length v.cells → Called v.held v.places v.running v.parks c x x' parks' records' kinds' running' → Downgrades c (phase_of 1) x v.parks g x' parks'
+          (subst (λ c. row ≡ get_or v.cells c row → c < length v.cells → Called v.held v.places (set v.running c None) v.parks c x x' parks' records' kinds' running' → Downgrades c (phase_of 1) x v.parks g x' parks'
           → Tracks (plans v) (event step (record { answer = answer.ReadGuard; given = g }) ∷ h) (record { cells = set v.cells c (closed_row (Some made) row); guards = set v.guards (length h) (guard.Read step.party c read_ticket); parties = set v.parties step.party (record { waiting = party.waiting; innermost = run.outer }); held = records'; places = kinds'; running = running'; parks = parks' })) f.ended.cell
           (λ at_c in_cells call_c downgrades_c. tracks_read (plans v) h v f.made.acting.ready.follows step f.ended.section f.ended.found f.made.acting.idle made f.made.acting.acts g x x' parks' records' kinds' running' call_c downgrades_c f.made.acting.ready.party
           (f.ended.call ∙ f.reads) row at_c in_cells party party_at run.outer f.ended.outer f.made.acting.ready.room)

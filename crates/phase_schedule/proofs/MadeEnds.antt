@@ -1,73 +1,30 @@
--- The records of the lockers after the outcome of a generator.
-use Rattle.std.proofs.Common.{◌≡◌, ◌≢◌, ℕ, ◌+◌, ◌<◌, ◌≤◌, List, ◌∷◌, length, map, set, get_or, option_map, refl, sym, ◌∙◌, ap, subst, arith, None, Some, inl, inr}
-use Rattle.std.proofs.lemmas.List.{map-set}
-use Rattle.std.proofs.lemmas.Option.{slice_get-map, slice_get_read}
-use Rattle.std.proofs.Math.Seq.{map-set_same}
+-- The records of the lockers where a section runs, and after it goes on in a write guard.
+use Rattle.std.proofs.Common.{◌≡◌, ◌≢◌, ℕ, ◌+◌, ◌<◌, List, ◌∷◌, length, refl, sym, ◌∙◌, ap, subst, arith, None, Some, inl, inr}
+use Rattle.std.proofs.lemmas.Bool.{cases_eq}
 use Rattle.std.specs.Prelude.{◌||◌, ◌⊎◌, nat_lt, slice_get}
 use Rattle.std.specs.List.{list_any}
-use Rattle.std.specs.declared.option.Option.{Option}
 use Rattle.phase_bits.specs.declared.holders.Holders.{Holders}
 use Rattle.phase_bits.specs.Number.{phase_of}
-use Rattle.phase_bits.specs.Records.{most_readers}
 use Rattle.phase_locker.specs.declared.ways.LockerKind.{LockerKind}
-use Rattle.phase_locker.specs.Rows.{Rows as Parking, SameSize, HasFree}
+use Rattle.phase_locker.specs.Rows.{HasFree}
 use Rattle.phase_locker.specs.Fits.{Fits, IsWriteOpen}
-use Rattle.phase_locker.specs.Others.{OthersStay}
 use Rattle.schedule_rules.specs.declared.plan.CellPlan.{CellPlan}
 use Rattle.schedule_rules.specs.Kinds.{cell_at}
 use Rattle.schedule_rules.specs.History.{Event, count}
 use Rattle.schedule_rules.specs.Sections.{Section, innermost, without_innermost, runs_in, sections}
 use Rattle.schedule_rules.specs.Guards.{Guard, guards}
 use Rattle.schedule_rules.specs.Replay.{replay}
-use Rattle.schedule_rules.specs.Waits.{Wait, wait_of, waits, shares_read, shares_write, drains_on, parks_to_read, parks_to_write, parked_readers}
+use Rattle.schedule_rules.specs.Waits.{Wait, wait_of, waits, shares_read, shares_write, drains_on, parks_to_read, parks_to_write}
 use Rattle.schedule_rules.specs.Holds.{reads_cell, writes_cell, write_holds}
 use Rattle.schedule_rules.specs.Core.{core}
 use Rattle.phase_schedule.specs.Kept.{record_in, kind_at}
 use Rattle.phase_schedule.specs.Tracks.{Locked, Tracks}
 use Rattle.phase_schedule.specs.View.{View}
-use Rattle.phase_schedule.proofs.Places.{eq_or_not, other_number, same_number}
+use Rattle.phase_schedule.proofs.Places.{other_number, same_number, read_once}
 use Rattle.phase_schedule.proofs.Same.{agrees_core}
-use Rattle.phase_schedule.proofs.RowCounts.{row_free, write_open_shown}
-use Rattle.phase_schedule.proofs.Hands.{locked_sound}
-use Rattle.phase_schedule.proofs.GuardFew.{few_parked, fewer_parked}
-use Rattle.phase_schedule.proofs.MadeOpens.{writer_left, opened_write, runs_once, none_left, others_left, apart_write}
-
--- what is read of a cell's locker, and what the end of a run left of the records, of the kinds, of who runs, and of the
--- rows of who is parked
-pub record Called (records : List Holders) (kinds : List LockerKind) (running : List (Option ℕ)) (parks : Parking) (c : ℕ) (x x' : Holders) (parks' : Parking) (records' : List Holders) (kinds' : List LockerKind) (running' : List (Option ℕ)) : Type 0 where
-  pub kind : LockerKind
-  pub held : slice_get records c ≡ Some x
-  pub place : slice_get kinds c ≡ Some kind
-  pub others : OthersStay c parks parks'
-  pub fits : Fits kind x' parks' c
-  pub size : SameSize parks parks'
-  pub records_are : records' ≡ set records c x'
-  pub kinds_are : kinds' ≡ kinds
-  pub running_are : running' ≡ set running c None
-
--- what is read of a list of sequentializers
-pub read_locker : {L X : Type 0} (f : L → X) (lockers : List L) (c : ℕ) (l : L) → l ≡ get_or lockers c l → c < length lockers → slice_get (map f lockers) c ≡ Some (f l)
-read_locker f lockers c l at lt = slice_get-map f lockers c ∙ ap (option_map f) (slice_get_read lockers (length lockers) c l refl lt at)
-
--- the end of a run
-pub called : {L : Type 0} (held : L → Holders) (place : L → LockerKind) (runs : L → Option ℕ) (lockers : List L) (parks : Parking) (c : ℕ) (l l' : L) (parks' : Parking) → l ≡ get_or lockers c l → c < length lockers → OthersStay c parks parks' → Fits (place l') (held l') parks' c → place l' ≡ place l → runs l' ≡ None → SameSize parks parks'
-    → Called (map held lockers) (map place lockers) (map runs lockers) parks c (held l) (held l') parks' (map held (set lockers c l')) (map place (set lockers c l')) (map runs (set lockers c l'))
-called held place runs lockers parks c l l' parks' at lt others fits same over size =
-    record {
-      kind = place l;
-      held = read_locker held lockers c l at lt;
-      place = read_locker place lockers c l at lt;
-      others = others;
-      fits = subst (λ k. Fits k (held l') parks' c) same fits;
-      size = size;
-      records_are = map-set held lockers c l';
-      kinds_are = map-set_same place lockers c l' l (same ∙ ap place at);
-      running_are = map-set runs lockers c l' ∙ ap (λ o. set (map runs lockers) c o) over;
-    }
-
--- one thing is read at one place
-pub read_once : {X : Type 0} (xs : List X) (c : ℕ) (x y : X) → slice_get xs c ≡ Some x → slice_get xs c ≡ Some y → x ≡ y
-read_once xs c x y p q = let e : Some x ≡ Some y = sym p ∙ q in cc
+use Rattle.phase_schedule.proofs.RowCounts.{write_open_shown, free_party}
+use Rattle.phase_schedule.proofs.Alone.{runs_once, none_left, others_left}
+use Rattle.phase_schedule.proofs.MadeOpens.{writer_left, opened_write, apart_write}
 
 -- the record of a cell is that of as many holds
 pub record_counts : (d : ℕ) (ws : List Wait) (ss ss' : List Section) (gs gs' : List Guard) (q q' : ℕ) → q' ≡ q → count (reads_cell d) gs' ≡ count (reads_cell d) gs → count (writes_cell d) gs' + count (runs_in d) ss' ≡ count (writes_cell d) gs + count (runs_in d) ss
@@ -102,28 +59,12 @@ module _ (cells : List CellPlan) (h : List Event) (v : View) (t : Tracks cells h
 
   -- some party does not wait
   pub has_free : p < length v.parties → HasFree v.parks
-  has_free lt = record { party = p; inside = rw t.kept.parties lt; free = ap (λ r. r.waiting) (row_free p (waits cells h) v.parks t.locked.shows idle) }
-
-  -- the parked readers of a cell are within the limit
-  pub few_readers : (c : ℕ) → c < length cells → length (parked_readers c (waits cells h)) ≤ most_readers
-  few_readers c lt =
-      let few : _ = few_parked c v.parks (rw t.locked.readers_count lt) (locked_sound cells h v.held v.places v.parks t.locked) in
-      let same : _ = ap (λ (ps : List ℕ). length ps) (t.locked.shows.readers c) in
-      let most : _ = t.locked.few in
-      omega (arith, few, same, most)
-
-  -- and leave room for one reader more
-  pub fewer_readers : (c : ℕ) → c < length cells → p < length v.parties → 1 + length (parked_readers c (waits cells h)) ≤ most_readers
-  fewer_readers c lt p_in =
-      let few : _ = fewer_parked c v.parks (rw t.locked.readers_count lt) (locked_sound cells h v.held v.places v.parks t.locked) (has_free p_in) in
-      let same : _ = ap (λ (ps : List ℕ). length ps) (t.locked.shows.readers c) in
-      let most : _ = t.locked.few in
-      omega (arith, few, same, most)
+  has_free lt = free_party p (waits cells h) v.parks t.locked.shows idle (rw t.kept.parties lt)
 
   module _ (s : Section) (is : innermost p (sections h) ≡ Some s) where
     -- where a section goes on in a write guard the records stay
     pub records_stay : (made d : ℕ) → record_in d (replay cells d h).phase (opened_write cells h p s is made (waits cells h)) ≡ core cells d h
-    records_stay made d = record_counts d (waits cells h) (sections h) (without_innermost p (sections h)) (guards h) (writer_left cells h p s is made ∷ guards h) _ _ refl refl (by (eq_or_not d s.cell))
+    records_stay made d = record_counts d (waits cells h) (sections h) (without_innermost p (sections h)) (guards h) (writer_left cells h p s is made ∷ guards h) _ _ refl refl (by (cases_eq d s.cell))
       where
         here : count (writes_cell s.cell) (opened_write cells h p s is made (waits cells h)).guards + count (runs_in s.cell) (opened_write cells h p s is made (waits cells h)).sections ≡ write_holds s.cell h
         here = let self : _ = same_number s.cell in let once : _ = runs_once cells h p s is t.locked.apart in let none : _ = none_left cells h p s is t.locked.apart in grind arith

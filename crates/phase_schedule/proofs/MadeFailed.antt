@@ -15,7 +15,6 @@ use Rattle.schedule_rules.specs.declared.plan.CellPlan.{CellPlan}
 use Rattle.schedule_rules.specs.declared.step.Act.TheVariants as act
 use Rattle.schedule_rules.specs.declared.step.Step.{Step}
 use Rattle.schedule_rules.specs.declared.line.Answer.TheVariants as answer
-use Rattle.schedule_rules.specs.Kinds.{cell_at}
 use Rattle.schedule_rules.specs.History.{Event, count}
 use Rattle.schedule_rules.specs.Sections.{Section, innermost, without_innermost, runs_in, sections, sections_ended}
 use Rattle.schedule_rules.specs.Guards.{guards}
@@ -24,7 +23,7 @@ use Rattle.schedule_rules.specs.Waits.{wait_of, waits, other_waits, cell_concern
 use Rattle.schedule_rules.specs.Holds.{writers_with}
 use Rattle.schedule_rules.specs.Core.{core, core_with}
 use Rattle.schedule_rules.specs.Due.{due_act}
-use Rattle.schedule_rules.specs.Gifts.{reaches, is_readers, downgrades, is_freed_last}
+use Rattle.schedule_rules.specs.Gifts.{is_readers, downgrades, is_freed_last}
 use Rattle.schedule_rules.specs.Legal.{IsLegalLine}
 use Rattle.phase_schedule.specs.declared.rows.CellRow.{CellRow}
 use Rattle.phase_schedule.specs.declared.rows.PartyRow.{PartyRow}
@@ -33,17 +32,20 @@ use Rattle.phase_schedule.specs.Shown.{Agrees}
 use Rattle.phase_schedule.specs.View.{View}
 use Rattle.phase_schedule.specs.Tracks.{IsApart, Locked, Tracks, event}
 use Rattle.phase_schedule.proofs.Places.{other_number, same_number}
-use Rattle.phase_schedule.proofs.Counted.{none_without}
 use Rattle.phase_schedule.proofs.Same.{unlocked}
-use Rattle.phase_schedule.proofs.GivenOn.{given_on, IsListed, listed_hand, reaches_given}
+use Rattle.phase_schedule.proofs.GivenOn.{given_on, IsListed, listed_hand}
 use Rattle.phase_schedule.proofs.Hands.{locked_sound, waits_then, hands_locked, handed_writers}
 use Rattle.phase_schedule.proofs.After.{content_with, tracks_after}
-use Rattle.phase_schedule.proofs.MadeOpens.{back_left, opened_failed, no_writer_here, no_share_here, no_drain_here, no_reader_here, no_read_share_here, none_left, others_left, apart_failed, steady_failed}
-use Rattle.phase_schedule.proofs.MadeGiven.{apart_on}
+use Rattle.phase_schedule.proofs.Few.{few_readers}
+use Rattle.phase_schedule.proofs.Apart.{MayAdd, apart_given}
+use Rattle.phase_schedule.proofs.Alone.{no_writer_here, no_share_here, no_drain_here, no_reader_here, no_read_share_here, none_left, others_left}
+use Rattle.phase_schedule.proofs.MadeOpens.{back_left, opened_failed, apart_failed, steady_failed}
 use Rattle.phase_schedule.proofs.MadeRuns.{run_by_left}
 use Rattle.phase_schedule.proofs.MadeKept.{cell_inside, closed_row, kept_failed}
-use Rattle.phase_schedule.proofs.MadeLegal.{parks_there, free_by, section_failed, legal_last, may_last}
-use Rattle.phase_schedule.proofs.MadeEnds.{Called, record_counts, kind_is, core_is, few_readers}
+use Rattle.phase_schedule.proofs.Lines.{legal_last, may_give_there}
+use Rattle.phase_schedule.proofs.MadeLegal.{free_by, section_failed}
+use Rattle.phase_schedule.proofs.Called.{Called}
+use Rattle.phase_schedule.proofs.MadeEnds.{record_counts, kind_is, core_is}
 
 module _ (cells : List CellPlan) (h : List Event) (v : View) (t : Tracks cells h v) (step : Step) (s : Section) (is : innermost step.party (sections h) ≡ Some s) (idle : wait_of step.party (waits cells h) ≡ None) (acts : step.act ≡ act.MadeFailed) where
   -- the step with this gift
@@ -98,11 +100,16 @@ module _ (cells : List CellPlan) (h : List Event) (v : View) (t : Tracks cells h
   none_stands : readers_in s.cell (opened_failed cells h step.party s is (waits cells h)) + writers_in s.cell (opened_failed cells h step.party s is (waits cells h)) + drains_in s.cell (opened_failed cells h step.party s is (waits cells h)) ≡ 0
   none_stands = omega (arith, no_reader_here cells h step.party s is t.locked.apart, no_read_share_here cells h step.party s is t.locked.apart, no_writer_here cells h step.party s is t.locked.apart, none_left cells h step.party s is t.locked.apart, no_share_here cells h step.party s is t.locked.apart, no_drain_here cells h step.party s is t.locked.apart)
 
+  -- and anybody may be given the lock
+  adds : (g : Given) → MayAdd s.cell g (opened_failed cells h step.party s is (waits cells h)) v.parks
+  adds given.Nobody = tt
+  adds (given.Writer q) = (omega (arith, none_stands), omega (arith, none_stands), omega (arith, none_stands))
+  adds given.Readers = let few : _ = few_readers s.cell v.parks in_lists (locked_sound cells h v.held v.places v.parks t.locked) in (omega (arith, none_stands), omega (arith, none_stands, few))
+
   apart : (g : Given) → IsListed s.cell v.parks g → (d : ℕ) → IsApart (open_after cells (failing g ∷ h)) d
   apart g listed d =
       subst (λ o. IsApart o d) (sym (opened g))
-      (apart_on s.cell (waits cells h) (without_innermost step.party (sections h)) (guards h) v.parks in_lists (locked_sound cells h v.held v.places v.parks t.locked) t.locked.single t.locked.shows (apart_failed cells h step.party s is t.locked.apart)
-      g listed (omega (arith, none_stands)) (λ q e. omega (arith, none_stands)) (omega (arith, none_stands, few_readers cells h v t step.party idle s.cell lt)) d)
+      (apart_given s.cell (waits cells h) (without_innermost step.party (sections h)) (guards h) v.parks in_lists (locked_sound cells h v.held v.places v.parks t.locked) t.locked.single t.locked.shows g listed (adds g) (apart_failed cells h step.party s is t.locked.apart) d)
 
   freed : is_freed_last cells h step answer.Failed s.cell ≡ true
   freed = free_by cells (failing given.Nobody ∷ h) s.cell (opened_failed cells h step.party s is (waits cells h)) (opened given.Nobody) none_stands
@@ -111,15 +118,13 @@ module _ (cells : List CellPlan) (h : List Event) (v : View) (t : Tracks cells h
   line g listed =
       legal_last cells h step (record { answer = answer.Failed; given = g }) (section_failed cells h step (Some s) idle acts is)
       (sym (ap (λ a. due_act cells h step (other_waits cells h step) false a) acts))
-      (may_last cells h step answer.Failed s.cell concerned g (λ some. parks_there (cell_at cells s.cell).place (core cells s.cell h) v.parks s.cell g (t.locked.fits s.cell lt) listed some)
-      (ap (λ ws. reaches s.cell g ws) (none_without step.party (waits cells h) idle) ∙ reaches_given s.cell g (waits cells h) v.parks t.locked.shows listed)
-      (by (is_readers g)))
+      (may_give_there cells h step answer.Failed s.cell v.parks (core cells s.cell h) idle concerned t.locked.shows (t.locked.fits s.cell lt) g listed (by (is_readers g)))
     where
       by : (b : Bool) → (b && downgrades step answer.Failed) || is_freed_last cells h step answer.Failed s.cell ≡ true
       by true = freed
       by false = freed
 
-  module _ (g : Given) (x x' : Holders) (parks' : Parking) (records' : List Holders) (kinds' : List LockerKind) (running' : List (Option ℕ)) (call : Called v.held v.places v.running v.parks s.cell x x' parks' records' kinds' running') (hands : Hands s.cell (leave_write (phase_of 6) x) v.parks g x' parks') where
+  module _ (g : Given) (x x' : Holders) (parks' : Parking) (records' : List Holders) (kinds' : List LockerKind) (running' : List (Option ℕ)) (call : Called v.held v.places (set v.running s.cell None) v.parks s.cell x x' parks' records' kinds' running') (hands : Hands s.cell (leave_write (phase_of 6) x) v.parks g x' parks') where
     listed : IsListed s.cell v.parks g
     listed = listed_hand s.cell (leave_write (phase_of 6) x) v.parks g hands.may
 

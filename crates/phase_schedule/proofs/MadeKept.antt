@@ -1,4 +1,4 @@
--- The rows after the outcome of a generator.
+-- The rows of cells, steps and parties after the outcome of a generator.
 use Rattle.std.proofs.Common.{◌≡◌, ℕ, ◌<◌, List, ◌∷◌, length, set, get_or, refl, sym, ◌∙◌, ap, arith, None, Some, length-set}
 use Rattle.std.specs.Prelude.{slice_get}
 use Rattle.std.specs.List.{find}
@@ -28,11 +28,13 @@ use Rattle.phase_schedule.specs.Kept.{open_after, cell_of, cell_row, guard_row, 
 use Rattle.phase_schedule.specs.View.{View}
 use Rattle.phase_schedule.specs.Tracks.{Tracks, Kept}
 use Rattle.phase_schedule.proofs.Places.{other_number, row_at, same_number, set_view}
-use Rattle.phase_schedule.proofs.GivenOn.{given_on, within_on}
+use Rattle.phase_schedule.proofs.GivenOn.{given_on, within_on, target_given}
 use Rattle.phase_schedule.proofs.RowOpens.{no_run, run_kept}
+use Rattle.phase_schedule.proofs.RowInner.{cell_seen}
 use Rattle.phase_schedule.proofs.RowKept.{planned_set}
-use Rattle.phase_schedule.proofs.MadeGiven.{target_given}
-use Rattle.phase_schedule.proofs.MadeOpens.{writer_left, back_left, opened_read, opened_write, opened_failed, found_here, no_writer_here, none_left, started_left}
+use Rattle.phase_schedule.proofs.Alone.{found_here, no_writer_here, none_left, started_left}
+use Rattle.phase_schedule.proofs.GuardReader.{slot_read}
+use Rattle.phase_schedule.proofs.MadeOpens.{writer_left, back_left, opened_read, opened_write, opened_failed}
 use Rattle.phase_schedule.proofs.After.{content_with}
 
 -- a cell whose section is gone
@@ -76,12 +78,6 @@ module _ (cells : List CellPlan) (h : List Event) (v : View) (t : Tracks cells h
         (λ d ne. rw (other_number s.cell d ne, run_kept d p (sections h) s is ne) refl)
         (rw (same_number s.cell) (λ i. record { plan = (at i).plan; value = (at i).value; section = Some (open_as.Guarded (record { phase = phase_of 1; value = Some made })) }))
 
-  slot_read : (ws : List Wait) (g : ℕ) → g < length (set v.guards (length h) (guard.Read p s.cell read_ticket)) → slice_get (set v.guards (length h) (guard.Read p s.cell read_ticket)) g ≡ Some (guard_row (numbered g (opened_read cells h p s is ws).guards))
-  slot_read ws =
-      set_view v.guards (length h) (guard.Read p s.cell read_ticket) (λ g. guard_row (numbered g (guards h))) (λ g. guard_row (numbered g (opened_read cells h p s is ws).guards)) t.kept.slot
-      (λ g ne. rw (other_number (length h) g ne) refl)
-      (rw (same_number (length h)) refl)
-
   slot_write : (made : ℕ) (ws : List Wait) (g : ℕ) → g < length (set v.guards (length h) (guard.Write p s.cell write_ticket)) → slice_get (set v.guards (length h) (guard.Write p s.cell write_ticket)) g ≡ Some (guard_row (numbered g (opened_write cells h p s is made ws).guards))
   slot_write made ws =
       set_view v.guards (length h) (guard.Write p s.cell write_ticket) (λ g. guard_row (numbered g (guards h))) (λ g. guard_row (numbered g (opened_write cells h p s is made ws).guards)) t.kept.slot
@@ -98,7 +94,7 @@ module _ (cells : List CellPlan) (h : List Event) (v : View) (t : Tracks cells h
 
   module _ (row : CellRow) (at : row ≡ get_or v.cells s.cell row) (party : PartyRow) (party_at : party ≡ get_or v.parties p party) (p_in : p < length v.parties) (outer : Option ℕ) (outer_is : outer ≡ cell_of (innermost p (without_innermost p (sections h)))) where
     row_is : s.cell < length v.cells → row ≡ cell_row (cell_at cells s.cell) s.cell (replay cells s.cell h) (inside cells h) (open_after cells h)
-    row_is lt = row_at v.cells s.cell row _ at lt (t.kept.cell s.cell lt)
+    row_is lt = cell_seen cells h v t s.cell row at lt
 
     waiting_is : party.waiting ≡ target_of (wait_of p (waits cells h))
     waiting_is = ap (λ r. r.waiting) (row_at v.parties p party _ party_at p_in (t.kept.party p p_in))
@@ -129,7 +125,7 @@ module _ (cells : List CellPlan) (h : List Event) (v : View) (t : Tracks cells h
           record {
             planned = planned_set v.cells s.cell _ row at refl ∙ t.kept.planned;
             cell = cell_made_read row (row_is lt) made (given_on c g (waits cells h));
-            slot = slot_read (given_on c g (waits cells h));
+            slot = slot_read (length h) p s.cell (guards h) v.guards t.kept.slot;
             party = party_ended party.waiting outer c g (reader (length h) p s.cell ∷ guards h) waiting_is outer_is;
             parties = size ∙ t.kept.parties ∙ sym (length-set _ _ _);
             section_cell = λ e x q. t.kept.section_cell e x (started_left cells h p s is t.locked.apart e x q).1;

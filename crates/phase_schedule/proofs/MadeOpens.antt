@@ -1,23 +1,24 @@
--- What is open after the outcome of a generator.
-use Rattle.std.proofs.Common.{◌≡◌, ◌≢◌, ℕ, suc, ◌+◌, ◌<◌, List, [], ◌∷◌, length, refl, sym, ◌∙◌, arith, true, None, Some, inl, inr}
-use Rattle.std.specs.Prelude.{◌==◌}
+-- What stands open after the outcome of a generator is apart and steady.
+use Rattle.std.proofs.Common.{◌≡◌, ◌≢◌, ℕ, suc, List, [], ◌∷◌, length, refl, arith, true, None, Some, inl, inr}
+use Rattle.std.proofs.lemmas.Bool.{cases_eq}
 use Rattle.std.specs.List.{find}
 use Rattle.std.specs.declared.option.Option.{Option}
 use Rattle.schedule_rules.specs.declared.plan.CellPlan.{CellPlan}
 use Rattle.schedule_rules.specs.Changes.{Change, Ran}
-use Rattle.schedule_rules.specs.History.{Event, before, count}
+use Rattle.schedule_rules.specs.History.{Event, before}
 use Rattle.schedule_rules.specs.Sections.{Section, innermost, without_innermost, runs_in, sections}
 use Rattle.schedule_rules.specs.Guards.{Guard, guards, reader}
 use Rattle.schedule_rules.specs.Replay.{Back, content_after_back, replay}
-use Rattle.schedule_rules.specs.Waits.{Wait, shares_read, shares_write, drains_on, waits}
-use Rattle.schedule_rules.specs.Holds.{reads_cell, writes_cell}
-use Rattle.schedule_rules.proofs.Found.{found_counts, found_passes, none_found, only_one}
-use Rattle.schedule_rules.proofs.Opened.{count_ended, section_kept}
+use Rattle.schedule_rules.specs.Waits.{Wait, waits}
+use Rattle.schedule_rules.specs.Holds.{writes_cell}
+use Rattle.schedule_rules.proofs.Found.{found_counts, found_passes}
+use Rattle.schedule_rules.proofs.Opened.{count_ended}
 use Rattle.phase_schedule.specs.Kept.{Open, open_after}
 use Rattle.phase_schedule.specs.Tracks.{IsApart, IsSteady}
-use Rattle.phase_schedule.proofs.Places.{eq_or_not, other_number, same_number}
+use Rattle.phase_schedule.proofs.Places.{other_number, same_number}
 use Rattle.phase_schedule.proofs.RowOpens.{numbers_more}
-use Rattle.phase_schedule.proofs.MadeApart.{same_apart}
+use Rattle.phase_schedule.proofs.Alone.{found_here, no_writer_here, no_share_here, no_drain_here, no_reads_here, none_left, others_left, started_left}
+use Rattle.phase_schedule.proofs.Apart.{same_apart}
 use Rattle.phase_schedule.proofs.After.{IsSteadyWith}
 
 module _ (cells : List CellPlan) (h : List Event) (p : ℕ) (s : Section) (is : innermost p (sections h) ≡ Some s) where
@@ -46,56 +47,6 @@ module _ (cells : List CellPlan) (h : List Event) (p : ℕ) (s : Section) (is : 
   opened_failed ws = record { waits = ws; sections = rest; guards = guards h }
 
   module _ (apart : (c : ℕ) → IsApart (open_after cells h) c) where
-    some_run : 0 < count (runs_in s.cell) (sections h)
-    some_run = found_counts (λ x. x.party == p) (runs_in s.cell) (sections h) s is (same_number s.cell)
-
-    pub runs_once : count (runs_in s.cell) (sections h) ≡ 1
-    runs_once = let some : _ = some_run in let one : _ = (apart s.cell).one in omega arith
-
-    pub found_here : find (runs_in s.cell) (sections h) ≡ Some s
-    found_here = only_one (λ x. x.party == p) (runs_in s.cell) (sections h) s is (same_number s.cell) (omega (arith, runs_once))
-
-    pub no_writer_here : count (writes_cell s.cell) (guards h) ≡ 0
-    no_writer_here = let one : _ = (apart s.cell).one in omega (arith, runs_once)
-
-    pub no_share_here : count (shares_write s.cell) (waits cells h) ≡ 0
-    no_share_here = let one : _ = (apart s.cell).one in omega (arith, runs_once)
-
-    pub no_drain_here : count (drains_on s.cell) (waits cells h) ≡ 0
-    no_drain_here = let one : _ = (apart s.cell).one in omega (arith, runs_once)
-
-    no_reads_here : count (reads_cell s.cell) (guards h) + count (shares_read s.cell) (waits cells h) ≡ 0
-    no_reads_here = (apart s.cell).no_reader (omega (arith, runs_once))
-
-    pub no_reader_here : count (reads_cell s.cell) (guards h) ≡ 0
-    no_reader_here = omega (arith, no_reads_here)
-
-    pub no_read_share_here : count (shares_read s.cell) (waits cells h) ≡ 0
-    no_read_share_here = omega (arith, no_reads_here)
-
-    pub none_left : count (runs_in s.cell) rest ≡ 0
-    none_left =
-        let all : _ = count_ended (runs_in s.cell) p (sections h) s is in
-        let self : _ = same_number s.cell in
-        let one : _ = runs_once in
-        grind arith
-
-    pub others_left : (d : ℕ) → d ≢ s.cell → count (runs_in d) rest ≡ count (runs_in d) (sections h)
-    others_left d ne =
-        let all : _ = count_ended (runs_in d) p (sections h) s is in
-        let other : _ = other_number s.cell d ne in
-        grind arith
-
-    pub started_left : (d : ℕ) (x : Section) → find (runs_in d) rest ≡ Some x → (d ≢ s.cell) × (find (runs_in d) (sections h) ≡ Some x)
-    started_left d x e =
-        elim (eq_or_not d s.cell) [
-          | inl q ↦ absurd (gone q e)
-          | inr ne ↦ (ne, sym (section_kept d p (sections h) s is ne) ∙ e)
-        ]
-      where
-        gone : d ≡ s.cell → find (runs_in d) rest ≡ Some x → ⊥
-        gone q e = let none : _ = none_found (runs_in s.cell) rest none_left in cc
-
     -- what stands open excludes each other, before the gift
     pub apart_failed : (d : ℕ) → IsApart (opened_failed (waits cells h)) d
     apart_failed d =
@@ -109,31 +60,31 @@ module _ (cells : List CellPlan) (h : List Event) (p : ℕ) (s : Section) (is : 
 
     pub apart_read : (d : ℕ) → IsApart (opened_read (waits cells h)) d
     apart_read d =
-        elim (eq_or_not d s.cell) [
+        elim (cases_eq d s.cell) [
           | inl e ↦ rw e (record {
-            one = omega (arith, none_left, no_writer_here, no_share_here, no_drain_here);
-            no_reader = λ some. absurd (omega (arith, some, none_left, no_writer_here, no_share_here));
-            limit = let self : _ = same_number s.cell in let none : _ = no_reads_here in grind arith;
+            one = omega (arith, (none_left cells h p s is apart), (no_writer_here cells h p s is apart), (no_share_here cells h p s is apart), (no_drain_here cells h p s is apart));
+            no_reader = λ some. absurd (omega (arith, some, (none_left cells h p s is apart), (no_writer_here cells h p s is apart), (no_share_here cells h p s is apart)));
+            limit = let self : _ = same_number s.cell in let none : _ = (no_reads_here cells h p s is apart) in grind arith;
           })
-          | inr ne ↦ same_apart (open_after cells h) (opened_read (waits cells h)) d (omega (arith, others_left d ne)) (rw (other_number s.cell d ne) refl) refl (apart d)
+          | inr ne ↦ same_apart (open_after cells h) (opened_read (waits cells h)) d (omega (arith, (others_left cells h p s is apart) d ne)) (rw (other_number s.cell d ne) refl) refl (apart d)
         ]
 
     pub apart_write : (v : ℕ) (d : ℕ) → IsApart (opened_write v (waits cells h)) d
     apart_write v d =
-        elim (eq_or_not d s.cell) [
+        elim (cases_eq d s.cell) [
           | inl e ↦ rw e (record {
-            one = let self : _ = same_number s.cell in let runs : _ = none_left in let writes : _ = no_writer_here in let shares : _ = no_share_here in let drains : _ = no_drain_here in grind arith;
-            no_reader = λ some. no_reads_here;
-            limit = omega (arith, no_reads_here);
+            one = let self : _ = same_number s.cell in let runs : _ = (none_left cells h p s is apart) in let writes : _ = (no_writer_here cells h p s is apart) in let shares : _ = (no_share_here cells h p s is apart) in let drains : _ = (no_drain_here cells h p s is apart) in grind arith;
+            no_reader = λ some. (no_reads_here cells h p s is apart);
+            limit = omega (arith, (no_reads_here cells h p s is apart));
           })
-          | inr ne ↦ same_apart (open_after cells h) (opened_write v (waits cells h)) d (rw (other_number s.cell d ne) (omega (arith, others_left d ne))) refl refl (apart d)
+          | inr ne ↦ same_apart (open_after cells h) (opened_write v (waits cells h)) d (rw (other_number s.cell d ne) (omega (arith, (others_left cells h p s is apart) d ne))) refl refl (apart d)
         ]
 
     module _ (steady : IsSteady cells h) where
       -- the sections of other cells are as they were, whatever is given back of this one
       section_left : (chs : List Change) (d : ℕ) (x : Section) → find (runs_in d) rest ≡ Some x → replay cells d (before x.start h) ≡ content_after_back cells d (Some (record { cell = s.cell; changes = chs })) (replay cells d h)
       section_left chs d x e =
-          let f : (d ≢ s.cell) × (find (runs_in d) (sections h) ≡ Some x) = started_left d x e in
+          let f : (d ≢ s.cell) × (find (runs_in d) (sections h) ≡ Some x) = (started_left cells h p s is apart) d x e in
           rw (other_number s.cell d f.0) (steady.section d x f.1)
 
       -- and so are the guards
@@ -141,7 +92,7 @@ module _ (cells : List CellPlan) (h : List Event) (p : ℕ) (s : Section) (is : 
       guard_left chs d x e = rw (other_number s.cell d away) (steady.guard d x e)
         where
           away : d ≢ s.cell
-          away q = let some : _ = found_counts (writes_cell d) (writes_cell d) (guards h) x e (found_passes (writes_cell d) (guards h) x e) in let none : _ = no_writer_here in grind arith
+          away q = let some : _ = found_counts (writes_cell d) (writes_cell d) (guards h) x e (found_passes (writes_cell d) (guards h) x e) in let none : _ = (no_writer_here cells h p s is apart) in grind arith
 
       -- what is open is steady
       pub steady_read : (v : ℕ) (ws : List Wait) → IsSteadyWith cells h (opened_read ws) (back_left (Some v))
@@ -150,7 +101,7 @@ module _ (cells : List CellPlan) (h : List Event) (p : ℕ) (s : Section) (is : 
             numbers = (omega arith, steady.numbers);
             guard_started = λ d x e. let old : _ = steady.guard_started d x e in omega arith;
             guard = guard_left (Ran (Some v) ∷ []);
-            section_started = λ d x e. let old : _ = steady.section_started d x (started_left d x e).1 in omega arith;
+            section_started = λ d x e. let old : _ = steady.section_started d x ((started_left cells h p s is apart) d x e).1 in omega arith;
             section = section_left (Ran (Some v) ∷ []);
           }
 
@@ -160,7 +111,7 @@ module _ (cells : List CellPlan) (h : List Event) (p : ℕ) (s : Section) (is : 
             numbers = numbers_more (length h) (suc (length h)) (guards h) steady.numbers (omega arith);
             guard_started = λ d x e. let old : _ = steady.guard_started d x e in omega arith;
             guard = guard_left (Ran None ∷ []);
-            section_started = λ d x e. let old : _ = steady.section_started d x (started_left d x e).1 in omega arith;
+            section_started = λ d x e. let old : _ = steady.section_started d x ((started_left cells h p s is apart) d x e).1 in omega arith;
             section = section_left (Ran None ∷ []);
           }
 
@@ -168,8 +119,8 @@ module _ (cells : List CellPlan) (h : List Event) (p : ℕ) (s : Section) (is : 
       steady_write v ws =
           record {
             numbers = (omega arith, steady.numbers);
-            guard_started = λ d x e. let old : _ = steady.guard_started d x in let st : _ = steady.section_started s.cell s found_here in grind arith;
-            guard = λ d x e. let old : _ = steady.guard d x in let st : _ = steady.section s.cell s found_here in grind arith;
-            section_started = λ d x e. let old : _ = steady.section_started d x (started_left d x e).1 in omega arith;
-            section = λ d x e. steady.section d x (started_left d x e).1;
+            guard_started = λ d x e. let old : _ = steady.guard_started d x in let st : _ = steady.section_started s.cell s (found_here cells h p s is apart) in grind arith;
+            guard = λ d x e. let old : _ = steady.guard d x in let st : _ = steady.section s.cell s (found_here cells h p s is apart) in grind arith;
+            section_started = λ d x e. let old : _ = steady.section_started d x ((started_left cells h p s is apart) d x e).1 in omega arith;
+            section = λ d x e. steady.section d x ((started_left cells h p s is apart) d x e).1;
           }

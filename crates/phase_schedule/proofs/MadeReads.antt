@@ -17,7 +17,6 @@ use Rattle.schedule_rules.specs.declared.plan.Call.TheVariants as call
 use Rattle.schedule_rules.specs.declared.step.Act.TheVariants as act
 use Rattle.schedule_rules.specs.declared.step.Step.{Step}
 use Rattle.schedule_rules.specs.declared.line.Answer.TheVariants as answer
-use Rattle.schedule_rules.specs.Kinds.{cell_at}
 use Rattle.schedule_rules.specs.History.{Event, act_by, count}
 use Rattle.schedule_rules.specs.Sections.{Section, innermost, without_innermost, runs_in, sections, sections_ended}
 use Rattle.schedule_rules.specs.Guards.{guards, reader, reader_made, with_reader}
@@ -25,7 +24,7 @@ use Rattle.schedule_rules.specs.Replay.{back_read, back_of_run, back_of_step, co
 use Rattle.schedule_rules.specs.Waits.{wait_of, waits, cell_concerned, cell_concerned_with, cell_of_section}
 use Rattle.schedule_rules.specs.Holds.{reads_cell, writes_cell, writers_with}
 use Rattle.schedule_rules.specs.Core.{core, core_with}
-use Rattle.schedule_rules.specs.Gifts.{reaches, turns_to_read, is_freed_last, may_give_last}
+use Rattle.schedule_rules.specs.Gifts.{turns_to_read, is_freed_last, may_give_last}
 use Rattle.schedule_rules.specs.Legal.{IsLegalLine}
 use Rattle.phase_schedule.specs.declared.rows.CellRow.{CellRow}
 use Rattle.phase_schedule.specs.declared.rows.GuardRow.TheVariants as guard
@@ -35,17 +34,20 @@ use Rattle.phase_schedule.specs.Shown.{Agrees}
 use Rattle.phase_schedule.specs.View.{View}
 use Rattle.phase_schedule.specs.Tracks.{IsApart, Locked, Tracks, event}
 use Rattle.phase_schedule.proofs.Places.{other_number, same_number}
-use Rattle.phase_schedule.proofs.Counted.{none_without}
 use Rattle.phase_schedule.proofs.Same.{unlocked}
-use Rattle.phase_schedule.proofs.GivenOn.{given_on, listed_share, reaches_given}
+use Rattle.phase_schedule.proofs.GivenOn.{given_on, listed_share}
 use Rattle.phase_schedule.proofs.Hands.{locked_sound, waits_then, hands_locked, handed_writers}
 use Rattle.phase_schedule.proofs.After.{content_with, tracks_after}
-use Rattle.phase_schedule.proofs.MadeOpens.{back_left, opened_read, no_writer_here, no_share_here, no_drain_here, no_reader_here, no_read_share_here, none_left, others_left, apart_read, steady_read}
-use Rattle.phase_schedule.proofs.MadeGiven.{apart_on}
+use Rattle.phase_schedule.proofs.Few.{fewer_readers}
+use Rattle.phase_schedule.proofs.Apart.{MayAdd, apart_given}
+use Rattle.phase_schedule.proofs.Alone.{no_writer_here, no_share_here, no_drain_here, no_reader_here, no_read_share_here, none_left, others_left}
+use Rattle.phase_schedule.proofs.MadeOpens.{back_left, opened_read, apart_read, steady_read}
 use Rattle.phase_schedule.proofs.MadeRuns.{run_by_left}
 use Rattle.phase_schedule.proofs.MadeKept.{cell_inside, closed_row, kept_read}
-use Rattle.phase_schedule.proofs.MadeLegal.{parks_there, section_made, due_read, legal_last, may_last}
-use Rattle.phase_schedule.proofs.MadeEnds.{Called, record_counts, kind_is, core_is, fewer_readers}
+use Rattle.phase_schedule.proofs.Lines.{legal_last, may_give_there}
+use Rattle.phase_schedule.proofs.MadeLegal.{section_made, due_read}
+use Rattle.phase_schedule.proofs.Called.{Called}
+use Rattle.phase_schedule.proofs.MadeEnds.{record_counts, kind_is, core_is, has_free}
 
 module _ (cells : List CellPlan) (h : List Event) (v : View) (t : Tracks cells h v) (step : Step) (s : Section) (is : innermost step.party (sections h) ≡ Some s) (idle : wait_of step.party (waits cells h) ≡ None) (made : ℕ) (acts : step.act ≡ act.Made made) where
   -- the step with this gift
@@ -120,25 +122,32 @@ module _ (cells : List CellPlan) (h : List Event) (v : View) (t : Tracks cells h
   one_reads : readers_in s.cell (opened_read cells h step.party s is (waits cells h)) ≡ 1
   one_reads = omega (arith, one_more, no_reader_here cells h step.party s is t.locked.apart, no_read_share_here cells h step.party s is t.locked.apart)
 
+  -- and the parked readers may be given the lock
+  adds : (g : Given) → step.party < length v.parties → MayShare s.cell v.parks g → MayAdd s.cell g (opened_read cells h step.party s is (waits cells h)) v.parks
+  adds given.Nobody in_parties may = tt
+  adds (given.Writer q) in_parties may = absurd may
+  adds given.Readers in_parties may =
+      let fewer : _ = fewer_readers s.cell v.parks in_lists (locked_sound cells h v.held v.places v.parks t.locked) (has_free cells h v t step.party idle in_parties) in
+      (omega (arith, nobody_writes), omega (arith, one_reads, fewer))
+
   apart : (g : Given) → step.party < length v.parties → MayShare s.cell v.parks g → (d : ℕ) → IsApart (open_after cells (reading g ∷ h)) d
   apart g in_parties may d =
       subst (λ o. IsApart o d) (sym (opened g))
-      (apart_on s.cell (waits cells h) (without_innermost step.party (sections h)) (reader (length h) step.party s.cell ∷ guards h) v.parks in_lists (locked_sound cells h v.held v.places v.parks t.locked) t.locked.single t.locked.shows (apart_read cells h step.party s is t.locked.apart)
-      g (listed_share s.cell v.parks g may) nobody_writes (λ q e. absurd (subst (λ x. MayShare s.cell v.parks x) e may)) (omega (arith, one_reads, fewer_readers cells h v t step.party idle s.cell lt in_parties)) d)
+      (apart_given s.cell (waits cells h) (without_innermost step.party (sections h)) (reader (length h) step.party s.cell ∷ guards h) v.parks in_lists (locked_sound cells h v.held v.places v.parks t.locked) t.locked.single t.locked.shows
+      g (listed_share s.cell v.parks g may) (adds g in_parties may) (apart_read cells h step.party s is t.locked.apart) d)
 
   may : (g : Given) → MayShare s.cell v.parks g → IsTrue (may_give_last cells h step answer.ReadGuard g)
   may given.Nobody m = refl
   may (given.Writer q) m = absurd m
   may given.Readers m =
-      may_last cells h step answer.ReadGuard s.cell concerned given.Readers (λ some. parks_there (cell_at cells s.cell).place (core cells s.cell h) v.parks s.cell given.Readers (t.locked.fits s.cell lt) m some)
-      (ap (λ ws. reaches s.cell given.Readers ws) (none_without step.party (waits cells h) idle) ∙ reaches_given s.cell given.Readers (waits cells h) v.parks t.locked.shows m)
+      may_give_there cells h step answer.ReadGuard s.cell v.parks (core cells s.cell h) idle concerned t.locked.shows (t.locked.fits s.cell lt) given.Readers m
       (ap (λ a. turns_to_read a || is_freed_last cells h step answer.ReadGuard s.cell) acts)
 
   line : (g : Given) → call_of s.want ≡ call.Read → MayShare s.cell v.parks g → IsLegalLine cells h step (record { answer = answer.ReadGuard; given = g })
   line g reads m =
       legal_last cells h step (record { answer = answer.ReadGuard; given = g }) (section_made cells h step made (Some s) idle acts is) (due_read cells h step s made acts is reads) (may g m)
 
-  module _ (g : Given) (x x' : Holders) (parks' : Parking) (records' : List Holders) (kinds' : List LockerKind) (running' : List (Option ℕ)) (after : Called v.held v.places v.running v.parks s.cell x x' parks' records' kinds' running') (downgrades : Downgrades s.cell (phase_of 1) x v.parks g x' parks') (in_parties : step.party < length v.parties) where
+  module _ (g : Given) (x x' : Holders) (parks' : Parking) (records' : List Holders) (kinds' : List LockerKind) (running' : List (Option ℕ)) (after : Called v.held v.places (set v.running s.cell None) v.parks s.cell x x' parks' records' kinds' running') (downgrades : Downgrades s.cell (phase_of 1) x v.parks g x' parks') (in_parties : step.party < length v.parties) where
     locked : Locked cells (λ d. replay cells d (reading g ∷ h)) (open_after cells (reading g ∷ h)) (set v.held s.cell x') v.places parks'
     locked =
         hands_locked cells h v.held v.places v.parks t.locked (reading g) s.cell lt idle concerned refl (downgrade (phase_of 1) x) x' parks'

@@ -8,8 +8,8 @@ use Rattle.schedule_rules.proofs.Found.{found_counts}
 use Rattle.schedule_rules.proofs.Opened.{innermost_kept}
 use Rattle.phase_schedule.specs.Kept.{open_after, runner_in}
 use Rattle.phase_schedule.specs.Tracks.{IsApart, RunBy}
-use Rattle.phase_schedule.proofs.Hands.{set_kept}
-use Rattle.phase_schedule.proofs.MadeOpens.{none_left, runs_once}
+use Rattle.phase_schedule.proofs.Places.{set_kept}
+use Rattle.phase_schedule.proofs.Alone.{none_left, runs_once}
 
 no_runner : (c : ℕ) (ss : List Section) → count (runs_in c) ss ≡ 0 → runner_in c ss ≡ None
 no_runner c [] e = refl

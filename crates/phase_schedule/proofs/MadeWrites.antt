@@ -22,7 +22,8 @@ use Rattle.phase_schedule.proofs.Counted.{none_without}
 use Rattle.phase_schedule.proofs.After.{tracks_after}
 use Rattle.phase_schedule.proofs.MadeOpens.{writer_left, opened_write, steady_write}
 use Rattle.phase_schedule.proofs.MadeKept.{drafted_row, kept_write}
-use Rattle.phase_schedule.proofs.MadeLegal.{section_made, due_write, legal_last}
+use Rattle.phase_schedule.proofs.Lines.{legal_last}
+use Rattle.phase_schedule.proofs.MadeLegal.{section_made, due_write}
 use Rattle.phase_schedule.proofs.MadeEnds.{locked_write}
 use Rattle.phase_schedule.proofs.MadeRuns.{run_by_left}
 

@@ -1,13 +1,13 @@
 -- Who is in the lists of parked calls, where each party waits at most once.
 use Rattle.std.proofs.Common.{◌≡◌, ◌≢◌, ◌==◌, ℕ, ◌+◌, ◌≤◌, List, [], ◌∷◌, refl, arith, Bool, true, false, cond, None, Some, ◌∙◌, ap, map}
 use Rattle.phase_locker.specs.Rows.{occurs}
-use Rattle.phase_locker.proofs.Filters.{occurs-append, without_absent}
+use Rattle.phase_locker.proofs.Filters.{occurs-append}
 use Rattle.schedule_rules.specs.History.{count}
 use Rattle.schedule_rules.specs.Waits.{Wait, party_if, parks_to_read, parks_to_write, shares_read, shares_write, drains_on, parked_readers, parked_writers, wait_of, wake_writer}
 use Rattle.schedule_rules.proofs.Found.{none_found}
 use Rattle.phase_schedule.specs.Shown.{IsSingle}
 use Rattle.phase_schedule.proofs.Each.{woken_to_write}
-use Rattle.phase_schedule.proofs.Lists.{listed, listed_readers, listed_writers, writer_woken}
+use Rattle.phase_schedule.proofs.Lists.{listed, listed_readers, listed_writers}
 use Rattle.phase_schedule.proofs.Counted.{one_of, count_woken}
 
 -- a party is in a list as often as it has a call that passes
@@ -68,10 +68,3 @@ module _ (q c : ℕ) (ws : List Wait) (w : Wait) (single : IsSingle ws) (is : wa
       let k = woken_to_write c w parks in
       let e = rw (k.drain d) at (count_woken (drains_on d) q ws w is k.parked (single q)) in
       omega (arith, e)
-
-  -- and the parked writers of other cells
-  pub writer_woken_other : (d : ℕ) → d ≢ c → parked_writers d (map (wake_writer q) ws) ≡ parked_writers d ws
-  writer_woken_other d ne =
-      let k = woken_to_write c w parks in
-      let none : occurs q (parked_writers d ws) ≡ 0 = occurs_writers d q ws single ∙ ap (one_of (parks_to_write d)) is ∙ rw (k.other_parked d ne) refl in
-      writer_woken q d ws ∙ without_absent q (parked_writers d ws) none

@@ -1,4 +1,4 @@
--- The calls that are in a cell's list are those that a gift reaches.
+-- The calls in a cell's lists are those that a gift reaches, and the flags of the lists are those of the waits.
 use Rattle.std.proofs.Common.{◌≡◌, ℕ, ◌<◌, List, length, refl, arith, Bool, true, false, None, Some, ◌∙◌, ap, sym, not}
 use Rattle.std.specs.List.{list_any}
 use Rattle.std.specs.declared.option.Option.{Option}

@@ -1,5 +1,5 @@
 -- The record of a cell agrees with the history through the moves of its lock, while no hold opens or ends.
-use Rattle.std.proofs.Common.{◌≡◌, ◌==◌, ℕ, ◌+◌, ◌≤◌, List, length, refl, arith, Bool, true, false, cond, None, Some, ◌∙◌, ap, sym, map}
+use Rattle.std.proofs.Common.{◌≡◌, ◌==◌, ℕ, ◌+◌, ◌≤◌, List, length, refl, arith, Bool, true, false, cond, Some, ◌∙◌, ap, sym, map}
 use Rattle.phase_bits.specs.declared.holders.Holders.{Holders}
 use Rattle.phase_bits.specs.Records.{give_readers, give_writer}
 use Rattle.phase_locker.specs.declared.ways.How.{How}
@@ -11,7 +11,7 @@ use Rattle.schedule_rules.specs.History.{Event, count}
 use Rattle.schedule_rules.specs.Waits.{Wait, Attempt, wait_of, without_wait, with_wait, is_read_share, is_write_share, is_drain, parks_to_write, shares_read, shares_write, drains_on, parked_readers, wake_reader, wake_writer}
 use Rattle.schedule_rules.specs.Holds.{read_guards, writers_with, drains_with}
 use Rattle.phase_schedule.specs.Shown.{Shows, IsSingle, Agrees, waiting_of, wait_row}
-use Rattle.phase_schedule.proofs.Counted.{count_without_wait, none_without, read_shares_woken, write_shares_beside_readers, drains_beside_readers}
+use Rattle.phase_schedule.proofs.Counted.{count_without_wait, read_shares_woken, write_shares_beside_readers, drains_beside_readers}
 use Rattle.phase_schedule.proofs.Members.{write_shares_woken, read_shares_beside_writer}
 use Rattle.phase_schedule.proofs.Added.{drains_added}
 use Rattle.phase_schedule.proofs.Same.{locked_same, locked_by_write, locked_by_drain, unlocked, agrees_same}
@@ -103,7 +103,3 @@ module _ (cells : List CellPlan) (c : ℕ) (h : List Event) where
   -- the same, as the row of the party says what it had
   pub agrees_row_given_up : (p : ℕ) (ws : List Wait) (s : Rows) (w : Wait) (x : Holders) → IsSingle ws → Shows ws s → wait_of p ws ≡ Some w → w.cell ≡ c → writers_with c h ws + drains_with c ws ≤ 1 → Agrees cells c h ws x → Agrees cells c h (without_wait p ws) (given_up (row_of s p).waiting x)
   agrees_row_given_up p ws s w x single shows is here one a = rw (row_waits p ws s w shows is) (agrees_given_up p ws w x single is here one a)
-
-  -- a party that does not wait takes nothing away
-  pub agrees_none : (p : ℕ) (ws : List Wait) (x : Holders) → wait_of p ws ≡ None → Agrees cells c h ws x → Agrees cells c h (without_wait p ws) x
-  agrees_none p ws x none a = rw (none_without p ws none) a

@@ -1,7 +1,6 @@
 -- After what its locker answered is kept, the rows stand for the longer history.
-use Rattle.std.proofs.Common.{◌≡◌, ℕ, ◌<◌, List, length, set, get_or, refl, sym, ◌∙◌, ap, subst, arith, true, false, None, Some, length-set}
+use Rattle.std.proofs.Common.{◌≡◌, ℕ, List, length, set, get_or, refl, sym, ◌∙◌, ap, subst, arith, true, false, None, Some, length-set}
 use Rattle.std.specs.Prelude.{Bool, if◌then◌else◌, slice_get}
-use Rattle.std.proofs.lemmas.List.{length-map}
 use Rattle.phase_bits.specs.declared.phase.Phase.{Phase}
 use Rattle.phase_bits.specs.Number.{phase_of}
 use Rattle.phase_locker.specs.declared.tickets.Attempt.{Attempt}
@@ -27,24 +26,20 @@ use Rattle.phase_schedule.specs.declared.rows.OpenSection.TheVariants as open_as
 use Rattle.phase_schedule.specs.declared.rows.PartyRow.{PartyRow}
 use Rattle.phase_schedule.specs.declared.rows.Target.{Target}
 use Rattle.phase_schedule.specs.View.{View}
-use Rattle.phase_schedule.specs.Kept.{guard_row, section_of}
+use Rattle.phase_schedule.specs.Kept.{section_of}
 use Rattle.phase_schedule.specs.Tracks.{FollowsStep, Locked, RunBy, event, plans}
 use Rattle.phase_schedule.specs.Ready.{IsAnswered, IsMade, IsOpening, IsReadGuard, IsRun, IsWriteGuard, if_made, waits_left, with_section, with_guard}
 use Rattle.phase_schedule.proofs.After.{tracks_after}
-use Rattle.phase_schedule.proofs.Places.{same_number}
-use Rattle.phase_schedule.proofs.RowOpens.{numbered_above}
+use Rattle.phase_schedule.proofs.Places.{same_number, inside_plan}
+use Rattle.phase_schedule.proofs.RowOpens.{next_slot}
 use Rattle.phase_schedule.proofs.Within.{within_with}
 use Rattle.phase_schedule.proofs.RowTries.{becomes_wait, becomes_read, becomes_write, becomes_run, steady_same, steady_read, steady_write, steady_run}
 use Rattle.phase_schedule.proofs.RowKept.{with_open, planned_set, within_left, inner_is, party_got, party_waits, party_runs, slot_opened, guard_known, section_known, cell_is, section_none, cell_written, cell_runs}
 
--- a cell that has a row is one of the plan
-planned : (v : View) (c : ℕ) → c < length v.cells → c < length (plans v)
-planned v c lt = let same : length (plans v) ≡ length v.cells = length-map v.cells (λ r. r.plan) in omega arith
-
 -- the row of the step is that of no guard
 pub slot_idle : (h : List Event) (v : View) (s : Step) (n : ℕ) (t : Target) (a : Attempt) (g : Given) → IsAnswered h v s n t a g → slice_get v.guards n ≡ Some guard.Free
 slot_idle h v s n t a g o =
-    subst (λ m. slice_get v.guards m ≡ Some guard.Free) (sym o.number) (o.kept.slot (length h) o.room ∙ ap (λ x. Some (guard_row x)) (numbered_above (length h) (length h) (guards h) o.steady.numbers (omega arith)))
+    next_slot h v.guards n o.kept.slot o.steady.numbers o.number o.room
 
 -- of the lock to write
 module _ (h : List Event) (v : View) (s : Step) (n : ℕ) (t : Target) (g : Given) where
@@ -118,7 +113,7 @@ module _ (h : List Event) (v : View) (s : Step) (n : ℕ) (t : Target) (g : Give
               parties = a.kept.parties ∙ sym (length-set _ _ _);
               section_cell = a.kept.section_cell;
               guard_cell = a.kept.guard_cell;
-              wait_cell = within_with (length (plans v)) s.party way (record { cell = t.cell; want = Calls t.call }) (waits_left (plans v) h s t g) (planned v t.cell a.cell) (within_left (plans v) h s g (length (plans v)) a.kept.wait_cell);
+              wait_cell = within_with (length (plans v)) s.party way (record { cell = t.cell; want = Calls t.call }) (waits_left (plans v) h s t g) (inside_plan v t.cell a.cell) (within_left (plans v) h s g (length (plans v)) a.kept.wait_cell);
             })
             (let room : _ = a.room in omega arith);
         guards = refl;
@@ -144,7 +139,7 @@ module _ (h : List Event) (v : View) (s : Step) (n : ℕ) (t : Target) (g : Give
                 party = party_got (plans v) h v a.kept s t g party.innermost (inner_is (plans v) h v a.kept s t g party party_at a.party);
                 parties = a.kept.parties ∙ sym (length-set _ _ _);
                 section_cell = a.kept.section_cell;
-                guard_cell = guard_known (plans v) h v a.kept s t g (reader (length h) s.party t.cell) (planned v t.cell a.cell);
+                guard_cell = guard_known (plans v) h v a.kept s t g (reader (length h) s.party t.cell) (inside_plan v t.cell a.cell);
                 wait_cell = within_left (plans v) h s g (length (plans v)) a.kept.wait_cell;
               })
               (let room : _ = a.room in omega (arith, length-set {A = GuardRow}));
@@ -171,7 +166,7 @@ module _ (h : List Event) (v : View) (s : Step) (n : ℕ) (t : Target) (g : Give
                   party = party_got (plans v) h v o.answered.kept s t g party.innermost (inner_is (plans v) h v o.answered.kept s t g party party_at o.answered.party);
                   parties = o.answered.kept.parties ∙ sym (length-set _ _ _);
                   section_cell = o.answered.kept.section_cell;
-                  guard_cell = guard_known (plans v) h v o.answered.kept s t g (writer (length h) s.party t.cell) (planned v t.cell o.answered.cell);
+                  guard_cell = guard_known (plans v) h v o.answered.kept s t g (writer (length h) s.party t.cell) (inside_plan v t.cell o.answered.cell);
                   wait_cell = within_left (plans v) h s g (length (plans v)) o.answered.kept.wait_cell;
                 })
                 (let room : _ = o.answered.room in omega (arith, length-set {A = GuardRow}));
@@ -197,7 +192,7 @@ module _ (h : List Event) (v : View) (s : Step) (n : ℕ) (t : Target) (g : Give
               slot = o.answered.kept.slot;
               party = party_runs (plans v) h v o.answered.kept s t g;
               parties = o.answered.kept.parties ∙ sym (length-set _ _ _);
-              section_cell = section_known (plans v) h v o.answered.kept s t g (length h) (planned v t.cell o.answered.cell);
+              section_cell = section_known (plans v) h v o.answered.kept s t g (length h) (inside_plan v t.cell o.answered.cell);
               guard_cell = o.answered.kept.guard_cell;
               wait_cell = within_left (plans v) h s g (length (plans v)) o.answered.kept.wait_cell;
             })

@@ -1,20 +1,16 @@
 -- How many rows have a share or a claim of a cell is how many waiting calls have it; and which holds are open then.
 use Rattle.std.proofs.Common.{◌≡◌, ◌≢◌, ◌==◌, ℕ, ◌+◌, ◌<◌, ◌≤◌, List, [], ◌∷◌, length, refl, arith, Bool, true, false, cond, None, Some, ◌∙◌, ap, sym, inl, inr, ◌-◌}
-use Rattle.std.proofs.Math.ListN.{get_or, set, length-replicate}
-use Rattle.std.proofs.lemmas.List.{get_or_past, ext_get_or}
-use Rattle.std.proofs.lemmas.List.Folds.{sum_by-replicate}
+use Rattle.std.proofs.Math.ListN.{get_or, set}
+use Rattle.std.proofs.lemmas.List.{get_or_past}
 use Rattle.std.proofs.lemmas.Bool.{cases_lt}
-use Rattle.std.specs.Prelude.{count_by, replicate}
-use Rattle.std.specs.declared.option.Option.{Option}
+use Rattle.std.specs.Prelude.{count_by}
 use Rattle.phase_bits.specs.declared.holders.Holders.{Holders}
 use Rattle.phase_locker.specs.declared.ways.How.{How}
 use Rattle.phase_locker.specs.declared.ways.How.TheVariants as how
 use Rattle.phase_locker.specs.declared.ways.Waiting.TheVariants as waiting
 use Rattle.phase_locker.specs.declared.ways.Row.{Row}
-use Rattle.phase_locker.specs.Rows.{Rows, row_of, free_row, shares_at, drains_at, claims_at, shares, drains, claims}
+use Rattle.phase_locker.specs.Rows.{Rows, row_of, free_row, shares_at, claims_at, shares, claims, HasFree}
 use Rattle.phase_locker.specs.Fits.{open_reads, IsWriteOpen}
-use Rattle.phase_locker.proofs.Counts.{one_if, count-set}
-use Rattle.phase_locker.proofs.Handed.{at_free}
 use Rattle.schedule_rules.specs.declared.plan.CellPlan.{CellPlan}
 use Rattle.schedule_rules.specs.Calls.{Want}
 use Rattle.schedule_rules.specs.History.{Event, count}
@@ -23,6 +19,7 @@ use Rattle.schedule_rules.specs.Holds.{read_guards, write_holds, writers_with, d
 use Rattle.schedule_rules.proofs.Found.{none_found}
 use Rattle.phase_schedule.specs.Shown.{Shows, IsSingle, Agrees, waiting_of, wait_row}
 use Rattle.phase_schedule.proofs.Slots.{set_shows}
+use Rattle.phase_schedule.proofs.Passing.{count_set, count_before, count_free, count_test}
 use Rattle.phase_schedule.proofs.Same.{locked_by_write}
 
 -- ---- a party that does not wait has a free row, and no other
@@ -40,13 +37,9 @@ never_free how.Drain woken e = cc
 pub row_free : (p : ℕ) (ws : List Wait) (s : Rows) → Shows ws s → wait_of p ws ≡ None → row_of s p ≡ free_row
 row_free p ws s shows none = shows.row p ∙ ap wait_row none
 
--- a party with a free row
-pub free_waits : (p : ℕ) (ws : List Wait) (s : Rows) → Shows ws s → (row_of s p).waiting ≡ waiting.Free → wait_of p ws ≡ None
-free_waits p ws s shows free = by (wait_of p ws) (ap (λ (r : Row). r.waiting) (sym (shows.row p)) ∙ free)
-  where
-    by : (o : Option Wait) → (wait_row o).waiting ≡ waiting.Free → o ≡ None
-    by None e = refl
-    by (Some w) e = absurd (never_free w.way w.woken e)
+-- it has a free row
+pub free_party : (p : ℕ) (ws : List Wait) (s : Rows) → Shows ws s → wait_of p ws ≡ None → p < length s.rows → HasFree s
+free_party p ws s shows none lt = record { party = p; inside = lt; free = ap (λ (r : Row). r.waiting) (row_free p ws s shows none) }
 
 -- a party whose call waits has a row
 pub waits_inside : (p : ℕ) (rows : List Row) (w : Wait) → get_or rows p free_row ≡ wait_row (Some w) → p < length rows
@@ -58,21 +51,15 @@ waits_inside p rows w e =
 
 -- ---- counts
 
--- where every row is free, none passes
-pub count_free : (f : Row → Bool) (rows : List Row) → f free_row ≡ false → ((p : ℕ) → get_or rows p free_row ≡ free_row) → count_by f rows ≡ 0
-count_free f rows fails all =
-    let same : rows ≡ replicate (length rows) free_row = ext_get_or free_row rows (replicate (length rows) free_row) (sym (length-replicate (length rows) free_row)) (λ p k. all p ∙ sym (at_free (length rows) p)) in
-    ap (λ (r : List Row). count_by f r) same ∙ sum_by-replicate (λ (r : Row). cond {A = ℕ} (f r) 1 0) (length rows) free_row ∙ rw fails (omega arith)
-
 -- as many rows pass as waiting calls
 pub count_rows : (f : Row → Bool) (ws : List Wait) (rows : List Row) → f free_row ≡ false → IsSingle ws → ((p : ℕ) → get_or rows p free_row ≡ wait_row (wait_of p ws)) → count_by f rows ≡ count (λ (w : Wait). f (wait_row (Some w))) ws
-count_rows f [] rows fails single all = count_free f rows fails all
+count_rows f [] rows fails single all = count_free free_row f rows fails all
 count_rows f (w ∷ ws) rows fails single all =
     let here : get_or rows w.party free_row ≡ wait_row (Some w) = all w.party ∙ ap wait_row (found w ws) in
     let inside : w.party < length rows = waits_inside w.party rows w here in
     let rest = count_rows f ws (set rows w.party free_row) fails (λ r. tail r (single r)) (set_shows rows w.party free_row free_row (λ p. wait_row (wait_of p (w ∷ ws))) (λ p. wait_row (wait_of p ws)) all (λ p ne. ap wait_row (beside w ws p ne)) inside (sym (ap wait_row (none_found (λ (v : Wait). v.party == w.party) ws (alone w ws (single w.party)))))) in
-    let one = rw (here, fails) at (count-set f rows w.party free_row inside) in
-    add (f (wait_row (Some w))) _ _ _ rest one
+    let one = rw (here, fails) at (count_set f rows w.party free_row free_row inside) in
+    count_before (f (wait_row (Some w))) _ _ _ rest one
   where
     found : (w : Wait) (ws : List Wait) → wait_of w.party (w ∷ ws) ≡ Some w
     found w ws = grind arith
@@ -90,31 +77,11 @@ count_rows f (w ∷ ws) rows fails single all =
     beside : (w : Wait) (ws : List Wait) (p : ℕ) → p ≢ w.party → wait_of p ws ≡ wait_of p (w ∷ ws)
     beside w ws p ne = grind (arith, ne)
 
-    add : (b : Bool) (n m k : ℕ) → n ≡ k → n + one_if b ≡ m + 0 → m ≡ cond b (k + 1) k
-    add true n m k e f = omega (arith, e, f)
-    add false n m k e f = omega (arith, e, f)
-
--- the same test, the same count
-pub count_test : (t u : Wait → Bool) (ws : List Wait) → ((w : Wait) → t w ≡ u w) → count t ws ≡ count u ws
-count_test t u [] same = refl
-count_test t u (w ∷ ws) same = λ i. cond (same w i) (count_test t u ws same i + 1) (count_test t u ws same i)
-
 -- what the row of a call says
 pub row_shares : (c : ℕ) (w : Wait) → shares_at c (wait_row (Some w)) ≡ shares_read c w
 row_shares c w = by w.party w.cell w.want w.way w.woken
   where
     by : (p x : ℕ) (want : Want) (way : How) (woken : Bool) → shares_at c (wait_row (Some (record { party = p; cell = x; want = want; way = way; woken = woken }))) ≡ shares_read c (record { party = p; cell = x; want = want; way = way; woken = woken })
-    by p x want how.Spin woken = refl
-    by p x want how.ParkedRead true = refl
-    by p x want how.ParkedRead false = refl
-    by p x want how.ParkedWrite true = refl
-    by p x want how.ParkedWrite false = refl
-    by p x want how.Drain woken = refl
-
-pub row_drains : (c : ℕ) (w : Wait) → drains_at c (wait_row (Some w)) ≡ drains_on c w
-row_drains c w = by w.party w.cell w.want w.way w.woken
-  where
-    by : (p x : ℕ) (want : Want) (way : How) (woken : Bool) → drains_at c (wait_row (Some (record { party = p; cell = x; want = want; way = way; woken = woken }))) ≡ drains_on c (record { party = p; cell = x; want = want; way = way; woken = woken })
     by p x want how.Spin woken = refl
     by p x want how.ParkedRead true = refl
     by p x want how.ParkedRead false = refl
@@ -138,10 +105,6 @@ module _ (c : ℕ) (ws : List Wait) (s : Rows) (single : IsSingle ws) (shows : S
   -- read shares
   pub shares_shown : shares s c ≡ count (shares_read c) ws
   shares_shown = count_rows (shares_at c) ws s.rows refl single shows.row ∙ count_test (λ (w : Wait). shares_at c (wait_row (Some w))) (shares_read c) ws (row_shares c)
-
-  -- drains
-  pub drains_shown : drains s c ≡ count (drains_on c) ws
-  drains_shown = count_rows (drains_at c) ws s.rows refl single shows.row ∙ count_test (λ (w : Wait). drains_at c (wait_row (Some w))) (drains_on c) ws (row_drains c)
 
   -- claims: write shares and drains
   pub claims_shown : claims s c ≡ count (shares_write c) ws + count (drains_on c) ws

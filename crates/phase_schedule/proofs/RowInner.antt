@@ -1,26 +1,26 @@
--- What the rows tell of a party's innermost section.
-use Rattle.std.proofs.Common.{◌≡◌, ℕ, ◌<◌, ◌≤◌, List, length, get_or, refl, sym, ◌∙◌, ap, subst, arith, None, Some}
-use Rattle.std.proofs.lemmas.List.{length-map}
-use Rattle.std.specs.Prelude.{◌+◌, ◌==◌}
+-- What the rows show of a cell and of the innermost section of a party.
+use Rattle.std.proofs.Common.{◌≡◌, ℕ, ◌<◌, List, length, get_or, refl, sym, ◌∙◌, ap, subst, arith, None, Some}
 use Rattle.std.specs.List.{find}
 use Rattle.std.specs.declared.option.Option.{Option}
 use Rattle.schedule_rules.specs.Kinds.{cell_at}
-use Rattle.schedule_rules.specs.History.{Event, count}
-use Rattle.schedule_rules.specs.Sections.{Section, innermost, without_innermost, runs_in, sections}
+use Rattle.schedule_rules.specs.History.{Event}
+use Rattle.schedule_rules.specs.Sections.{Section, innermost, without_innermost, sections}
 use Rattle.schedule_rules.specs.Guards.{Guard, guards}
 use Rattle.schedule_rules.specs.Replay.{replay, inside}
 use Rattle.schedule_rules.specs.Holds.{writes_cell}
-use Rattle.schedule_rules.proofs.Found.{found_counts, only_one, none_found}
+use Rattle.schedule_rules.proofs.Found.{none_found}
 use Rattle.phase_schedule.specs.declared.rows.CellRow.{CellRow}
 use Rattle.phase_schedule.specs.declared.rows.PartyRow.{PartyRow}
 use Rattle.phase_schedule.specs.declared.rows.RunRow.{RunRow}
 use Rattle.phase_schedule.specs.View.{View}
 use Rattle.phase_schedule.specs.Kept.{call_of, cell_of, cell_row, open_after, open_run, party_row, run_in, section_by}
 use Rattle.phase_schedule.specs.Meets.{run_of}
-use Rattle.phase_schedule.specs.Tracks.{Follows, plans}
+use Rattle.phase_schedule.specs.Tracks.{Follows, plans, Tracks}
 use Rattle.phase_schedule.specs.Ready.{IsInnermost}
-use Rattle.phase_schedule.proofs.Places.{row_at, same_number}
+use Rattle.phase_schedule.proofs.Places.{row_at, planned_length}
 use Rattle.phase_schedule.proofs.RowOpens.{run_top}
+use Rattle.phase_schedule.proofs.Alone.{found_here, no_writer_here, runs_once}
+use Rattle.schedule_rules.specs.declared.plan.CellPlan.{CellPlan}
 
 pub run_of_open : (c : ℕ) (r : Option RunRow) → run_of (open_run c r) ≡ r
 run_of_open c None = refl
@@ -31,33 +31,13 @@ pub run_shown : (c : ℕ) (within : Guard → _) (o : Option Guard) (r : Option 
 run_shown c within None r e = run_of_open c r
 run_shown c within (Some x) r e = absurd (cc)
 
-pub no_section_of : (o : Option Section) → None ≡ cell_of o → o ≡ None
-no_section_of None e = refl
-no_section_of (Some s) e = absurd (cc)
+-- a row of a cell is what is kept of the cell
+pub cell_seen : (cells : List CellPlan) (h : List Event) (v : View) (t : Tracks cells h v) (c : ℕ) (row : CellRow) → row ≡ get_or v.cells c row → c < length v.cells → row ≡ cell_row (cell_at cells c) c (replay cells c h) (inside cells h) (open_after cells h)
+cell_seen cells h v t c row at lt = row_at v.cells c row _ at lt (t.kept.cell c lt)
 
 section_of : (o : Option Section) (c : ℕ) → cell_of o ≡ Some c → (s : Section) × (o ≡ Some s) × (s.cell ≡ c)
 section_of None c e = absurd (cc)
 section_of (Some s) c e = (s, refl, (let q : _ = e in cc))
-
-module _ (h : List Event) (v : View) (t : Follows h v) (p : ℕ) (s : Section) (is : innermost p (sections h) ≡ Some s) where
-  some_run : 0 < count (runs_in s.cell) (sections h)
-  some_run = found_counts (λ x. x.party == p) (runs_in s.cell) (sections h) s is (same_number s.cell)
-
-  one_hold : count (writes_cell s.cell) (guards h) + count (runs_in s.cell) (sections h) ≤ 1
-  one_hold = let one : _ = (t.locked.apart s.cell).one in omega arith
-
-  pub runs_once : count (runs_in s.cell) (sections h) ≡ 1
-  runs_once = let some : _ = some_run in let one : _ = one_hold in omega arith
-
-  pub no_writer_here : count (writes_cell s.cell) (guards h) ≡ 0
-  no_writer_here = let some : _ = some_run in let one : _ = one_hold in omega arith
-
-  pub found_here : find (runs_in s.cell) (sections h) ≡ Some s
-  found_here = only_one (λ x. x.party == p) (runs_in s.cell) (sections h) s is (same_number s.cell) (omega (arith, runs_once))
-
--- there are as many rows of cells as cells in the plan
-pub planned_length : (v : View) → length (plans v) ≡ length v.cells
-planned_length v = length-map _ _
 
 module _ (h : List Event) (v : View) (t : Follows h v) (p c : ℕ) (row : PartyRow) (row_is : row ≡ party_row p (open_after (plans v) h)) (c_is : row.innermost ≡ Some c) where
   its_section : (s : Section) × (innermost p (sections h) ≡ Some s) × (s.cell ≡ c)
@@ -66,23 +46,20 @@ module _ (h : List Event) (v : View) (t : Follows h v) (p c : ℕ) (row : PartyR
   pub its_cell : c < length v.cells
   its_cell =
       let f : _ = its_section in
-      let known : f.0.cell < length (plans v) = t.kept.section_cell f.0.cell f.0 (found_here h v t p f.0 f.1) in
-      subst (λ d. d < length v.cells) f.2 (subst (λ n. f.0.cell < n) (planned_length v) known)
+      let known : f.0.cell < length (plans v) = t.kept.section_cell f.0.cell f.0 (found_here (plans v) h p f.0 f.1 t.locked.apart) in
+      subst (λ d. d < length v.cells) f.2 (subst (λ n. f.0.cell < n) (sym (planned_length v.cells (plans v) refl)) known)
 
   -- the row of the cell shows it
   its_run : (r : CellRow) → r ≡ cell_row (cell_at (plans v) c) c (replay (plans v) c h) (inside (plans v) h) (open_after (plans v) h) → run_of r.section ≡ Some (record { party = p; call = call_of its_section.0.want; outer = cell_of (innermost p (without_innermost p (sections h))) })
   its_run r at =
       ap (λ x. run_of x.section) at
-      ∙ run_shown c _ _ (run_in c (sections h)) (subst (λ d. find (writes_cell d) (guards h) ≡ None) its_section.2 (none_found (writes_cell its_section.0.cell) (guards h) (no_writer_here h v t p its_section.0 its_section.1)))
+      ∙ run_shown c _ _ (run_in c (sections h)) (subst (λ d. find (writes_cell d) (guards h) ≡ None) its_section.2 (none_found (writes_cell its_section.0.cell) (guards h) (no_writer_here (plans v) h p its_section.0 its_section.1 t.locked.apart)))
       ∙ ap (λ d. run_in d (sections h)) (sym its_section.2)
-      ∙ run_top p (sections h) its_section.0 its_section.1 (omega (arith, runs_once h v t p its_section.0 its_section.1))
-
-  kept_row : (r : CellRow) → r ≡ get_or v.cells c r → r ≡ cell_row (cell_at (plans v) c) c (replay (plans v) c h) (inside (plans v) h) (open_after (plans v) h)
-  kept_row r at = row_at v.cells c r _ at its_cell (t.kept.cell c its_cell)
+      ∙ run_top p (sections h) its_section.0 its_section.1 (omega (arith, runs_once (plans v) h p its_section.0 its_section.1 t.locked.apart))
 
   -- a row that shows no run is not the cell's
   pub never_idle : (r : CellRow) → r ≡ get_or v.cells c r → run_of r.section ≡ None → ⊥
-  never_idle r at e = let q : _ = its_run r (kept_row r at) in cc
+  never_idle r at e = let q : _ = its_run r (cell_seen (plans v) h v t c r at its_cell) in cc
 
   -- what is read of it
   pub run_is : (r : CellRow) (k : RunRow) → r ≡ get_or v.cells c r → run_of r.section ≡ Some k → IsInnermost h v p (record { cell = c; call = k.call; outer = k.outer })
@@ -97,4 +74,4 @@ module _ (h : List Event) (v : View) (t : Follows h v) (p c : ℕ) (row : PartyR
       }
     where
       k_is : k ≡ record { party = p; call = call_of its_section.0.want; outer = cell_of (innermost p (without_innermost p (sections h))) }
-      k_is = let a : _ = its_run r (kept_row r at) in cc
+      k_is = let a : _ = its_run r (cell_seen (plans v) h v t c r at its_cell) in cc

@@ -39,7 +39,7 @@ use Rattle.phase_schedule.proofs.Finding.{wait_added, wait_beside}
 use Rattle.phase_schedule.proofs.Single.{none_given}
 use Rattle.phase_schedule.proofs.Within.{within_without, within_readers, within_writer}
 use Rattle.phase_schedule.proofs.Places.{other_number, row_at, same_number, set_view}
-use Rattle.phase_schedule.proofs.RowOpens.{no_run, numbered_above}
+use Rattle.phase_schedule.proofs.RowOpens.{no_run, next_slot}
 
 -- ---- the calls that wait
 
@@ -133,7 +133,7 @@ module _ (cells : List CellPlan) (h : List Event) (v : View) (k : Kept cells (λ
 
   -- the step's own row is free
   pub slot_free : (row : GuardRow) → IsSteady cells h → row ≡ get_or v.guards (length h) row → length h < length v.guards → row ≡ guard.Free
-  slot_free row st at lt = row_at v.guards (length h) row _ at lt (k.slot (length h) lt) ∙ ap guard_row (numbered_above (length h) (length h) (guards h) st.numbers (omega arith))
+  slot_free row st at lt = row_at v.guards (length h) row _ at lt (next_slot h v.guards (length h) k.slot st.numbers refl lt)
 
   pub guard_known : (x : Guard) → x.cell < length cells → (j : ℕ) (y : Guard) → numbered j (x ∷ guards h) ≡ Some y → y.cell < length cells
   guard_known x lt j y e = let old : _ = k.guard_cell j y in grind arith

@@ -1,21 +1,29 @@
--- Laws of what is open: the numbers of guards, and the rows of sections.
-use Rattle.std.proofs.Common.{◌≡◌, ◌≢◌, ℕ, ◌<◌, ◌≤◌, List, [], ◌∷◌, refl, arith, true, false, cond, None, Some}
-use Rattle.std.specs.Prelude.{◌==◌}
-use Rattle.std.specs.List.{find}
+-- The numbers of open guards, the row of the next step, and the runs of open sections.
+use Rattle.std.proofs.Common.{◌≡◌, ◌≢◌, ℕ, ◌<◌, ◌≤◌, List, [], ◌∷◌, refl, arith, true, false, cond, None, Some, length, ◌∙◌, ap}
+use Rattle.std.specs.Prelude.{◌==◌, slice_get}
 use Rattle.schedule_rules.specs.Changes.{Put}
-use Rattle.schedule_rules.specs.History.{count}
-use Rattle.schedule_rules.specs.Sections.{Section, innermost, without_innermost, runs_in, generates_for}
-use Rattle.schedule_rules.specs.Guards.{Guard, numbered, without_guard, put_in}
+use Rattle.schedule_rules.specs.History.{count, Event}
+use Rattle.schedule_rules.specs.Sections.{Section, innermost, without_innermost, runs_in}
+use Rattle.schedule_rules.specs.Guards.{Guard, numbered, without_guard, put_in, guards}
 use Rattle.schedule_rules.proofs.Found.{found_counts}
 use Rattle.schedule_rules.proofs.Opened.{innermost_kept}
-use Rattle.phase_schedule.specs.Kept.{run_in, cell_of, call_of}
-use Rattle.phase_schedule.specs.Meets.{ran_by}
+use Rattle.phase_schedule.specs.Kept.{run_in, cell_of, call_of, guard_row, want_of}
 use Rattle.phase_schedule.specs.Tracks.{NumbersBelow}
+use Rattle.phase_schedule.specs.declared.rows.GuardRow.{GuardRow}
+use Rattle.phase_schedule.specs.declared.rows.GuardRow.TheVariants as guard
+use Rattle.phase_seq.specs.Asks.{initializes}
+use Rattle.schedule_rules.specs.declared.plan.Call.{Call}
+use Rattle.schedule_rules.specs.declared.plan.Call.TheVariants as call
 
 -- no guard has a greater number
 pub numbered_above : (n g : ℕ) (gs : List Guard) → NumbersBelow n gs → n ≤ g → numbered g gs ≡ None
 numbered_above n g [] b l = refl
 numbered_above n g (x ∷ gs) b l = grind (arith, numbered_above x.number g gs)
+
+-- so the row of the next step is free
+pub next_slot : (h : List Event) (slots : List GuardRow) (n : ℕ) → ((k : ℕ) → k < length slots → slice_get slots k ≡ Some (guard_row (numbered k (guards h)))) → NumbersBelow (length h) (guards h) → n ≡ length h → length h < length slots → slice_get slots n ≡ Some guard.Free
+next_slot h slots n shown below number room =
+    ap (λ m. slice_get slots m) number ∙ shown (length h) room ∙ ap (λ o. Some (guard_row o)) (numbered_above (length h) (length h) (guards h) below (omega arith))
 
 -- what is found is below
 pub found_below : (n g : ℕ) (gs : List Guard) (x : Guard) → NumbersBelow n gs → numbered g gs ≡ Some x → g < n
@@ -61,6 +69,8 @@ pub run_top : (p : ℕ) (ss : List Section) (s : Section) → innermost p ss ≡
 run_top p [] s e n = cc
 run_top p (x ∷ ss) s e n = grind (arith, run_top p ss s, found_counts (λ y. y.party == p) (runs_in s.cell) ss s)
 
-pub runs_row : (p c : ℕ) (ss : List Section) → ran_by p (run_in c ss) ≡ generates_for p (find (runs_in c) ss)
-runs_row p c [] = refl
-runs_row p c (x ∷ ss) = grind (arith, runs_row p c ss)
+-- the call of every run asked for it
+pub asked_run : (k : Call) → initializes (want_of k) ≡ true
+asked_run call.Phase = refl
+asked_run call.Read = refl
+asked_run call.Write = refl

@@ -1,12 +1,10 @@
--- What is still open is given back, lock by lock.
-use Rattle.std.proofs.Common.{zero, suc, inl, inr, ◌≡◌, ◌≢◌, ◌==◌, ℕ, ◌+◌, ◌<◌, ◌≤◌, Bool, true, false, List, [], ◌∷◌, length, map, refl, sym, ◌∙◌, ap, subst, arith, cond, None, Some}
+-- What is still open at the end is given back, lock by lock.
+use Rattle.std.proofs.Common.{zero, suc, inl, inr, ◌≡◌, ◌≢◌, ℕ, ◌+◌, ◌<◌, ◌≤◌, Bool, true, false, List, [], ◌∷◌, length, map, refl, sym, ◌∙◌, ap, subst, arith, None, Some}
 use Rattle.std.proofs.Math.ListN.{get_or, set}
 use Rattle.std.proofs.lemmas.Bool.{cases_eq}
-use Rattle.std.proofs.lemmas.List.{get_or-set_other, get_or-set_same, length-set, map-set}
+use Rattle.std.proofs.lemmas.List.{get_or-set_other, get_or-set_same, length-set, map-set, length-map}
 use Rattle.std.proofs.lemmas.List.Elements.{All-get_or, All-set}
-use Rattle.std.proofs.lemmas.List.Sums.{sum_by-set}
 use Rattle.std.proofs.lemmas.Option.{slice_get-get_or}
-use Rattle.std.proofs.lemmas.Grind.{common_steps}
 use Rattle.std.specs.Prelude.{All, count_by, slice_get}
 use Rattle.std.specs.declared.option.Option.{Option}
 use Rattle.phase_bits.specs.declared.holders.Holders.{Holders}
@@ -28,36 +26,10 @@ use Rattle.phase_schedule.specs.declared.rows.RunRow.{RunRow}
 use Rattle.phase_schedule.specs.declared.rows.OpenSection.TheVariants as open_as
 use Rattle.phase_schedule.specs.View.{View}
 use Rattle.phase_schedule.specs.Closing.{AreFree, AreIdle, HoldsAt, HoldsLocks, IsClosedAt, IsIdle, IsOfCell, IsSectionAt, RunsAt, locks_of, reads_row, writes_row}
+use Rattle.phase_schedule.proofs.Places.{slice_get_set_same, slice_get_set_other, same_number, other_number, mapped_at}
+use Rattle.phase_schedule.proofs.Passing.{count_set}
 
 -- ---- lists
-
-get_set_same : {X : Type 0} (xs : List X) (i : ℕ) (x : X) → i < length xs → slice_get (set xs i x) i ≡ Some x
-get_set_same [] i x lt = absurd (omega (arith, lt))
-get_set_same (y ∷ xs) zero x lt = refl
-get_set_same (y ∷ xs) (suc i) x lt = get_set_same xs i x (omega (arith, lt))
-
-pub get_set_other : {X : Type 0} (xs : List X) (i j : ℕ) (x : X) → j ≢ i → slice_get (set xs i x) j ≡ slice_get xs j
-get_set_other [] i j x ne = refl
-get_set_other (y ∷ xs) zero zero x ne = absurd (ne refl)
-get_set_other (y ∷ xs) zero (suc j) x ne = refl
-get_set_other (y ∷ xs) (suc i) zero x ne = refl
-get_set_other (y ∷ xs) (suc i) (suc j) x ne = get_set_other xs i j x (λ e. ne (ap (λ (n : ℕ). suc n) e))
-
-mapped_at : {X Y : Type 0} (f : X → Y) (xs : List X) (i : ℕ) (y : Y) (x d : X) → slice_get (map f xs) i ≡ Some y → x ≡ get_or xs i d → y ≡ f x
-mapped_at f [] i y x d e q = absurd (cc)
-mapped_at f (z ∷ xs) zero y x d e q = let s : f z ≡ y = cc in sym s ∙ ap f (sym q)
-mapped_at f (z ∷ xs) (suc i) y x d e q = mapped_at f xs i y x d e q
-
-map_length : {X Y : Type 0} (f : X → Y) (xs : List X) → length (map f xs) ≡ length xs
-map_length f xs = grind (arith, common_steps)
-
--- one for a row that passes
-abbrev one_of : Bool → ℕ
-one_of b = cond b 1 0
-
--- how many rows pass, after one is replaced
-pub count_set : (t : GuardRow → Bool) (gs : List GuardRow) (g : ℕ) (r d : GuardRow) → g < length gs → count_by t (set gs g r) + one_of (t (get_or gs g d)) ≡ count_by t gs + one_of (t r)
-count_set t gs g r d lt = sum_by-set (λ x. one_of (t x)) gs g r d lt
 
 one_less : (t : GuardRow → Bool) (gs : List GuardRow) (g : ℕ) (r d : GuardRow) → g < length gs → t (get_or gs g d) ≡ true → t r ≡ false → count_by t (set gs g r) + 1 ≡ count_by t gs
 one_less t gs g r d lt before after = let e = rw (before, after) at (count_set t gs g r d lt) in omega (arith, e)
@@ -65,17 +37,10 @@ one_less t gs g r d lt before after = let e = rw (before, after) at (count_set t
 as_many : (t : GuardRow → Bool) (gs : List GuardRow) (g : ℕ) (r d : GuardRow) → g < length gs → t (get_or gs g d) ≡ false → t r ≡ false → count_by t (set gs g r) ≡ count_by t gs
 as_many t gs g r d lt before after = let e = rw (before, after) at (count_set t gs g r d lt) in omega (arith, e)
 
--- a cell is itself, and no other
-itself : (c : ℕ) → (c == c) ≡ true
-itself c = grind arith
-
-another : (c d : ℕ) → d ≢ c → (c == d) ≡ false
-another c d ne = grind (arith, ne)
-
 -- a row without an open section in the place of another
 pub closed_at : (c : ℕ) (cs : List CellRow) (row : CellRow) → c < length cs → row.section ≡ None → IsClosedAt c cs (set cs c row)
 closed_at c cs row lt none =
-    record { row = row; row_is = get_set_same cs c row lt; idle = none; others = λ d ne. get_set_other cs c d row ne; count = length-set cs c row }
+    record { row = row; row_is = slice_get_set_same cs c row lt; idle = none; others = λ d ne. slice_get_set_other cs c d row ne; count = length-set cs c row }
 
 -- ---- rows that are done
 
@@ -119,16 +84,16 @@ module _ {L : Type 0} (held : L → Holders) (place : L → LockerKind) (runner 
 
   module _ (cs : List CellRow) (gs : List GuardRow) (ps : List PartyRow) (ls : List L) (s : Rows) (holds : HoldsLocks (viewed cs gs ps ls s)) where
     inside_lockers : (c : ℕ) → c < length cs → c < length ls
-    inside_lockers c lt = let e : length (map held ls) ≡ length cs = holds.lockers in let m : _ = map_length held ls in omega (arith, lt, e, m)
+    inside_lockers c lt = let e : length (map held ls) ≡ length cs = holds.lockers in let m : _ = length-map ls held in omega (arith, lt, e, m)
 
     record_is : (c : ℕ) (lt : c < length cs) (l d : L) → l ≡ get_or ls c d → (holds.at c lt).record_of ≡ held l
-    record_is c lt l d e = mapped_at held ls c (holds.at c lt).record_of l d (holds.at c lt).record_is e
+    record_is c lt l d e = sym (mapped_at held ls c l (holds.at c lt).record_of d e (holds.at c lt).record_is)
 
     kind_is : (c : ℕ) (lt : c < length cs) (l d : L) → l ≡ get_or ls c d → (holds.at c lt).kind ≡ place l
-    kind_is c lt l d e = mapped_at place ls c (holds.at c lt).kind l d (holds.at c lt).kind_is e
+    kind_is c lt l d e = sym (mapped_at place ls c l (holds.at c lt).kind d e (holds.at c lt).kind_is)
 
     runner_is : (c : ℕ) (lt : c < length cs) (l d : L) → l ≡ get_or ls c d → (holds.at c lt).runner ≡ runner l
-    runner_is c lt l d e = mapped_at runner ls c (holds.at c lt).runner l d (holds.at c lt).runner_is e
+    runner_is c lt l d e = sym (mapped_at runner ls c l (holds.at c lt).runner d e (holds.at c lt).runner_is)
 
     -- the locker of a cell fits
     pub locker_fits : (c : ℕ) (l d : L) → c < length cs → l ≡ get_or ls c d → Fits (place l) (held l) s c
@@ -151,10 +116,10 @@ module _ {L : Type 0} (held : L → Holders) (place : L → LockerKind) (runner 
     write_cell g q c t d lt e = subst (IsOfCell (length cs)) e (All-get_or (IsOfCell (length cs)) gs g d lt holds.guards)
 
     reads_here : (g q c : ℕ) (t : ReadTicket) (d : GuardRow) → get_or gs g d ≡ guard.Read q c t → reads_row c (get_or gs g d) ≡ true
-    reads_here g q c t d e = ap (reads_row c) e ∙ itself c
+    reads_here g q c t d e = ap (reads_row c) e ∙ same_number c
 
     writes_here : (g q c : ℕ) (t : WriteTicket) (d : GuardRow) → get_or gs g d ≡ guard.Write q c t → writes_row c (get_or gs g d) ≡ true
-    writes_here g q c t d e = ap (writes_row c) e ∙ itself c
+    writes_here g q c t d e = ap (writes_row c) e ∙ same_number c
 
     pub read_open : (g q c : ℕ) (t : ReadTicket) (d : GuardRow) (l m : L) → g < length gs → get_or gs g d ≡ guard.Read q c t → l ≡ get_or ls c m → 0 < open_reads (held l) s c
     read_open g q c t d l m lt e is =
@@ -207,13 +172,13 @@ module _ {L : Type 0} (held : L → Holders) (place : L → LockerKind) (runner 
     module _ (cs' : List CellRow) (gs' : List GuardRow) (c : ℕ) (lt : c < length cs) (l' : L) (s' : Rows) (others : OthersStay c s s') (size : SameSize s s') where
       -- the records and kinds of the lockers
       record_other : {Y : Type 0} (f : L → Y) (d : ℕ) → d ≢ c → slice_get (map f (set ls c l')) d ≡ slice_get (map f ls) d
-      record_other f d ne = ap (λ xs. slice_get xs d) (map-set f ls c l') ∙ get_set_other (map f ls) c d (f l') ne
+      record_other f d ne = ap (λ xs. slice_get xs d) (map-set f ls c l') ∙ slice_get_set_other (map f ls) c d (f l') ne
 
       record_here : {Y : Type 0} (f : L → Y) → slice_get (map f (set ls c l')) c ≡ Some (f l')
-      record_here f = ap (λ xs. slice_get xs c) (map-set f ls c l') ∙ get_set_same (map f ls) c (f l') (let m : _ = map_length f ls in let k : c < length ls = inside_lockers c lt in omega (arith, m, k))
+      record_here f = ap (λ xs. slice_get xs c) (map-set f ls c l') ∙ slice_get_set_same (map f ls) c (f l') (let m : _ = length-map ls f in let k : c < length ls = inside_lockers c lt in omega (arith, m, k))
 
       lockers_count : {Y : Type 0} (f : L → Y) → length (map f (set ls c l')) ≡ length (map f ls)
-      lockers_count f = map_length f (set ls c l') ∙ length-set ls c l' ∙ sym (map_length f ls)
+      lockers_count f = length-map (set ls c l') f ∙ length-set ls c l' ∙ sym (length-map ls f)
 
       -- the locks of the other cells stay open
       keeps : length cs' ≡ length cs → All (IsOfCell (length cs)) gs' → ((d : ℕ) → d ≢ c → slice_get cs' d ≡ slice_get cs d) → ((d : ℕ) → d ≢ c → count_by (reads_row d) gs' ≡ count_by (reads_row d) gs) → ((d : ℕ) → d ≢ c → count_by (writes_row d) gs' ≡ count_by (writes_row d) gs) →
@@ -312,7 +277,7 @@ module _ {L : Type 0} (held : L → Holders) (place : L → LockerKind) (runner 
       read_given t e gone =
           subst (λ (x : GuardRow). HoldsLocks (viewed cs (set gs g x) ps (set ls c l') s')) (sym free)
           (keeps cs (set gs g guard.Free) c (read_cell g q c t d inside e) l' s' others size refl (guards_left g) (λ j ne. refl)
-          (λ j ne. as_many (reads_row j) gs g guard.Free d inside (ap (reads_row j) e ∙ another c j ne) refl)
+          (λ j ne. as_many (reads_row j) gs g guard.Free d inside (ap (reads_row j) e ∙ other_number c j ne) refl)
           (λ j ne. as_many (writes_row j) gs g guard.Free d inside (ap (writes_row j) e) refl)
           (read_back cs (set gs g guard.Free) c (read_cell g q c t d inside e) l' s' others size l m is still refl (read_counted g c d inside (reads_here g q c t d e)) (as_many (writes_row c) gs g guard.Free d inside (ap (writes_row c) e) refl) gone fits))
 
@@ -325,7 +290,7 @@ module _ {L : Type 0} (held : L → Holders) (place : L → LockerKind) (runner 
           subst (λ (x : GuardRow). HoldsLocks (viewed cs (set gs g x) ps (set ls c l') s')) (sym free)
           (keeps cs (set gs g guard.Free) c lt l' s' others size refl (guards_left g) (λ j ne. refl)
           (λ j ne. as_many (reads_row j) gs g guard.Free d inside (ap (reads_row j) e) refl)
-          (λ j ne. as_many (writes_row j) gs g guard.Free d inside (ap (writes_row j) e ∙ another c j ne) refl)
+          (λ j ne. as_many (writes_row j) gs g guard.Free d inside (ap (writes_row j) e ∙ other_number c j ne) refl)
           (write_back cs (set gs g guard.Free) c lt l' s' others size l m (holds.at c lt).row is (holds.at c lt).row_is (runs_still cs (set gs g guard.Free) c lt l' s' others size l m is still) (omega (arith, one, most)) (as_many (reads_row c) gs g guard.Free d inside (ap (reads_row c) e) refl)
           (write_open g q c t d l m inside e is) fits))
 

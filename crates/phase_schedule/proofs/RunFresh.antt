@@ -1,5 +1,6 @@
--- The rows before the first step.
+-- The rows before the first step stand for the empty history.
 use Rattle.std.proofs.Common.{zero, suc, ◌≡◌, ℕ, ◌+◌, ◌<◌, ◌≤◌, ◌^◌, List, [], ◌∷◌, ◌++◌, length, map, take, get_or, replicate, refl, sym, ◌∙◌, ap, subst, arith, None, Some}
+use Rattle.std.proofs.lemmas.List.{length-map}
 use Rattle.std.proofs.Math.ListN.{length-replicate}
 use Rattle.std.specs.Prelude.{slice_get}
 use Rattle.std.proofs.lemmas.Grind.{common_steps}
@@ -61,9 +62,6 @@ all_same n j x lt = grind (arith, common_steps, gets)
 mapped : {Y : Type 0} (f : CellPlan → Y) (xs : List CellPlan) (c : ℕ) → c < length xs → slice_get (map f xs) c ≡ Some (f (cell_at xs c))
 mapped f xs c lt = grind (arith, common_steps, gets)
 
-map_length : {X Y : Type 0} (f : X → Y) (xs : List X) → length (map f xs) ≡ length xs
-map_length f xs = grind (arith, common_steps)
-
 plans_back : (xs : List CellPlan) → plans_in (map fresh_cell xs) ≡ xs
 plans_back [] = refl
 plans_back (x ∷ xs) = ap (λ ys. x ∷ ys) (plans_back xs)
@@ -83,7 +81,7 @@ locked_nothing xs b few =
       single = λ p. omega arith;
       apart = λ c. record { one = omega arith; no_reader = λ lt. refl; limit = omega arith };
       held_count = length-replicate (length xs) _;
-      place_count = map_length kind_of xs;
+      place_count = length-map xs kind_of;
       readers_count = length-replicate (length xs) _;
       writers_count = length-replicate (length xs) _;
       few = subst (λ (n : ℕ). n < 2 ^ 20) (sym (length-replicate b _)) few;
@@ -107,7 +105,7 @@ kept_nothing : (xs : List CellPlan) (a b : ℕ) → Kept xs (λ c. replay xs c [
 kept_nothing xs a b =
     record {
       planned = plans_back xs;
-      cell = λ d lt. mapped fresh_cell xs d (subst (λ (n : ℕ). d < n) (map_length fresh_cell xs) lt);
+      cell = λ d lt. mapped fresh_cell xs d (subst (λ (n : ℕ). d < n) (length-map xs fresh_cell) lt);
       slot = λ d lt. all_same a d guard.Free (subst (λ (n : ℕ). d < n) (length-replicate a _) lt);
       party = λ d lt. all_same b d idle_party (subst (λ (n : ℕ). d < n) (length-replicate b _) lt);
       parties = length-replicate b _ ∙ sym (length-replicate b _);
@@ -144,7 +142,7 @@ begun plan count v few ce gu pa he pl ru pk =
     record {
       follows = subst (λ cs. Tracks cs [] v) (sym planned) (subst (λ (w : View). Tracks plan.cells.items [] w) (sym same) (tracks_nothing plan.cells.items count plan.parties few));
       planned = planned;
-      cells = ap length ce ∙ map_length fresh_cell plan.cells.items;
+      cells = ap length ce ∙ length-map plan.cells.items fresh_cell;
       guards = ap length gu ∙ length-replicate count _;
       parties = ap length pa ∙ length-replicate plan.parties _;
     }

@@ -1,12 +1,10 @@
 -- The locks that the rows of a run hold are open at its lockers.
-use Rattle.std.proofs.Common.{◌≡◌, ◌≢◌, ◌==◌, ℕ, ◌+◌, ◌<◌, ◌≤◌, ◌^◌, Bool, true, false, List, [], ◌∷◌, length, map, refl, sym, ◌∙◌, ap, subst, arith, cond, inl, inr, None, Some}
-use Rattle.std.proofs.Math.ListN.{get_or, set, length-replicate}
-use Rattle.std.proofs.lemmas.List.{get_or_past, ext_get_or}
-use Rattle.std.proofs.lemmas.List.Folds.{sum_by-replicate}
+use Rattle.std.proofs.Common.{◌≡◌, ◌≢◌, ◌==◌, ℕ, ◌+◌, ◌<◌, ◌≤◌, ◌^◌, Bool, true, false, List, [], ◌∷◌, length, refl, sym, ◌∙◌, ap, subst, arith, cond, inl, inr, None, Some}
+use Rattle.std.proofs.Math.ListN.{get_or, set}
+use Rattle.std.proofs.lemmas.List.{get_or_past}
 use Rattle.std.proofs.lemmas.Bool.{cases_lt}
 use Rattle.std.proofs.lemmas.Option.{get_or_from_slice_get}
-use Rattle.std.proofs.lemmas.Grind.{common_steps}
-use Rattle.std.specs.Prelude.{count_by, replicate}
+use Rattle.std.specs.Prelude.{count_by}
 use Rattle.std.specs.List.{find}
 use Rattle.std.specs.declared.option.Option.{Option}
 use Rattle.phase_locker.specs.Natures.{read_ticket, write_ticket}
@@ -27,20 +25,17 @@ use Rattle.phase_schedule.specs.declared.rows.GuardRow.{GuardRow}
 use Rattle.phase_schedule.specs.declared.rows.GuardRow.TheVariants as guard
 use Rattle.phase_schedule.specs.declared.rows.RunRow.{RunRow}
 use Rattle.phase_schedule.specs.View.{View}
-use Rattle.phase_schedule.specs.Kept.{call_of, cell_of, cell_row, guard_row, kind_at, open_after, open_run, plans_in, run_in, runner_in, section_by, want_of}
+use Rattle.phase_schedule.specs.Kept.{call_of, cell_of, cell_row, guard_row, kind_at, open_after, open_run, run_in, runner_in, section_by, want_of}
 use Rattle.phase_schedule.specs.Tracks.{NumbersBelow, Tracks}
 use Rattle.phase_schedule.specs.Closing.{HoldsAt, HoldsLocks, IsOfCell, RunsAt, locks_of, reads_row, writes_row}
+use Rattle.phase_schedule.proofs.Passing.{count_free, count_test, count_set, count_before}
 use Rattle.phase_schedule.proofs.RowCounts.{open_reads_shown, write_open_shown}
-use Rattle.phase_schedule.proofs.RunClosing.{count_set}
+use Rattle.phase_schedule.proofs.Places.{planned_length}
+use Rattle.phase_schedule.proofs.RowOpens.{numbered_above, asked_run}
 use Rattle.phase_schedule.proofs.Same.{agrees_core}
 use Rattle.phase_schedule.proofs.Slots.{set_shows}
 
 -- ---- guards by their numbers
-
--- no guard has a number from n on
-none_above : (n g : ℕ) (gs : List Guard) → NumbersBelow n gs → n ≤ g → numbered g gs ≡ None
-none_above n g [] b le = refl
-none_above n g (x ∷ gs) b le = let lt : x.number < n = b.0 in let rest = none_above x.number g gs b.1 (omega (arith, lt, le)) in grind (arith, lt, le, rest)
 
 found_first : (x : Guard) (gs : List Guard) → numbered x.number (x ∷ gs) ≡ Some x
 found_first x gs = grind arith
@@ -58,34 +53,16 @@ never_free x e = by x.writes e
 
 -- ---- counts
 
--- where every row is free, none passes
-none_pass : (f : GuardRow → Bool) (rows : List GuardRow) → f guard.Free ≡ false → ((g : ℕ) → get_or rows g guard.Free ≡ guard.Free) → count_by f rows ≡ 0
-none_pass f rows fails all =
-    let same : rows ≡ replicate (length rows) guard.Free = ext_get_or guard.Free rows (replicate (length rows) guard.Free) (sym (length-replicate (length rows) guard.Free)) (λ g k. all g ∙ sym (at_free (length rows) g)) in
-    ap (λ (r : List GuardRow). count_by f r) same ∙ sum_by-replicate (λ (r : GuardRow). cond {A = ℕ} (f r) 1 0) (length rows) guard.Free ∙ rw fails (omega arith)
-  where
-    at_free : (n g : ℕ) → get_or (replicate n guard.Free) g guard.Free ≡ guard.Free
-    at_free n g = grind (arith, common_steps)
-
 -- as many rows pass as guards
 count_slots : (f : GuardRow → Bool) (n : ℕ) (gs : List Guard) (rows : List GuardRow) → f guard.Free ≡ false → NumbersBelow n gs → ((g : ℕ) → get_or rows g guard.Free ≡ guard_row (numbered g gs)) → count_by f rows ≡ count (λ (x : Guard). f (guard_row (Some x))) gs
-count_slots f n [] rows fails below all = none_pass f rows fails all
+count_slots f n [] rows fails below all = count_free guard.Free f rows fails all
 count_slots f n (x ∷ gs) rows fails below all =
     let here : get_or rows x.number guard.Free ≡ guard_row (Some x) = all x.number ∙ ap guard_row (found_first x gs) in
     let lt : x.number < length rows = elim (cases_lt x.number (length rows)) [ inl k ↦ k | inr k ↦ absurd (never_free x (sym here ∙ get_or_past rows x.number guard.Free k)) ] in
-    let none : numbered x.number gs ≡ None = none_above x.number x.number gs below.1 (omega arith) in
+    let none : numbered x.number gs ≡ None = numbered_above x.number x.number gs below.1 (omega arith) in
     let rest = count_slots f x.number gs (set rows x.number guard.Free) fails below.1 (set_shows rows x.number guard.Free guard.Free (λ g. guard_row (numbered g (x ∷ gs))) (λ g. guard_row (numbered g gs)) all (λ g ne. ap guard_row (found_beside x gs g ne)) lt (sym (ap guard_row none))) in
     let one = rw (here, fails) at (count_set f rows x.number guard.Free guard.Free lt) in
-    add (f (guard_row (Some x))) _ _ _ rest one
-  where
-    add : (b : Bool) (n m k : ℕ) → n ≡ k → n + cond {A = ℕ} b 1 0 ≡ m + 0 → m ≡ cond b (k + 1) k
-    add true n m k e f = omega (arith, e, f)
-    add false n m k e f = omega (arith, e, f)
-
--- the same test, the same count
-count_test : (t u : Guard → Bool) (gs : List Guard) → ((x : Guard) → t x ≡ u x) → count t gs ≡ count u gs
-count_test t u [] same = refl
-count_test t u (x ∷ gs) same = λ i. cond (same x i) (count_test t u gs same i + 1) (count_test t u gs same i)
+    count_before (f (guard_row (Some x))) _ _ _ rest one
 
 row_reads : (c : ℕ) (x : Guard) → reads_row c (guard_row (Some x)) ≡ reads_cell c x
 row_reads c x = by x.writes
@@ -114,12 +91,6 @@ section_counted c within None ss = run_counted ss
         by true r le = omega arith
         by false r le = le
 
--- a call that runs a generator asked for the run
-asked_run : (k : Call) → initializes (want_of k) ≡ true
-asked_run call.Phase = refl
-asked_run call.Read = refl
-asked_run call.Write = refl
-
 -- a section that generates is that of the party that runs
 section_runs : (c : ℕ) (within : Guard → Content) (o : Option Guard) (ss : List Section) → RunsAt c (runner_in c ss) (section_by c within o (run_in c ss))
 section_runs c within (Some x) ss = tt
@@ -137,18 +108,15 @@ section_runs c within None ss = run_runs ss
 -- ---- rows that stand for a history
 
 module _ (cells : List CellPlan) (h : List Event) (v : View) (t : Tracks cells h v) where
-  planned_length : length v.cells ≡ length cells
-  planned_length = let e : map (λ r. r.plan) v.cells ≡ cells = t.kept.planned in by v.cells cells e
-    where
-      by : (rows : List _) (cells : List CellPlan) → plans_in rows ≡ cells → length rows ≡ length cells
-      by rows cells e = grind (arith, common_steps)
+  as_many : length v.cells ≡ length cells
+  as_many = planned_length v.cells cells t.kept.planned
 
   -- each slot shows the guard of its number, where there is one
   slots : (g : ℕ) → get_or v.guards g guard.Free ≡ guard_row (numbered g (guards h))
   slots g =
       elim (cases_lt g (length v.guards)) [
         | inl k ↦ get_or_from_slice_get v.guards g _ guard.Free (t.kept.slot g k)
-        | inr k ↦ get_or_past v.guards g guard.Free k ∙ sym (ap guard_row (none_above (length h) g (guards h) t.steady.numbers (let r : _ = t.room in omega (arith, r, k))))
+        | inr k ↦ get_or_past v.guards g guard.Free k ∙ sym (ap guard_row (numbered_above (length h) g (guards h) t.steady.numbers (let r : _ = t.room in omega (arith, r, k))))
       ]
 
   reads_counted : (c : ℕ) → count_by (reads_row c) v.guards ≡ read_guards c h
@@ -162,7 +130,7 @@ module _ (cells : List CellPlan) (h : List Event) (v : View) (t : Tracks cells h
   of_cell g (Some x) e = by x.writes
     where
       lt : x.cell < length v.cells
-      lt = subst (λ (n : ℕ). x.cell < n) (sym planned_length) (t.kept.guard_cell g x e)
+      lt = subst (λ (n : ℕ). x.cell < n) (sym as_many) (t.kept.guard_cell g x e)
 
       by : (b : Bool) → IsOfCell (length v.cells) (cond {A = GuardRow} b (guard.Write x.party x.cell write_ticket) (guard.Read x.party x.cell read_ticket))
       by true = lt
@@ -172,13 +140,13 @@ module _ (cells : List CellPlan) (h : List Event) (v : View) (t : Tracks cells h
   pub holds_locks : length v.cells < 2 ^ 32 → HoldsLocks v
   holds_locks few =
       record {
-        at = λ c lt. holds_at c (subst (λ (n : ℕ). c < n) planned_length lt) lt;
+        at = λ c lt. holds_at c (subst (λ (n : ℕ). c < n) as_many lt) lt;
         guards = λ g d lt. subst (IsOfCell (length v.cells)) (sym (get_or_from_slice_get v.guards g _ d (t.kept.slot g lt))) (of_cell g (numbered g (guards h)) refl);
         few = few;
-        lockers = t.locked.held_count ∙ sym planned_length;
-        places = t.locked.place_count ∙ sym planned_length;
-        runners = t.run_by.count ∙ sym planned_length;
-        parks = t.locked.readers_count ∙ sym planned_length;
+        lockers = t.locked.held_count ∙ sym as_many;
+        places = t.locked.place_count ∙ sym as_many;
+        runners = t.run_by.count ∙ sym as_many;
+        parks = t.locked.readers_count ∙ sym as_many;
       }
     where
       holds_at : (c : ℕ) → c < length cells → c < length v.cells → HoldsAt v c

@@ -1,10 +1,10 @@
--- Histories that grow, and what a run is left with.
+-- A step made and kept makes the history longer, and what the cells are left with is told.
 use Rattle.std.proofs.Common.{zero, suc, ◌≡◌, ℕ, ◌+◌, ◌<◌, ◌≤◌, List, [], ◌∷◌, ◌++◌, length, map, take, get_or, refl, sym, ◌∙◌, ap, subst, arith, Some}
+use Rattle.std.proofs.lemmas.List.{length-map, get_or-map}
 use Rattle.std.specs.Prelude.{slice_get}
 use Rattle.std.proofs.lemmas.Grind.{common_steps}
 use Rattle.phase_bits.specs.declared.holders.Holders.{Holders}
 use Rattle.phase_bits.specs.declared.phase.Phase.{Phase}
-use Rattle.schedule_rules.specs.declared.plan.CellPlan.{CellPlan}
 use Rattle.schedule_rules.specs.declared.step.Step.{Step}
 use Rattle.schedule_rules.specs.declared.line.Line.{Line}
 use Rattle.schedule_rules.specs.declared.transcript.Final.{Final}
@@ -14,10 +14,12 @@ use Rattle.schedule_rules.specs.Replay.{replay, inside}
 use Rattle.schedule_rules.specs.Transcripts.{AreFinals, final_of, told}
 use Rattle.phase_schedule.specs.declared.rows.CellRow.{CellRow}
 use Rattle.phase_schedule.specs.View.{Made, View}
-use Rattle.phase_schedule.specs.Kept.{cell_row, last_of, open_after, plans_in, record_in}
+use Rattle.phase_schedule.specs.Kept.{cell_row, last_of, open_after, record_in}
 use Rattle.phase_schedule.specs.Tracks.{Follows, FollowsStep, Tracks, event, plans}
 use Rattle.phase_schedule.specs.Ready.{IsNext}
 use Rattle.phase_schedule.specs.Progress.{CanStep, HasStepped, finals_by, finals_of, past}
+use Rattle.phase_schedule.proofs.Places.{planned_length}
+use Rattle.phase_schedule.proofs.RunFresh.{counted_more}
 
 told_more : (h : List Event) (ss : List Step) (ls : List Line) (s : Step) (l : Line) → length ls ≡ length ss → told h (ss ++ s ∷ []) (ls ++ l ∷ []) ≡ record { step = s; line = l } ∷ told h ss ls
 told_more h [] [] s l e = refl
@@ -30,12 +32,6 @@ told_length h [] [] e = omega arith
 told_length h [] (k ∷ ls) e = absurd (omega (arith, e))
 told_length h (r ∷ ss) [] e = absurd (omega (arith, e))
 told_length h (r ∷ ss) (k ∷ ls) e = let more : _ = told_length (record { step = r; line = k } ∷ h) ss ls (omega (arith, e)) in omega arith
-
-one_more : {X : Type 0} (xs : List X) (x : X) → length (xs ++ x ∷ []) ≡ length xs + 1
-one_more xs x = grind (arith, common_steps)
-
-pub planned_length : (rows : List CellRow) (cells : List CellPlan) → plans_in rows ≡ cells → length rows ≡ length cells
-planned_length rows cells e = grind (arith, common_steps)
 
 -- the next step
 pub is_next : (h : List Event) (x : Made) (steps : List Step) (s : Step) → CanStep h x steps s → IsNext h x.rows s (length steps)
@@ -56,7 +52,7 @@ has_stepped h old new steps s l can did lines room finals final_room =
     record {
       made = record {
         follows = subst (λ cs. Tracks cs (past new (steps ++ s ∷ [])) new.rows) (sym planned) (subst (λ y. Tracks (plans old.rows) y new.rows) (sym grown) did.follows);
-        lines = ap length lines ∙ one_more old.lines l ∙ ap (λ n. n + 1) can.made.lines ∙ sym (one_more steps s);
+        lines = ap length lines ∙ counted_more old.lines l (length old.lines) refl ∙ ap (λ n. n + 1) can.made.lines ∙ sym (counted_more steps s (length steps) refl);
         line_room = let e : _ = can.made.line_room in let g : _ = did.guards in omega (arith, e, g, room);
         finals = finals ∙ can.made.finals;
         final_room = let e : _ = can.made.final_room in omega (arith, e, final_room, same_cells);
@@ -108,35 +104,24 @@ finals_more hs rs i d q lt in_rows = ap (λ xs. finals_by xs (take (i + 1) rs)) 
     joined (y ∷ hs) [] x r e = absurd (omega (arith, e))
     joined (y ∷ hs) (q ∷ rs) x r e = ap (λ fs. last_of y q ∷ fs) (joined hs rs x r (omega (arith, e)))
 
-mapped_get : {X Y : Type 0} (f : X → Y) (xs : List X) (i : ℕ) (d : X) → get_or (map f xs) i (f d) ≡ f (get_or xs i d)
-mapped_get f [] i d = refl
-mapped_get f (x ∷ xs) zero d = refl
-mapped_get f (x ∷ xs) (suc i) d = mapped_get f xs i d
-
 -- of the next locker and row
 pub told_next : {L : Type 0} (held : L → Holders) (ls : List L) (rs rows : List CellRow) (i : ℕ) (l : L) (q : CellRow) (fs : List Final) (p : Phase) → length ls ≡ length rs → rows ≡ rs → i < length rows → fs ≡ finals_by (take i (map held ls)) (take i rs) → p ≡ (held l).phase → l ≡ get_or ls i l →
     fs ++ record { phase = p; value = (get_or rows i q).value } ∷ [] ≡ finals_by (take (i + 1) (map held ls)) (take (i + 1) rs)
 told_next held ls rs rows i l q fs p same equal lt made phase is =
-    (λ j. made j ++ record { phase = (phase ∙ ap (λ (x : Holders). x.phase) here) j; value = (get_or (equal j) i q).value } ∷ []) ∙ sym (finals_more (map held ls) rs i (held l) q (let m = map_length ls in omega (arith, m, same, in_rows)) in_rows)
+    (λ j. made j ++ record { phase = (phase ∙ ap (λ (x : Holders). x.phase) here) j; value = (get_or (equal j) i q).value } ∷ []) ∙ sym (finals_more (map held ls) rs i (held l) q (let m = length-map ls held in omega (arith, m, same, in_rows)) in_rows)
   where
-    here : held l ≡ get_or (map held ls) i (held l)
-    here = ap held is ∙ sym (mapped_get held ls i l)
-
     in_rows : i < length rs
     in_rows = subst (λ (xs : List CellRow). i < length xs) equal lt
 
-    map_length : (xs : List _) → length (map held xs) ≡ length xs
-    map_length xs = grind (arith, common_steps)
+    here : held l ≡ get_or (map held ls) i (held l)
+    here = ap held is ∙ sym (get_or-map held ls i l (held l) (omega (arith, same, in_rows)))
 
 -- of all
 pub told_all : {L : Type 0} (held : L → Holders) (ls : List L) (rs : List CellRow) (i : ℕ) (fs : List Final) → length ls ≡ length rs → length rs ≤ i → fs ≡ finals_by (take i (map held ls)) (take i rs) → fs ≡ finals_by (map held ls) rs
-told_all held ls rs i fs same le made = made ∙ (λ j. finals_by (whole (map held ls) i (let m = map_length ls in omega (arith, m, same, le)) j) (whole rs i le j))
+told_all held ls rs i fs same le made = made ∙ (λ j. finals_by (whole (map held ls) i (let m = length-map ls held in omega (arith, m, same, le)) j) (whole rs i le j))
   where
     whole : {X : Type 0} (xs : List X) (i : ℕ) → length xs ≤ i → take i xs ≡ xs
     whole xs i le = grind (arith, common_steps)
-
-    map_length : (xs : List _) → length (map held xs) ≡ length xs
-    map_length xs = grind (arith, common_steps)
 
 -- they are those of the history
 pub finals_are : (h : List Event) (v : View) (finals : List Final) → Follows h v → finals ≡ finals_of v → AreFinals finals (plans v) h

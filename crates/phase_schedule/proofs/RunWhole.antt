@@ -1,4 +1,4 @@
--- Whole runs.
+-- Every step of a schedule without a cause can be made, and the transcript of all is legal.
 use Rattle.std.proofs.Common.{◌≡◌, ℕ, ◌<◌, ◌≤◌, ◌^◌, List, [], length, take, get_or, refl, sym, ◌∙◌, ap, subst, arith, None}
 use Rattle.std.proofs.lemmas.Grind.{common_steps}
 use Rattle.schedule_rules.specs.declared.plan.Plan.{Plan}
@@ -10,7 +10,8 @@ use Rattle.phase_schedule.specs.Errors.{cause_of}
 use Rattle.phase_schedule.specs.Tracks.{plans}
 use Rattle.phase_schedule.specs.View.{Made}
 use Rattle.phase_schedule.specs.Progress.{CanStep, HasMade, finals_of, past}
-use Rattle.phase_schedule.proofs.RunTold.{finals_are, planned_length}
+use Rattle.phase_schedule.proofs.Places.{planned_length}
+use Rattle.phase_schedule.proofs.RunTold.{finals_are}
 use Rattle.phase_schedule.proofs.RunValid.{valid}
 
 module _ (plan : Plan) (steps : List Step) (x : Made) (i : ℕ) (made : HasMade x (take i steps)) (planned : plans x.rows ≡ plan.cells.items) where

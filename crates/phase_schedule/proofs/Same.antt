@@ -1,4 +1,4 @@
--- Records of which the counts are the same, and the flags.
+-- The record of a cell is the same where as many hold it; whether it is locked, and its flags.
 use Rattle.std.proofs.Common.{◌≡◌, ◌==◌, ℕ, ◌+◌, List, refl, arith, Bool, true, false, ◌∙◌, ap, sym, not, ◌||◌}
 use Rattle.std.specs.Prelude.{nat_lt}
 use Rattle.std.specs.List.{list_any}
@@ -50,14 +50,6 @@ module _ (cells : List CellPlan) where
   -- the record of a history agrees with it
   pub agrees_core : (c : ℕ) (h : List Event) (ws : List Wait) → Agrees cells c h ws (core_with cells c h ws)
   agrees_core c h ws = record { phase = refl; readers = refl; locked = refl }
-
-  -- the same, by an equation
-  pub core_agrees : (c : ℕ) (h : List Event) (ws : List Wait) (x : Holders) → x ≡ core_with cells c h ws → Agrees cells c h ws x
-  core_agrees c h ws x e = rw e (agrees_core c h ws)
-
-  -- the waiter flags say nothing against it
-  pub agrees_flagged : (c : ℕ) (h : List Event) (ws : List Wait) (s : Rows) (x : Holders) → Agrees cells c h ws x → Agrees cells c h ws (flagged c s x)
-  agrees_flagged c h ws s x a = record { phase = a.phase; readers = a.readers; locked = a.locked }
 
   -- with the waiter flags that the rows give, a record that agrees is that of the history
   pub flagged_core : (c : ℕ) (h : List Event) (ws : List Wait) (s : Rows) (x : Holders) → Shows ws s → Agrees cells c h ws x → flagged c s x ≡ core_with cells c h ws

@@ -5,14 +5,11 @@ use Rattle.std.specs.declared.option.Option.{Option}
 use Rattle.phase_locker.specs.declared.ways.How.{How}
 use Rattle.phase_locker.specs.declared.ways.Given.{Given}
 use Rattle.phase_locker.specs.declared.ways.Given.TheVariants as given
-use Rattle.schedule_rules.specs.declared.line.Answer.{Answer}
-use Rattle.schedule_rules.specs.declared.line.Answer.TheVariants as answer
 use Rattle.schedule_rules.specs.declared.step.Step.{Step}
 use Rattle.schedule_rules.specs.declared.plan.CellPlan.{CellPlan}
 use Rattle.schedule_rules.specs.History.{Event, count}
-use Rattle.schedule_rules.specs.Waits.{Wait, Attempt, wait_of, without_wait, with_wait, wake_reader, wake_writer, wake_readers, waits, waits_answered, waits_given_with, attempt_with, cell_concerned_with}
+use Rattle.schedule_rules.specs.Waits.{Wait, Attempt, wait_of, without_wait, with_wait, wake_reader, wake_writer, wake_readers, waits_given_with, cell_concerned_with}
 use Rattle.phase_schedule.specs.Shown.{IsSingle}
-use Rattle.schedule_rules.proofs.Opened.{wait_removed}
 use Rattle.phase_schedule.proofs.Each.{reader_party, writer_party}
 use Rattle.phase_schedule.proofs.Finding.{changed, wait_readers, wait_writer}
 
@@ -52,16 +49,6 @@ single_with p way (Some a) ws none single = λ r. at r (none_counted p ws none) 
     at r zero one = grind arith
 
 module _ (cells : List CellPlan) where
-  -- after what a step gave
-  pub single_given : (all : List Wait) (h : List Event) (s : Step) (g : Given) (ws : List Wait) → IsSingle ws → IsSingle (waits_given_with cells all h s g ws)
-  single_given all h s given.Nobody ws single = single
-  single_given all h s (given.Writer q) ws single = single_writer q ws single
-  single_given all h s given.Readers ws single = by (cell_concerned_with cells all h s.party s.act)
-    where
-      by : (o : Option ℕ) → IsSingle (wake_readers o ws)
-      by None = single
-      by (Some c) = single_readers c ws single
-
   -- a party that does not wait is given nothing
   pub none_given : (all : List Wait) (h : List Event) (s : Step) (g : Given) (ws : List Wait) (p : ℕ) → wait_of p ws ≡ None → wait_of p (waits_given_with cells all h s g ws) ≡ None
   none_given all h s given.Nobody ws p none = none
@@ -71,24 +58,3 @@ module _ (cells : List CellPlan) where
       by : (o : Option ℕ) → wait_of p (wake_readers o ws) ≡ None
       by None = none
       by (Some c) = wait_readers c p ws ∙ ap (λ o. changed (wake_reader c) o) none
-
-  -- after a step with this answer
-  pub single_answered : (h : List Event) (s : Step) (g : Given) (a : Answer) (ws : List Wait) → IsSingle ws → IsSingle (waits_answered cells h s g a ws)
-  single_answered h s g (answer.Refused r) ws single = single
-  single_answered h s g (answer.Waiting way) ws single =
-      single_with s.party way (attempt_with cells ws h s.party s.act) (waits_given_with cells ws h s g (without_wait s.party ws)) (none_given ws h s g (without_wait s.party ws) s.party (wait_removed s.party ws)) (single_given ws h s g (without_wait s.party ws) (single_without s.party ws single))
-  single_answered h s g (answer.Phase q) ws single = single_given ws h s g (without_wait s.party ws) (single_without s.party ws single)
-  single_answered h s g (answer.Value v) ws single = single_given ws h s g (without_wait s.party ws) (single_without s.party ws single)
-  single_answered h s g answer.ReadGuard ws single = single_given ws h s g (without_wait s.party ws) (single_without s.party ws single)
-  single_answered h s g answer.WriteGuard ws single = single_given ws h s g (without_wait s.party ws) (single_without s.party ws single)
-  single_answered h s g answer.Running ws single = single_given ws h s g (without_wait s.party ws) (single_without s.party ws single)
-  single_answered h s g answer.Done ws single = single_given ws h s g (without_wait s.party ws) (single_without s.party ws single)
-  single_answered h s g answer.Failed ws single = single_given ws h s g (without_wait s.party ws) (single_without s.party ws single)
-  single_answered h s g answer.Cyclic ws single = single_given ws h s g (without_wait s.party ws) (single_without s.party ws single)
-  single_answered h s g answer.Borrowed ws single = single_given ws h s g (without_wait s.party ws) (single_without s.party ws single)
-  single_answered h s g (answer.Access q) ws single = single_given ws h s g (without_wait s.party ws) (single_without s.party ws single)
-
-  -- after a history
-  pub waits_single : (h : List Event) → IsSingle (waits cells h)
-  waits_single [] = λ p. omega arith
-  waits_single (e ∷ h) = single_answered h e.step e.line.given e.line.answer (waits cells h) (waits_single h)

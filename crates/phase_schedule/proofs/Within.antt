@@ -1,4 +1,4 @@
--- The calls wait at known cells; and of no call, the rows are new.
+-- The calls wait at known cells, whatever happens to them; and where nobody waits, new rows show it.
 use Rattle.std.proofs.Common.{zero, suc, ◌≡◌, ◌≢◌, ℕ, ◌<◌, List, [], refl, None, Some, ◌∙◌, sym, subst, map, inl, inr, false, ◌⊎◌}
 use Rattle.std.specs.Prelude.{replicate, slice_index_or}
 use Rattle.std.proofs.lemmas.Bool.{cases_eq}
@@ -11,10 +11,6 @@ use Rattle.schedule_rules.proofs.Opened.{wait_removed, wait_kept}
 use Rattle.phase_schedule.specs.Shown.{Shows, AreWithin}
 use Rattle.phase_schedule.proofs.Each.{reader_party, reader_cell, writer_party, writer_cell}
 use Rattle.phase_schedule.proofs.Finding.{changed, wait_map, wait_added, wait_beside}
-
--- no call waits at an unknown cell
-pub within_none : (n : ℕ) → AreWithin n []
-within_none n = λ r w e. absurd (cc)
 
 -- without a party's wait
 pub within_without : (n p : ℕ) (ws : List Wait) → AreWithin n ws → AreWithin n (without_wait p ws)

@@ -1,8 +1,8 @@
 use Rattle.std.proofs.Common.{◌<◌, length}
 use Rattle.phase_schedule.specs.View.{view}
-use Rattle.phase_schedule.proofs.MadeEnds.{read_locker}
+use Rattle.phase_schedule.proofs.Called.{read_locker, released}
 use Rattle.phase_schedule.proofs.MadeDone.{in_lockers}
-use Rattle.phase_schedule.proofs.Denied.{denies_read, read_cell_known, read_open, released}
+use Rattle.phase_schedule.proofs.Denied.{denies_read, read_cell_known, read_open}
 use Rattle.phase_schedule.proofs.rows.Rows.deny_read.Goals as goal
 
 pub release_read-last-requires-clause-open : goal.release_read-last-requires-clause-open

@@ -1,8 +1,8 @@
 use Rattle.std.proofs.Common.{◌<◌, length}
 use Rattle.phase_schedule.specs.View.{view}
-use Rattle.phase_schedule.proofs.MadeEnds.{read_locker}
+use Rattle.phase_schedule.proofs.Called.{read_locker, released}
 use Rattle.phase_schedule.proofs.MadeDone.{in_lockers}
-use Rattle.phase_schedule.proofs.Denied.{denies_write, write_cell_known, write_fits, write_known, write_open, released}
+use Rattle.phase_schedule.proofs.Denied.{denies_write, write_cell_known, write_fits, write_known, write_open}
 use Rattle.phase_schedule.proofs.rows.Rows.deny_write.Goals as goal
 
 pub release_write-last-requires-clause-known : goal.release_write-last-requires-clause-known

@@ -7,8 +7,9 @@ use Rattle.phase_seq.specs.declared.section.Finished.TheVariants as finished
 use Rattle.phase_schedule.specs.View.{view}
 use Rattle.phase_schedule.specs.Meets.{IsWritingOn}
 use Rattle.phase_schedule.proofs.Places.{row_at}
-use Rattle.phase_schedule.proofs.MadeEnds.{read_locker}
-use Rattle.phase_schedule.proofs.MadeDone.{generates, section_is, finish_cell, finish_runs, finish_fits, finish_write, in_plan, in_lockers, slot_free, drafted, did_write}
+use Rattle.phase_schedule.proofs.Called.{read_locker}
+use Rattle.phase_schedule.proofs.Places.{inside_plan}
+use Rattle.phase_schedule.proofs.MadeDone.{generates, section_is, finish_cell, finish_runs, finish_fits, finish_write, in_lockers, slot_free, drafted, did_write}
 use Rattle.phase_schedule.proofs.rows.Rows.made_to_write.Goals as goal
 
 pub end_run-section-requires : goal.end_run-section-requires
@@ -28,7 +29,7 @@ finish-finished-requires-clause-running g c =
     let v = view g.L.PhaseLocker.held g.L.PhaseLocker.place c.args.self.now in
     let t = c.requires.1.made.acting.ready.follows in
     let is = section_is g.h v t c.args.s.now.party c.args.run c.requires.1.ended c.index_mut-row.result.now c.end_run-section.result c.index_mut-row.ensures.value c.end_run-section.ensures.section in
-    let lt : c.args.run.cell < length c.args.self.now.sequentializers.items = in_lockers (λ q. g.L.PhaseLocker.held q.locker) c.args.self.now.sequentializers.items _ c.args.run.cell t.locked.held_count (in_plan g.h v t c.args.run.cell c.requires.1.ended.inside) in
+    let lt : c.args.run.cell < length c.args.self.now.sequentializers.items = in_lockers (λ q. g.L.PhaseLocker.held q.locker) c.args.self.now.sequentializers.items _ c.args.run.cell t.locked.held_count (inside_plan v c.args.run.cell c.requires.1.ended.inside) in
     finish_runs g.h v t c.args.s.now.party c.args.run c.requires.1.ended c.requires.1.made.acting.idle c.end_run-section.result is (g.L.PhaseLocker.held c.index_mut-cell.result.now.locker) c.index_mut-cell.result.now.running
     (read_locker (λ q. g.L.PhaseLocker.held q.locker) c.args.self.now.sequentializers.items c.args.run.cell c.index_mut-cell.result.now c.index_mut-cell.ensures.value lt)
     (read_locker (λ q. q.running) c.args.self.now.sequentializers.items c.args.run.cell c.index_mut-cell.result.now c.index_mut-cell.ensures.value lt)
@@ -38,7 +39,7 @@ finish-finished-requires-clause-fits g c =
     let v = view g.L.PhaseLocker.held g.L.PhaseLocker.place c.args.self.now in
     let t = c.requires.1.made.acting.ready.follows in
     let is = section_is g.h v t c.args.s.now.party c.args.run c.requires.1.ended c.index_mut-row.result.now c.end_run-section.result c.index_mut-row.ensures.value c.end_run-section.ensures.section in
-    let lt : c.args.run.cell < length c.args.self.now.sequentializers.items = in_lockers (λ q. g.L.PhaseLocker.held q.locker) c.args.self.now.sequentializers.items _ c.args.run.cell t.locked.held_count (in_plan g.h v t c.args.run.cell c.requires.1.ended.inside) in
+    let lt : c.args.run.cell < length c.args.self.now.sequentializers.items = in_lockers (λ q. g.L.PhaseLocker.held q.locker) c.args.self.now.sequentializers.items _ c.args.run.cell t.locked.held_count (inside_plan v c.args.run.cell c.requires.1.ended.inside) in
     finish_fits g.h v t c.args.s.now.party c.args.run c.requires.1.ended c.requires.1.made.acting.idle c.end_run-section.result is (g.L.PhaseLocker.held c.index_mut-cell.result.now.locker) (g.L.PhaseLocker.place c.index_mut-cell.result.now.locker)
     (read_locker (λ q. g.L.PhaseLocker.held q.locker) c.args.self.now.sequentializers.items c.args.run.cell c.index_mut-cell.result.now c.index_mut-cell.ensures.value lt)
     (read_locker (λ q. g.L.PhaseLocker.place q.locker) c.args.self.now.sequentializers.items c.args.run.cell c.index_mut-cell.result.now c.index_mut-cell.ensures.value lt)
