@@ -6,7 +6,7 @@ use Rattle.phase_bits.specs.declared.phase.Phase.{Phase}
 use Rattle.phase_locker.specs.declared.tickets.LockNature.TheVariants as nature
 use Rattle.phase_seq.specs.declared.ask.Ask.{Ask}
 use Rattle.phase_seq.specs.declared.ask.Want.TheVariants as want
-use Rattle.phase_seq.specs.Asks.{initializes as seq_initializes, nature_of, wake_of, asks_run as seq_asks_run, shall_init as seq_shall_init}
+use Rattle.phase_seq.specs.Asks.{initializes as seq_initializes, finalizes, nature_of, wake_of, asks_run as seq_asks_run, shall_init as seq_shall_init}
 use Rattle.schedule_rules.specs.declared.plan.Call.{Call}
 use Rattle.schedule_rules.specs.declared.plan.Call.TheVariants as call
 use Rattle.schedule_rules.specs.declared.plan.CellPlan.{CellPlan}
@@ -29,6 +29,7 @@ pub record AsksAs (x : CellPlan) (k : Call) (a : Ask) : Type 0 where
   pub slow : a.fast ≡ false
   pub want : a.want ≡ want_of k
   pub initializes : seq_initializes a.want ≡ call_initializes k
+  pub finalizes : finalizes a.want ≡ false
   pub runs : (p : Phase) → seq_asks_run a p ≡ asks x (Calls k) (number p)
   pub nature : (p : Phase) → nature_of a p ≡ lock_nature (rule x (Calls k) (number p))
   pub wake : wake_of a.want ≡ some_nature (waking_nature (Calls k))
@@ -39,6 +40,7 @@ asks_read x =
       slow = refl;
       want = refl;
       initializes = refl;
+      finalizes = refl;
       runs = λ p. due_same x.retry p;
       nature = λ p. ap (λ b. if b then nature.Write else nature.Read) (due_same x.retry p) ∙ read_nature (shall_init x.retry (number p));
       wake = refl;
@@ -50,6 +52,7 @@ asks_write x =
       slow = refl;
       want = refl;
       initializes = refl;
+      finalizes = refl;
       runs = λ p. due_same x.retry p;
       nature = λ p. refl;
       wake = refl;

@@ -10,8 +10,9 @@ use Rattle.phase_locker.specs.declared.tickets.LockResult.TheVariants as got
 use Rattle.phase_locker.specs.declared.ways.Given.{Given}
 use Rattle.phase_seq.specs.declared.ask.Ask.{Ask}
 use Rattle.phase_seq.specs.declared.section.Begun.TheVariants as begun
-use Rattle.phase_seq.specs.Begins.{begun_by, begun_of, running_after}
-use Rattle.phase_seq.specs.Asks.{asks_run as seq_asks_run}
+use Rattle.phase_seq.specs.Begins.{begun_by, begun_of, begun_write, running_after, section_by}
+use Rattle.phase_seq.specs.Phases.{unregistered}
+use Rattle.phase_seq.specs.Asks.{finalizes, asks_run as seq_asks_run}
 use Rattle.schedule_rules.specs.declared.plan.CellPlan.{CellPlan}
 use Rattle.schedule_rules.specs.declared.step.Step.{Step}
 use Rattle.schedule_rules.specs.History.{Event}
@@ -42,12 +43,16 @@ module _ (cells : List CellPlan) (h : List Event) (s : Step) (t : Target) (ask :
   lock_runs (got.Read lock) ws = refl
   lock_runs (got.Write lock) ws = by (seq_asks_run ask (phase_of (phase_at cells t.cell h))) (asks_run cells h s t) same
     where
-      by : (a b : Bool) → a ≡ b → running_after (if a then begun.Run (record { who = who_of s t; want = ask.want; ticket = lock }) else begun.Write lock (phase_of (phase_at cells t.cell h))) (runner_in t.cell (sections h))
+      by : (a b : Bool) → a ≡ b → running_after (if a then begun.Run (section_by (who_of s t) ask.want unregistered lock) else begun_write (who_of s t) ask.want (phase_of (phase_at cells t.cell h)) lock) (runner_in t.cell (sections h))
           ≡ runner_in t.cell (if b then with_section cells h s t ws else with_guard cells h s t (writer (length h) s.party t.cell) ws).sections
       by true true e = rw (same_number t.cell) refl
       by true false e = absurd (cc)
       by false true e = absurd (cc)
-      by false false e = refl
+      by false false e = write_keeps (finalizes ask.want)
+        where
+          write_keeps : (b : Bool) → running_after (if b then begun.Final (section_by (who_of s t) ask.want (phase_of (phase_at cells t.cell h)) lock) else begun.Write lock (phase_of (phase_at cells t.cell h))) (runner_in t.cell (sections h)) ≡ runner_in t.cell (sections h)
+          write_keeps true = refl
+          write_keeps false = refl
 
   lock_others : (lock : Lock) (ws : List WaitingCall) (d : ℕ) → d ≢ t.cell → runner_in d (opened_by_lock cells h s t lock ws).sections ≡ runner_in d (sections h)
   lock_others (got.None q) ws d ne = refl

@@ -14,7 +14,8 @@ use Rattle.phase_locker.specs.declared.ways.Given.TheVariants.{Nobody}
 use Rattle.phase_seq.specs.declared.ask.Ask.{Ask}
 use Rattle.phase_seq.specs.declared.section.Begun.{Begun}
 use Rattle.phase_seq.specs.declared.section.Begun.TheVariants as begun
-use Rattle.phase_seq.specs.Begins.{begun_by}
+use Rattle.phase_seq.specs.Begins.{begun_by, begun_write, section_by}
+use Rattle.phase_seq.specs.Phases.{unregistered}
 use Rattle.phase_seq.specs.Asks.{asks_run as seq_asks_run}
 use Rattle.schedule_rules.specs.declared.plan.Call.{Call}
 use Rattle.schedule_rules.specs.declared.plan.Call.TheVariants as call
@@ -105,12 +106,15 @@ module _ (h : List Event) (v : View) (s : Step) (n : ℕ) (t : Target) (g : Give
   Means (begun.Read lock p) = IsReadAt h v s n t p g
   Means (begun.Write lock p) = IsOpeningAt h v s n t p g
   Means (begun.Run section) = IsRun h v s n t section g
+  Means (begun.Final section) = ⊥
 
   module _ (ask : Ask) (says : AsksAs (cell_at (plans v) t.cell) t.call ask) (ne : t.call ≢ call.Phase) where
     means_write : (lock : WriteTicket) → IsAnswered h v s n t (Got (got.Write lock)) g → (b : Bool) → asks_run (plans v) h s t ≡ b
-        → Means (if b then begun.Run (record { who = who_of s t; want = ask.want; ticket = lock }) else begun.Write lock (phase_of (phase_at (plans v) t.cell h)))
-    means_write lock a true e = record { opening = record { answered = a; asks = e }; section = ap (λ w. record { who = who_of s t; want = w; ticket = write_ticket }) says.want }
-    means_write lock a false e = record { opening = record { answered = a; asks = e }; phase = refl }
+        → Means (if b then begun.Run (section_by (who_of s t) ask.want unregistered lock) else begun_write (who_of s t) ask.want (phase_of (phase_at (plans v) t.cell h)) lock)
+    means_write lock a true e = record { opening = record { answered = a; asks = e }; section = ap (λ w. record { who = who_of s t; want = w; stays = unregistered; ticket = write_ticket }) says.want }
+    means_write lock a false e =
+        subst (λ b. Means (if b then begun.Final (section_by (who_of s t) ask.want (phase_of (phase_at (plans v) t.cell h)) lock) else begun.Write lock (phase_of (phase_at (plans v) t.cell h))))
+          (sym says.finalizes) (record { opening = record { answered = a; asks = e }; phase = refl })
 
     means : (a : Attempt) → IsAnswered h v s n t a g → Means (begun_by (who_of s t) ask (phase_of (phase_at (plans v) t.cell h)) a)
     means (Wait way) a = a

@@ -89,6 +89,7 @@ module _ (h : List Event) (v : View) (t : Follows h v) where
         record {
           party = read_once v.running run.cell runs _ run_at (t.run_by.each run.cell (inside_plan v run.cell e.inside)) ∙ subst (λ c. runner_in c (sections h) ≡ Some p) e.cell (runner_is (plans v) h p e.section e.found t.locked.apart);
           asked = asked_run run.call;
+          known = record { below = omega (arith) };
           locked = open_run_here x idle held;
         }
       where
@@ -113,7 +114,9 @@ module _ (h : List Event) (v : View) (t : Follows h v) where
 
       -- where it failed
       pub finish_failed : (x : Holders) (r : Finished × Given) (x' : Holders) (parks' : Parking) → Finishes o false x v.parks r x' parks' → Hands run.cell (leave_write (phase_of 6) x) v.parks r.1 x' parks'
-      finish_failed x r x' parks' f = subst (λ (q : SeqSection). Hands q.who.cell (leave_write (phase_of 6) x) v.parks r.1 x' parks') is f.hands
+      finish_failed x r x' parks' f =
+          let failed : Finishes (section_of run.cell p run.call) false x v.parks r x' parks' = subst (λ (q : SeqSection). Finishes q false x v.parks r x' parks') is f in
+          failed.hands
 
       -- where it made a value, and its call reads on
       pub finish_read : run.call ≡ call.Read → (x : Holders) (r : Finished × Given) (x' : Holders) (parks' : Parking) → Finishes o true x v.parks r x' parks' → ReadsOn run.cell (phase_of 1) x v.parks r x' parks'

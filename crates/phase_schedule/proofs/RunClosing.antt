@@ -162,7 +162,7 @@ module _ {L : Type 0} (held : L → Holders) (place : L → LockerKind) (runner 
       run_inside = let cell : t.who.cell ≡ c = run_section.cell in let count : length s.readers ≡ length cs = holds.parks in omega (arith, cell, count, lt)
 
       pub run_running : IsRunning t (runner l) (held l) s
-      run_running = record { party = run_section.party; asked = run_section.asked; locked = subst (λ (n : ℕ). IsWriteOpen (held l) s n) (sym run_section.cell) run_open }
+      run_running = record { party = run_section.party; asked = run_section.asked; known = run_section.known; locked = subst (λ (n : ℕ). IsWriteOpen (held l) s n) (sym run_section.cell) run_open }
 
       pub run_fits : Fits (place l) (held l) s t.who.cell
       run_fits = subst (λ (n : ℕ). Fits (place l) (held l) s n) (sym run_section.cell) (locker_fits c l m lt here)

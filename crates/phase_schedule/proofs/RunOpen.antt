@@ -102,7 +102,7 @@ section_runs c within None ss = run_runs ss
       where
         by : (b : Bool) → RunsAt c (runner_in c ss) (open_run c (run_in c ss))
             → RunsAt c (cond b (Some s.party) (runner_in c ss)) (open_run c (cond b (Some (record { party = s.party; call = call_of s.want; outer = cell_of (innermost s.party ss) })) (run_in c ss)))
-        by true rest = record { cell = refl; party = refl; asked = asked_run (call_of s.want) }
+        by true rest = record { cell = refl; party = refl; asked = asked_run (call_of s.want); known = record { below = omega (arith) } }
         by false rest = rest
 
 -- ---- rows that stand for a history

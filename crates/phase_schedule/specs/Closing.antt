@@ -3,6 +3,7 @@ use Rattle.std.specs.Prelude.{ℕ, ◌≡◌, ◌≢◌, ◌≤◌, ◌<◌, ◌
 use Rattle.std.specs.declared.option.Option.{Option}
 use Rattle.std.specs.declared.option.Option.TheVariants.{None, Some}
 use Rattle.phase_bits.specs.declared.holders.Holders.{Holders}
+use Rattle.phase_bits.specs.Number.{IsKnown}
 use Rattle.phase_locker.specs.declared.ways.LockerKind.{LockerKind}
 use Rattle.phase_locker.specs.Fits.{Fits, IsWriteOpen, open_reads}
 use Rattle.phase_seq.specs.declared.section.Section.{Section as SeqSection}
@@ -32,11 +33,13 @@ locks_of None = 0
 locks_of (Some (open_as.Generates r section)) = 1
 locks_of (Some (open_as.Guarded d)) = 0
 
--- the section is the one of the cell, of the party that runs there, and a run was asked for
+-- the section is the one of the cell, of the party that runs there, a run was asked for, and the flags that stay are
+-- known
 pub record IsSectionAt (c : ℕ) (running : Option ℕ) (section : SeqSection) : Type 0 where
   pub cell : section.who.cell ≡ c
   pub party : running ≡ Some section.who.party
   pub asked : initializes section.want ≡ true
+  pub known : IsKnown section.stays
 
 -- where a generator runs in the cell, its section is the one of the cell's sequentializer
 abbrev pub RunsAt : ℕ → Option ℕ → Option OpenSection → Type 0

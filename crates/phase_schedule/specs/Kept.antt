@@ -11,6 +11,7 @@ use Rattle.phase_locker.specs.Natures.{read_ticket, write_ticket}
 use Rattle.phase_seq.specs.declared.ask.Want.{Want as SeqWant}
 use Rattle.phase_seq.specs.declared.ask.Want.TheVariants as want
 use Rattle.phase_seq.specs.declared.section.Section.{Section as SeqSection}
+use Rattle.phase_seq.specs.Phases.{unregistered}
 use Rattle.schedule_rules.specs.declared.plan.Call.{Call}
 use Rattle.schedule_rules.specs.declared.plan.Call.TheVariants as call
 use Rattle.schedule_rules.specs.declared.plan.CellPlan.{CellPlan}
@@ -71,7 +72,7 @@ want_of call.Write = want.Write
 
 -- the section of the cell's sequentializer
 abbrev pub section_of : ℕ → ℕ → Call → SeqSection
-section_of c p k = record { who = record { cell = c; party = p }; want = want_of k; ticket = write_ticket }
+section_of c p k = record { who = record { cell = c; party = p }; want = want_of k; stays = unregistered; ticket = write_ticket }
 
 -- the row of a section whose generator runs in the cell
 abbrev pub open_run : ℕ → Option RunRow → Option OpenSection

@@ -51,7 +51,7 @@ impl<L: PhaseLocker> Rows<L> {
             cell: target.cell,
             party: s.party,
         };
-        let (begun, given) = self.sequentializers[cell].begin(&mut self.parks, who, ask);
+        let (begun, given) = self.sequentializers[cell].begin(&mut self.parks, who, ask, None);
         self.begun(n, s, target, begun, given)
     }
 
@@ -69,7 +69,7 @@ impl<L: PhaseLocker> Rows<L> {
             cell: target.cell,
             party: s.party,
         };
-        let (begun, given) = self.sequentializers[cell].again(&mut self.parks, who, ask);
+        let (begun, given) = self.sequentializers[cell].again(&mut self.parks, who, ask, None);
         self.begun(n, s, target, begun, given)
     }
 
@@ -87,6 +87,7 @@ impl<L: PhaseLocker> Rows<L> {
             Begun::Run(section) => self.run(n, s, target, section, given),
             Begun::Nothing(_) => unreachable!(),
             Begun::Missed => unreachable!(),
+            Begun::Final(_section) => unreachable!(),
         }
     }
 

@@ -20,9 +20,11 @@ use Rattle.phase_locker.proofs.Judging.{unheld}
 use Rattle.phase_locker.proofs.Standing.{admitted_reads}
 use Rattle.phase_seq.specs.declared.ask.Want.{Want}
 use Rattle.phase_seq.specs.declared.ask.Ask.{Ask}
+use Rattle.phase_seq.specs.declared.section.Begun.{Begun}
 use Rattle.phase_seq.specs.declared.section.Begun.TheVariants as begun
-use Rattle.phase_seq.specs.Asks.{initializes, asks_run}
-use Rattle.phase_seq.specs.Begins.{begun_of, begun_by, begun_tried, running_after}
+use Rattle.phase_seq.specs.Asks.{initializes, finalizes, asks_run}
+use Rattle.phase_seq.specs.Phases.{unregistered}
+use Rattle.phase_seq.specs.Begins.{section_by, begun_of, begun_by, begun_tried, running_after}
 use Rattle.phase_seq.specs.Stands.{BegunStands, IsFree, reads_begun}
 
 both_left : (a b : Bool) → (a && b) ≡ true → a ≡ true
@@ -31,24 +33,30 @@ both_left false b e = cc
 
 -- ---- what was got
 
-write_stands : (run : Bool) (who : Who) (want : Want) (t : WriteTicket) (p : Phase) (running : Option ℕ) (h : Holders) (s : Rows) → (run ≡ true → initializes want ≡ true) → IsFree who s → IsWriteOpen h s who.cell →
-    BegunStands who (if run then begun.Run (record { who = who; want = want; ticket = t }) else begun.Write t p) (running_after (if run then begun.Run (record { who = who; want = want; ticket = t }) else begun.Write t p) running) h s
-write_stands true who want t p running h s asked free held = (free, refl, record { party = refl; asked = asked refl; locked = held })
-write_stands false who want t p running h s asked free held = (free, held)
+-- what is begun with the lock to write
+abbrev written : Bool → Bool → Who → Want → WriteTicket → Phase → Begun
+written run final who want t p = if run then begun.Run (section_by who want unregistered t) else (if final then begun.Final (section_by who want p t) else begun.Write t p)
+
+write_stands : (run final : Bool) (who : Who) (want : Want) (t : WriteTicket) (p : Phase) (running : Option ℕ) (h : Holders) (s : Rows) → (run ≡ true → initializes want ≡ true) → (final ≡ true → finalizes want ≡ true) → IsFree who s → IsWriteOpen h s who.cell →
+    BegunStands who (written run final who want t p) (running_after (written run final who want t p) running) h s
+write_stands true final who want t p running h s asked ends free held = (free, refl, record { party = refl; asked = asked refl; known = record { below = omega arith }; locked = held })
+write_stands false true who want t p running h s asked ends free held = (free, refl, record { asked = ends refl; locked = held })
+write_stands false false who want t p running h s asked ends free held = (free, held)
 
 pub begun_of_stands : (who : Who) (ask : Ask) (p : Phase) (g : LockResult ReadTicket WriteTicket) (running : Option ℕ) (h : Holders) (s : Rows) → IsFree who s → IsOpen g h s who.cell → BegunStands who (begun_of who ask p g) (running_after (begun_of who ask p g) running) h s
 begun_of_stands who ask p (got.None q) running h s free held = free
 begun_of_stands who ask p (got.Read t) running h s free held = (free, held)
-begun_of_stands who ask p (got.Write t) running h s free held = write_stands (asks_run ask p) who ask.want t p running h s (both_left _ _) free held
+begun_of_stands who ask p (got.Write t) running h s free held = write_stands (asks_run ask p) (finalizes ask.want) who ask.want t p running h s (both_left _ _) (λ e. e) free held
 
-write_reads : (run : Bool) (who : Who) (want : Want) (t : WriteTicket) (p : Phase) → reads_begun (if run then begun.Run (record { who = who; want = want; ticket = t }) else begun.Write t p) ≡ 0
-write_reads true who want t p = refl
-write_reads false who want t p = refl
+write_reads : (run final : Bool) (who : Who) (want : Want) (t : WriteTicket) (p : Phase) → reads_begun (written run final who want t p) ≡ 0
+write_reads true final who want t p = refl
+write_reads false true who want t p = refl
+write_reads false false who want t p = refl
 
 pub begun_of_reads : (who : Who) (ask : Ask) (p : Phase) (g : LockResult ReadTicket WriteTicket) → reads_begun (begun_of who ask p g) ≡ reads_got g
 begun_of_reads who ask p (got.None q) = refl
 begun_of_reads who ask p (got.Read t) = refl
-begun_of_reads who ask p (got.Write t) = write_reads (asks_run ask p) who ask.want t p
+begun_of_reads who ask p (got.Write t) = write_reads (asks_run ask p) (finalizes ask.want) who ask.want t p
 
 -- ---- an attempt
 

@@ -2,3 +2,4 @@ pub mod Answered
 pub mod Resumed
 pub mod Exactness
 pub mod Sections
+pub mod Settled

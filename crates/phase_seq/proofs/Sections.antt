@@ -1,5 +1,7 @@
 -- An open section stays open while others call.
 use Rattle.std.proofs.Common.{◌≡◌, ℕ, ◌<◌, Bool, true, false, ◌&&◌, not, if◌then◌else◌, Option, length, inl, inr, refl, sym, ◌∙◌}
+use Rattle.phase_bits.specs.Flags.{has, initialized}
+use Rattle.phase_bits.specs.Number.{number}
 use Rattle.phase_bits.specs.declared.phase.Phase.{Phase}
 use Rattle.phase_bits.specs.declared.holders.Holders.{Holders}
 use Rattle.phase_locker.specs.declared.tickets.LockNature.{LockNature}
@@ -26,24 +28,21 @@ use Rattle.phase_seq.specs.Asks.{shall_init, initializes, asks_run, nature_where
 use Rattle.phase_seq.specs.Begins.{begun_by, running_after}
 use Rattle.phase_seq.specs.Exactly.{is_run, is_barred}
 use Rattle.phase_seq.specs.Stands.{IsRunning}
-use Rattle.phase_seq.proofs.Exactness.{run_of}
-
-both_false : (b : Bool) → (b && false) ≡ false
-both_false true = refl
-both_false false = refl
+use Rattle.phase_seq.proofs.Exactness.{both_false, run_of}
 
 -- a locked record bars each call that asks for a run
-locked_where : (w : Want) (due : Bool) (h : Holders) → h.locked ≡ true → (not (bars h (nature_where w due)) && (initializes w && due)) ≡ false
-locked_where want.Init true h e = rw e
-locked_where want.Init false h e = refl
-locked_where want.Read true h e = rw e
-locked_where want.Read false h e = both_false _
-locked_where want.Write due h e = rw e
-locked_where want.ReadOnly due h e = both_false _
-locked_where want.WriteOnly due h e = both_false _
+locked_where : (w : Want) (due there : Bool) (h : Holders) → h.locked ≡ true → (not (bars h (nature_where w due there)) && (initializes w && due)) ≡ false
+locked_where want.Init true there h e = rw e
+locked_where want.Init false there h e = refl
+locked_where want.Read true there h e = rw e
+locked_where want.Read false there h e = both_false _
+locked_where want.Write due there h e = rw e
+locked_where want.ReadOnly due there h e = both_false _
+locked_where want.WriteOnly due there h e = both_false _
+locked_where want.Finalize due there h e = both_false _
 
 locked_bars : (ask : Ask) (p : Phase) (h : Holders) → h.locked ≡ true → (not (bars h (nature_of ask p)) && asks_run ask p) ≡ false
-locked_bars ask p h e = locked_where ask.want (shall_init ask.tol p) h e
+locked_bars ask p h e = locked_where ask.want (shall_init ask.tol p) (has (number p) initialized) h e
 
 -- who runs stays, but for an answer to run
 unmoved : (b : Begun) (running : Option ℕ) → is_run b ≡ false → running_after b running ≡ running
@@ -53,6 +52,7 @@ unmoved begun.Cyclic running e = refl
 unmoved (begun.Nothing p) running e = refl
 unmoved (begun.Read t p) running e = refl
 unmoved (begun.Write t p) running e = refl
+unmoved (begun.Final section) running e = refl
 unmoved (begun.Run section) running e = cc
 
 -- ---- a call of a party that does not wait
@@ -62,7 +62,7 @@ not_run b cyclic both e f = e ∙ rw f (both_false (not cyclic))
 
 -- an open section stays where the lock to write stays open, and no run was begun
 pub section_stays : (o : Section) (b : Begun) (running running' : Option ℕ) (h h' : Holders) (s s' : Rows) → is_run b ≡ false → running' ≡ running_after b running → (IsWriteOpen h s o.who.cell → IsWriteOpen h' s' o.who.cell) → IsRunning o running h s → IsRunning o running' h' s'
-section_stays o b running running' h h' s s' none after writes was = record { party = after ∙ unmoved b running none ∙ was.party; asked = was.asked; locked = writes was.locked }
+section_stays o b running running' h h' s s' none after writes was = record { party = after ∙ unmoved b running none ∙ was.party; asked = was.asked; known = was.known; locked = writes was.locked }
 
 pub begun_apart : (b : Begun) (ask : Ask) (cyclic : Bool) (h : Holders) (s : Rows) (c : ℕ) → is_run b ≡ (not cyclic && (not (is_barred ask h) && asks_run ask h.phase)) → IsWriteOpen h s c → is_run b ≡ false
 begun_apart b ask cyclic h s c runs held = not_run (is_run b) cyclic _ runs (locked_bars ask h.phase h held.locked)

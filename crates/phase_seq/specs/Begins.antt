@@ -18,9 +18,11 @@ use Rattle.phase_locker.specs.Rows.{Rows}
 use Rattle.phase_locker.specs.Attempts.{Locks, Again}
 use Rattle.phase_seq.specs.declared.ask.Want.{Want}
 use Rattle.phase_seq.specs.declared.ask.Ask.{Ask}
+use Rattle.phase_seq.specs.declared.section.Section.{Section}
 use Rattle.phase_seq.specs.declared.section.Begun.{Begun}
 use Rattle.phase_seq.specs.declared.section.Begun.TheVariants as begun
-use Rattle.phase_seq.specs.Asks.{initializes, asks_run, nature_of, wake_of}
+use Rattle.phase_seq.specs.Phases.{unregistered}
+use Rattle.phase_seq.specs.Asks.{initializes, finalizes, asks_run, nature_of, wake_of}
 
 -- the party runs the generator of the cell
 abbrev pub runs : ℕ → Option ℕ → Bool
@@ -37,11 +39,19 @@ rule ask p n = n ≡ nature_of ask p
 
 -- ---- the answer
 
+-- the section of a call, with the flags that stay
+abbrev pub section_by : Who → Want → Phase → WriteTicket → Section
+section_by who want stays t = record { who = who; want = want; stays = stays; ticket = t }
+
+-- what is begun with the lock to write where no run is asked: a finalizer section where the call finalizes
+abbrev pub begun_write : Who → Want → Phase → WriteTicket → Begun
+begun_write who want p t = if finalizes want then begun.Final (section_by who want p t) else begun.Write t p
+
 -- what is begun with what the locker gave at this phase: a run where the call asks for one, and has the lock to write
 abbrev pub begun_of : Who → Ask → Phase → LockResult ReadTicket WriteTicket → Begun
 begun_of who ask p (got.None q) = begun.Nothing q
 begun_of who ask p (got.Read t) = begun.Read t p
-begun_of who ask p (got.Write t) = if asks_run ask p then begun.Run (record { who = who; want = ask.want; ticket = t }) else begun.Write t p
+begun_of who ask p (got.Write t) = if asks_run ask p then begun.Run (section_by who ask.want unregistered t) else begun_write who ask.want p t
 
 -- what an attempt begins
 abbrev pub begun_by : Who → Ask → Phase → Attempt → Begun
@@ -62,6 +72,7 @@ running_after begun.Cyclic running = running
 running_after (begun.Nothing p) running = running
 running_after (begun.Read t p) running = running
 running_after (begun.Write t p) running = running
+running_after (begun.Final section) running = running
 
 -- ---- the call
 

@@ -5,8 +5,8 @@ use Rattle.phase_locker.specs.declared.ways.Who.{Who}
 use Rattle.phase_locker.specs.Natures.{bars}
 use Rattle.phase_seq.specs.declared.ask.Ask.{Ask}
 use Rattle.phase_seq.specs.declared.section.Begun.{Begun}
-use Rattle.phase_seq.specs.declared.section.Begun.TheVariants.{Wait, Missed, Cyclic, Nothing, Read, Write, Run}
-use Rattle.phase_seq.specs.Asks.{asks_run, nature_of}
+use Rattle.phase_seq.specs.declared.section.Begun.TheVariants.{Wait, Missed, Cyclic, Nothing, Read, Write, Run, Final}
+use Rattle.phase_seq.specs.Asks.{asks_run, asks_final, nature_of}
 use Rattle.phase_seq.specs.Begins.{is_cyclic}
 
 -- ---- the answers
@@ -19,6 +19,7 @@ is_wait (Nothing p) = false
 is_wait (Read t p) = false
 is_wait (Write t p) = false
 is_wait (Run section) = false
+is_wait (Final section) = false
 
 abbrev pub is_missed : Begun → Bool
 is_missed (Wait how) = false
@@ -28,6 +29,7 @@ is_missed (Nothing p) = false
 is_missed (Read t p) = false
 is_missed (Write t p) = false
 is_missed (Run section) = false
+is_missed (Final section) = false
 
 abbrev pub is_turned_back : Begun → Bool
 is_turned_back (Wait how) = false
@@ -37,6 +39,7 @@ is_turned_back (Nothing p) = false
 is_turned_back (Read t p) = false
 is_turned_back (Write t p) = false
 is_turned_back (Run section) = false
+is_turned_back (Final section) = false
 
 abbrev pub is_run : Begun → Bool
 is_run (Wait how) = false
@@ -46,6 +49,17 @@ is_run (Nothing p) = false
 is_run (Read t p) = false
 is_run (Write t p) = false
 is_run (Run section) = true
+is_run (Final section) = false
+
+abbrev pub is_final : Begun → Bool
+is_final (Wait how) = false
+is_final Missed = false
+is_final Cyclic = false
+is_final (Nothing p) = false
+is_final (Read t p) = false
+is_final (Write t p) = false
+is_final (Run section) = false
+is_final (Final section) = true
 
 -- the call is admitted
 abbrev pub is_admitted : Begun → Bool
@@ -56,6 +70,7 @@ is_admitted (Nothing p) = true
 is_admitted (Read t p) = true
 is_admitted (Write t p) = true
 is_admitted (Run section) = true
+is_admitted (Final section) = true
 
 -- ---- when they come
 
@@ -74,3 +89,7 @@ shall_miss who ask running h = not (is_cyclic ask.want who.party running) && (is
 -- the call is to run the generator: it tries the lock, is admitted, and asks for a run
 abbrev pub shall_run : Who → Ask → Option ℕ → Holders → Bool
 shall_run who ask running h = not (is_cyclic ask.want who.party running) && (not (is_barred ask h) && asks_run ask h.phase)
+
+-- the call is to run the finalizer: it is admitted, and asks for it
+abbrev pub shall_finalize : Ask → Holders → Bool
+shall_finalize ask h = not (is_barred ask h) && asks_final ask h.phase

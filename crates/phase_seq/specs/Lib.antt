@@ -3,6 +3,7 @@ pub mod Generators
 pub mod Phases
 pub mod Begins
 pub mod Finishes
+pub mod Registers
 pub mod Stands
 pub mod Exactly
 pub mod Lending

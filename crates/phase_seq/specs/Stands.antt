@@ -1,6 +1,7 @@
 -- How a party stands after its call, and which locks are open then.
 use Rattle.std.specs.Prelude.{◌≡◌, ℕ, ◌<◌, true, Option, Some}
 use Rattle.phase_bits.specs.declared.holders.Holders.{Holders}
+use Rattle.phase_bits.specs.Number.{IsKnown}
 use Rattle.phase_locker.specs.declared.ways.Who.{Who}
 use Rattle.phase_locker.specs.declared.ways.Waiting.TheVariants.{Free}
 use Rattle.phase_locker.specs.Rows.{Rows, row_of}
@@ -11,12 +12,18 @@ use Rattle.phase_seq.specs.declared.section.Begun.{Begun}
 use Rattle.phase_seq.specs.declared.section.Begun.TheVariants as begun
 use Rattle.phase_seq.specs.declared.section.Finished.{Finished}
 use Rattle.phase_seq.specs.declared.section.Finished.TheVariants as finished
-use Rattle.phase_seq.specs.Asks.{initializes}
+use Rattle.phase_seq.specs.Asks.{initializes, finalizes}
 
 -- the section is the open one of the cell: its party runs the generator that its call asked for, and its lock is open
 pub record IsRunning (section : Section) (running : Option ℕ) (h : Holders) (s : Rows) : Type 0 where
   pub party : running ≡ Some section.who.party
   pub asked : initializes section.want ≡ true
+  pub known : IsKnown section.stays
+  pub locked : IsWriteOpen h s section.who.cell
+
+-- the section is the open one of the cell: its call finalizes, and its lock is open
+pub record IsFinalizing (section : Section) (h : Holders) (s : Rows) : Type 0 where
+  pub asked : finalizes section.want ≡ true
   pub locked : IsWriteOpen h s section.who.cell
 
 -- the party does not wait
@@ -32,6 +39,7 @@ BegunStands who (begun.Nothing p) running h s = IsFree who s
 BegunStands who (begun.Read t p) running h s = IsFree who s × (0 < open_reads h s who.cell)
 BegunStands who (begun.Write t p) running h s = IsFree who s × IsWriteOpen h s who.cell
 BegunStands who (begun.Run section) running h s = IsFree who s × (section.who ≡ who) × IsRunning section running h s
+BegunStands who (begun.Final section) running h s = IsFree who s × (section.who ≡ who) × IsFinalizing section h s
 
 -- how many read locks an answer opens
 abbrev pub reads_begun : Begun → ℕ
@@ -42,6 +50,7 @@ reads_begun (begun.Nothing p) = 0
 reads_begun (begun.Read t p) = 1
 reads_begun (begun.Write t p) = 0
 reads_begun (begun.Run section) = 0
+reads_begun (begun.Final section) = 0
 
 -- what is left open when a run has ended
 abbrev pub FinishedStands : ℕ → Finished → Holders → Rows → Type 0

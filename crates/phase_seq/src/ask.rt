@@ -1,7 +1,7 @@
 //! What a call asks of a cell. This project's own: static_init has a function for each call, and hands it closures.
 
 ghost use Rattle.std.specs.Prelude.{◌≡◌, ◌≢◌};
-ghost use Rattle.phase_seq.specs.Asks.{initializes, nature_of, wake_of, asks_run};
+ghost use Rattle.phase_seq.specs.Asks.{initializes, finalizes, nature_of, wake_of, asks_run};
 
 use crate::tolerance::{Tolerance, shall_init};
 use phase_bits::Phase;
@@ -20,6 +20,8 @@ pub enum Want {
     ReadOnly,
     /// To write the cell as it is.
     WriteOnly,
+    /// To finalize the cell's value, where it is there; else no lock.
+    Finalize,
 }
 
 /// What a call asks.
@@ -40,7 +42,17 @@ impl Want {
     {
         match self {
             Want::Init | Want::Read | Want::Write => true,
-            Want::ReadOnly | Want::WriteOnly => false,
+            Want::ReadOnly | Want::WriteOnly | Want::Finalize => false,
+        }
+    }
+
+    /// Whether a call with this want finalizes.
+    pub(crate) fn finalizes(self) -> bool
+        ensures { result ≡ finalizes self }
+    {
+        match self {
+            Want::Finalize => true,
+            Want::Init | Want::Read | Want::Write | Want::ReadOnly | Want::WriteOnly => false,
         }
     }
 
@@ -51,7 +63,7 @@ impl Want {
     {
         match self {
             Want::Init | Want::Read | Want::ReadOnly => LockNature::Read,
-            Want::Write | Want::WriteOnly => LockNature::Write,
+            Want::Write | Want::WriteOnly | Want::Finalize => LockNature::Write,
         }
     }
 }
@@ -78,6 +90,13 @@ impl Ask {
             }
             Want::ReadOnly => LockNature::Read,
             Want::Write | Want::WriteOnly => LockNature::Write,
+            Want::Finalize => {
+                if p.contains(Phase::INITIALIZED) {
+                    LockNature::Write
+                } else {
+                    LockNature::None
+                }
+            }
         }
     }
 

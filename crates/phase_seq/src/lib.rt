@@ -1,8 +1,10 @@
-//! Who runs the generator of a lazy cell, and what phase that leaves: generators, tolerances and the sequentializer. It
-//! stands on the lockers of `phase_locker` and on the phases of `phase_bits`.
+//! Who runs the generator or the finalizer of a lazy cell, and what phase that leaves: generators, finalizers, tolerances
+//! and the sequentializer. It stands on the lockers of `phase_locker`, the registry of `exit_registry` and the phases of
+//! `phase_bits`.
 #![tactic(auto)]
 
 mod ask;
+mod finalizer;
 mod generator;
 #[cfg(test)]
 mod generator_tests;
@@ -10,6 +12,8 @@ mod init_error;
 mod laws;
 mod once;
 mod phases;
+#[cfg(test)]
+mod registry_tests;
 mod section;
 mod sequentializer;
 #[cfg(test)]
@@ -17,6 +21,7 @@ mod tests;
 mod tolerance;
 
 pub use ask::{Ask, Want};
+pub use finalizer::{FinalFault, Finaly};
 pub use generator::{DefaultGenerator, Generator, GeneratorTolerance, InitFault};
 pub use init_error::InitError;
 pub use laws::{promised_faults_come, promised_values_come};

@@ -2,20 +2,25 @@
 //! generator itself and returns a guard.
 
 ghost use Rattle.std.specs.Prelude.{◌≡◌};
+ghost use Rattle.phase_seq.specs.Exactly.{is_run};
+ghost use Rattle.phase_seq.specs.Registers.{begun_at_once};
 
 use crate::ask::Want;
 use phase_bits::Phase;
 use phase_locker::{How, ReadTicket, Who, WriteTicket};
 
-/// An open section in which the generator of a cell is to be run. It is spent by `finish`.
+/// An open section in which the generator of a cell, or its finalizer, is to be run. It is spent by `finish` or
+/// `finish_final`.
 pub struct Section {
     pub(crate) who: Who,
     pub(crate) want: Want,
+    // The flags that stay beside those that the end of the section sets.
+    pub(crate) stays: Phase,
     pub(crate) ticket: WriteTicket,
 }
 
 impl Section {
-    /// The cell, and the party that runs its generator.
+    /// The cell, and the party that runs its generator or finalizer.
     pub fn who(&self) -> Who
         ensures { result ≡ self.now.who }
     {
@@ -27,6 +32,18 @@ impl Section {
         ensures { result ≡ self.now.want }
     {
         self.want
+    }
+}
+
+/// The section of a call.
+pub(crate) fn section_by(who: Who, want: Want, stays: Phase, ticket: WriteTicket) -> Section
+    ensures { result ≡ record { who = who; want = want; stays = stays; ticket = ticket } }
+{
+    Section {
+        who,
+        want,
+        stays,
+        ticket,
     }
 }
 
@@ -46,6 +63,17 @@ pub enum Begun {
     Write(WriteTicket, Phase),
     /// The generator is to be run, and `finish` to be told its outcome.
     Run(Section),
+    /// The finalizer is to be run, and `finish_final` to be told its outcome.
+    Final(Section),
+}
+
+impl Begun {
+    /// Whether the generator is to be run.
+    pub(crate) fn is_run(&self) -> bool
+        ensures { result ≡ is_run self.now }
+    {
+        matches!(self, Begun::Run(_))
+    }
 }
 
 /// The answer to the end of a run, with the phase that the run reached.
@@ -58,4 +86,17 @@ pub enum Finished {
     Write(WriteTicket, Phase),
     /// The run failed. No lock is left.
     Failed(Phase),
+}
+
+impl Finished {
+    /// What is begun by a call that has a section at once.
+    pub(crate) fn at_once(self) -> Begun
+        ensures { result ≡ begun_at_once self }
+    {
+        match self {
+            Finished::Phase(phase) | Finished::Failed(phase) => Begun::Nothing(phase),
+            Finished::Read(ticket, phase) => Begun::Read(ticket, phase),
+            Finished::Write(ticket, phase) => Begun::Write(ticket, phase),
+        }
+    }
 }

@@ -1,27 +1,31 @@
 //! The sequentializer of a cell.
 
-ghost use Rattle.std.specs.Prelude.{◌≡◌, ◌≢◌, ◌+◌, ◌<◌, ◌&&◌, true, false, length};
+ghost use Rattle.std.specs.Prelude.{◌≡◌, ◌≢◌, ◌+◌, ◌<◌, ◌&&◌, true, false, length, if◌then◌else◌};
+ghost use Rattle.std.specs.Option.{ForSome, option_map, option_copied_mut};
 ghost use Rattle.std.specs.Borrow.{sem};
 ghost use Rattle.phase_locker.specs.Rows.{row_of, HasFree, SameSize};
 ghost use Rattle.phase_locker.specs.Fits.{Fits, IsWriteOpen, open_reads};
 ghost use Rattle.phase_locker.specs.Others.{OthersStay, RowsStay, RowsStayBeside};
 ghost use Rattle.phase_locker.specs.declared.ways.Waiting.TheVariants.{Free};
 ghost use Rattle.phase_seq.specs.declared.section.Section.{Section};
-ghost use Rattle.phase_seq.specs.Asks.{nature_of, asks_run};
-ghost use Rattle.phase_seq.specs.Begins.{Begins, Resumes, is_cyclic, begun_of, begun_by, begun_tried, running_after};
-ghost use Rattle.phase_seq.specs.Finishes.{Finishes};
-ghost use Rattle.phase_seq.specs.Stands.{BegunStands, FinishedStands, IsRunning, reads_begun, reads_finished};
-ghost use Rattle.phase_seq.specs.Exactly.{is_wait, is_missed, is_turned_back, is_run, is_admitted, shall_wait, shall_miss, shall_run};
+ghost use Rattle.phase_seq.specs.Asks.{asks_run, asks_final};
+ghost use Rattle.phase_seq.specs.Begins.{Begins, Resumes, is_cyclic, running_after};
+ghost use Rattle.phase_seq.specs.Registers.{MayRegister, On, left_behind, after_asking, is_refused};
+ghost use Rattle.phase_seq.specs.Finishes.{Finishes, FinishesFinal};
+ghost use Rattle.phase_seq.specs.Stands.{BegunStands, FinishedStands, IsRunning, IsFinalizing, reads_begun, reads_finished};
+ghost use Rattle.phase_seq.specs.Exactly.{is_wait, is_missed, is_turned_back, is_run, is_final, is_admitted, shall_wait, shall_miss, shall_run, shall_finalize};
 ghost use Rattle.phase_seq.specs.Lending.{lends_locker};
 
 use crate::ask::{Ask, Want};
-use crate::phases::reached;
+use crate::phases::{finalized, reached};
 use crate::section::{Begun, Finished, Section};
+use exit_registry::ExitRegistry;
 use phase_bits::{Phase, Phased};
-use phase_locker::{
-    Attempt, Given, LockNature, LockResult, Parks, PhaseLocker, ReadTicket, Who, WriteTicket,
-};
+use phase_locker::{Given, Parks, PhaseLocker, Who};
 use std::marker::PhantomData;
+
+mod attempts;
+mod settling;
 
 /// The locker of a cell, and the party that runs the cell's generator. It is static_init's `LazySequentializer`, for one
 /// event at a time.
@@ -66,16 +70,25 @@ impl<L: PhaseLocker, G> LazySequentializer<L, G> {
     /// A call of a party that does not wait. It is `Cyclic` exactly where it asks for a run of the generator that its own
     /// party is running, before any lock is tried; else it waits, or is `Missed` where it does not wait, exactly where
     /// the lock that it wants is barred. It is to run the generator exactly where it is admitted and asks for a run.
-    pub fn begin(&mut self, parks: &mut Parks, who: Who, ask: Ask) -> (Begun, Given)
+    pub fn begin(
+        &mut self,
+        parks: &mut Parks,
+        who: Who,
+        ask: Ask,
+        reg: Option<&mut ExitRegistry>,
+    ) -> (Begun, Given)
         requires cell { who.cell < length parks.old.readers }
         requires party { who.party < length parks.old.rows }
         requires free { (row_of parks.old who.party).waiting ≡ Free }
         requires fits { Fits (L.place self.old.locker) (L.held self.old.locker) parks.old who.cell }
-        ensures begins { Begins (L.place self.old.locker) who ask self.old.running (L.held self.old.locker) parks.old result (L.held self.new.locker) parks.new }
+        requires registry { ForSome reg (λ m. MayRegister who.cell (L.held self.old.locker) parks.old m.now) }
+        ensures begins { On (option_copied_mut reg.entry) (Begins (L.place self.old.locker) who ask self.old.running (L.held self.old.locker) parks.old) ask.tol.leak (L.held self.old.locker).phase result (L.held self.new.locker) parks.new }
+        ensures registry { left_behind reg.exit ≡ option_map (after_asking (shall_run who ask self.old.running (L.held self.old.locker)) who.cell (L.held self.old.locker).phase) (option_copied_mut reg.entry) }
         ensures waits { is_wait result.0 ≡ shall_wait who ask self.old.running (L.held self.old.locker) }
         ensures missed { is_missed result.0 ≡ shall_miss who ask self.old.running (L.held self.old.locker) }
         ensures cyclic { is_turned_back result.0 ≡ is_cyclic ask.want who.party self.old.running }
-        ensures runs { is_run result.0 ≡ shall_run who ask self.old.running (L.held self.old.locker) }
+        ensures runs { is_run result.0 ≡ (if is_refused ask.tol.leak (option_copied_mut reg.entry) (L.held self.old.locker).phase then false else shall_run who ask self.old.running (L.held self.old.locker)) }
+        ensures finalizes { is_final result.0 ≡ shall_finalize ask (L.held self.old.locker) }
         ensures running { self.new.running ≡ running_after result.0 self.old.running }
         ensures others { OthersStay who.cell parks.old parks.new }
         ensures rows { RowsStayBeside who.party who.cell parks.old parks.new }
@@ -87,33 +100,39 @@ impl<L: PhaseLocker, G> LazySequentializer<L, G> {
         ensures place { L.place self.new.locker ≡ L.place self.old.locker }
         ensures same { SameSize parks.old parks.new }
     {
-        if self.is_cyclic(who, ask) {
-            return (Begun::Cyclic, Given::Nobody);
-        }
         let phase = self.locker.phase();
-        let how = |p: Phase| -> LockNature
-            ensures { result ≡ nature_of ask p }
-        { ask.nature(p) };
-        if ask.fast {
-            let got = self.locker.try_lock(&how);
-            return (self.begun_tried(who, ask, phase, got), Given::Nobody);
+        let before = self.running;
+        let leak = ask.tol.leak;
+        let (begun, given) = self.enter(parks, who, ask);
+        match reg {
+            None => (begun, given),
+            Some(registry) => {
+                self.settle(parks, who, leak, registry, phase, before, begun, given)
+            }
         }
-        let (attempt, given) = self.locker.lock(parks, who, ask.want.wake(), &how);
-        (self.begun_by(who, ask, phase, attempt), given)
     }
 
     /// A call of a party that waits at this cell. It answers as `begin`, and what the party has by its waiting goes into
     /// the attempt, as `again` of the locker says.
-    pub fn again(&mut self, parks: &mut Parks, who: Who, ask: Ask) -> (Begun, Given)
+    pub fn again(
+        &mut self,
+        parks: &mut Parks,
+        who: Who,
+        ask: Ask,
+        reg: Option<&mut ExitRegistry>,
+    ) -> (Begun, Given)
         requires cell { who.cell < length parks.old.readers }
         requires party { who.party < length parks.old.rows }
         requires waits { (row_of parks.old who.party).waiting ≢ Free }
         requires here { (row_of parks.old who.party).cell ≡ who.cell }
         requires slow { ask.fast ≡ false }
         requires fits { Fits (L.place self.old.locker) (L.held self.old.locker) parks.old who.cell }
-        ensures resumes { Resumes (L.place self.old.locker) who ask self.old.running (L.held self.old.locker) parks.old result (L.held self.new.locker) parks.new }
+        requires registry { ForSome reg (λ m. MayRegister who.cell (L.held self.old.locker) parks.old m.now) }
+        ensures resumes { On (option_copied_mut reg.entry) (Resumes (L.place self.old.locker) who ask self.old.running (L.held self.old.locker) parks.old) ask.tol.leak (L.held self.old.locker).phase result (L.held self.new.locker) parks.new }
+        ensures registry { left_behind reg.exit ≡ option_map (after_asking (is_admitted result.0 && asks_run ask (L.held self.old.locker).phase) who.cell (L.held self.old.locker).phase) (option_copied_mut reg.entry) }
         ensures cyclic { is_turned_back result.0 ≡ is_cyclic ask.want who.party self.old.running }
-        ensures runs { is_run result.0 ≡ (is_admitted result.0 && asks_run ask (L.held self.old.locker).phase) }
+        ensures runs { is_run result.0 ≡ (if is_refused ask.tol.leak (option_copied_mut reg.entry) (L.held self.old.locker).phase then false else (is_admitted result.0 && asks_run ask (L.held self.old.locker).phase)) }
+        ensures finalizes { is_final result.0 ≡ (is_admitted result.0 && asks_final ask (L.held self.old.locker).phase) }
         ensures running { self.new.running ≡ running_after result.0 self.old.running }
         ensures others { OthersStay who.cell parks.old parks.new }
         ensures rows { RowsStayBeside who.party who.cell parks.old parks.new }
@@ -125,15 +144,16 @@ impl<L: PhaseLocker, G> LazySequentializer<L, G> {
         ensures place { L.place self.new.locker ≡ L.place self.old.locker }
         ensures same { SameSize parks.old parks.new }
     {
-        if self.is_cyclic(who, ask) {
-            return (Begun::Cyclic, Given::Nobody);
-        }
         let phase = self.locker.phase();
-        let how = |p: Phase| -> LockNature
-            ensures { result ≡ nature_of ask p }
-        { ask.nature(p) };
-        let (attempt, given) = self.locker.again(parks, who, ask.want.wake(), &how);
-        (self.begun_by(who, ask, phase, attempt), given)
+        let before = self.running;
+        let leak = ask.tol.leak;
+        let (begun, given) = self.resume(parks, who, ask);
+        match reg {
+            None => (begun, given),
+            Some(registry) => {
+                self.settle(parks, who, leak, registry, phase, before, begun, given)
+            }
+        }
     }
 
     /// Ends the section of a run, of which `made` tells whether the generator made a value. A failed run publishes its
@@ -154,92 +174,51 @@ impl<L: PhaseLocker, G> LazySequentializer<L, G> {
         ensures place { L.place self.new.locker ≡ L.place self.old.locker }
         ensures same { SameSize parks.old parks.new }
     {
-        let Section { who, want, ticket } = section;
+        let Section {
+            who,
+            want,
+            stays,
+            ticket,
+        } = section;
         self.running = None;
-        let phase = reached(Phase::empty(), made);
+        let phase = reached(stays, made);
         if !made {
             let given = self.locker.release_write(parks, who.cell, ticket, phase);
             return (Finished::Failed(phase), given);
         }
-        match want {
-            Want::Init => {
-                let given = self.locker.release_write(parks, who.cell, ticket, phase);
-                (Finished::Phase(phase), given)
-            }
-            Want::Read => {
-                let (read, given) = self.locker.downgrade(parks, who.cell, ticket, phase);
-                (Finished::Read(read, phase), given)
-            }
-            Want::Write => (Finished::Write(ticket, phase), Given::Nobody),
-            Want::ReadOnly | Want::WriteOnly => unreachable!(),
-        }
+        self.go_on(parks, who.cell, want, ticket, phase)
     }
 
-    /// Whether a call asks for a run of the generator that its own party is running.
-    fn is_cyclic(&self, who: Who, ask: Ask) -> bool
-        ensures { result ≡ is_cyclic ask.want who.party self.now.running }
-    {
-        ask.want.initializes() && self.running == Some(who.party)
-    }
-
-    /// What an attempt begins.
-    fn begun_by(&mut self, who: Who, ask: Ask, phase: Phase, attempt: Attempt) -> Begun
-        ensures begun { result ≡ begun_by who ask phase attempt }
-        ensures running { self.new.running ≡ running_after result self.old.running }
-        ensures locker { self.new.locker ≡ self.old.locker }
-    {
-        match attempt {
-            Attempt::Wait(how) => Begun::Wait(how),
-            Attempt::Got(got) => self.begun_of(who, ask, phase, got),
-        }
-    }
-
-    /// What a call begins that does not wait.
-    fn begun_tried(
+    /// Ends the section of a finalizer, of which `fine` tells whether it succeeded. The cell's phase gets the flag of
+    /// that outcome and is published, and the lock is given back. The phase is the answer.
+    pub fn finish_final(
         &mut self,
-        who: Who,
-        ask: Ask,
-        phase: Phase,
-        got: Option<LockResult<ReadTicket, WriteTicket>>,
-    ) -> Begun
-        ensures begun { result ≡ begun_tried who ask phase got }
-        ensures running { self.new.running ≡ running_after result self.old.running }
-        ensures locker { self.new.locker ≡ self.old.locker }
+        parks: &mut Parks,
+        section: Section,
+        fine: bool,
+    ) -> (Phase, Given)
+        requires cell { section.who.cell < length parks.old.readers }
+        requires finalizing { IsFinalizing section (L.held self.old.locker) parks.old }
+        requires fits { Fits (L.place self.old.locker) (L.held self.old.locker) parks.old section.who.cell }
+        ensures finishes { FinishesFinal section fine (L.held self.old.locker) parks.old result (L.held self.new.locker) parks.new }
+        ensures running { self.new.running ≡ self.old.running }
+        ensures others { OthersStay section.who.cell parks.old parks.new }
+        ensures rows { RowsStay section.who.cell parks.old parks.new }
+        ensures closed { ¬ IsWriteOpen (L.held self.new.locker) parks.new section.who.cell }
+        ensures reads { open_reads (L.held self.new.locker) parks.new section.who.cell ≡ 0 }
+        ensures fits { Fits (L.place self.new.locker) (L.held self.new.locker) parks.new section.who.cell }
+        ensures place { L.place self.new.locker ≡ L.place self.old.locker }
+        ensures same { SameSize parks.old parks.new }
     {
-        match got {
-            None => Begun::Missed,
-            Some(got) => self.begun_of(who, ask, phase, got),
-        }
-    }
-
-    /// What is begun with what the locker gave at this phase.
-    fn begun_of(
-        &mut self,
-        who: Who,
-        ask: Ask,
-        phase: Phase,
-        got: LockResult<ReadTicket, WriteTicket>,
-    ) -> Begun
-        ensures begun { result ≡ begun_of who ask phase got }
-        ensures running { self.new.running ≡ running_after result self.old.running }
-        ensures locker { self.new.locker ≡ self.old.locker }
-    {
-        match got {
-            LockResult::None(p) => Begun::Nothing(p),
-            LockResult::Read(ticket) => Begun::Read(ticket, phase),
-            LockResult::Write(ticket) => {
-                if ask.asks_run(phase) {
-                    self.running = Some(who.party);
-                    Begun::Run(Section {
-                        who,
-                        want: ask.want,
-                        ticket,
-                    })
-                } else {
-                    Begun::Write(ticket, phase)
-                }
-            }
-        }
+        let Section {
+            who,
+            want: _want,
+            stays: _stays,
+            ticket,
+        } = section;
+        let phase = finalized(self.locker.phase(), fine);
+        let given = self.locker.release_write(parks, who.cell, ticket, phase);
+        (phase, given)
     }
 }
 

@@ -101,16 +101,16 @@ fn only_one_party_runs(rt: HostRuntime) -> Result<(), Fail> {
         LockerKind::Spin,
         Phase::empty(),
     ));
-    let (begun, given) = cell.begin(&mut parks, party(0), retry(Want::Read));
+    let (begun, given) = cell.begin(&mut parks, party(0), retry(Want::Read), None);
     assert_eq!(rt; given, Given::Nobody);
     let section = run(&rt, begun);
     assert_eq!(rt; section.who(), party(0));
     assert_eq!(rt; section.want(), Want::Read);
-    let (begun, _) = cell.begin(&mut parks, party(0), retry(Want::Read));
+    let (begun, _) = cell.begin(&mut parks, party(0), retry(Want::Read), None);
     cyclic(&rt, begun);
-    let (begun, _) = cell.begin(&mut parks, party(0), fast(Want::Init));
+    let (begun, _) = cell.begin(&mut parks, party(0), fast(Want::Init), None);
     cyclic(&rt, begun);
-    let (begun, _) = cell.begin(&mut parks, party(1), fast(Want::Write));
+    let (begun, _) = cell.begin(&mut parks, party(1), fast(Want::Write), None);
     missed(&rt, begun);
     let (finished, given) = cell.finish(&mut parks, section, true);
     let Finished::Read(ticket, phase) = finished else {
@@ -130,18 +130,18 @@ fn a_barred_call_goes_on(rt: HostRuntime) -> Result<(), Fail> {
         LockerKind::Spin,
         Phase::empty(),
     ));
-    let (begun, _) = cell.begin(&mut parks, party(0), once(Want::Init));
+    let (begun, _) = cell.begin(&mut parks, party(0), once(Want::Init), None);
     let section = run(&rt, begun);
-    let (begun, _) = cell.begin(&mut parks, party(1), once(Want::Init));
+    let (begun, _) = cell.begin(&mut parks, party(1), once(Want::Init), None);
     assert_eq!(rt; wait(&rt, begun), How::Spin);
-    let (begun, _) = cell.again(&mut parks, party(1), once(Want::Init));
+    let (begun, _) = cell.again(&mut parks, party(1), once(Want::Init), None);
     assert_eq!(rt; wait(&rt, begun), How::Spin);
     let (finished, _) = cell.finish(&mut parks, section, true);
     let Finished::Phase(phase) = finished else {
         rt.abort()
     };
     assert_eq!(rt; phase, Phase::INITIALIZED);
-    let (begun, given) = cell.again(&mut parks, party(1), once(Want::Init));
+    let (begun, given) = cell.again(&mut parks, party(1), once(Want::Init), None);
     let Begun::Nothing(phase) = begun else {
         rt.abort()
     };
@@ -158,7 +158,7 @@ fn a_failed_run_is_tried_again(rt: HostRuntime) -> Result<(), Fail> {
         LockerKind::Spin,
         Phase::empty(),
     ));
-    let (begun, _) = cell.begin(&mut parks, party(0), retry(Want::Init));
+    let (begun, _) = cell.begin(&mut parks, party(0), retry(Want::Init), None);
     let section = run(&rt, begun);
     let (finished, given) = cell.finish(&mut parks, section, false);
     let Finished::Failed(phase) = finished else {
@@ -166,7 +166,7 @@ fn a_failed_run_is_tried_again(rt: HostRuntime) -> Result<(), Fail> {
     };
     assert_eq!(rt; given, Given::Nobody);
     assert_eq!(rt; phase.bits(), FAILED);
-    let (begun, _) = cell.begin(&mut parks, party(0), retry(Want::Init));
+    let (begun, _) = cell.begin(&mut parks, party(0), retry(Want::Init), None);
     let section = run(&rt, begun);
     let (finished, given) = cell.finish(&mut parks, section, true);
     let Finished::Phase(phase) = finished else {
@@ -174,7 +174,7 @@ fn a_failed_run_is_tried_again(rt: HostRuntime) -> Result<(), Fail> {
     };
     assert_eq!(rt; given, Given::Nobody);
     assert_eq!(rt; phase, Phase::INITIALIZED);
-    let (begun, _) = cell.begin(&mut parks, party(0), retry(Want::Init));
+    let (begun, _) = cell.begin(&mut parks, party(0), retry(Want::Init), None);
     let Begun::Nothing(phase) = begun else {
         rt.abort()
     };
@@ -189,20 +189,20 @@ fn a_failed_run_is_tried_once(rt: HostRuntime) -> Result<(), Fail> {
         LockerKind::Spin,
         Phase::empty(),
     ));
-    let (begun, _) = cell.begin(&mut parks, party(0), once(Want::Write));
+    let (begun, _) = cell.begin(&mut parks, party(0), once(Want::Write), None);
     let section = run(&rt, begun);
     let (finished, _) = cell.finish(&mut parks, section, false);
     let Finished::Failed(failed) = finished else {
         rt.abort()
     };
     assert_eq!(rt; failed.bits(), FAILED);
-    let (begun, _) = cell.begin(&mut parks, party(0), once(Want::Read));
+    let (begun, _) = cell.begin(&mut parks, party(0), once(Want::Read), None);
     let Begun::Read(ticket, phase) = begun else {
         rt.abort()
     };
     assert_eq!(rt; phase, failed);
     let _ = cell.locker_mut().release_read(&mut parks, 0, ticket);
-    let (begun, _) = cell.begin(&mut parks, party(0), once(Want::Write));
+    let (begun, _) = cell.begin(&mut parks, party(0), once(Want::Write), None);
     let Begun::Write(ticket, phase) = begun else {
         rt.abort()
     };
@@ -210,7 +210,7 @@ fn a_failed_run_is_tried_once(rt: HostRuntime) -> Result<(), Fail> {
     let _ = cell
         .locker_mut()
         .release_write(&mut parks, 0, ticket, failed);
-    let (begun, _) = cell.begin(&mut parks, party(0), once(Want::Init));
+    let (begun, _) = cell.begin(&mut parks, party(0), once(Want::Init), None);
     let Begun::Nothing(phase) = begun else {
         rt.abort()
     };
@@ -225,9 +225,9 @@ fn the_end_of_a_run_hands_over(rt: HostRuntime) -> Result<(), Fail> {
         LockerKind::Park,
         Phase::empty(),
     ));
-    let (begun, _) = cell.begin(&mut parks, party(0), retry(Want::Init));
+    let (begun, _) = cell.begin(&mut parks, party(0), retry(Want::Init), None);
     let section = run(&rt, begun);
-    let (begun, _) = cell.begin(&mut parks, party(1), retry(Want::Read));
+    let (begun, _) = cell.begin(&mut parks, party(1), retry(Want::Read), None);
     assert_eq!(rt; wait(&rt, begun), How::ParkedRead);
     let (finished, given) = cell.finish(&mut parks, section, true);
     let Finished::Phase(phase) = finished else {
@@ -237,7 +237,7 @@ fn the_end_of_a_run_hands_over(rt: HostRuntime) -> Result<(), Fail> {
     assert_eq!(rt; phase, Phase::INITIALIZED);
     assert_eq!(rt; parks.waiting(1), Waiting::ShareRead);
     assert_eq!(rt; parks.cell_of(1), 0);
-    let (begun, given) = cell.again(&mut parks, party(1), retry(Want::Read));
+    let (begun, given) = cell.again(&mut parks, party(1), retry(Want::Read), None);
     let Begun::Read(ticket, phase) = begun else {
         rt.abort()
     };
@@ -255,9 +255,9 @@ fn a_writer_publishes_at_its_release(rt: HostRuntime) -> Result<(), Fail> {
         LockerKind::Park,
         Phase::empty(),
     ));
-    let (begun, _) = cell.begin(&mut parks, party(0), retry(Want::Write));
+    let (begun, _) = cell.begin(&mut parks, party(0), retry(Want::Write), None);
     let section = run(&rt, begun);
-    let (begun, _) = cell.begin(&mut parks, party(1), retry(Want::Write));
+    let (begun, _) = cell.begin(&mut parks, party(1), retry(Want::Write), None);
     assert_eq!(rt; wait(&rt, begun), How::ParkedWrite);
     let (finished, given) = cell.finish(&mut parks, section, true);
     let Finished::Write(ticket, phase) = finished else {
@@ -271,7 +271,7 @@ fn a_writer_publishes_at_its_release(rt: HostRuntime) -> Result<(), Fail> {
         .release_write(&mut parks, 0, ticket, phase);
     assert_eq!(rt; given, Given::Writer(1));
     assert_eq!(rt; cell.locker().phase(), Phase::INITIALIZED);
-    let (begun, _) = cell.again(&mut parks, party(1), retry(Want::Write));
+    let (begun, _) = cell.again(&mut parks, party(1), retry(Want::Write), None);
     let Begun::Write(ticket, phase) = begun else {
         rt.abort()
     };

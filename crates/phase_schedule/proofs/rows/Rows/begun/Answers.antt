@@ -39,3 +39,8 @@ returns-in-Cyclic g c =
     let v = view g.L.PhaseLocker.held g.L.PhaseLocker.place c.args.self.now in
     let k = subst (λ b. Means g.h v c.args.s.now c.args.n c.args.target c.args.given b) c.in-Cyclic.is (begun_is g.h v c.args.s.now c.args.n c.args.target c.args.given c.args.begun c.requires.1) in
     cyclic_follows g.h v c.args.s.now c.args.n c.args.target k.first c.quiet.result c.quiet.ensures k.cyclic
+
+pub unreachable-requires-in-Final : goal.unreachable-requires-in-Final
+unreachable-requires-in-Final g c =
+    let v = view g.L.PhaseLocker.held g.L.PhaseLocker.place c.args.self.now in
+    subst (λ b. Means g.h v c.args.s.now c.args.n c.args.target c.args.given b) c.in-Final.is (begun_is g.h v c.args.s.now c.args.n c.args.target c.args.given c.args.begun c.requires.1)

@@ -1,30 +1,16 @@
-use Rattle.std.proofs.Common.{◌≡◌, false, rules, ◌∙◌, sym}
-use Rattle.phase_seq.specs.Begins.{is_cyclic}
-use Rattle.phase_seq.proofs.Sections.{section_stays, again_apart}
-use Rattle.phase_seq.proofs.Answered.{begun_by_stands}
+use Rattle.std.proofs.Common.{◌≡◌, false, Some, ap}
 use Rattle.phase_seq.specs.Exactly.{is_run}
-use Rattle.phase_seq.proofs.Exactness.{again_runs}
-use Rattle.phase_seq.proofs.Resumed.{resumed}
+use Rattle.phase_seq.proofs.Settled.{others_then}
 use Rattle.phase_seq.proofs.sequentializer.LazySequentializer.again.Goals as goal
 
-pub returns-clause-resumes : goal.returns-clause-resumes
-returns-clause-resumes g c =
-    let apart : is_cyclic c.args.ask.want c.args.who.party c.args.self.now.running ≡ false = sym c.is_cyclic.ensures ∙ c.if-is_cyclic.false in
-    rw c.begun_by.ensures.locker (resumed _ _ c.args.who c.args.ask c.args.self.now.running _ _ _ c.again-attempt.result c.begun_by.result _ _ apart c.wake.ensures.wake (λ n e. search rules) c.again-attempt.ensures.again (rw (← c.phase-phase.ensures.phase) c.begun_by.ensures.begun))
+pub returns-in-Some-clause-registry : goal.returns-in-Some-clause-registry
+returns-in-Some-clause-registry g c = rw c.in-Some.is (ap (λ m. Some m) (rw (c.resume-begun.ensures.runs, ← c.settle.ensures.admitted, c.phase-phase.ensures.phase) at c.settle.ensures.registry))
 
-pub returns-clause-stands : goal.returns-clause-stands
-returns-clause-stands g c =
-    rw (c.begun_by.ensures.running, c.begun_by.ensures.locker, c.begun_by.ensures.begun)
-    (begun_by_stands c.args.who c.args.ask c.phase-phase.result c.again-attempt.result.0 c.args.self.now.running _ _ c.again-attempt.ensures.stands)
+pub returns-in-Some-clause-others : goal.returns-in-Some-clause-others
+returns-in-Some-clause-others g c = others_then c.args.who.cell c.args.parks.now c.resume-begun.new.parks c.settle.new.parks c.resume-begun.ensures.others c.settle.ensures.others
 
-pub returns-clause-runs : goal.returns-clause-runs
-returns-clause-runs g c =
-    rw (c.begun_by.ensures.begun, c.phase-phase.ensures.phase)
-    (again_runs _ (g.L.PhaseLocker.place c.args.self.now.locker) c.args.who c.args.ask _ _ c.args.parks.now c.again-attempt.result _ _ (λ n e. search rules) c.again-attempt.ensures.again)
-
-pub returns-clause-sections : goal.returns-clause-sections
-returns-clause-sections g c = λ o here was.
-    let none : is_run c.begun_by.result ≡ false =
-    rw (c.begun_by.ensures.begun, c.phase-phase.ensures.phase) (again_apart _ (g.L.PhaseLocker.place c.args.self.now.locker) c.args.who c.args.ask _ _ c.args.parks.now c.again-attempt.result _ _ (λ n e. search rules)
-    c.requires.party c.requires.here c.requires.fits c.again-attempt.ensures.again (rw here at was.locked)) in
-    rw c.begun_by.ensures.locker (section_stays o c.begun_by.result c.args.self.now.running _ _ _ c.args.parks.now _ none c.begun_by.ensures.running (rw here c.again-attempt.ensures.writes) was)
+pub returns-in-Some-clause-sections : goal.returns-in-Some-clause-sections
+returns-in-Some-clause-sections g c = λ o here was.
+    let none : is_run c.resume-begun.result.0 ≡ false = c.resume-begun.ensures.fresh (rw here at was.locked) in
+    let still = c.settle.ensures.still none in
+    rw (still.0, still.1, still.2) (c.resume-begun.ensures.sections o here was)

@@ -1,49 +1,16 @@
-use Rattle.std.proofs.Common.{◌≡◌, false, rules, sym, ◌∙◌}
-use Rattle.phase_seq.specs.Begins.{is_cyclic}
+use Rattle.std.proofs.Common.{◌≡◌, false, Some, ap}
 use Rattle.phase_seq.specs.Exactly.{is_run}
-use Rattle.phase_seq.proofs.Exactness.{tried_runs, locks_runs, by_attempt, waits_instead}
-use Rattle.phase_seq.proofs.Sections.{section_stays, begun_apart, tried_writes}
-use Rattle.phase_seq.proofs.Answered.{begun_by_stands, tried_stands, tried_reads}
+use Rattle.phase_seq.proofs.Settled.{others_then}
 use Rattle.phase_seq.proofs.sequentializer.LazySequentializer.begin.Goals as goal
 
-pub returns-then-ask-clause-stands : goal.returns-then-ask-clause-stands
-returns-then-ask-clause-stands g c =
-    rw (c.begun_tried.ensures.running, c.begun_tried.ensures.locker, c.begun_tried.ensures.begun, c.phase-phase.ensures.phase)
-    (tried_stands (g.L.PhaseLocker.place c.args.self.now.locker) c.args.who c.args.ask c.args.self.now.running _ _ c.args.parks.now _ _ c.requires.fits c.requires.free c.try_lock-got.ensures.tries)
+pub returns-in-Some-clause-registry : goal.returns-in-Some-clause-registry
+returns-in-Some-clause-registry g c = rw c.in-Some.is (ap (λ m. Some m) (rw (c.enter-begun.ensures.runs, c.phase-phase.ensures.phase) at c.settle.ensures.registry))
 
-pub returns-then-ask-clause-reads : goal.returns-then-ask-clause-reads
-returns-then-ask-clause-reads g c =
-    rw (c.begun_tried.ensures.locker, c.begun_tried.ensures.begun, c.phase-phase.ensures.phase)
-    (tried_reads (g.L.PhaseLocker.place c.args.self.now.locker) c.args.who c.args.ask _ _ c.args.parks.now _ _ c.requires.fits c.try_lock-got.ensures.tries)
+pub returns-in-Some-clause-others : goal.returns-in-Some-clause-others
+returns-in-Some-clause-others g c = others_then c.args.who.cell c.args.parks.now c.enter-begun.new.parks c.settle.new.parks c.enter-begun.ensures.others c.settle.ensures.others
 
-pub returns-clause-stands : goal.returns-clause-stands
-returns-clause-stands g c =
-    rw (c.begun_by.ensures.running, c.begun_by.ensures.locker, c.begun_by.ensures.begun)
-    (begun_by_stands c.args.who c.args.ask c.phase-phase.result c.lock-attempt.result.0 c.args.self.now.running _ _ c.lock-attempt.ensures.stands)
-
-pub returns-then-ask-clause-runs : goal.returns-then-ask-clause-runs
-returns-then-ask-clause-runs g c =
-    let apart : is_cyclic c.args.ask.want c.args.who.party c.args.self.now.running ≡ false = sym c.is_cyclic.ensures ∙ c.if-is_cyclic.false in
-    rw (apart, c.begun_tried.ensures.begun, c.phase-phase.ensures.phase)
-    (tried_runs c.args.who c.args.ask _ _ _ _ (λ n e. search rules) c.try_lock-got.ensures.tries)
-
-pub returns-clause-missed : goal.returns-clause-missed
-returns-clause-missed g c =
-    rw c.begun_by.ensures.begun (by_attempt c.args.who c.args.ask c.phase-phase.result c.lock-attempt.result.0 ∙ sym (waits_instead _ _ c.args.ask.fast c.if-ask.false))
-
-pub returns-clause-runs : goal.returns-clause-runs
-returns-clause-runs g c =
-    let apart : is_cyclic c.args.ask.want c.args.who.party c.args.self.now.running ≡ false = sym c.is_cyclic.ensures ∙ c.if-is_cyclic.false in
-    rw (apart, c.begun_by.ensures.begun, c.phase-phase.ensures.phase)
-    (locks_runs _ (g.L.PhaseLocker.place c.args.self.now.locker) c.args.who c.args.ask _ _ c.args.parks.now c.lock-attempt.result _ _ (λ n e. search rules) c.lock-attempt.ensures.locks)
-
-pub returns-then-ask-clause-sections : goal.returns-then-ask-clause-sections
-returns-then-ask-clause-sections g c = λ o here was.
-    let kept = tried_writes _ (g.L.PhaseLocker.place c.args.self.now.locker) c.args.who.cell _ c.args.parks.now _ _ c.requires.fits c.try_lock-got.ensures.tries in
-    let none : is_run c.begun_tried.result ≡ false = begun_apart c.begun_tried.result c.args.ask _ _ c.args.parks.now c.args.who.cell (returns-then-ask-clause-runs g c) (rw here at was.locked) in
-    rw c.begun_tried.ensures.locker (section_stays o c.begun_tried.result c.args.self.now.running _ _ _ c.args.parks.now c.args.parks.now none c.begun_tried.ensures.running (rw here kept) was)
-
-pub returns-clause-sections : goal.returns-clause-sections
-returns-clause-sections g c = λ o here was.
-    let none : is_run c.begun_by.result ≡ false = begun_apart c.begun_by.result c.args.ask _ _ c.args.parks.now c.args.who.cell (returns-clause-runs g c) (rw here at was.locked) in
-    rw c.begun_by.ensures.locker (section_stays o c.begun_by.result c.args.self.now.running _ _ _ c.args.parks.now _ none c.begun_by.ensures.running (rw here c.lock-attempt.ensures.writes) was)
+pub returns-in-Some-clause-sections : goal.returns-in-Some-clause-sections
+returns-in-Some-clause-sections g c = λ o here was.
+    let none : is_run c.enter-begun.result.0 ≡ false = c.enter-begun.ensures.fresh (rw here at was.locked) in
+    let still = c.settle.ensures.still none in
+    rw (still.0, still.1, still.2) (c.enter-begun.ensures.sections o here was)

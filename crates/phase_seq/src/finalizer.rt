@@ -1,0 +1,27 @@
+//! Finalizers of a cell's value.
+
+ghost use Rattle.std.specs.Prelude.{Result};
+ghost use Rattle.phase_seq.specs.declared.finalizer.FinalFault.{FinalFault};
+
+/// A finalizer failed. This project's own: a finalizer of static_init panics.
+#[derive(Clone, Copy, PartialEq, Eq, Debug)]
+pub struct FinalFault;
+
+/// What finalizes a value: it is called at the exit, or where its cell is finalized by hand. It is static_init's
+/// `Finaly`; that it may fail is this project's own.
+pub trait Finaly {
+    // It may be called.
+    ghost may_finalize: { Self → Type 0 };
+
+    // What `finaly` may answer.
+    ghost finalizes: { Self → Result (Unit {0}) FinalFault → Type 0 };
+
+    /// Finalizes the value.
+    ///
+    /// # Errors
+    ///
+    /// `FinalFault` where the finalizer failed.
+    fn finaly(&self) -> Result<(), FinalFault>
+        requires { may_finalize self.now }
+        ensures { finalizes self.now result };
+}

@@ -1,0 +1,163 @@
+//! The attempt of a call, and what it begins.
+
+ghost use Rattle.std.specs.Prelude.{◌≡◌, ◌≢◌, ◌+◌, ◌<◌, ◌&&◌, true, false, length};
+ghost use Rattle.phase_locker.specs.Rows.{row_of, SameSize};
+ghost use Rattle.phase_locker.specs.Fits.{Fits, IsWriteOpen, open_reads};
+ghost use Rattle.phase_locker.specs.Others.{OthersStay, RowsStayBeside};
+ghost use Rattle.phase_locker.specs.declared.ways.Waiting.TheVariants.{Free};
+ghost use Rattle.phase_seq.specs.declared.section.Section.{Section};
+ghost use Rattle.phase_seq.specs.Asks.{nature_of, asks_run, asks_final};
+ghost use Rattle.phase_seq.specs.Begins.{Begins, Resumes, is_cyclic, begun_of, begun_by, begun_tried, running_after};
+ghost use Rattle.phase_seq.specs.Stands.{BegunStands, IsRunning, reads_begun};
+ghost use Rattle.phase_seq.specs.Exactly.{is_wait, is_missed, is_turned_back, is_run, is_final, is_admitted, shall_wait, shall_miss, shall_run, shall_finalize};
+
+use crate::ask::{Ask, Want};
+use crate::section::{Begun, section_by};
+use crate::sequentializer::LazySequentializer;
+use phase_bits::Phase;
+use phase_locker::{
+    Attempt, Given, LockNature, LockResult, Parks, PhaseLocker, ReadTicket, Who, WriteTicket,
+};
+
+impl<L: PhaseLocker, G> LazySequentializer<L, G> {
+    /// A call of a party that does not wait, on a cell that is not registered for the exit.
+    pub(crate) fn enter(&mut self, parks: &mut Parks, who: Who, ask: Ask) -> (Begun, Given)
+        requires cell { who.cell < length parks.old.readers }
+        requires party { who.party < length parks.old.rows }
+        requires free { (row_of parks.old who.party).waiting ≡ Free }
+        requires fits { Fits (L.place self.old.locker) (L.held self.old.locker) parks.old who.cell }
+        ensures begins { Begins (L.place self.old.locker) who ask self.old.running (L.held self.old.locker) parks.old result (L.held self.new.locker) parks.new }
+        ensures waits { is_wait result.0 ≡ shall_wait who ask self.old.running (L.held self.old.locker) }
+        ensures missed { is_missed result.0 ≡ shall_miss who ask self.old.running (L.held self.old.locker) }
+        ensures cyclic { is_turned_back result.0 ≡ is_cyclic ask.want who.party self.old.running }
+        ensures runs { is_run result.0 ≡ shall_run who ask self.old.running (L.held self.old.locker) }
+        ensures finalizes { is_final result.0 ≡ shall_finalize ask (L.held self.old.locker) }
+        ensures running { self.new.running ≡ running_after result.0 self.old.running }
+        ensures others { OthersStay who.cell parks.old parks.new }
+        ensures rows { RowsStayBeside who.party who.cell parks.old parks.new }
+        ensures stands { BegunStands who result.0 self.new.running (L.held self.new.locker) parks.new }
+        ensures reads { open_reads (L.held self.new.locker) parks.new who.cell ≡ open_reads (L.held self.old.locker) parks.old who.cell + reads_begun result.0 }
+        ensures writes { IsWriteOpen (L.held self.old.locker) parks.old who.cell → IsWriteOpen (L.held self.new.locker) parks.new who.cell }
+        ensures sections { (o : Section) → o.who.cell ≡ who.cell → IsRunning o self.old.running (L.held self.old.locker) parks.old → IsRunning o self.new.running (L.held self.new.locker) parks.new }
+        ensures fresh { IsWriteOpen (L.held self.old.locker) parks.old who.cell → is_run result.0 ≡ false }
+        ensures given { result.1 ≡ Given.Nobody }
+        ensures fits { Fits (L.place self.new.locker) (L.held self.new.locker) parks.new who.cell }
+        ensures place { L.place self.new.locker ≡ L.place self.old.locker }
+        ensures same { SameSize parks.old parks.new }
+    {
+        if self.is_cyclic(who, ask) {
+            return (Begun::Cyclic, Given::Nobody);
+        }
+        let phase = self.locker.phase();
+        let how = |p: Phase| -> LockNature
+            ensures { result ≡ nature_of ask p }
+        { ask.nature(p) };
+        if ask.fast {
+            let got = self.locker.try_lock(&how);
+            return (self.begun_tried(who, ask, phase, got), Given::Nobody);
+        }
+        let (attempt, given) = self.locker.lock(parks, who, ask.want.wake(), &how);
+        (self.begun_by(who, ask, phase, attempt), given)
+    }
+
+    /// A call of a party that waits, on a cell that is not registered for the exit.
+    pub(crate) fn resume(&mut self, parks: &mut Parks, who: Who, ask: Ask) -> (Begun, Given)
+        requires cell { who.cell < length parks.old.readers }
+        requires party { who.party < length parks.old.rows }
+        requires waits { (row_of parks.old who.party).waiting ≢ Free }
+        requires here { (row_of parks.old who.party).cell ≡ who.cell }
+        requires slow { ask.fast ≡ false }
+        requires fits { Fits (L.place self.old.locker) (L.held self.old.locker) parks.old who.cell }
+        ensures resumes { Resumes (L.place self.old.locker) who ask self.old.running (L.held self.old.locker) parks.old result (L.held self.new.locker) parks.new }
+        ensures cyclic { is_turned_back result.0 ≡ is_cyclic ask.want who.party self.old.running }
+        ensures runs { is_run result.0 ≡ (is_admitted result.0 && asks_run ask (L.held self.old.locker).phase) }
+        ensures finalizes { is_final result.0 ≡ (is_admitted result.0 && asks_final ask (L.held self.old.locker).phase) }
+        ensures running { self.new.running ≡ running_after result.0 self.old.running }
+        ensures others { OthersStay who.cell parks.old parks.new }
+        ensures rows { RowsStayBeside who.party who.cell parks.old parks.new }
+        ensures stands { BegunStands who result.0 self.new.running (L.held self.new.locker) parks.new }
+        ensures reads { open_reads (L.held self.new.locker) parks.new who.cell ≡ open_reads (L.held self.old.locker) parks.old who.cell + reads_begun result.0 }
+        ensures writes { IsWriteOpen (L.held self.old.locker) parks.old who.cell → IsWriteOpen (L.held self.new.locker) parks.new who.cell }
+        ensures sections { (o : Section) → o.who.cell ≡ who.cell → IsRunning o self.old.running (L.held self.old.locker) parks.old → IsRunning o self.new.running (L.held self.new.locker) parks.new }
+        ensures fresh { IsWriteOpen (L.held self.old.locker) parks.old who.cell → is_run result.0 ≡ false }
+        ensures quiet { is_run result.0 ≡ true → result.1 ≡ Given.Nobody }
+        ensures fits { Fits (L.place self.new.locker) (L.held self.new.locker) parks.new who.cell }
+        ensures place { L.place self.new.locker ≡ L.place self.old.locker }
+        ensures same { SameSize parks.old parks.new }
+    {
+        if self.is_cyclic(who, ask) {
+            return (Begun::Cyclic, Given::Nobody);
+        }
+        let phase = self.locker.phase();
+        let how = |p: Phase| -> LockNature
+            ensures { result ≡ nature_of ask p }
+        { ask.nature(p) };
+        let (attempt, given) = self.locker.again(parks, who, ask.want.wake(), &how);
+        (self.begun_by(who, ask, phase, attempt), given)
+    }
+
+    /// Whether a call asks for a run of the generator that its own party is running.
+    fn is_cyclic(&self, who: Who, ask: Ask) -> bool
+        ensures { result ≡ is_cyclic ask.want who.party self.now.running }
+    {
+        ask.want.initializes() && self.running == Some(who.party)
+    }
+
+    /// What an attempt begins.
+    fn begun_by(&mut self, who: Who, ask: Ask, phase: Phase, attempt: Attempt) -> Begun
+        ensures begun { result ≡ begun_by who ask phase attempt }
+        ensures running { self.new.running ≡ running_after result self.old.running }
+        ensures locker { self.new.locker ≡ self.old.locker }
+    {
+        match attempt {
+            Attempt::Wait(how) => Begun::Wait(how),
+            Attempt::Got(got) => self.begun_of(who, ask, phase, got),
+        }
+    }
+
+    /// What a call begins that does not wait.
+    fn begun_tried(
+        &mut self,
+        who: Who,
+        ask: Ask,
+        phase: Phase,
+        got: Option<LockResult<ReadTicket, WriteTicket>>,
+    ) -> Begun
+        ensures begun { result ≡ begun_tried who ask phase got }
+        ensures running { self.new.running ≡ running_after result self.old.running }
+        ensures locker { self.new.locker ≡ self.old.locker }
+    {
+        match got {
+            None => Begun::Missed,
+            Some(got) => self.begun_of(who, ask, phase, got),
+        }
+    }
+
+    /// What is begun with what the locker gave at this phase.
+    fn begun_of(
+        &mut self,
+        who: Who,
+        ask: Ask,
+        phase: Phase,
+        got: LockResult<ReadTicket, WriteTicket>,
+    ) -> Begun
+        ensures begun { result ≡ begun_of who ask phase got }
+        ensures running { self.new.running ≡ running_after result self.old.running }
+        ensures locker { self.new.locker ≡ self.old.locker }
+    {
+        match got {
+            LockResult::None(p) => Begun::Nothing(p),
+            LockResult::Read(ticket) => Begun::Read(ticket, phase),
+            LockResult::Write(ticket) => {
+                if ask.asks_run(phase) {
+                    self.running = Some(who.party);
+                    Begun::Run(section_by(who, ask.want, Phase::empty(), ticket))
+                } else if ask.want.finalizes() {
+                    Begun::Final(section_by(who, ask.want, phase, ticket))
+                } else {
+                    Begun::Write(ticket, phase)
+                }
+            }
+        }
+    }
+}
