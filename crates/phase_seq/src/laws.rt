@@ -30,3 +30,27 @@ pub fn promised_faults_come<T: Drop, G: Generator<T>>(g: &mut G) -> InitFault
         Err(fault) => fault,
     }
 }
+
+/// A shared generator that promises a value never fails.
+pub fn promised_values_are_generated<T, G: Generator<T>>(g: &G) -> T
+    requires callable { G.may_call g.now }
+    requires promised { (r : Result T InitFault) → G.generates g.now r → IsOk r }
+    ensures generates { G.generates g.now (Ok result) }
+{
+    match g.generate() {
+        Ok(value) => value,
+        Err(_) => unreachable!(),
+    }
+}
+
+/// A shared generator that promises to fail never makes a value.
+pub fn promised_faults_are_generated<T: Drop, G: Generator<T>>(g: &G) -> InitFault
+    requires callable { G.may_call g.now }
+    requires promised { (r : Result T InitFault) → G.generates g.now r → IsErr r }
+    ensures generates { G.generates g.now (Err result) }
+{
+    match g.generate() {
+        Ok(_) => unreachable!(),
+        Err(fault) => fault,
+    }
+}

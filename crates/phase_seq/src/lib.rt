@@ -24,7 +24,10 @@ pub use ask::{Ask, Want};
 pub use finalizer::{FinalFault, Finaly};
 pub use generator::{DefaultGenerator, Generator, GeneratorTolerance, InitFault};
 pub use init_error::InitError;
-pub use laws::{promised_faults_come, promised_values_come};
+pub use laws::{
+    promised_faults_are_generated, promised_faults_come, promised_values_are_generated,
+    promised_values_come,
+};
 pub use once::OnceGenerator;
 pub use section::{Begun, Finished, Section};
 pub use sequentializer::LazySequentializer;
