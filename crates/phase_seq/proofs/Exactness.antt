@@ -94,7 +94,7 @@ pub record Comes (test : Begun → Bool) (who : Who) (ask : Ask) (p : Phase) (du
 pub run_comes : (who : Who) (ask : Ask) (p : Phase) → Comes is_run who ask p (asks_run ask p)
 run_comes who ask p = record { waits = λ how. refl; missed = refl; admitted = run_of who ask p }
 
-pub final_comes : (who : Who) (ask : Ask) (p : Phase) → Comes is_final who ask p (asks_final ask p)
+final_comes : (who : Who) (ask : Ask) (p : Phase) → Comes is_final who ask p (asks_final ask p)
 final_comes who ask p = record { waits = λ how. refl; missed = refl; admitted = final_of who ask p }
 
 -- ---- a call that does not wait
@@ -151,13 +151,30 @@ locks_comes test who ask due post k wake h s r h' s' comes ruled locks =
 -- ---- an answer that does not come
 
 -- no finalizer is asked by a call that is turned back
-pub cyclic_ends : (w : Want) (there : Bool) (p : ℕ) (running : Option ℕ) (bars : Bool) → is_cyclic w p running ≡ true → false ≡ (bars && (finalizes w && there))
-cyclic_ends want.Init there p running bars e = sym (both_false bars)
-cyclic_ends want.Read there p running bars e = sym (both_false bars)
-cyclic_ends want.Write there p running bars e = sym (both_false bars)
-cyclic_ends want.ReadOnly there p running bars e = sym (both_false bars)
-cyclic_ends want.WriteOnly there p running bars e = sym (both_false bars)
-cyclic_ends want.Finalize there p running bars e = cc
+pub cyclic_ends : (w : Want) (there : Bool) (p : ℕ) (running : Option ℕ) (free : Bool) → is_cyclic w p running ≡ true → false ≡ ((finalizes w && there) && free)
+cyclic_ends want.Init there p running free e = refl
+cyclic_ends want.Read there p running free e = refl
+cyclic_ends want.Write there p running free e = refl
+cyclic_ends want.ReadOnly there p running free e = refl
+cyclic_ends want.WriteOnly there p running free e = refl
+cyclic_ends want.Finalize there p running free e = cc
+
+either_way : (a b : Bool) → (a && b) ≡ (b && a)
+either_way true b = both_true b
+either_way false b = sym (both_false b)
+
+-- it is to run the finalizer where it asks for it and is admitted
+pub tried_finalizes : (who : Who) (ask : Ask) (post : Phase → LockNature → Type 0) (h : Holders) (g : Option (LockResult ReadTicket WriteTicket)) (h' : Holders) → ((n : LockNature) → post h.phase n → n ≡ nature_of ask h.phase) → Tries post h g h' →
+    is_final (begun_tried who ask h.phase g) ≡ (asks_final ask h.phase && not (is_barred ask h))
+tried_finalizes who ask post h g h' ruled tries = tried_comes is_final who ask _ post h g h' (final_comes who ask h.phase) ruled tries ∙ either_way (not (is_barred ask h)) (asks_final ask h.phase)
+
+pub locks_finalizes : (who : Who) (ask : Ask) (post : Phase → LockNature → Type 0) (k : LockerKind) (wake : LockNature) (h : Holders) (s : Rows) (r : Attempt × Given) (h' : Holders) (s' : Rows) → ((n : LockNature) → post h.phase n → n ≡ nature_of ask h.phase) → Locks post k who wake h s r h' s' →
+    is_final (begun_by who ask h.phase r.0) ≡ (asks_final ask h.phase && not (is_barred ask h))
+locks_finalizes who ask post k wake h s r h' s' ruled locks = locks_comes is_final who ask _ post k wake h s r h' s' (final_comes who ask h.phase) ruled locks ∙ either_way (not (is_barred ask h)) (asks_final ask h.phase)
+
+pub again_finalizes : (who : Who) (ask : Ask) (post : Phase → LockNature → Type 0) (k : LockerKind) (wake : LockNature) (h : Holders) (s : Rows) (r : Attempt × Given) (h' : Holders) (s' : Rows) → ((n : LockNature) → post h.phase n → n ≡ nature_of ask h.phase) → Again post k who wake h s r h' s' →
+    is_final (begun_by who ask h.phase r.0) ≡ (asks_final ask h.phase && is_admitted (begun_by who ask h.phase r.0))
+again_finalizes who ask post k wake h s r h' s' ruled again = again_comes is_final who ask _ post k wake h s r h' s' (final_comes who ask h.phase) ruled again ∙ either_way (is_admitted (begun_by who ask h.phase r.0)) (asks_final ask h.phase)
 
 -- an attempt is never missed
 pub by_attempt : (who : Who) (ask : Ask) (p : Phase) (a : Attempt) → is_missed (begun_by who ask p a) ≡ false

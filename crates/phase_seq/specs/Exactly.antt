@@ -90,6 +90,6 @@ shall_miss who ask running h = not (is_cyclic ask.want who.party running) && (is
 abbrev pub shall_run : Who → Ask → Option ℕ → Holders → Bool
 shall_run who ask running h = not (is_cyclic ask.want who.party running) && (not (is_barred ask h) && asks_run ask h.phase)
 
--- the call is to run the finalizer: it is admitted, and asks for it
+-- the call is to run the finalizer: it asks for it, and is admitted
 abbrev pub shall_finalize : Ask → Holders → Bool
-shall_finalize ask h = not (is_barred ask h) && asks_final ask h.phase
+shall_finalize ask h = asks_final ask h.phase && not (is_barred ask h)

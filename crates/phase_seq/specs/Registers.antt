@@ -6,20 +6,16 @@ use Rattle.phase_bits.specs.declared.phase.Phase.{Phase}
 use Rattle.phase_bits.specs.declared.holders.Holders.{Holders}
 use Rattle.phase_bits.specs.Number.{number}
 use Rattle.exit_registry.specs.Registry.{Registry, cells_of, is_known, after_register}
-use Rattle.phase_locker.specs.declared.ways.Who.{Who}
 use Rattle.phase_locker.specs.declared.ways.Given.{Given}
 use Rattle.phase_locker.specs.declared.ways.Given.TheVariants.{Nobody}
-use Rattle.phase_locker.specs.declared.ways.LockerKind.{LockerKind}
 use Rattle.phase_locker.specs.Rows.{Rows}
 use Rattle.phase_locker.specs.Fits.{IsWriteOpen}
-use Rattle.phase_seq.specs.declared.ask.Ask.{Ask}
 use Rattle.phase_seq.specs.declared.section.Section.{Section}
 use Rattle.phase_seq.specs.declared.section.Begun.{Begun}
 use Rattle.phase_seq.specs.declared.section.Begun.TheVariants as begun
 use Rattle.phase_seq.specs.declared.section.Finished.{Finished}
 use Rattle.phase_seq.specs.declared.section.Finished.TheVariants as finished
 use Rattle.phase_seq.specs.Phases.{staying, refused, may_generate}
-use Rattle.phase_seq.specs.Begins.{Begins, Resumes}
 use Rattle.phase_seq.specs.Finishes.{GoesOn}
 
 -- ---- the registry

@@ -5,6 +5,8 @@
 
 mod ask;
 mod finalizer;
+#[cfg(test)]
+mod finalizer_tests;
 mod generator;
 #[cfg(test)]
 mod generator_tests;
@@ -16,6 +18,8 @@ mod phases;
 mod registry_tests;
 mod section;
 mod sequentializer;
+#[cfg(test)]
+mod test_calls;
 #[cfg(test)]
 mod tests;
 mod tolerance;

@@ -69,7 +69,15 @@ impl<L: PhaseLocker, G> LazySequentializer<L, G> {
 
     /// A call of a party that does not wait. It is `Cyclic` exactly where it asks for a run of the generator that its own
     /// party is running, before any lock is tried; else it waits, or is `Missed` where it does not wait, exactly where
-    /// the lock that it wants is barred. It is to run the generator exactly where it is admitted and asks for a run.
+    /// the lock that it wants is barred. It is to run the finalizer exactly where it finalizes, the value is there and it
+    /// is admitted. It is to run the generator exactly where it is admitted and asks for a run, but for cells that can't
+    /// be registered.
+    ///
+    /// `reg` is the registry of a cell that is registered for the exit; the cell must be below its cells, and not known
+    /// to it while the phase is empty and no write lock is open. A call that asks for a run and is admitted registers the
+    /// cell where its phase is empty. Where the cell is not registered and puts up with no leak, no generator runs: the
+    /// phase becomes REGISTRATION_REFUSED | INITIALIZATION_SKIPED, and the call is left with what it wants, as after a
+    /// run. It answers `Nothing`, `Read` or `Write` then; a write lock is to be given back with that phase.
     pub fn begin(
         &mut self,
         parks: &mut Parks,
@@ -112,8 +120,8 @@ impl<L: PhaseLocker, G> LazySequentializer<L, G> {
         }
     }
 
-    /// A call of a party that waits at this cell. It answers as `begin`, and what the party has by its waiting goes into
-    /// the attempt, as `again` of the locker says.
+    /// A call of a party that waits at this cell. It answers as `begin`, with `reg` as there, and what the party has by
+    /// its waiting goes into the attempt, as `again` of the locker says.
     pub fn again(
         &mut self,
         parks: &mut Parks,
@@ -132,7 +140,7 @@ impl<L: PhaseLocker, G> LazySequentializer<L, G> {
         ensures registry { left_behind reg.exit ≡ option_map (after_asking (is_admitted result.0 && asks_run ask (L.held self.old.locker).phase) who.cell (L.held self.old.locker).phase) (option_copied_mut reg.entry) }
         ensures cyclic { is_turned_back result.0 ≡ is_cyclic ask.want who.party self.old.running }
         ensures runs { is_run result.0 ≡ (if is_refused ask.tol.leak (option_copied_mut reg.entry) (L.held self.old.locker).phase then false else (is_admitted result.0 && asks_run ask (L.held self.old.locker).phase)) }
-        ensures finalizes { is_final result.0 ≡ (is_admitted result.0 && asks_final ask (L.held self.old.locker).phase) }
+        ensures finalizes { is_final result.0 ≡ (asks_final ask (L.held self.old.locker).phase && is_admitted result.0) }
         ensures running { self.new.running ≡ running_after result.0 self.old.running }
         ensures others { OthersStay who.cell parks.old parks.new }
         ensures rows { RowsStayBeside who.party who.cell parks.old parks.new }
@@ -216,9 +224,9 @@ impl<L: PhaseLocker, G> LazySequentializer<L, G> {
             stays: _stays,
             ticket,
         } = section;
-        let phase = finalized(self.locker.phase(), fine);
-        let given = self.locker.release_write(parks, who.cell, ticket, phase);
-        (phase, given)
+        let left = finalized(self.locker.phase(), fine);
+        let given = self.locker.release_write(parks, who.cell, ticket, left);
+        (left, given)
     }
 }
 

@@ -71,7 +71,7 @@ impl<L: PhaseLocker, G> LazySequentializer<L, G> {
         ensures resumes { Resumes (L.place self.old.locker) who ask self.old.running (L.held self.old.locker) parks.old result (L.held self.new.locker) parks.new }
         ensures cyclic { is_turned_back result.0 ≡ is_cyclic ask.want who.party self.old.running }
         ensures runs { is_run result.0 ≡ (is_admitted result.0 && asks_run ask (L.held self.old.locker).phase) }
-        ensures finalizes { is_final result.0 ≡ (is_admitted result.0 && asks_final ask (L.held self.old.locker).phase) }
+        ensures finalizes { is_final result.0 ≡ (asks_final ask (L.held self.old.locker).phase && is_admitted result.0) }
         ensures running { self.new.running ≡ running_after result.0 self.old.running }
         ensures others { OthersStay who.cell parks.old parks.new }
         ensures rows { RowsStayBeside who.party who.cell parks.old parks.new }

@@ -1,7 +1,7 @@
 use Rattle.std.proofs.Common.{◌≡◌, false, rules, sym, ◌∙◌}
 use Rattle.phase_seq.specs.Begins.{is_cyclic}
 use Rattle.phase_seq.specs.Exactly.{is_run, is_final}
-use Rattle.phase_seq.proofs.Exactness.{tried_comes, locks_comes, run_comes, final_comes, cyclic_ends, tried_barred, locks_waits, by_attempt, waits_instead}
+use Rattle.phase_seq.proofs.Exactness.{tried_comes, locks_comes, run_comes, tried_finalizes, locks_finalizes, cyclic_ends, tried_barred, locks_waits, by_attempt, waits_instead}
 use Rattle.phase_seq.proofs.Sections.{section_stays, begun_apart, tried_writes}
 use Rattle.phase_seq.proofs.Answered.{begun_by_stands, tried_stands, tried_reads}
 use Rattle.phase_seq.proofs.sequentializer.LazySequentializer.enter.Goals as goal
@@ -51,12 +51,12 @@ returns-clause-sections g c = λ o here was.
 pub returns-then-ask-clause-finalizes : goal.returns-then-ask-clause-finalizes
 returns-then-ask-clause-finalizes g c =
     rw (c.begun_tried.ensures.begun, c.phase-phase.ensures.phase)
-    (tried_comes is_final c.args.who c.args.ask _ _ _ _ _ (final_comes _ _ _) (λ n e. search rules) c.try_lock-got.ensures.tries)
+    (tried_finalizes c.args.who c.args.ask _ _ _ _ (λ n e. search rules) c.try_lock-got.ensures.tries)
 
 pub returns-clause-finalizes : goal.returns-clause-finalizes
 returns-clause-finalizes g c =
     rw (c.begun_by.ensures.begun, c.phase-phase.ensures.phase)
-    (locks_comes is_final c.args.who c.args.ask _ _ (g.L.PhaseLocker.place c.args.self.now.locker) _ _ c.args.parks.now c.lock-attempt.result _ _ (final_comes _ _ _) (λ n e. search rules) c.lock-attempt.ensures.locks)
+    (locks_finalizes c.args.who c.args.ask _ (g.L.PhaseLocker.place c.args.self.now.locker) _ _ c.args.parks.now c.lock-attempt.result _ _ (λ n e. search rules) c.lock-attempt.ensures.locks)
 
 pub returns-then-is_cyclic-clause-finalizes : goal.returns-then-is_cyclic-clause-finalizes
 returns-then-is_cyclic-clause-finalizes g c = cyclic_ends c.args.ask.want _ c.args.who.party c.args.self.now.running _ (sym c.is_cyclic.ensures ∙ c.if-is_cyclic.true)

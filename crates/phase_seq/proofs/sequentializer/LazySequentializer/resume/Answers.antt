@@ -3,7 +3,7 @@ use Rattle.phase_seq.specs.Begins.{is_cyclic}
 use Rattle.phase_seq.proofs.Sections.{section_stays, again_apart}
 use Rattle.phase_seq.proofs.Answered.{begun_by_stands}
 use Rattle.phase_seq.specs.Exactly.{is_run, is_final}
-use Rattle.phase_seq.proofs.Exactness.{again_comes, run_comes, final_comes}
+use Rattle.phase_seq.proofs.Exactness.{again_comes, run_comes, again_finalizes}
 use Rattle.phase_seq.proofs.Resumed.{resumed}
 use Rattle.phase_seq.proofs.Settled.{again_quiet}
 use Rattle.phase_seq.proofs.sequentializer.LazySequentializer.resume.Goals as goal
@@ -41,4 +41,4 @@ returns-clause-quiet g c = λ run.
 pub returns-clause-finalizes : goal.returns-clause-finalizes
 returns-clause-finalizes g c =
     rw (c.begun_by.ensures.begun, c.phase-phase.ensures.phase)
-    (again_comes is_final c.args.who c.args.ask _ _ (g.L.PhaseLocker.place c.args.self.now.locker) _ _ c.args.parks.now c.again-attempt.result _ _ (final_comes _ _ _) (λ n e. search rules) c.again-attempt.ensures.again)
+    (again_finalizes c.args.who c.args.ask _ (g.L.PhaseLocker.place c.args.self.now.locker) _ _ c.args.parks.now c.again-attempt.result _ _ (λ n e. search rules) c.again-attempt.ensures.again)

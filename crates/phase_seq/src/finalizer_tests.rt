@@ -1,0 +1,157 @@
+//! Finalizer sections of the sequentializer, and finalizers.
+
+ghost use Rattle.std.specs.Prelude.{◌≡◌, is_ok};
+
+use crate::ask::{Ask, Want};
+use crate::finalizer::{FinalFault, Finaly};
+use crate::section::Begun;
+use crate::sequentializer::LazySequentializer;
+use crate::test_calls::{Cell, ask, last, nothing, party, ready, writes};
+use exit_registry::ExitRegistry;
+use phase_bits::{Phase, Phased};
+use phase_locker::{Given, HolderLocker, LockerKind, Parks, PhaseLocker};
+use std::process::Abort;
+use std::test::Fail;
+
+#[test]
+fn a_finalizer_that_succeeds_leaves_its_flag(rt: HostRuntime) -> Result<(), Fail> {
+    let mut parks = Parks::new(rt.alloc(), 1, 2)?;
+    let mut registry = ExitRegistry::new(rt.alloc(), 1)?;
+    let mut cell: Cell = LazySequentializer::new(HolderLocker::new(
+        LockerKind::Spin,
+        Phase::INITIALIZED_AND_REGISTERED,
+    ));
+    ready(&rt, cell.locker().phase(), &registry);
+    let (begun, given) = cell.begin(
+        &mut parks,
+        party(0),
+        ask(Want::Finalize, false),
+        Some(&mut registry),
+    );
+    assert_eq!(rt; given, Given::Nobody);
+    let section = last(&rt, begun);
+    assert_eq!(rt; section.who(), party(0));
+    let fast = Ask {
+        fast: true,
+        ..ask(Want::Finalize, false)
+    };
+    ready(&rt, cell.locker().phase(), &registry);
+    let (begun, _) = cell.begin(&mut parks, party(1), fast, Some(&mut registry));
+    let Begun::Missed = begun else { rt.abort() };
+    let (phase, given) = cell.finish_final(&mut parks, section, true);
+    assert_eq!(rt; given, Given::Nobody);
+    assert_eq!(rt; phase.bits(), 73);
+    assert_eq!(rt; cell.locker().phase(), phase);
+    ready(&rt, cell.locker().phase(), &registry);
+    let (begun, given) = cell.begin(
+        &mut parks,
+        party(1),
+        ask(Want::WriteOnly, false),
+        Some(&mut registry),
+    );
+    assert_eq!(rt; given, Given::Nobody);
+    let (ticket, phase) = writes(&rt, begun);
+    assert_eq!(rt; phase.bits(), 73);
+    let given = cell
+        .locker_mut()
+        .release_write(&mut parks, 0, ticket, phase);
+    assert_eq!(rt; given, Given::Nobody);
+    Ok(())
+}
+
+#[test]
+fn a_finalizer_that_fails_leaves_its_flag(rt: HostRuntime) -> Result<(), Fail> {
+    let mut parks = Parks::new(rt.alloc(), 1, 2)?;
+    let mut registry = ExitRegistry::new(rt.alloc(), 1)?;
+    let mut cell: Cell = LazySequentializer::new(HolderLocker::new(
+        LockerKind::Park,
+        Phase::INITIALIZED_AND_REGISTERED,
+    ));
+    ready(&rt, cell.locker().phase(), &registry);
+    let (begun, given) = cell.begin(
+        &mut parks,
+        party(0),
+        ask(Want::Finalize, false),
+        Some(&mut registry),
+    );
+    assert_eq!(rt; given, Given::Nobody);
+    let section = last(&rt, begun);
+    assert_eq!(rt; section.who(), party(0));
+    let fast = Ask {
+        fast: true,
+        ..ask(Want::Finalize, false)
+    };
+    ready(&rt, cell.locker().phase(), &registry);
+    let (begun, _) = cell.begin(&mut parks, party(1), fast, Some(&mut registry));
+    let Begun::Missed = begun else { rt.abort() };
+    let (phase, given) = cell.finish_final(&mut parks, section, false);
+    assert_eq!(rt; given, Given::Nobody);
+    assert_eq!(rt; phase.bits(), 137);
+    assert_eq!(rt; cell.locker().phase(), phase);
+    ready(&rt, cell.locker().phase(), &registry);
+    let (begun, given) = cell.begin(
+        &mut parks,
+        party(1),
+        ask(Want::WriteOnly, false),
+        Some(&mut registry),
+    );
+    assert_eq!(rt; given, Given::Nobody);
+    let (ticket, phase) = writes(&rt, begun);
+    assert_eq!(rt; phase.bits(), 137);
+    let given = cell
+        .locker_mut()
+        .release_write(&mut parks, 0, ticket, phase);
+    assert_eq!(rt; given, Given::Nobody);
+    Ok(())
+}
+
+#[test]
+fn an_empty_cell_is_not_finalized(rt: HostRuntime) -> Result<(), Fail> {
+    let mut parks = Parks::new(rt.alloc(), 1, 1)?;
+    let mut registry = ExitRegistry::new(rt.alloc(), 1)?;
+    let mut cell: Cell = LazySequentializer::new(HolderLocker::new(
+        LockerKind::Park,
+        Phase::empty(),
+    ));
+    ready(&rt, cell.locker().phase(), &registry);
+    let (begun, given) = cell.begin(
+        &mut parks,
+        party(0),
+        ask(Want::Finalize, false),
+        Some(&mut registry),
+    );
+    assert_eq!(rt; given, Given::Nobody);
+    assert_eq!(rt; nothing(&rt, begun), Phase::empty());
+    assert!(rt; !registry.knows(0));
+    assert!(rt; registry.is_open());
+    Ok(())
+}
+
+/// A value whose finalizer succeeds once it is full.
+struct Cup {
+    full: bool,
+}
+
+impl Finaly for Cup {
+    ghost may_finalize = { λ c. Unit {0} };
+
+    ghost finalizes = { λ c r. is_ok r ≡ c.full };
+
+    fn finaly(&self) -> Result<(), FinalFault> {
+        if self.full { Ok(()) } else { Err(FinalFault) }
+    }
+}
+
+/// Finalizes a value.
+fn finalize<V: Finaly>(value: &V) -> Result<(), FinalFault>
+    requires { V.may_finalize value.now }
+    ensures { V.finalizes value.now result }
+{
+    value.finaly()
+}
+
+#[test]
+fn values_are_finalized(rt: HostRuntime) {
+    assert_eq!(rt; finalize(&Cup { full: true }), Ok(()));
+    assert_eq!(rt; finalize(&Cup { full: false }), Err(FinalFault));
+}
