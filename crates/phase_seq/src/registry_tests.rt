@@ -6,7 +6,7 @@ use crate::sequentializer::LazySequentializer;
 use crate::test_calls::{Cell, ask, look, nothing, party, reads, ready, run, writes};
 use exit_registry::{ExitRegistry, Look};
 use phase_bits::{Phase, Phased};
-use phase_locker::{Given, HolderLocker, How, LockerKind, Parks, PhaseLocker, Waiting};
+use phase_locker::{Given, HolderLocker, LockerKind, Parks, PhaseLocker};
 use std::process::Abort;
 use std::test::Fail;
 
@@ -204,59 +204,5 @@ fn a_cell_that_leaks_is_initialized(rt: HostRuntime) -> Result<(), Fail> {
     assert_eq!(rt; given, Given::Nobody);
     assert_eq!(rt; phase.bits(), 33);
     assert_eq!(rt; cell.locker().phase(), phase);
-    Ok(())
-}
-
-#[test]
-fn a_share_is_given_up_for_a_refusal(rt: HostRuntime) -> Result<(), Fail> {
-    let mut parks = Parks::new(rt.alloc(), 1, 2)?;
-    let mut registry = ExitRegistry::new(rt.alloc(), 1)?;
-    assert_eq!(rt; look(&rt, &mut registry), Look::Closed);
-    let mut cell: Cell = LazySequentializer::new(HolderLocker::new(
-        LockerKind::Park,
-        Phase::empty(),
-    ));
-    ready(&rt, cell.locker().phase(), &registry);
-    let (begun, given) = cell.begin(
-        &mut parks,
-        party(0),
-        ask(Want::WriteOnly, false),
-        Some(&mut registry),
-    );
-    assert_eq!(rt; given, Given::Nobody);
-    let (ticket, phase) = writes(&rt, begun);
-    assert_eq!(rt; phase, Phase::empty());
-    ready(&rt, cell.locker().phase(), &registry);
-    let (begun, given) = cell.begin(
-        &mut parks,
-        party(1),
-        ask(Want::Read, false),
-        Some(&mut registry),
-    );
-    assert_eq!(rt; given, Given::Nobody);
-    let Begun::Wait(How::ParkedRead) = begun else {
-        rt.abort()
-    };
-    let given = cell
-        .locker_mut()
-        .release_write(&mut parks, 0, ticket, phase);
-    assert_eq!(rt; given, Given::Readers);
-    assert_eq!(rt; parks.waiting(1), Waiting::ShareRead);
-    assert_eq!(rt; parks.cell_of(1), 0);
-    ready(&rt, cell.locker().phase(), &registry);
-    let (begun, given) = cell.again(
-        &mut parks,
-        party(1),
-        ask(Want::Read, false),
-        Some(&mut registry),
-    );
-    assert_eq!(rt; given, Given::Nobody);
-    let (ticket, phase) = reads(&rt, begun);
-    assert_eq!(rt; phase.bits(), REFUSED);
-    let given = cell.locker_mut().release_read(&mut parks, 0, ticket);
-    assert_eq!(rt; given, Given::Nobody);
-    assert!(rt; !registry.knows(0));
-    assert!(rt; !registry.is_open());
-    assert_eq!(rt; parks.waiting(1), Waiting::Free);
     Ok(())
 }
