@@ -20,10 +20,6 @@ use Rattle.phase_schedule.specs.Tracks.{NumbersBelow}
 use Rattle.phase_schedule.proofs.Places.{other_number, same_number, set_view}
 use Rattle.phase_schedule.proofs.After.{IsSteadyWith}
 
--- what does nothing to the rows leaves the others
-pub nobody_moved : (c : ℕ) (s : Parking) → OthersStay c s s
-nobody_moved c s = record { cells = λ d ne. record { readers = refl; writers = refl; shares = refl; drains = refl; claims = refl }; rows = λ p w ne. refl }
-
 pub size_same : (s : Parking) → SameSize s s
 size_same s = record { parties = refl; cells = refl }
 
