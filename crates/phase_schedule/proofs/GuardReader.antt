@@ -17,9 +17,11 @@ use Rattle.phase_schedule.specs.declared.rows.GuardRow.{GuardRow}
 use Rattle.phase_schedule.specs.declared.rows.GuardRow.TheVariants as guard
 use Rattle.phase_schedule.specs.Kept.{guard_row}
 use Rattle.phase_schedule.specs.Tracks.{NumbersBelow}
-use Rattle.phase_schedule.proofs.Places.{other_number, same_number, set_view}
+use Rattle.phase_schedule.proofs.Numbers.{other_number, same_number}
+use Rattle.phase_schedule.proofs.Places.{set_view}
 use Rattle.phase_schedule.proofs.After.{IsSteadyWith}
 
+-- rows that stay are as many
 pub size_same : (s : Parking) → SameSize s s
 size_same s = record { parties = refl; cells = refl }
 

@@ -33,7 +33,7 @@ use Rattle.phase_schedule.specs.Kept.{open_after, call_of, cell_of, readers_in, 
 use Rattle.phase_schedule.specs.Shown.{Agrees}
 use Rattle.phase_schedule.specs.View.{View}
 use Rattle.phase_schedule.specs.Tracks.{IsApart, Locked, Tracks, event}
-use Rattle.phase_schedule.proofs.Places.{other_number, same_number}
+use Rattle.phase_schedule.proofs.Numbers.{other_number, same_number}
 use Rattle.phase_schedule.proofs.Same.{unlocked}
 use Rattle.phase_schedule.proofs.GivenOn.{given_on, listed_share}
 use Rattle.phase_schedule.proofs.Hands.{locked_sound, waits_then, hands_locked, handed_writers}

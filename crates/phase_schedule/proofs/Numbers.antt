@@ -1,8 +1,16 @@
--- What a test of a number says: that it is 0, or that it is not.
-use Rattle.std.proofs.Common.{◌≡◌, ◌==◌, ℕ, ◌+◌, ◌<◌, refl, arith, Bool, true, false, not, ◌&&◌, ◌||◌}
+-- What tests of numbers say: that two are equal, or that one is 0.
+use Rattle.std.proofs.Common.{◌≡◌, ◌≢◌, ◌==◌, ℕ, ◌+◌, ◌<◌, refl, arith, Bool, true, false, not, ◌&&◌, ◌||◌}
 use Rattle.std.proofs.lemmas.Bool.{or_parts}
 use Rattle.std.specs.Prelude.{nat_lt}
 
+-- of two
+pub same_number : (a : ℕ) → (a == a) ≡ true
+same_number a = grind arith
+
+pub other_number : (a b : ℕ) → b ≢ a → (a == b) ≡ false
+other_number a b ne = grind arith
+
+-- of one and 0
 pub lt_true : (n : ℕ) → nat_lt 0 n ≡ true → 0 < n
 lt_true n e = grind (arith, e)
 
@@ -18,6 +26,7 @@ zero_is n e = grind (arith, e)
 pub lt_more : (m n : ℕ) → m ≡ n + 1 → nat_lt 0 m ≡ true
 lt_more m n e = grind (arith, e)
 
+-- of several and 0
 pub no_claims : (n m : ℕ) → (nat_lt 0 n || nat_lt 0 m) ≡ false → (n ≡ 0) × (m ≡ 0)
 no_claims n m e = let k = or_parts (nat_lt 0 n) (nat_lt 0 m) e in (lt_false n k.0, lt_false m k.1)
 

@@ -12,12 +12,6 @@ use Rattle.phase_schedule.specs.View.{View}
 use Rattle.phase_schedule.specs.Kept.{plans_in}
 use Rattle.phase_schedule.specs.Tracks.{plans}
 
-pub same_number : (a : ℕ) → (a == a) ≡ true
-same_number a = grind arith
-
-pub other_number : (a b : ℕ) → b ≢ a → (a == b) ≡ false
-other_number a b ne = grind arith
-
 -- a place of a list after a write
 pub slice_get_set_same : {X : Type 0} (xs : List X) (i : ℕ) (x : X) → i < length xs → slice_get (set xs i x) i ≡ Some x
 slice_get_set_same xs i x lt = grind (arith, common_steps, gets)
