@@ -5,7 +5,6 @@ use Rattle.std.specs.Prelude.{slice_get}
 use Rattle.std.specs.declared.option.Option.{Option}
 use Rattle.phase_locker.specs.Natures.{read_ticket}
 use Rattle.phase_locker.specs.Rows.{Rows as Parking, SameSize}
-use Rattle.phase_locker.specs.Others.{OthersStay}
 use Rattle.schedule_rules.specs.declared.plan.CellPlan.{CellPlan}
 use Rattle.schedule_rules.specs.History.{Event, count}
 use Rattle.schedule_rules.specs.Sections.{sections}
