@@ -13,7 +13,7 @@ use Rattle.schedule_rules.proofs.Found.{found_counts, none_found, only_one}
 use Rattle.schedule_rules.proofs.Opened.{count_ended, section_kept}
 use Rattle.phase_schedule.specs.Kept.{open_after}
 use Rattle.phase_schedule.specs.Tracks.{IsApart}
-use Rattle.phase_schedule.proofs.Places.{other_number, same_number}
+use Rattle.phase_schedule.proofs.Numbers.{other_number, same_number}
 
 module _ (cells : List CellPlan) (h : List Event) (p : ℕ) (s : Section) (is : innermost p (sections h) ≡ Some s) (apart : (c : ℕ) → IsApart (open_after cells h) c) where
   -- one section at least runs at its cell, so one

@@ -17,7 +17,7 @@ use Rattle.schedule_rules.specs.Holds.{readers_with, writers_with, drains_with}
 use Rattle.phase_schedule.specs.Kept.{Open, readers_in, writers_in, drains_in}
 use Rattle.phase_schedule.specs.Shown.{Shows, IsSingle, Agrees}
 use Rattle.phase_schedule.specs.Tracks.{IsApart}
-use Rattle.phase_schedule.proofs.Truth.{no_claims}
+use Rattle.phase_schedule.proofs.Numbers.{no_claims}
 use Rattle.phase_schedule.proofs.Counted.{read_shares_woken, read_shares_woken_other, write_shares_beside_readers, drains_beside_readers}
 use Rattle.phase_schedule.proofs.Members.{write_shares_woken, write_shares_woken_other, read_shares_beside_writer, drains_beside_writer}
 use Rattle.phase_schedule.proofs.Reaching.{parked_writer}

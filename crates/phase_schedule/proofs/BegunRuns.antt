@@ -24,7 +24,8 @@ use Rattle.phase_schedule.specs.declared.rows.Target.{Target}
 use Rattle.phase_schedule.specs.Kept.{runner_in}
 use Rattle.phase_schedule.specs.Tracks.{RunBy}
 use Rattle.phase_schedule.specs.Ready.{Lock, asks_run, who_of, opened_by, opened_by_lock, waits_left, with_section, with_guard}
-use Rattle.phase_schedule.proofs.Places.{same_number, other_number, slice_get_set_same, slice_get_set_other}
+use Rattle.phase_schedule.proofs.Numbers.{same_number, other_number}
+use Rattle.phase_schedule.proofs.Places.{slice_get_set_same, slice_get_set_other}
 
 -- one place is written
 pub run_by_set : (cells : List CellPlan) (ss ss' : List Section) (running : List (Option ℕ)) (c : ℕ) (r : Option ℕ) → RunBy cells ss running → c < length cells → r ≡ runner_in c ss' → ((d : ℕ) → d ≢ c → runner_in d ss' ≡ runner_in d ss) → RunBy cells ss' (set running c r)

@@ -1,5 +1,6 @@
 -- What each answer of a sequentializer means for the call: a wait, a lock, a run, or that it was cyclic.
 use Rattle.std.proofs.Common.{◌≡◌, ◌≢◌, ℕ, List, refl, Bool, true, false, None, Some, ◌∙◌, ap, sym, subst, not, ◌&&◌, inl, inr}
+use Rattle.std.proofs.lemmas.Bool.{and_from}
 use Rattle.std.specs.Prelude.{if◌then◌else◌}
 use Rattle.std.specs.declared.option.Option.{Option}
 use Rattle.phase_bits.specs.declared.phase.Phase.{Phase}
@@ -40,7 +41,6 @@ use Rattle.phase_schedule.specs.View.{View}
 use Rattle.phase_schedule.specs.Meets.{ask_of}
 use Rattle.phase_schedule.specs.Tracks.{plans}
 use Rattle.phase_schedule.specs.Ready.{Tries, IsAnswered, IsBegun, IsFirst, IsOpeningAt, IsReadAt, IsRun, IsTried, asks_run, begun_for, who_of}
-use Rattle.phase_schedule.proofs.Truth.{both_true}
 use Rattle.phase_schedule.proofs.LockDue.{tried}
 use Rattle.phase_schedule.proofs.LockRun.{due_try}
 use Rattle.phase_schedule.proofs.BegunAsks.{AsksAs, asks_as}
@@ -137,5 +137,5 @@ module _ (h : List Event) (v : View) (s : Step) (n : ℕ) (t : Target) (g : Give
 
   -- of what the sequentializer answered
   pub begun_is : (b : Begun) → IsBegun h v s n t b g → Means b
-  begun_is b (inl k) = subst Means (sym k.begun) (record { first = k.first; given = k.given; cyclic = both_true (call_initializes t.call) (runs s.party t.cell h) k.asks k.runs })
+  begun_is b (inl k) = subst Means (sym k.begun) (record { first = k.first; given = k.given; cyclic = and_from (call_initializes t.call) (runs s.party t.cell h) k.asks k.runs })
   begun_is b (inr k) = means_tried b k

@@ -1,5 +1,6 @@
 -- What a sequentializer answered to a call, and what it left, is told of the rows.
 use Rattle.std.proofs.Common.{◌≡◌, ◌≢◌, ℕ, List, set, get_or, map, true, false, None, Some, ◌∙◌, ap, sym, subst, ◌&&◌, inl, inr}
+use Rattle.std.proofs.lemmas.Bool.{and_parts}
 use Rattle.std.specs.declared.option.Option.{Option}
 use Rattle.std.proofs.Math.Seq.{map-set_same}
 use Rattle.phase_bits.specs.declared.holders.Holders.{Holders}
@@ -31,7 +32,6 @@ use Rattle.phase_schedule.specs.View.{View, view}
 use Rattle.phase_schedule.specs.Meets.{ask_of}
 use Rattle.phase_schedule.specs.Tracks.{RunBy, plans}
 use Rattle.phase_schedule.specs.Ready.{IsAgain, IsAnswered, IsAttempt, IsBegun, IsFirst, IsTried, IsTurnedBack, begun_for, opened_by, who_of}
-use Rattle.phase_schedule.proofs.Truth.{both_are}
 use Rattle.phase_schedule.proofs.Places.{inside_plan}
 use Rattle.phase_schedule.proofs.LockRun.{runner_runs}
 use Rattle.phase_schedule.proofs.LockFirst.{first_answered}
@@ -124,8 +124,8 @@ module _ {L : Type 0} (held : L → Holders) (place : L → LockerKind) (rows : 
               first = subst (λ v. IsFirst h v s n t) (sym (same_after back)) is;
               begun = ap (λ (b : Begun × Given). b.0) back.answer;
               given = ap (λ (b : Begun × Given). b.1) back.answer;
-              asks = (both_are (call_initializes t.call) (runs s.party t.cell h) both).0;
-              runs = (both_are (call_initializes t.call) (runs s.party t.cell h) both).1;
+              asks = (and_parts (call_initializes t.call) (runs s.party t.cell h) both).0;
+              runs = (and_parts (call_initializes t.call) (runs s.party t.cell h) both).1;
             }
 
         tried : is_cyclic ask.want s.party q.running ≡ false → MakesAttempt (place q.locker) (who_of s t) ask (held q.locker) rows.parks r (held q'.locker) parks' → IsTried h after s n t r.0 r.1

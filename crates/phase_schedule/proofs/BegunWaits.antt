@@ -1,11 +1,9 @@
 -- A call that waits is none for the phase alone: that would have been answered.
-use Rattle.std.proofs.Common.{◌≡◌, ◌≢◌, ℕ, List, [], ◌∷◌, refl, Bool, true, false, None, Some, ◌∙◌, ap, sym, subst, not, ◌&&◌, inl, inr}
-use Rattle.std.proofs.lemmas.Bool.{cases_eq}
+use Rattle.std.proofs.Common.{◌≡◌, ◌≢◌, ℕ, List, Bool, true, false, None, Some, ◌∙◌, ap, subst, not, ◌&&◌}
 use Rattle.std.specs.Prelude.{if◌then◌else◌}
 use Rattle.std.specs.declared.option.Option.{Option}
 use Rattle.phase_bits.specs.declared.phase.Phase.{Phase}
 use Rattle.phase_locker.specs.declared.ways.How.{How}
-use Rattle.phase_locker.specs.declared.ways.Given.{Given}
 use Rattle.schedule_rules.specs.declared.plan.Call.TheVariants as call
 use Rattle.schedule_rules.specs.declared.plan.CellPlan.{CellPlan}
 use Rattle.schedule_rules.specs.declared.step.Step.{Step}
@@ -15,12 +13,10 @@ use Rattle.schedule_rules.specs.declared.line.Line.{Line}
 use Rattle.schedule_rules.specs.Kinds.{cell_at}
 use Rattle.schedule_rules.specs.Calls.{Calls, Want}
 use Rattle.schedule_rules.specs.History.{Event}
-use Rattle.schedule_rules.specs.Waits.{Wait, Attempt, wait_of, without_wait, with_wait, attempt_of_wait, attempt, waits_given_with, waits_answered, waits, waits_given, other_waits}
-use Rattle.schedule_rules.specs.Refusals.{refusal}
+use Rattle.schedule_rules.specs.Waits.{Wait, Attempt, wait_of, attempt_of_wait, attempt, waits}
 use Rattle.schedule_rules.specs.Answers.{Meeting, answer_of_attempt}
-use Rattle.schedule_rules.specs.Due.{due_answer, due_tried, meeting}
-use Rattle.schedule_rules.specs.Legal.{IsLegal, IsLegalLine, Moment, First, Last, due_at}
-use Rattle.schedule_rules.proofs.Opened.{wait_removed}
+use Rattle.schedule_rules.specs.Due.{meeting}
+use Rattle.schedule_rules.specs.Legal.{IsLegal, IsLegalLine}
 use Rattle.phase_schedule.proofs.Waited.{waiting_due, while_waiting}
 use Rattle.schedule_rules.specs.Sections.{Section}
 

@@ -1,5 +1,6 @@
 -- A call that may not access the value gives its lock back: the rows follow the step.
 use Rattle.std.proofs.Common.{◌≡◌, ℕ, ◌+◌, ◌<◌, List, length, set, get_or, refl, sym, ◌∙◌, ap, subst, arith, Bool, false, None, Some, length-set}
+use Rattle.std.proofs.lemmas.Bool.{or_left}
 use Rattle.std.specs.Prelude.{slice_get, if◌then◌else◌}
 use Rattle.std.specs.declared.option.Option.{Option}
 use Rattle.phase_bits.specs.declared.holders.Holders.{Holders}
@@ -32,7 +33,7 @@ use Rattle.phase_schedule.specs.Meets.{given_first}
 use Rattle.phase_schedule.specs.Shown.{Agrees}
 use Rattle.phase_schedule.specs.Tracks.{FollowsStep, Locked, RunBy, event, plans}
 use Rattle.phase_schedule.specs.Ready.{IsAnswered, IsDeniedRead, IsDeniedWrite, answer_by, asks_run, if_made, opened_by, still_open, waits_left, with_guard, with_section}
-use Rattle.phase_schedule.proofs.Truth.{or_left, lt_more}
+use Rattle.phase_schedule.proofs.Numbers.{lt_more}
 use Rattle.phase_schedule.proofs.Places.{inside_plan, set_there, read_once}
 use Rattle.phase_schedule.proofs.After.{tracks_after}
 use Rattle.phase_schedule.proofs.GivenOn.{given_on}

@@ -1,5 +1,6 @@
 -- A step gives once: where the attempt of a call gave its cell, the lock that is given back in the same step gives nothing.
 use Rattle.std.proofs.Common.{◌≡◌, ◌≢◌, ◌==◌, ℕ, ◌+◌, ◌<◌, List, [], ◌∷◌, length, map, refl, sym, ◌∙◌, ap, arith, Bool, true, false, cond, not, ◌&&◌, ◌||◌}
+use Rattle.std.proofs.lemmas.Bool.{and_parts}
 use Rattle.std.specs.List.{list_any}
 use Rattle.phase_bits.specs.declared.holders.Holders.{Holders}
 use Rattle.phase_locker.specs.declared.ways.Given.{Given}
@@ -12,7 +13,6 @@ use Rattle.schedule_rules.specs.History.{Event, count}
 use Rattle.schedule_rules.specs.Waits.{Wait, parks_to_read, parks_to_write, parked_readers, shares_read, shares_write, is_parked_writer, wait_woken, wake_reader, wake_writer}
 use Rattle.schedule_rules.specs.Gifts.{reaches}
 use Rattle.phase_schedule.specs.Shown.{Agrees}
-use Rattle.phase_schedule.proofs.Truth.{both_are}
 use Rattle.phase_schedule.proofs.Each.{woken_to_write}
 use Rattle.phase_schedule.proofs.Lists.{any_readers}
 use Rattle.phase_schedule.proofs.Counted.{read_shares_woken}
@@ -33,7 +33,7 @@ some_read_share c ws e =
 
 writer_share : (c q : ℕ) (w : Wait) → ((w.party == q) && parks_to_write c w) ≡ true → shares_write c (wake_writer q w) ≡ true
 writer_share c q w e =
-    let parts = both_are (w.party == q) (parks_to_write c w) e in
+    let parts = and_parts (w.party == q) (parks_to_write c w) e in
     let woken = woken_to_write c w parts.1 in
     let is : ((w.party == q) && is_parked_writer w.way w.woken) ≡ true = rw (parts.0, woken.parked) refl in
     let same : wake_writer q w ≡ wait_woken w = ap (λ b. cond b (wait_woken w) w) is in

@@ -1,6 +1,7 @@
 -- The line of a call that may not access the value is legal: it gives what its attempt gave, or what the lock gives that
 -- it gives back.
 use Rattle.std.proofs.Common.{◌≡◌, List, refl, sym, ap, subst, true, Some}
+use Rattle.std.proofs.lemmas.Bool.{and_parts, or_right}
 use Rattle.std.specs.Prelude.{◌&&◌, ◌||◌, IsTrue}
 use Rattle.phase_bits.specs.declared.holders.Holders.{Holders}
 use Rattle.phase_bits.specs.declared.phase.Phase.{Phase}
@@ -25,7 +26,7 @@ use Rattle.phase_schedule.specs.Kept.{kind_at}
 use Rattle.phase_schedule.specs.Meets.{given_first}
 use Rattle.phase_schedule.specs.Shown.{Agrees, Shows}
 use Rattle.phase_schedule.specs.Ready.{Tries, waits_left}
-use Rattle.phase_schedule.proofs.Truth.{both_are, or_right, none_stands}
+use Rattle.phase_schedule.proofs.Numbers.{none_stands}
 use Rattle.phase_schedule.proofs.GivenOn.{given_on, given_concerned, IsListed, listed_hand, reaches_given}
 use Rattle.phase_schedule.proofs.Apart.{idle_counts}
 use Rattle.phase_schedule.proofs.Lines.{may_last, parks_there}
@@ -39,7 +40,7 @@ module _ (cells : List CellPlan) (h : List Event) (s : Step) (t : Target) (is : 
 
   -- whom it gives something
   on_reaches : (a : Answer) (g : Given) → IsTrue (may_give_on cells h s (Some t.cell) a g) → reaches t.cell g (other_waits cells h s) ≡ true
-  on_reaches a g may = (both_are (reaches t.cell g (other_waits cells h s)) _ (both_are (is_parking (cell_at cells t.cell).place) _ may).1).0
+  on_reaches a g may = (and_parts (reaches t.cell g (other_waits cells h s)) _ (and_parts (is_parking (cell_at cells t.cell).place) _ may).1).0
 
   last_reaches : (a : Answer) (g : Given) → IsTrue (may_give_last cells h s a g) → reaches t.cell g (other_waits cells h s) ≡ true
   last_reaches a given.Nobody may = refl
@@ -47,7 +48,7 @@ module _ (cells : List CellPlan) (h : List Event) (s : Step) (t : Target) (is : 
   last_reaches a given.Readers may = on_reaches a given.Readers (subst (λ o. IsTrue (may_give_on cells h s o a given.Readers)) (concerned cells h s t is) may)
 
   at_reaches : (m : Moment) (a : Answer) (g : Given) → IsTrue (may_give_at cells m h s (record { answer = a; given = g })) → reaches t.cell g (other_waits cells h s) ≡ true
-  at_reaches First a g may = (both_are (is_freed_first cells h s (record { cell = t.cell; want = Calls t.call })) _ (subst (λ o. IsTrue (may_give_first cells h s o g)) is.attempted may)).1
+  at_reaches First a g may = (and_parts (is_freed_first cells h s (record { cell = t.cell; want = Calls t.call })) _ (subst (λ o. IsTrue (may_give_first cells h s o g)) is.attempted may)).1
   at_reaches Last a g may = last_reaches a g may
 
   pub line_reaches : (a : Answer) (g : Given) → IsLegalLine cells h s (record { answer = a; given = g }) → reaches t.cell g (other_waits cells h s) ≡ true

@@ -35,9 +35,10 @@ use Rattle.phase_schedule.proofs.Apart.{apart_less}
 use Rattle.phase_schedule.proofs.GuardGone.{some_reader}
 use Rattle.phase_schedule.proofs.GuardQuiet.{quiet_step}
 use Rattle.phase_schedule.proofs.RowTries.{steady_same}
-use Rattle.phase_schedule.proofs.GuardReader.{nobody_moved, size_same, reads_more, reads_elsewhere, slot_read, known_read, steady_reader}
+use Rattle.phase_schedule.proofs.GuardReader.{size_same, reads_more, reads_elsewhere, slot_read, known_read, steady_reader}
 use Rattle.phase_schedule.proofs.GuardRefused.{clone_held}
 use Rattle.phase_schedule.proofs.GuardStep.{told, handed_over, kept_now}
+use Rattle.phase_locker.proofs.Others.{others_refl}
 
 -- beside a reader a call that reads is barred by the limit alone
 barred_by_limit : (w d z m : Bool) → w ≡ false → z ≡ false → (w || ((d && z) || m)) ≡ m
@@ -161,7 +162,7 @@ module _ (cells : List CellPlan) (h : List Event) (v : View) (t : Tracks cells h
         handed_over cells h v t s answer.ReadGuard given.Nobody c lt idle concerned refl (reader (length h) s.party c ∷ guards h) None sections_are guards_are back_is
         v.cells (set v.guards (length h) (guard.Read s.party c read_ticket)) (admit_read (core cells c h)) v.parks (size_same v.parks) (admit_read (core cells c h))
         (legal_quiet cells h s answer.ReadGuard (clone_held cells h s g idle c false k acts) (due false (grind (arith, few)))) agrees stay tt tt apart
-        refl (flagged_core (admit_read (core cells c h)) refl refl) fits (nobody_moved c v.parks)
+        refl (flagged_core (admit_read (core cells c h)) refl refl) fits (others_refl c v.parks)
         (steady_reader cells h (waits cells (told s answer.ReadGuard given.Nobody ∷ h)) (guards h) s.party c None t.steady.numbers (steady_same cells h t.steady (waits cells (told s answer.ReadGuard given.Nobody ∷ h))))
         (kept_now cells h v t s answer.ReadGuard given.Nobody c lt idle concerned refl (reader (length h) s.party c ∷ guards h) None sections_are guards_are back_is
         v.cells (set v.guards (length h) (guard.Read s.party c read_ticket)) (admit_read (core cells c h)) v.parks (size_same v.parks) t.kept.planned t.kept.cell

@@ -1,6 +1,6 @@
 -- After a write guard becomes a read guard the rows stand for the longer history.
 use Rattle.std.proofs.Common.{◌≡◌, ◌≢◌, ℕ, ◌+◌, ◌<◌, List, ◌∷◌, length, set, get_or, refl, sym, ◌∙◌, ap, subst, arith, true, false, None, Some, inl, inr, length-set}
-use Rattle.std.proofs.lemmas.Bool.{cases_eq}
+use Rattle.std.proofs.lemmas.Bool.{cases_eq, or_left}
 use Rattle.std.specs.Prelude.{◌&&◌, if◌then◌else◌}
 use Rattle.std.specs.declared.option.Option.{Option}
 use Rattle.std.proofs.Math.Seq.{map-set_same}
@@ -37,7 +37,6 @@ use Rattle.phase_schedule.specs.Kept.{Open, open_after, cell_row, draft_of, kind
 use Rattle.phase_schedule.specs.Shown.{Agrees}
 use Rattle.phase_schedule.specs.Tracks.{IsApart, Tracks}
 use Rattle.phase_schedule.specs.Ready.{IsHeld}
-use Rattle.phase_schedule.proofs.Truth.{or_left}
 use Rattle.phase_schedule.proofs.Places.{set_view}
 use Rattle.phase_schedule.proofs.Same.{unlocked}
 use Rattle.phase_schedule.proofs.RowOpens.{numbers_removed}

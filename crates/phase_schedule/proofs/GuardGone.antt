@@ -21,7 +21,8 @@ use Rattle.phase_schedule.specs.declared.rows.GuardRow.TheVariants as guard
 use Rattle.phase_schedule.specs.View.{View}
 use Rattle.phase_schedule.specs.Kept.{Open, cell_row, draft_of, guard_row, open_after, run_in, section_by}
 use Rattle.phase_schedule.specs.Tracks.{NumbersBelow, Tracks}
-use Rattle.phase_schedule.proofs.Places.{row_at, other_number, same_number, set_view}
+use Rattle.phase_schedule.proofs.Numbers.{other_number, same_number}
+use Rattle.phase_schedule.proofs.Places.{row_at, set_view}
 use Rattle.phase_schedule.proofs.RowOpens.{no_run, numbered_removed, numbers_more, numbers_removed}
 use Rattle.phase_schedule.proofs.After.{IsSteadyWith}
 use Rattle.phase_schedule.specs.Ready.{IsHeld}

@@ -27,8 +27,9 @@ use Rattle.phase_schedule.specs.Tracks.{IsApart, Tracks}
 use Rattle.phase_schedule.proofs.Places.{set_there}
 use Rattle.phase_schedule.proofs.After.{IsSteadyWith}
 use Rattle.phase_schedule.proofs.Apart.{apart_less}
-use Rattle.phase_schedule.proofs.GuardReader.{nobody_moved, size_same}
+use Rattle.phase_schedule.proofs.GuardReader.{size_same}
 use Rattle.phase_schedule.proofs.GuardStep.{told, handed_over, kept_now}
+use Rattle.phase_locker.proofs.Others.{others_refl}
 
 module _ (cells : List CellPlan) (h : List Event) (v : View) (t : Tracks cells h v) (s : Step) (a : Answer) (c : ℕ) (lt : c < length cells) (idle : wait_of s.party (waits cells h) ≡ None) (concerned : cell_concerned cells h s ≡ Some c)
     (waits_are : waits cells (told s a given.Nobody ∷ h) ≡ other_waits cells h s) (gs : List Guard) (ss_are : sections (told s a given.Nobody ∷ h) ≡ sections h) (gs_are : guards (told s a given.Nobody ∷ h) ≡ gs) (back_is : back_of_step h s a ≡ None)
@@ -79,5 +80,5 @@ module _ (cells : List CellPlan) (h : List Event) (v : View) (t : Tracks cells h
   quiet_step rows slots line steady planned row slot known room =
       subst (λ hs. Tracks cells (told s a given.Nobody ∷ h) (record { cells = rows; guards = slots; parties = v.parties; held = hs; places = v.places; running = v.running; parks = v.parks }))
       (set_there v.held c (core cells c h) (t.locked.held c lt))
-      (handed_over cells h v t s a given.Nobody c lt idle concerned waits_are gs None ss_are gs_are back_is rows slots (core cells c h) v.parks (size_same v.parks) (core cells c h) line agrees (λ d ne. core_stays d) tt tt apart refl flags (t.locked.fits c lt) (nobody_moved c v.parks) steady
+      (handed_over cells h v t s a given.Nobody c lt idle concerned waits_are gs None ss_are gs_are back_is rows slots (core cells c h) v.parks (size_same v.parks) (core cells c h) line agrees (λ d ne. core_stays d) tt tt apart refl flags (t.locked.fits c lt) (others_refl c v.parks) steady
       (kept_now cells h v t s a given.Nobody c lt idle concerned waits_are gs None ss_are gs_are back_is rows slots (core cells c h) v.parks (size_same v.parks) planned row slot known) room)

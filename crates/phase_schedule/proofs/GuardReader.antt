@@ -5,7 +5,6 @@ use Rattle.std.specs.Prelude.{slice_get}
 use Rattle.std.specs.declared.option.Option.{Option}
 use Rattle.phase_locker.specs.Natures.{read_ticket}
 use Rattle.phase_locker.specs.Rows.{Rows as Parking, SameSize}
-use Rattle.phase_locker.specs.Others.{OthersStay}
 use Rattle.schedule_rules.specs.declared.plan.CellPlan.{CellPlan}
 use Rattle.schedule_rules.specs.History.{Event, count}
 use Rattle.schedule_rules.specs.Sections.{sections}
@@ -17,13 +16,11 @@ use Rattle.phase_schedule.specs.declared.rows.GuardRow.{GuardRow}
 use Rattle.phase_schedule.specs.declared.rows.GuardRow.TheVariants as guard
 use Rattle.phase_schedule.specs.Kept.{guard_row}
 use Rattle.phase_schedule.specs.Tracks.{NumbersBelow}
-use Rattle.phase_schedule.proofs.Places.{other_number, same_number, set_view}
+use Rattle.phase_schedule.proofs.Numbers.{other_number, same_number}
+use Rattle.phase_schedule.proofs.Places.{set_view}
 use Rattle.phase_schedule.proofs.After.{IsSteadyWith}
 
--- what does nothing to the rows leaves the others
-pub nobody_moved : (c : ℕ) (s : Parking) → OthersStay c s s
-nobody_moved c s = record { cells = λ d ne. record { readers = refl; writers = refl; shares = refl; drains = refl; claims = refl }; rows = λ p w ne. refl }
-
+-- rows that stay are as many
 pub size_same : (s : Parking) → SameSize s s
 size_same s = record { parties = refl; cells = refl }
 

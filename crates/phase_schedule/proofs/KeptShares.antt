@@ -12,8 +12,6 @@ use Rattle.schedule_rules.specs.Holds.{keeps, keeps_way}
 use Rattle.phase_schedule.specs.Shown.{Shows, waiting_of, wait_row}
 use Rattle.phase_schedule.specs.Meets.{lock_nature}
 
--- the nature of a lock, as the locker names it
-
 -- by the way of waiting
 pub way_kept : (way : How) (woken : Bool) (n : Option Nature) (x : Holders) → row_keeps (waiting_of way woken) (lock_nature n) x ≡ keeps_way way woken n x.readers
 way_kept how.Spin woken None x = refl

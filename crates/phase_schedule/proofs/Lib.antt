@@ -1,5 +1,5 @@
--- Tests, and places of lists
-pub mod Truth
+-- Numbers, and places of lists
+pub mod Numbers
 pub mod Places
 pub mod Slots
 pub mod Passing

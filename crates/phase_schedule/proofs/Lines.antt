@@ -1,5 +1,6 @@
 -- A line is legal where its answer is due and its gift is one that is allowed last.
 use Rattle.std.proofs.Common.{◌≡◌, ℕ, List, ◌∷◌, refl, sym, ◌∙◌, ap, subst, true, false, None, Some}
+use Rattle.std.proofs.lemmas.Bool.{or_right}
 use Rattle.std.specs.Prelude.{◌&&◌, ◌||◌, IsTrue}
 use Rattle.phase_bits.specs.declared.holders.Holders.{Holders}
 use Rattle.phase_locker.specs.declared.ways.Given.{Given}
@@ -25,7 +26,7 @@ use Rattle.schedule_rules.specs.declared.line.Line.{Line}
 use Rattle.phase_schedule.specs.Kept.{kind_at}
 use Rattle.phase_schedule.specs.Shown.{Shows, Agrees}
 use Rattle.phase_schedule.specs.Tracks.{event}
-use Rattle.phase_schedule.proofs.Truth.{or_right, none_stands}
+use Rattle.phase_schedule.proofs.Numbers.{none_stands}
 use Rattle.phase_schedule.proofs.Counted.{none_without}
 use Rattle.phase_schedule.proofs.GivenOn.{IsListed, reaches_given}
 use Rattle.phase_schedule.proofs.Apart.{idle_counts}

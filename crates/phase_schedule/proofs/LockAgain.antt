@@ -1,6 +1,6 @@
 -- After one more attempt of a call that waits, what its locker answered is due, and the records and rows are as told.
 use Rattle.std.proofs.Common.{◌≡◌, ℕ, ◌<◌, List, length, set, refl, arith, Bool, true, false, None, Some, ◌∙◌, ap, sym, subst, not, ◌&&◌, inl, inr}
-use Rattle.std.proofs.lemmas.Bool.{not_from_false}
+use Rattle.std.proofs.lemmas.Bool.{not_from_false, and_from}
 use Rattle.std.specs.Prelude.{MatchBool}
 use Rattle.std.specs.declared.option.Option.{Option}
 use Rattle.phase_bits.specs.declared.holders.Holders.{Holders}
@@ -38,7 +38,6 @@ use Rattle.phase_schedule.specs.Kept.{open_after, record_in, kind_at, target_of,
 use Rattle.phase_schedule.specs.Meets.{some_nature, lock_nature}
 use Rattle.phase_schedule.specs.Tracks.{RunBy, Tracks, plans}
 use Rattle.phase_schedule.specs.Ready.{Tries, is_try, IsAgain, IsAnswered, answer_by, opened_by, waits_left}
-use Rattle.phase_schedule.proofs.Truth.{both_true}
 use Rattle.phase_schedule.proofs.KeptShares.{row_kept}
 use Rattle.phase_schedule.proofs.GivenOn.{given_on, given_concerned, listed_hand, reaches_given}
 use Rattle.phase_schedule.proofs.Places.{inside_plan}
@@ -99,7 +98,7 @@ module _ (cells : List CellPlan) (h : List Event) (s : Step) (t : Target) (is : 
         moment = First;
         chosen = chosen;
         answered = e ∙ sym (due_try cells h s t (waits_left cells h s t g) chosen is) ∙ sym (ap (λ r. answer_of r (due_at cells First h s g chosen)) is.free);
-        gave = ap (λ r. may_give cells r First h s (record { answer = a; given = g })) is.free ∙ ap (λ o. may_give_first cells h s o g) is.attempted ∙ both_true (is_freed_first cells h s (tried t)) (reaches t.cell g (other_waits cells h s)) freed to;
+        gave = ap (λ r. may_give cells r First h s (record { answer = a; given = g })) is.free ∙ ap (λ o. may_give_first cells h s o g) is.attempted ∙ and_from (is_freed_first cells h s (tried t)) (reaches t.cell g (other_waits cells h s)) freed to;
       }
 
 module _ (h : List Event) (v : View) (s : Step) (n : ℕ) (t : Target) (is : IsAgain h v s n t) where
@@ -187,10 +186,10 @@ module _ (h : List Event) (v : View) (s : Step) (n : ℕ) (t : Target) (is : IsA
           | inl e ↦ subst (λ y. IsLegalLine (plans v) h s (record { answer = answer_by (plans v) h s t a; given = y })) (sym e)
               (legal_tried (plans v) h s t is.attempt.tries (answer_by (plans v) h s t a) (chosen_by a) (due ∙ ap (λ y. due_attempt (plans v) h s.party (tried t) (given_on t.cell y (other_waits (plans v) h s)) (chosen_by a)) e))
           | inr gift ↦ legal_first (plans v) h s t is.attempt.tries (answer_by (plans v) h s t a) g (chosen_by a) (due ∙ ap (λ ws. due_attempt (plans v) h s.party (tried t) ws (chosen_by a)) (sym el))
-              (both_true (is_parking (cell_at (plans v) t.cell).place) _
+              (and_from (is_parking (cell_at (plans v) t.cell).place) _
               (gift_parks (plans v) h s t (waits (plans v) h) at.wait at.is at.cell v.parks apart single shows sound (cell_at (plans v) t.cell).place (track.locked.fits t.cell known) gift)
-              (both_true _ (is_free_with t.cell h (other_waits (plans v) h s))
-              (both_true (has_own (wait_of s.party (waits (plans v) h))) (not (keeps_own (plans v) h s.party (tried t)))
+              (and_from _ (is_free_with t.cell h (other_waits (plans v) h s))
+              (and_from (has_own (wait_of s.party (waits (plans v) h))) (not (keeps_own (plans v) h s.party (tried t)))
               (ap has_own at.is ∙ gift_taken (plans v) h s t (waits (plans v) h) at.wait at.is at.cell v.parks apart single shows sound (kind_at (cell_at (plans v) t.cell).place) (track.locked.fits t.cell known) gift)
               (not_from_false (keeps_own (plans v) h s.party (tried t)) own))
               (gift_free (plans v) h s t (waits (plans v) h) at.wait at.is at.cell v.parks apart single shows sound gift)))

@@ -21,7 +21,7 @@ use Rattle.schedule_rules.specs.Answers.{way_at, way_parked}
 use Rattle.phase_schedule.specs.Kept.{Open, record_in, kind_at}
 use Rattle.phase_schedule.specs.Meets.{some_nature, lock_nature}
 use Rattle.phase_schedule.specs.Tracks.{IsApart}
-use Rattle.phase_schedule.proofs.Truth.{lt_true, lt_not, zero_is}
+use Rattle.phase_schedule.proofs.Numbers.{lt_true, lt_not, zero_is}
 
 -- what stands open where these calls wait
 abbrev pub open_with : List Event → List Wait → Open

@@ -1,28 +1,21 @@
 -- A call that waits asks no run of a cell that its own party runs: it would have been cyclic.
-use Rattle.std.proofs.Common.{◌≡◌, ◌≢◌, ◌==◌, ℕ, ◌≤◌, List, [], ◌∷◌, refl, arith, Bool, true, false, None, Some, ◌∙◌, ap, sym, subst, ◌&&◌, ◌||◌, inl, inr}
-use Rattle.std.proofs.lemmas.Bool.{cases_eq}
+use Rattle.std.proofs.Common.{◌≡◌, ◌≢◌, ◌==◌, ℕ, ◌≤◌, List, [], ◌∷◌, refl, arith, Bool, true, false, None, Some, subst, ◌&&◌, ◌||◌}
 use Rattle.std.specs.Prelude.{if◌then◌else◌}
 use Rattle.std.specs.List.{find}
 use Rattle.std.specs.declared.option.Option.{Option}
 use Rattle.phase_locker.specs.declared.ways.How.{How}
-use Rattle.phase_locker.specs.declared.ways.Given.{Given}
 use Rattle.schedule_rules.specs.declared.plan.CellPlan.{CellPlan}
 use Rattle.schedule_rules.specs.declared.step.Act.{Act}
 use Rattle.schedule_rules.specs.declared.step.Act.TheVariants as act
 use Rattle.schedule_rules.specs.declared.step.Step.{Step}
 use Rattle.schedule_rules.specs.declared.line.Answer.{Answer}
 use Rattle.schedule_rules.specs.declared.line.Answer.TheVariants as answer
-use Rattle.schedule_rules.specs.declared.line.Refusal.{Refusal}
 use Rattle.schedule_rules.specs.declared.line.Line.{Line}
 use Rattle.schedule_rules.specs.Calls.{Calls, initializes}
 use Rattle.schedule_rules.specs.History.{Event, count}
 use Rattle.schedule_rules.specs.Sections.{Section, without_innermost, with_run, sections_ended, sections_after, runs_in, generates_for, runs, sections}
-use Rattle.schedule_rules.specs.Waits.{Wait, Attempt, wait_of, without_wait, with_wait, attempt_of_wait, attempt_with, attempt, waits_given_with, waits_answered, waits, waits_given, other_waits}
-use Rattle.schedule_rules.specs.Refusals.{refusal}
-use Rattle.schedule_rules.specs.Due.{due_answer, due_act, due_tried}
-use Rattle.schedule_rules.specs.Legal.{IsLegal, IsLegalLine, Moment, First, Last, answer_of, due_at}
-use Rattle.schedule_rules.proofs.Opened.{wait_removed, wait_kept}
-use Rattle.schedule_rules.proofs.GoesOn.{attempt_given}
+use Rattle.schedule_rules.specs.Waits.{Wait, Attempt, wait_of, attempt_of_wait, attempt, waits}
+use Rattle.schedule_rules.specs.Legal.{IsLegal, IsLegalLine}
 use Rattle.phase_schedule.proofs.Waited.{waiting_due, while_waiting}
 
 -- ---- the sections of a party at a cell

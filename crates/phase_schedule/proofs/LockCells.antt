@@ -1,6 +1,6 @@
 -- After a deed at one cell its record and rows are as told, and the other cells stand as before.
 use Rattle.std.proofs.Common.{◌≡◌, ◌≢◌, ◌==◌, ℕ, ◌+◌, ◌<◌, ◌≤◌, List, ◌∷◌, length, set, refl, arith, Bool, true, false, cond, Some, ◌∙◌, ap, sym, subst, ◌||◌, ◌&&◌, inl, inr, length-set}
-use Rattle.std.proofs.lemmas.Bool.{cases_eq}
+use Rattle.std.proofs.lemmas.Bool.{cases_eq, or_left}
 use Rattle.std.specs.Prelude.{nat_lt}
 use Rattle.std.specs.List.{list_any}
 use Rattle.phase_bits.specs.declared.holders.Holders.{Holders}
@@ -23,7 +23,7 @@ use Rattle.schedule_rules.specs.Holds.{reads_cell, writes_cell}
 use Rattle.phase_schedule.specs.Kept.{Open, readers_in, writers_in, drains_in, record_in, kind_at}
 use Rattle.phase_schedule.specs.Shown.{Shows, IsSingle}
 use Rattle.phase_schedule.specs.Tracks.{IsApart, Locked}
-use Rattle.phase_schedule.proofs.Truth.{or_left, lt_more}
+use Rattle.phase_schedule.proofs.Numbers.{lt_more}
 use Rattle.phase_schedule.proofs.Places.{slice_get_set_same, slice_get_set_other}
 use Rattle.phase_schedule.proofs.Reaching.{flag_readers, flag_writers}
 use Rattle.phase_schedule.proofs.Added.{read_shares_added, write_shares_added, drains_added, drains_added_other}

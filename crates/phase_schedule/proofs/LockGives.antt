@@ -30,7 +30,7 @@ use Rattle.phase_schedule.specs.declared.rows.Target.{Target}
 use Rattle.phase_schedule.specs.Kept.{readers_in, writers_in, drains_in, record_in, kind_at}
 use Rattle.phase_schedule.specs.Shown.{Shows, IsSingle, Agrees, waiting_of}
 use Rattle.phase_schedule.specs.Tracks.{IsApart}
-use Rattle.phase_schedule.proofs.Truth.{none_stands}
+use Rattle.phase_schedule.proofs.Numbers.{none_stands}
 use Rattle.phase_schedule.proofs.Single.{single_without}
 use Rattle.phase_schedule.proofs.Lists.{readers_without, writers_without}
 use Rattle.phase_schedule.proofs.Counted.{count_without, write_shares_beside_readers, drains_beside_readers}

@@ -1,5 +1,6 @@
 -- What stands open after a waiting call kept its share or its drain.
 use Rattle.std.proofs.Common.{◌≡◌, ◌≢◌, ◌==◌, ℕ, ◌+◌, ◌≤◌, List, length, refl, arith, Bool, true, false, None, Some, ◌∙◌, ap, sym, subst, ◌||◌, inl, inr}
+use Rattle.std.proofs.lemmas.Bool.{or_left, or_right}
 use Rattle.std.specs.Prelude.{nat_lt, ◌⊎◌, if◌then◌else◌}
 use Rattle.std.specs.declared.option.Option.{Option}
 use Rattle.phase_bits.specs.declared.holders.Holders.{Holders}
@@ -24,7 +25,7 @@ use Rattle.phase_schedule.specs.Meets.{lock_nature}
 use Rattle.phase_schedule.specs.Shown.{Shows, IsSingle}
 use Rattle.phase_schedule.specs.Tracks.{IsApart}
 use Rattle.phase_schedule.specs.Ready.{asks_run}
-use Rattle.phase_schedule.proofs.Truth.{or_left, or_right, lt_more}
+use Rattle.phase_schedule.proofs.Numbers.{lt_more}
 use Rattle.phase_schedule.proofs.Single.{single_without}
 use Rattle.phase_schedule.proofs.ShowsFreed.{shows_freed}
 use Rattle.phase_schedule.proofs.Reaching.{flag_readers, flag_writers}

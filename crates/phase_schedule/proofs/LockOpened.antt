@@ -1,5 +1,6 @@
 -- What stands open after a locker judged a call that had nothing, and the records and rows then.
 use Rattle.std.proofs.Common.{◌≡◌, ◌≢◌, ◌==◌, ℕ, ◌<◌, List, length, refl, arith, Bool, true, false, None, Some, ◌∙◌, ap, sym, subst, ◌||◌, ◌&&◌, inl, inr, length-set}
+use Rattle.std.proofs.lemmas.Bool.{or_left}
 use Rattle.std.specs.Prelude.{nat_lt, if◌then◌else◌, ◌⊎◌}
 use Rattle.phase_bits.specs.declared.holders.Holders.{Holders}
 use Rattle.phase_bits.specs.Number.{phase_of}
@@ -31,7 +32,7 @@ use Rattle.phase_schedule.specs.Kept.{Open, readers_in, writers_in, drains_in, r
 use Rattle.phase_schedule.specs.Shown.{Shows, IsSingle}
 use Rattle.phase_schedule.specs.Tracks.{IsApart}
 use Rattle.phase_schedule.specs.Ready.{asks_run, still_open, opened_by_lock, opened_by, waits_left}
-use Rattle.phase_schedule.proofs.Truth.{lt_true, lt_false, no_claims, or_left}
+use Rattle.phase_schedule.proofs.Numbers.{lt_true, lt_false, no_claims}
 use Rattle.phase_schedule.proofs.Single.{single_with}
 use Rattle.phase_schedule.proofs.ShowsWaiting.{shows_waiting_at}
 use Rattle.phase_schedule.proofs.Same.{agrees_core}

@@ -17,7 +17,6 @@ use Rattle.phase_locker.specs.Fits.{Fits, IsWriteOpen}
 use Rattle.phase_locker.specs.Gifts.{Hands, Downgrades}
 use Rattle.phase_locker.specs.Natures.{read_ticket, write_ticket}
 use Rattle.phase_seq.specs.declared.section.Section.{Section as SeqSection}
-use Rattle.phase_seq.specs.Asks.{initializes}
 use Rattle.phase_seq.specs.declared.section.Finished.{Finished}
 use Rattle.phase_seq.specs.Finishes.{Finishes, ReadsOn, WritesOn}
 use Rattle.phase_seq.specs.Stands.{IsRunning}
@@ -37,7 +36,7 @@ use Rattle.phase_schedule.specs.declared.rows.CellRow.{CellRow}
 use Rattle.phase_schedule.specs.declared.rows.GuardRow.TheVariants as guard
 use Rattle.phase_schedule.specs.declared.rows.PartyRow.{PartyRow}
 use Rattle.phase_schedule.specs.declared.rows.OpenSection.TheVariants as open_as
-use Rattle.phase_schedule.specs.Kept.{cell_of, open_run, run_in, runner_in, section_by, section_of, want_of}
+use Rattle.phase_schedule.specs.Kept.{cell_of, open_run, run_in, runner_in, section_by, section_of}
 use Rattle.phase_schedule.specs.Meets.{IsGenerating, section_in}
 use Rattle.phase_schedule.specs.View.{View}
 use Rattle.phase_schedule.specs.Tracks.{Follows, FollowsStep, Tracks, event, plans}

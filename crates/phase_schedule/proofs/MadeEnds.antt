@@ -20,7 +20,8 @@ use Rattle.schedule_rules.specs.Core.{core}
 use Rattle.phase_schedule.specs.Kept.{record_in, kind_at}
 use Rattle.phase_schedule.specs.Tracks.{Locked, Tracks}
 use Rattle.phase_schedule.specs.View.{View}
-use Rattle.phase_schedule.proofs.Places.{other_number, same_number, read_once}
+use Rattle.phase_schedule.proofs.Numbers.{other_number, same_number}
+use Rattle.phase_schedule.proofs.Places.{read_once}
 use Rattle.phase_schedule.proofs.Same.{agrees_core}
 use Rattle.phase_schedule.proofs.RowCounts.{write_open_shown, free_party}
 use Rattle.phase_schedule.proofs.Alone.{runs_once, none_left, others_left}

@@ -31,7 +31,7 @@ use Rattle.phase_schedule.specs.Kept.{open_after, cell_of, readers_in, writers_i
 use Rattle.phase_schedule.specs.Shown.{Agrees}
 use Rattle.phase_schedule.specs.View.{View}
 use Rattle.phase_schedule.specs.Tracks.{IsApart, Locked, Tracks, event}
-use Rattle.phase_schedule.proofs.Places.{other_number, same_number}
+use Rattle.phase_schedule.proofs.Numbers.{other_number, same_number}
 use Rattle.phase_schedule.proofs.Same.{unlocked}
 use Rattle.phase_schedule.proofs.GivenOn.{given_on, IsListed, listed_hand}
 use Rattle.phase_schedule.proofs.Hands.{locked_sound, waits_then, hands_locked, handed_writers}

@@ -27,7 +27,8 @@ use Rattle.phase_schedule.specs.declared.rows.PartyRow.{PartyRow}
 use Rattle.phase_schedule.specs.Kept.{open_after, cell_of, cell_row, guard_row, party_row, target_of}
 use Rattle.phase_schedule.specs.View.{View}
 use Rattle.phase_schedule.specs.Tracks.{Tracks, Kept}
-use Rattle.phase_schedule.proofs.Places.{other_number, row_at, same_number, set_view}
+use Rattle.phase_schedule.proofs.Numbers.{other_number, same_number}
+use Rattle.phase_schedule.proofs.Places.{row_at, set_view}
 use Rattle.phase_schedule.proofs.GivenOn.{given_on, within_on, target_given}
 use Rattle.phase_schedule.proofs.RowOpens.{no_run, run_kept}
 use Rattle.phase_schedule.proofs.RowInner.{cell_seen}

@@ -15,7 +15,7 @@ use Rattle.schedule_rules.proofs.Found.{found_counts, found_passes}
 use Rattle.schedule_rules.proofs.Opened.{count_ended}
 use Rattle.phase_schedule.specs.Kept.{Open, open_after}
 use Rattle.phase_schedule.specs.Tracks.{IsApart, IsSteady}
-use Rattle.phase_schedule.proofs.Places.{other_number, same_number}
+use Rattle.phase_schedule.proofs.Numbers.{other_number, same_number}
 use Rattle.phase_schedule.proofs.RowOpens.{numbers_more}
 use Rattle.phase_schedule.proofs.Alone.{found_here, no_writer_here, no_share_here, no_drain_here, no_reads_here, none_left, others_left, started_left}
 use Rattle.phase_schedule.proofs.Apart.{same_apart}

@@ -33,7 +33,7 @@ use Rattle.phase_schedule.specs.Kept.{open_after, call_of, cell_of, readers_in, 
 use Rattle.phase_schedule.specs.Shown.{Agrees}
 use Rattle.phase_schedule.specs.View.{View}
 use Rattle.phase_schedule.specs.Tracks.{IsApart, Locked, Tracks, event}
-use Rattle.phase_schedule.proofs.Places.{other_number, same_number}
+use Rattle.phase_schedule.proofs.Numbers.{other_number, same_number}
 use Rattle.phase_schedule.proofs.Same.{unlocked}
 use Rattle.phase_schedule.proofs.GivenOn.{given_on, listed_share}
 use Rattle.phase_schedule.proofs.Hands.{locked_sound, waits_then, hands_locked, handed_writers}
@@ -41,6 +41,7 @@ use Rattle.phase_schedule.proofs.After.{content_with, tracks_after}
 use Rattle.phase_schedule.proofs.Few.{fewer_readers}
 use Rattle.phase_schedule.proofs.Apart.{MayAdd, apart_given}
 use Rattle.phase_schedule.proofs.Alone.{no_writer_here, no_share_here, no_drain_here, no_reader_here, no_read_share_here, none_left, others_left}
+use Rattle.phase_schedule.proofs.GuardReader.{reads_more, reads_elsewhere}
 use Rattle.phase_schedule.proofs.MadeOpens.{back_left, opened_read, apart_read, steady_read}
 use Rattle.phase_schedule.proofs.MadeRuns.{run_by_left}
 use Rattle.phase_schedule.proofs.MadeKept.{cell_inside, closed_row, kept_read}
@@ -90,15 +91,11 @@ module _ (cells : List CellPlan) (h : List Event) (v : View) (t : Tracks cells h
   writes_read : (g : Given) (d : ℕ) → count (writes_cell d) (guards (reading g ∷ h)) ≡ count (writes_cell d) (guards h)
   writes_read g d = ap (λ gs. count (writes_cell d) gs) (guards_read g)
 
-  -- there is one reader more
-  one_more : count (reads_cell s.cell) (reader (length h) step.party s.cell ∷ guards h) ≡ count (reads_cell s.cell) (guards h) + 1
-  one_more = rw (same_number s.cell) refl
-
   reads_here : (g : Given) → count (reads_cell s.cell) (guards (reading g ∷ h)) ≡ count (reads_cell s.cell) (guards h) + 1
-  reads_here g = ap (λ gs. count (reads_cell s.cell) gs) (guards_read g) ∙ one_more
+  reads_here g = ap (λ gs. count (reads_cell s.cell) gs) (guards_read g) ∙ reads_more (length h) step.party s.cell (guards h)
 
   reads_other : (g : Given) (d : ℕ) → d ≢ s.cell → count (reads_cell d) (guards (reading g ∷ h)) ≡ count (reads_cell d) (guards h)
-  reads_other g d ne = ap (λ gs. count (reads_cell d) gs) (guards_read g) ∙ rw (other_number s.cell d ne) refl
+  reads_other g d ne = ap (λ gs. count (reads_cell d) gs) (guards_read g) ∙ reads_elsewhere (length h) step.party s.cell (guards h) d ne
 
   no_writer_with : (g : Given) → writers_with s.cell (reading g ∷ h) (waits cells h) ≡ 0
   no_writer_with g = omega (arith, runs_read g s.cell, none_left cells h step.party s is t.locked.apart, writes_read g s.cell, no_writer_here cells h step.party s is t.locked.apart, no_share_here cells h step.party s is t.locked.apart)
@@ -120,7 +117,7 @@ module _ (cells : List CellPlan) (h : List Event) (v : View) (t : Tracks cells h
   nobody_writes = omega (arith, no_writer_here cells h step.party s is t.locked.apart, none_left cells h step.party s is t.locked.apart, no_share_here cells h step.party s is t.locked.apart, no_drain_here cells h step.party s is t.locked.apart)
 
   one_reads : readers_in s.cell (opened_read cells h step.party s is (waits cells h)) ≡ 1
-  one_reads = omega (arith, one_more, no_reader_here cells h step.party s is t.locked.apart, no_read_share_here cells h step.party s is t.locked.apart)
+  one_reads = omega (arith, reads_more (length h) step.party s.cell (guards h), no_reader_here cells h step.party s is t.locked.apart, no_read_share_here cells h step.party s is t.locked.apart)
 
   -- and the parked readers may be given the lock
   adds : (g : Given) → step.party < length v.parties → MayShare s.cell v.parks g → MayAdd s.cell g (opened_read cells h step.party s is (waits cells h)) v.parks

@@ -1,8 +1,8 @@
 -- What is read at a place of a list, what a write of one place leaves, and which cells with a row are cells of the
 -- plan.
-use Rattle.std.proofs.Common.{zero, suc, ◌≡◌, ◌≢◌, ℕ, ◌<◌, List, [], ◌∷◌, length, map, set, get_or, refl, sym, ◌∙◌, ap, subst, arith, true, false, Some, inl, inr, length-set}
+use Rattle.std.proofs.Common.{zero, suc, ◌≡◌, ◌≢◌, ℕ, ◌<◌, List, [], ◌∷◌, length, map, set, get_or, refl, sym, ◌∙◌, ap, subst, arith, Some, inl, inr, length-set}
 use Rattle.std.proofs.lemmas.Bool.{cases_eq}
-use Rattle.std.specs.Prelude.{◌==◌, slice_get}
+use Rattle.std.specs.Prelude.{slice_get}
 use Rattle.std.proofs.lemmas.Grind.{common_steps}
 use Rattle.std.proofs.lemmas.Option.{gets, get_or_from_slice_get}
 use Rattle.std.proofs.lemmas.List.{length-map, set-get_or}
@@ -11,12 +11,6 @@ use Rattle.phase_schedule.specs.declared.rows.CellRow.{CellRow}
 use Rattle.phase_schedule.specs.View.{View}
 use Rattle.phase_schedule.specs.Kept.{plans_in}
 use Rattle.phase_schedule.specs.Tracks.{plans}
-
-pub same_number : (a : ℕ) → (a == a) ≡ true
-same_number a = grind arith
-
-pub other_number : (a b : ℕ) → b ≢ a → (a == b) ≡ false
-other_number a b ne = grind arith
 
 -- a place of a list after a write
 pub slice_get_set_same : {X : Type 0} (xs : List X) (i : ℕ) (x : X) → i < length xs → slice_get (set xs i x) i ≡ Some x

@@ -30,7 +30,8 @@ use Rattle.phase_schedule.specs.Kept.{section_of}
 use Rattle.phase_schedule.specs.Tracks.{FollowsStep, Locked, RunBy, event, plans}
 use Rattle.phase_schedule.specs.Ready.{IsAnswered, IsMade, IsOpening, IsReadGuard, IsRun, IsWriteGuard, if_made, waits_left, with_section, with_guard}
 use Rattle.phase_schedule.proofs.After.{tracks_after}
-use Rattle.phase_schedule.proofs.Places.{same_number, inside_plan}
+use Rattle.phase_schedule.proofs.Numbers.{same_number}
+use Rattle.phase_schedule.proofs.Places.{inside_plan}
 use Rattle.phase_schedule.proofs.RowOpens.{next_slot}
 use Rattle.phase_schedule.proofs.Within.{within_with}
 use Rattle.phase_schedule.proofs.RowTries.{becomes_wait, becomes_read, becomes_write, becomes_run, steady_same, steady_read, steady_write, steady_run}

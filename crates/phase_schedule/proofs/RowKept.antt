@@ -38,7 +38,8 @@ use Rattle.phase_schedule.specs.Ready.{waits_left, still_open, with_section, wit
 use Rattle.phase_schedule.proofs.Finding.{wait_added, wait_beside}
 use Rattle.phase_schedule.proofs.Single.{none_given}
 use Rattle.phase_schedule.proofs.Within.{within_without, within_readers, within_writer}
-use Rattle.phase_schedule.proofs.Places.{other_number, row_at, same_number, set_view}
+use Rattle.phase_schedule.proofs.Numbers.{other_number, same_number}
+use Rattle.phase_schedule.proofs.Places.{row_at, set_view}
 use Rattle.phase_schedule.proofs.RowOpens.{no_run, next_slot}
 
 -- ---- the calls that wait

@@ -55,7 +55,7 @@ pub numbered_removed : (n g : ℕ) (gs : List Guard) → NumbersBelow n gs → n
 numbered_removed n g [] b = refl
 numbered_removed n g (x ∷ gs) b = grind (arith, numbered_removed x.number g gs, numbered_above x.number g gs)
 
--- the rows of sections
+-- ---- the rows of sections
 
 pub no_run : (c : ℕ) (ss : List Section) → count (runs_in c) ss ≡ 0 → run_in c ss ≡ None
 no_run c [] e = refl

@@ -26,7 +26,8 @@ use Rattle.phase_schedule.specs.declared.rows.RunRow.{RunRow}
 use Rattle.phase_schedule.specs.declared.rows.OpenSection.TheVariants as open_as
 use Rattle.phase_schedule.specs.View.{View}
 use Rattle.phase_schedule.specs.Closing.{AreFree, AreIdle, HoldsAt, HoldsLocks, IsClosedAt, IsIdle, IsOfCell, IsSectionAt, RunsAt, locks_of, reads_row, writes_row}
-use Rattle.phase_schedule.proofs.Places.{slice_get_set_same, slice_get_set_other, same_number, other_number, mapped_at}
+use Rattle.phase_schedule.proofs.Numbers.{same_number, other_number}
+use Rattle.phase_schedule.proofs.Places.{slice_get_set_same, slice_get_set_other, mapped_at}
 use Rattle.phase_schedule.proofs.Passing.{count_set}
 
 -- ---- lists

@@ -1,9 +1,9 @@
 -- The rows before the first step stand for the empty history.
-use Rattle.std.proofs.Common.{zero, suc, ◌≡◌, ℕ, ◌+◌, ◌<◌, ◌≤◌, ◌^◌, List, [], ◌∷◌, ◌++◌, length, map, take, get_or, replicate, refl, sym, ◌∙◌, ap, subst, arith, None, Some}
-use Rattle.std.proofs.lemmas.List.{length-map}
+use Rattle.std.proofs.Common.{◌≡◌, ℕ, ◌+◌, ◌<◌, ◌≤◌, ◌^◌, List, [], ◌∷◌, ◌++◌, length, map, take, get_or, replicate, refl, sym, ◌∙◌, ap, subst, arith, None, Some}
+use Rattle.std.proofs.lemmas.List.{length-map, map_push}
 use Rattle.std.proofs.Math.ListN.{length-replicate}
 use Rattle.std.specs.Prelude.{slice_get}
-use Rattle.std.proofs.lemmas.Grind.{common_steps}
+use Rattle.std.proofs.lemmas.Grind.{common_steps, replicate_next}
 use Rattle.std.proofs.lemmas.Option.{gets}
 use Rattle.phase_bits.specs.Number.{phase_of}
 use Rattle.phase_bits.specs.Records.{unheld}
@@ -23,29 +23,17 @@ use Rattle.phase_schedule.proofs.Within.{shows_fresh}
 
 -- ---- lists that grow
 
--- one more of the same
-pub replicate_more : {X : Type 0} (n : ℕ) (x : X) → replicate (n + 1) x ≡ replicate n x ++ x ∷ []
-replicate_more zero x = refl
-replicate_more (suc n) x = subst (λ (k : ℕ). replicate k x ≡ replicate (suc n) x ++ x ∷ []) more (ap (λ r. x ∷ r) (replicate_more n x))
-  where
-    more : suc (n + 1) ≡ suc n + 1
-    more = omega arith
-
 -- room that stays
 pub room_kept : (a b c : ℕ) → a ≤ b → c ≡ b → a ≤ c
 room_kept a b c le e = omega (arith, le, e)
 
-map_more : {X Y : Type 0} (f : X → Y) (xs : List X) (x : X) → map f (xs ++ x ∷ []) ≡ map f xs ++ f x ∷ []
-map_more f [] x = refl
-map_more f (y ∷ xs) x = ap (λ r. f y ∷ r) (map_more f xs x)
-
 -- one more locker, with the same record
 pub same_more : {X Y : Type 0} (f : X → Y) (xs : List X) (x : X) (n : ℕ) (y : Y) → map f xs ≡ replicate n y → f x ≡ y → map f (xs ++ x ∷ []) ≡ replicate (n + 1) y
-same_more f xs x n y before here = map_more f xs x ∙ (λ i. before i ++ here i ∷ []) ∙ sym (replicate_more n y)
+same_more f xs x n y before here = map_push f xs x ∙ (λ i. before i ++ here i ∷ []) ∙ sym (replicate_next n y)
 
 -- one more, of the next element
 pub next_more : {X Y Z : Type 0} (f : X → Y) (g : Z → Y) (xs : List X) (x : X) (zs : List Z) (i : ℕ) (d : Z) → i < length zs → map f xs ≡ map g (take i zs) → f x ≡ g (get_or zs i d) → map f (xs ++ x ∷ []) ≡ map g (take (i + 1) zs)
-next_more f g xs x zs i d lt before here = map_more f xs x ∙ (λ j. before j ++ here j ∷ []) ∙ sym (map_more g (take i zs) (get_or zs i d)) ∙ ap (map g) (sym longer)
+next_more f g xs x zs i d lt before here = map_push f xs x ∙ (λ j. before j ++ here j ∷ []) ∙ sym (map_push g (take i zs) (get_or zs i d)) ∙ ap (map g) (sym longer)
   where
     longer : take (i + 1) zs ≡ take i zs ++ get_or zs i d ∷ []
     longer = grind (arith, common_steps)

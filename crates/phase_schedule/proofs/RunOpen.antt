@@ -8,9 +8,6 @@ use Rattle.std.specs.Prelude.{count_by}
 use Rattle.std.specs.List.{find}
 use Rattle.std.specs.declared.option.Option.{Option}
 use Rattle.phase_locker.specs.Natures.{read_ticket, write_ticket}
-use Rattle.phase_seq.specs.Asks.{initializes}
-use Rattle.schedule_rules.specs.declared.plan.Call.{Call}
-use Rattle.schedule_rules.specs.declared.plan.Call.TheVariants as call
 use Rattle.schedule_rules.specs.declared.plan.CellPlan.{CellPlan}
 use Rattle.schedule_rules.specs.Kinds.{cell_at}
 use Rattle.schedule_rules.specs.Changes.{Content}
@@ -25,7 +22,7 @@ use Rattle.phase_schedule.specs.declared.rows.GuardRow.{GuardRow}
 use Rattle.phase_schedule.specs.declared.rows.GuardRow.TheVariants as guard
 use Rattle.phase_schedule.specs.declared.rows.RunRow.{RunRow}
 use Rattle.phase_schedule.specs.View.{View}
-use Rattle.phase_schedule.specs.Kept.{call_of, cell_of, cell_row, guard_row, kind_at, open_after, open_run, run_in, runner_in, section_by, want_of}
+use Rattle.phase_schedule.specs.Kept.{call_of, cell_of, cell_row, guard_row, kind_at, open_after, open_run, run_in, runner_in, section_by}
 use Rattle.phase_schedule.specs.Tracks.{NumbersBelow, Tracks}
 use Rattle.phase_schedule.specs.Closing.{HoldsAt, HoldsLocks, IsOfCell, RunsAt, locks_of, reads_row, writes_row}
 use Rattle.phase_schedule.proofs.Passing.{count_free, count_test, count_set, count_before}

@@ -42,7 +42,7 @@ valid x cells steps e =
       steps_count = steps;
     }
 
--- and only such a schedule
+-- ---- and only such a schedule
 
 no_unknown_step : (parties cells n : ℕ) (s : Step) → IsKnown parties cells s → unknown_of parties cells n s ≡ None
 no_unknown_step parties cells n s k = rw (party, cell) refl

@@ -1,8 +1,6 @@
 -- What holds of every call that waits, over a history: it holds when a call begins to wait, and stays while others step.
-use Rattle.std.proofs.Common.{◌≡◌, ◌≢◌, ◌==◌, ℕ, ◌≤◌, List, [], ◌∷◌, refl, arith, Bool, true, false, None, Some, ◌∙◌, ap, sym, subst, ◌&&◌, ◌||◌, inl, inr}
+use Rattle.std.proofs.Common.{◌≡◌, ◌≢◌, ℕ, List, [], ◌∷◌, refl, Bool, None, Some, ◌∙◌, ap, sym, subst, inl, inr}
 use Rattle.std.proofs.lemmas.Bool.{cases_eq}
-use Rattle.std.specs.Prelude.{if◌then◌else◌}
-use Rattle.std.specs.List.{find}
 use Rattle.std.specs.declared.option.Option.{Option}
 use Rattle.phase_locker.specs.declared.ways.How.{How}
 use Rattle.phase_locker.specs.declared.ways.Given.{Given}
@@ -14,9 +12,8 @@ use Rattle.schedule_rules.specs.declared.line.Answer.{Answer}
 use Rattle.schedule_rules.specs.declared.line.Answer.TheVariants as answer
 use Rattle.schedule_rules.specs.declared.line.Refusal.{Refusal}
 use Rattle.schedule_rules.specs.declared.line.Line.{Line}
-use Rattle.schedule_rules.specs.Calls.{Calls, initializes}
-use Rattle.schedule_rules.specs.History.{Event, count}
-use Rattle.schedule_rules.specs.Sections.{Section, without_innermost, with_run, sections_ended, sections_after, runs_in, generates_for, runs, sections}
+use Rattle.schedule_rules.specs.History.{Event}
+use Rattle.schedule_rules.specs.Sections.{Section, sections_ended, sections_after, sections}
 use Rattle.schedule_rules.specs.Waits.{Wait, Attempt, wait_of, without_wait, with_wait, attempt_of_wait, attempt_with, attempt, waits_given_with, waits_answered, waits, waits_given, other_waits}
 use Rattle.schedule_rules.specs.Refusals.{refusal}
 use Rattle.schedule_rules.specs.Due.{due_answer, due_act, due_tried}
