@@ -114,7 +114,7 @@ module _ (h : List Event) (v : View) (s : Step) (n : ℕ) (t : Target) (g : Give
     means_write lock a true e = record { opening = record { answered = a; asks = e }; section = ap (λ w. record { who = who_of s t; want = w; stays = unregistered; ticket = write_ticket }) says.want }
     means_write lock a false e =
         subst (λ b. Means (if b then begun.Final (section_by (who_of s t) ask.want (phase_of (phase_at (plans v) t.cell h)) lock) else begun.Write lock (phase_of (phase_at (plans v) t.cell h))))
-          (sym says.finalizes) (record { opening = record { answered = a; asks = e }; phase = refl })
+        (sym says.finalizes) (record { opening = record { answered = a; asks = e }; phase = refl })
 
     means : (a : Attempt) → IsAnswered h v s n t a g → Means (begun_by (who_of s t) ask (phase_of (phase_at (plans v) t.cell h)) a)
     means (Wait way) a = a

@@ -11,7 +11,7 @@ ghost use Rattle.phase_seq.specs.Begins.{Begins, Resumes, is_cyclic, begun_of, b
 ghost use Rattle.phase_seq.specs.Stands.{BegunStands, IsRunning, reads_begun};
 ghost use Rattle.phase_seq.specs.Exactly.{is_wait, is_missed, is_turned_back, is_run, is_final, is_admitted, shall_wait, shall_miss, shall_run, shall_finalize};
 
-use crate::ask::{Ask, Want};
+use crate::ask::Ask;
 use crate::section::{Begun, section_by};
 use crate::sequentializer::LazySequentializer;
 use phase_bits::Phase;

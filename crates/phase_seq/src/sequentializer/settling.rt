@@ -1,6 +1,6 @@
 //! What becomes of an answer on a cell that is registered for the exit.
 
-ghost use Rattle.std.specs.Prelude.{◌≡◌, ◌+◌, ◌<◌, ◌==◌, true, false, Some, if◌then◌else◌, length};
+ghost use Rattle.std.specs.Prelude.{◌≡◌, ◌+◌, ◌<◌, true, false, Some, if◌then◌else◌, length};
 ghost use Rattle.phase_bits.specs.Number.{number, IsKnown};
 ghost use Rattle.exit_registry.specs.Registry.{cells_of, is_known};
 ghost use Rattle.phase_locker.specs.Rows.{SameSize, HasFree};

@@ -1,6 +1,6 @@
 use Rattle.std.proofs.Common.{◌≡◌, false, rules, sym, ◌∙◌}
 use Rattle.phase_seq.specs.Begins.{is_cyclic}
-use Rattle.phase_seq.specs.Exactly.{is_run, is_final}
+use Rattle.phase_seq.specs.Exactly.{is_run}
 use Rattle.phase_seq.proofs.Exactness.{tried_comes, locks_comes, run_comes, tried_finalizes, locks_finalizes, cyclic_ends, tried_barred, locks_waits, by_attempt, waits_instead}
 use Rattle.phase_seq.proofs.Sections.{section_stays, begun_apart, tried_writes}
 use Rattle.phase_seq.proofs.Answered.{begun_by_stands, tried_stands, tried_reads}

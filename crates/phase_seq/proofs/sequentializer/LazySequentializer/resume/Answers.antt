@@ -2,7 +2,7 @@ use Rattle.std.proofs.Common.{◌≡◌, false, rules, ◌∙◌, sym}
 use Rattle.phase_seq.specs.Begins.{is_cyclic}
 use Rattle.phase_seq.proofs.Sections.{section_stays, again_apart}
 use Rattle.phase_seq.proofs.Answered.{begun_by_stands}
-use Rattle.phase_seq.specs.Exactly.{is_run, is_final}
+use Rattle.phase_seq.specs.Exactly.{is_run}
 use Rattle.phase_seq.proofs.Exactness.{again_comes, run_comes, again_finalizes}
 use Rattle.phase_seq.proofs.Resumed.{resumed}
 use Rattle.phase_seq.proofs.Settled.{again_quiet}
