@@ -1,4 +1,4 @@
-//! Runs each example, and says whether the program writes the transcript that lies beside it.
+//! Runs each example, and says whether the program writes the transcript that lies beside it. It stands on `phase_run`.
 #![tactic(auto)]
 
 use phase_run::{MemSink, MemSource, Status, run_program};
@@ -6,7 +6,7 @@ use std::rt::Files;
 use std::{fs, io};
 
 /// The examples, by the names of their files.
-const NAMES: [&str; 8] = [
+const NAMES: [&str; 11] = [
     "first",
     "readers_and_a_writer",
     "nested_generators",
@@ -15,6 +15,9 @@ const NAMES: [&str; 8] = [
     "a_hand_over",
     "downgrade_and_clone",
     "a_generator_that_runs_once",
+    "a_round_and_a_late_cell",
+    "a_turn_skips_a_cell",
+    "a_refused_registration",
 ];
 
 /// More bytes than any of their transcripts has.

@@ -19,6 +19,7 @@ use crate::ways::{Given, How, LockerKind, Waiting, Who};
 use phase_bits::Phase;
 
 /// A call of a party that does not wait.
+#[inline(always)]
 pub(crate) fn lock<S: Store, F: Fn(Phase) -> LockNature>(
     store: &mut S,
     parks: &mut Parks,
@@ -47,6 +48,7 @@ pub(crate) fn lock<S: Store, F: Fn(Phase) -> LockNature>(
 }
 
 /// A call of a party that waits at this cell.
+#[inline(always)]
 pub(crate) fn again<S: Store, F: Fn(Phase) -> LockNature>(
     store: &mut S,
     parks: &mut Parks,
@@ -115,6 +117,7 @@ pub(crate) fn clone_read<S: Store>(store: &mut S) -> Option<ReadTicket>
 }
 
 /// Judges a call of a party that does not wait: it gets what it wants, or waits.
+#[inline(always)]
 fn judge<S: Store>(
     store: &mut S,
     parks: &mut Parks,

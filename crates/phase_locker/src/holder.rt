@@ -112,6 +112,7 @@ impl PhaseLocker for HolderLocker {
         self.holders.phase
     }
 
+    #[inline(always)]
     fn lock<F: Fn(Phase) -> LockNature>(
         &mut self,
         parks: &mut Parks,
@@ -122,6 +123,7 @@ impl PhaseLocker for HolderLocker {
         attempts::lock(self, parks, who, wake, how)
     }
 
+    #[inline(always)]
     fn again<F: Fn(Phase) -> LockNature>(
         &mut self,
         parks: &mut Parks,

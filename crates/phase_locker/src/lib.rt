@@ -1,4 +1,5 @@
-//! Lockers: who may read or write a cell, how a call waits that may not, and to whom the lock is given then.
+//! Lockers: who may read or write a cell, how a call waits that may not, and to whom the lock is given then. It stands on
+//! `phase_bits` for phases and for the record of a lock's holders.
 #![tactic(auto)]
 
 mod attempts;

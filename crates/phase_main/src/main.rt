@@ -1,5 +1,5 @@
 //! Reads a schedule from the standard input, runs it, and writes its transcript to the standard output. The status tells
-//! how it ended; nothing else is printed.
+//! how it ended; nothing else is printed. It stands on `phase_run`, which has the program over any source and sink.
 #![tactic(auto)]
 
 ghost use Rattle.std.specs.Prelude.{IfErr};

@@ -1,4 +1,5 @@
-//! The program over any source of bytes and any sink: reads a schedule, runs it, and writes its transcript.
+//! The program over any source of bytes and any sink: reads a schedule, runs it, and writes its transcript. Its code
+//! stands on `phase_schedule` alone; its contracts speak of what `schedule_rules` and `schedule_text` define.
 #![tactic(auto)]
 
 mod answer;

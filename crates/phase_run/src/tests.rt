@@ -29,6 +29,14 @@ const PUBLISHED_AT_RELEASE: &[u8] =
 const PUBLISHED_AT_RELEASE_OUTPUT: &[u8] =
     b"transcript 1\n0 running\n1 write-guard\n2 phase Phase (not initialized)\n3 value 7\n4 done\n5 phase Phase (Initialized)\ncell 0 Phase (Initialized) 7\nend\n";
 
+/// A schedule whose cell has its turn in the exit while its generator runs, so that it is never finalized.
+const SKIPPED: &[u8] =
+    b"schedule 1\nparties 2\ncell LockedLazyFinalize park\nsteps\n0 read 0\n1 exit\n1 exit\n0 made 4\n0 release 3\n1 exit\n1 phase 0\n1 exit\nend\n";
+
+/// Its transcript.
+const SKIPPED_OUTPUT: &[u8] =
+    b"transcript 1\n0 running\n1 round 1\n2 skipped 0\n3 read-guard\n4 done\n5 closed\n6 phase Phase (Initialized | Registered)\n7 refused 10 ExitBegun\ncell 0 Phase (Initialized | Registered) 4\nexit 0 skipped\nend\n";
+
 /// Gives three bytes at a time, and fails once there were so many calls.
 #[derive(Drop)]
 struct Trickle<'a> {
@@ -107,10 +115,11 @@ fn expect_text(
 #[test]
 fn writes_transcripts(rt: HostRuntime) -> Result<(), Fail> {
     let nothing: &[u8] = b"schedule 1\nparties 0\nsteps\nend\n";
-    let worked: [(&[u8], &[u8]); 3] = [
+    let worked: [(&[u8], &[u8]); 4] = [
         (nothing, b"transcript 1\nend\n"),
         (INPUT, OUTPUT),
         (PUBLISHED_AT_RELEASE, PUBLISHED_AT_RELEASE_OUTPUT),
+        (SKIPPED, SKIPPED_OUTPUT),
     ];
     for (text, transcript) in worked {
         expect_text(&rt, text, Status::Done, transcript)?;

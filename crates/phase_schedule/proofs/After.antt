@@ -2,7 +2,9 @@
 use Rattle.std.proofs.Common.{◌≡◌, ℕ, suc, ◌≤◌, List, ◌∷◌, length, refl, ap, arith, None, Some}
 use Rattle.std.specs.List.{find}
 use Rattle.std.specs.declared.option.Option.{Option}
+use Rattle.phase_bits.specs.declared.phase.Phase.{Phase}
 use Rattle.schedule_rules.specs.declared.plan.CellPlan.{CellPlan}
+use Rattle.schedule_rules.specs.Kinds.{cell_at}
 use Rattle.schedule_rules.specs.Changes.{Content}
 use Rattle.schedule_rules.specs.History.{Event, before}
 use Rattle.schedule_rules.specs.Sections.{Section, runs_in, sections}
@@ -13,13 +15,13 @@ use Rattle.schedule_rules.specs.Legal.{IsLegal, IsLegalLine, IsExclusive}
 use Rattle.schedule_rules.proofs.Earlier.{before_more}
 use Rattle.phase_schedule.specs.declared.rows.RunRow.{RunRow}
 use Rattle.phase_schedule.specs.View.{View}
-use Rattle.phase_schedule.specs.Kept.{Open, open_after, run_in, section_by}
+use Rattle.phase_schedule.specs.Kept.{Open, open_after, run_in, section_by, stays_at}
 use Rattle.phase_schedule.specs.Tracks.{NumbersBelow, IsApart, IsSteady, Kept, Locked, RunBy, Tracks}
 
 -- the section of a cell as its row shows it is the same after one more event
-section_more : (cells : List CellPlan) (h : List Event) (e : Event) (c : ℕ) (o : Option Guard) (r : Option RunRow) → ((x : Guard) → o ≡ Some x → x.start ≤ length h) → section_by c (inside cells (e ∷ h)) o r ≡ section_by c (inside cells h) o r
-section_more cells h e c None r early = refl
-section_more cells h e c (Some x) r early = rw (before_more x.start e h (early x refl)) refl
+section_more : (cells : List CellPlan) (h : List Event) (e : Event) (c : ℕ) (stays : Phase) (o : Option Guard) (r : Option RunRow) → ((x : Guard) → o ≡ Some x → x.start ≤ length h) → section_by c stays (inside cells (e ∷ h)) o r ≡ section_by c stays (inside cells h) o r
+section_more cells h e c stays None r early = refl
+section_more cells h e c stays (Some x) r early = rw (before_more x.start e h (early x refl)) refl
 
 -- apart holds exclude each other
 pub exclusive : (cells : List CellPlan) (h : List Event) (c : ℕ) → IsApart (open_after cells h) c → IsExclusive cells h c
@@ -89,7 +91,7 @@ module _ (cells : List CellPlan) where
     kept_after v a k =
         rw is.opened (record {
           planned = k.planned;
-          cell = λ c lt. rw (replay_after c, section_more cells h e c (find (writes_cell c) o.guards) (run_in c o.sections) (a.guard_started c)) (k.cell c lt);
+          cell = λ c lt. rw (replay_after c, section_more cells h e c (stays_at (cell_at cells c) (content_with h b c).phase (find (runs_in c) o.sections)) (find (writes_cell c) o.guards) (run_in c o.sections) (a.guard_started c)) (k.cell c lt);
           slot = k.slot;
           party = k.party;
           parties = k.parties;

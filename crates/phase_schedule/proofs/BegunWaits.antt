@@ -11,7 +11,8 @@ use Rattle.schedule_rules.specs.declared.line.Answer.{Answer}
 use Rattle.schedule_rules.specs.declared.line.Answer.TheVariants as answer
 use Rattle.schedule_rules.specs.declared.line.Line.{Line}
 use Rattle.schedule_rules.specs.Kinds.{cell_at}
-use Rattle.schedule_rules.specs.Calls.{Calls, Want}
+use Rattle.schedule_rules.specs.declared.step.Want.{Want}
+use Rattle.schedule_rules.specs.declared.step.Want.TheVariants.{Calls}
 use Rattle.schedule_rules.specs.History.{Event}
 use Rattle.schedule_rules.specs.Waits.{Wait, Attempt, wait_of, attempt_of_wait, attempt, waits}
 use Rattle.schedule_rules.specs.Answers.{Meeting, answer_of_attempt}

@@ -15,7 +15,6 @@ use Rattle.schedule_rules.specs.declared.step.Step.{Step}
 use Rattle.schedule_rules.specs.declared.line.Answer.{Answer}
 use Rattle.schedule_rules.specs.declared.line.Answer.TheVariants as answer
 use Rattle.schedule_rules.specs.Kinds.{cell_at, is_parking}
-use Rattle.schedule_rules.specs.Calls.{Calls}
 use Rattle.schedule_rules.specs.History.{Event}
 use Rattle.schedule_rules.specs.Waits.{waits, other_waits}
 use Rattle.schedule_rules.specs.Refusals.{refusal}
@@ -32,6 +31,7 @@ use Rattle.phase_schedule.proofs.Apart.{idle_counts}
 use Rattle.phase_schedule.proofs.Lines.{may_last, parks_there}
 use Rattle.phase_schedule.proofs.LockAgain.{concerned}
 use Rattle.phase_schedule.proofs.DeniedGifts.{given_once}
+use Rattle.phase_schedule.proofs.DeniedHolds.{history_denied}
 
 module _ (cells : List CellPlan) (h : List Event) (s : Step) (t : Target) (is : Tries cells h s t) where
   -- it gives on its cell
@@ -48,14 +48,14 @@ module _ (cells : List CellPlan) (h : List Event) (s : Step) (t : Target) (is : 
   last_reaches a given.Readers may = on_reaches a given.Readers (subst (λ o. IsTrue (may_give_on cells h s o a given.Readers)) (concerned cells h s t is) may)
 
   at_reaches : (m : Moment) (a : Answer) (g : Given) → IsTrue (may_give_at cells m h s (record { answer = a; given = g })) → reaches t.cell g (other_waits cells h s) ≡ true
-  at_reaches First a g may = (and_parts (is_freed_first cells h s (record { cell = t.cell; want = Calls t.call })) _ (subst (λ o. IsTrue (may_give_first cells h s o g)) is.attempted may)).1
+  at_reaches First a g may = (and_parts (is_freed_first cells h s (record { cell = t.cell; want = t.want })) _ (subst (λ o. IsTrue (may_give_first cells h s o g)) is.attempted may)).1
   at_reaches Last a g may = last_reaches a g may
 
   pub line_reaches : (a : Answer) (g : Given) → IsLegalLine cells h s (record { answer = a; given = g }) → reaches t.cell g (other_waits cells h s) ≡ true
   line_reaches a g l = at_reaches l.moment a g (subst (λ o. IsTrue (may_give cells o l.moment h s (record { answer = a; given = g }))) is.free l.gave)
 
   -- where nothing was given, what is allowed last may be given
-  given_last : (a : Answer) (last : Given) → IsLegalLine cells h s (record { answer = a; given = given.Nobody }) → IsTrue (may_give_last cells h s a last) → IsLegalLine cells h s (record { answer = a; given = last })
+  pub given_last : (a : Answer) (last : Given) → IsLegalLine cells h s (record { answer = a; given = given.Nobody }) → IsTrue (may_give_last cells h s a last) → IsLegalLine cells h s (record { answer = a; given = last })
   given_last a last l may =
       record {
         moment = Last;
@@ -69,29 +69,30 @@ module _ (cells : List CellPlan) (h : List Event) (s : Step) (t : Target) (is : 
       by Last e = e
 
   module _ (p : Phase) (parks : Parking) (x y : Holders) (fits : Fits (kind_at (cell_at cells t.cell).place) x parks t.cell) where
-    freed : Agrees cells t.cell h (other_waits cells h s) y → IsIdle y → is_freed_last cells h s (answer.Access p) t.cell ≡ true
+    freed : Agrees cells t.cell (history_denied h s p) (other_waits cells h s) y → IsIdle y → is_freed_last cells h s (answer.Access p) t.cell ≡ true
     freed agrees i =
-        let none : _ = idle_counts cells t.cell h (other_waits cells h s) parks y agrees i in
+        let none : _ = idle_counts cells t.cell (history_denied h s p) (other_waits cells h s) parks y agrees i in
         none_stands _ _ _ none.0 none.1 none.2
 
-    may_give_some : (last : Given) → Shows (other_waits cells h s) parks → IsListed t.cell parks last → ((is_readers last && downgrades s (answer.Access p)) || is_freed_last cells h s (answer.Access p) t.cell) ≡ true → IsTrue (may_give_last cells h s (answer.Access p) last)
+    -- where the step downgrades, or nothing is left on the cell
+    pub may_give_some : (last : Given) → Shows (other_waits cells h s) parks → IsListed t.cell parks last → ((is_readers last && downgrades cells h s (answer.Access p)) || is_freed_last cells h s (answer.Access p) t.cell) ≡ true → IsTrue (may_give_last cells h s (answer.Access p) last)
     may_give_some last shows listed free =
         may_last cells h s (answer.Access p) t.cell (concerned cells h s t is) last (λ some. parks_there (cell_at cells t.cell).place x parks t.cell last fits listed some)
         (reaches_given t.cell last (other_waits cells h s) parks shows listed) free
 
     -- what the lock gives that is given back
-    may_give_back : (last : Given) → Shows (other_waits cells h s) parks → Agrees cells t.cell h (other_waits cells h s) y → MayHand t.cell y parks last → IsTrue (may_give_last cells h s (answer.Access p) last)
+    may_give_back : (last : Given) → Shows (other_waits cells h s) parks → Agrees cells t.cell (history_denied h s p) (other_waits cells h s) y → MayHand t.cell y parks last → IsTrue (may_give_last cells h s (answer.Access p) last)
     may_give_back given.Nobody shows agrees may = refl
-    may_give_back (given.Writer q) shows agrees may = may_give_some (given.Writer q) shows (listed_hand t.cell y parks (given.Writer q) may) (or_right (is_readers (given.Writer q) && downgrades s (answer.Access p)) _ (freed agrees may.0))
-    may_give_back given.Readers shows agrees may = may_give_some given.Readers shows (listed_hand t.cell y parks given.Readers may) (or_right (is_readers given.Readers && downgrades s (answer.Access p)) _ (freed agrees may.0))
+    may_give_back (given.Writer q) shows agrees may = may_give_some (given.Writer q) shows (listed_hand t.cell y parks (given.Writer q) may) (or_right (is_readers (given.Writer q) && downgrades cells h s (answer.Access p)) _ (freed agrees may.0))
+    may_give_back given.Readers shows agrees may = may_give_some given.Readers shows (listed_hand t.cell y parks given.Readers may) (or_right (is_readers given.Readers && downgrades cells h s (answer.Access p)) _ (freed agrees may.0))
 
     -- the line, and who waits then
-    pub line_denied : (g last : Given) → IsLegalLine cells h s (record { answer = answer.Access p; given = g }) → Shows (waits_left cells h s t g) parks → Agrees cells t.cell h (waits_left cells h s t g) y → MayHand t.cell y parks last
+    pub line_denied : (g last : Given) → IsLegalLine cells h s (record { answer = answer.Access p; given = g }) → Shows (waits_left cells h s t g) parks → Agrees cells t.cell (history_denied h s p) (waits_left cells h s t g) y → MayHand t.cell y parks last
         → IsLegalLine cells h s (record { answer = answer.Access p; given = given_first g last }) × (given_on t.cell last (waits_left cells h s t g) ≡ waits_left cells h s t (given_first g last))
     line_denied given.Nobody last l shows agrees may = (given_last (answer.Access p) last l (may_give_back last shows agrees may), sym (left_is last))
     line_denied (given.Writer q) last l shows agrees may =
-        let none : last ≡ given.Nobody = given_once cells t.cell h (other_waits cells h s) parks y (given.Writer q) last (λ e. absurd (cc)) (line_reaches (answer.Access p) (given.Writer q) l) (subst (λ ws. Agrees cells t.cell h ws y) (left_is (given.Writer q)) agrees) may in
+        let none : last ≡ given.Nobody = given_once cells t.cell (history_denied h s p) (other_waits cells h s) parks y (given.Writer q) last (λ e. absurd (cc)) (line_reaches (answer.Access p) (given.Writer q) l) (subst (λ ws. Agrees cells t.cell (history_denied h s p) ws y) (left_is (given.Writer q)) agrees) may in
         (l, ap (λ g. given_on t.cell g (waits_left cells h s t (given.Writer q))) none)
     line_denied given.Readers last l shows agrees may =
-        let none : last ≡ given.Nobody = given_once cells t.cell h (other_waits cells h s) parks y given.Readers last (λ e. absurd (cc)) (line_reaches (answer.Access p) given.Readers l) (subst (λ ws. Agrees cells t.cell h ws y) (left_is given.Readers) agrees) may in
+        let none : last ≡ given.Nobody = given_once cells t.cell (history_denied h s p) (other_waits cells h s) parks y given.Readers last (λ e. absurd (cc)) (line_reaches (answer.Access p) given.Readers l) (subst (λ ws. Agrees cells t.cell (history_denied h s p) ws y) (left_is given.Readers) agrees) may in
         (l, ap (λ g. given_on t.cell g (waits_left cells h s t given.Readers)) none)

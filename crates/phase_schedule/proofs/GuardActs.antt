@@ -22,6 +22,7 @@ use Rattle.phase_schedule.specs.View.{View}
 use Rattle.phase_schedule.specs.Meets.{put_row}
 use Rattle.phase_schedule.specs.Tracks.{FollowsStep, Tracks, plans}
 use Rattle.phase_schedule.specs.Ready.{IsDraft, IsHeld, IsHolding}
+use Rattle.phase_schedule.proofs.ExitStays.{exit_stays, is_calm}
 use Rattle.phase_schedule.proofs.Lines.{legal_quiet}
 use Rattle.phase_schedule.proofs.RowTries.{steady_same}
 use Rattle.phase_schedule.proofs.GuardRefused.{look_free, set_held}
@@ -59,7 +60,7 @@ module _ (cells : List CellPlan) (h : List Event) (v : View) (t : Tracks cells h
   set_concerns = ap (λ a. cell_concerned_with cells (waits cells h) h s.party a) acts ∙ ap cell_of_guard k.found ∙ ap Some k.cell
 
   -- the draft of the guard changes
-  pub value_set : Tracks cells (told s answer.Done given.Nobody ∷ h) (record { cells = set v.cells c (put_row value row); guards = v.guards; parties = v.parties; held = v.held; places = v.places; running = v.running; parks = v.parks })
+  pub value_set : Tracks cells (told s answer.Done given.Nobody ∷ h) (record { cells = set v.cells c (put_row value row); guards = v.guards; parties = v.parties; held = v.held; places = v.places; running = v.running; parks = v.parks; exit = v.exit })
   value_set =
       quiet_step cells h v t s answer.Done c lt idle set_concerns refl (put_in g value (guards h)) set_sections (ap (λ a. guards_done a (guards h)) acts) (ap (λ a. back_done h a) acts)
       (λ d. reads_put d g value (guards h)) (λ d. writes_put d g value (guards h)) (set v.cells c (put_row value row)) v.guards
@@ -77,6 +78,7 @@ module _ (h : List Event) (v : View) (s : Step) (g c : ℕ) where
         (ap (λ n. answer.Value n) (e ∙ ap (λ (r : CellRow). unwrap_or r.value 0) (cell_shown h v s (act.Look g) g c false k row at)));
     guards = refl;
     parties = refl;
+    exit = exit_stays (plans v) h s (length v.guards) v.exit (record { answer = answer.Value value; given = given.Nobody }) (ap is_calm k.acting.acts) refl k.acting.exit;
   }
 
   -- what the holder of a write guard sees
@@ -86,13 +88,15 @@ module _ (h : List Event) (v : View) (s : Step) (g c : ℕ) where
         (ap (λ n. answer.Value n) (e ∙ ap (λ (d : Draft). unwrap_or d.value 0) (drafts k.held.guard (writer_shown h v s (act.Look g) g c k))));
     guards = refl;
     parties = refl;
+    exit = exit_stays (plans v) h s (length v.guards) v.exit (record { answer = answer.Value value; given = given.Nobody }) (ap is_calm k.acting.acts) refl k.acting.exit;
   }
 
   -- a value is set
   pub did_set : (value : ℕ) → IsHolding h v s (act.Set g value) g c true → (row : CellRow) → row ≡ get_or v.cells c row
-      → FollowsStep h s (record { answer = answer.Done; given = given.Nobody }) v (record { cells = set v.cells c (put_row value row); guards = v.guards; parties = v.parties; held = v.held; places = v.places; running = v.running; parks = v.parks })
+      → FollowsStep h s (record { answer = answer.Done; given = given.Nobody }) v (record { cells = set v.cells c (put_row value row); guards = v.guards; parties = v.parties; held = v.held; places = v.places; running = v.running; parks = v.parks; exit = v.exit })
   did_set value k row at = record {
     follows = value_set (plans v) h v k.acting.ready.follows s g c k.held value k.acting.acts (in_plan h v s (act.Set g value) g c true k) k.acting.idle k.acting.ready.room row at k.inside;
     guards = refl;
     parties = refl;
+    exit = exit_stays (plans v) h s (length v.guards) v.exit (record { answer = answer.Done; given = given.Nobody }) (ap is_calm k.acting.acts) refl k.acting.exit;
   }

@@ -157,7 +157,7 @@ module _ (cells : List CellPlan) (h : List Event) (v : View) (t : Tracks cells h
 
     -- one more read guard
     pub cloned : Fits (kind_at (cell_at cells c).place) (admit_read (core cells c h)) v.parks c
-        → Tracks cells (told s answer.ReadGuard given.Nobody ∷ h) (record { cells = v.cells; guards = set v.guards (length h) (guard.Read s.party c read_ticket); parties = v.parties; held = set v.held c (admit_read (core cells c h)); places = v.places; running = v.running; parks = v.parks })
+        → Tracks cells (told s answer.ReadGuard given.Nobody ∷ h) (record { cells = v.cells; guards = set v.guards (length h) (guard.Read s.party c read_ticket); parties = v.parties; held = set v.held c (admit_read (core cells c h)); places = v.places; running = v.running; parks = v.parks; exit = v.exit })
     cloned fits =
         handed_over cells h v t s answer.ReadGuard given.Nobody c lt idle concerned refl (reader (length h) s.party c ∷ guards h) None sections_are guards_are back_is
         v.cells (set v.guards (length h) (guard.Read s.party c read_ticket)) (admit_read (core cells c h)) v.parks (size_same v.parks) (admit_read (core cells c h))

@@ -21,6 +21,7 @@ use Rattle.phase_schedule.specs.Tracks.{FollowsStep, plans}
 use Rattle.phase_schedule.specs.Ready.{IsHoldingNumbered}
 use Rattle.phase_schedule.proofs.Places.{set_there}
 use Rattle.phase_schedule.proofs.Called.{seen_locker}
+use Rattle.phase_schedule.proofs.ExitStays.{exit_stays, is_calm}
 use Rattle.phase_schedule.proofs.GuardSeen.{in_plan, held_shown, place_shown}
 use Rattle.phase_schedule.proofs.GuardCloned.{cloned, not_cloned}
 
@@ -47,6 +48,7 @@ module _ {L : Type 0} (held : L → Holders) (place : L → LockerKind) (h : Lis
             (λ full. few (ap (λ (x : Holders). x.readers) record_is ∙ full)) fits);
         guards = length-set _ _ _;
         parties = refl;
+        exit = exit_stays (plans (view held place rows)) h s (length rows.guards.items) (view held place rows).exit (record { answer = answer.ReadGuard; given = given.Nobody }) (ap is_calm k.holding.acting.acts) refl k.holding.acting.exit;
       })
     where
       now : held l'.locker ≡ admit_read (core (plans (view held place rows)) c h)
@@ -70,6 +72,7 @@ module _ {L : Type 0} (held : L → Holders) (place : L → LockerKind) (h : Lis
         follows = not_cloned (plans (view held place rows)) h (view held place rows) k.holding.acting.ready.follows s g c k.holding.held k.holding.acting.acts lt k.holding.acting.idle k.holding.acting.ready.room (ap (λ (x : Holders). x.readers) (sym record_is) ∙ full);
         guards = refl;
         parties = refl;
+        exit = exit_stays (plans (view held place rows)) h s (length rows.guards.items) (view held place rows).exit (record { answer = answer.Borrowed; given = given.Nobody }) (ap is_calm k.holding.acting.acts) refl k.holding.acting.exit;
       }))
     where
       unmoved : set (map (λ q. held q.locker) rows.sequentializers.items) c (held l'.locker) ≡ map (λ q. held q.locker) rows.sequentializers.items

@@ -167,7 +167,7 @@ module _ (cells : List CellPlan) (h : List Event) (v : View) (t : Tracks cells h
       let fewer : _ = fewer_readers c v.parks (rw t.locked.readers_count lt) (locked_sound cells h v.held v.places v.parks t.locked) free in
       (alone.1, omega (arith, r, fewer))
 
-  turns : downgrades s answer.ReadGuard ≡ true
+  turns : downgrades cells h s answer.ReadGuard ≡ true
   turns = ap turns_to_read acts
 
   allowed : (x : Given) → MayShare c v.parks x → may_give_last cells h s answer.ReadGuard x ≡ true
@@ -175,11 +175,11 @@ module _ (cells : List CellPlan) (h : List Event) (v : View) (t : Tracks cells h
   allowed (given.Writer q) may = absurd may
   allowed given.Readers may =
       may_give_there cells h s answer.ReadGuard c v.parks (core cells c h) idle concerned t.locked.shows (t.locked.fits c lt) given.Readers may
-      (or_left (is_readers given.Readers && downgrades s answer.ReadGuard) (is_freed_last cells h s answer.ReadGuard c) turns)
+      (or_left (is_readers given.Readers && downgrades cells h s answer.ReadGuard) (is_freed_last cells h s answer.ReadGuard c) turns)
 
   -- a write guard becomes a read guard
   pub read_on : (x' : Holders) (parks' : Parking) → Downgrades c draft.phase (core cells c h) v.parks l x' parks' → HasFree v.parks → Fits (kind_at (cell_at cells c).place) x' parks' c → OthersStay c v.parks parks' → SameSize v.parks parks'
-      → Tracks cells (downgraded ∷ h) (record { cells = set v.cells c (record { plan = row.plan; value = draft.value; section = None }); guards = set (set v.guards g guard.Free) (length h) (guard.Read s.party c read_ticket); parties = v.parties; held = set v.held c x'; places = v.places; running = v.running; parks = parks' })
+      → Tracks cells (downgraded ∷ h) (record { cells = set v.cells c (record { plan = row.plan; value = draft.value; section = None }); guards = set (set v.guards g guard.Free) (length h) (guard.Read s.party c read_ticket); parties = v.parties; held = set v.held c x'; places = v.places; running = v.running; parks = parks'; exit = v.exit })
   read_on x' parks' moves free fits others size =
       handed_over cells h v t s answer.ReadGuard l c lt idle concerned refl guards_now back_now sections_are guards_are back_is
       (set v.cells c (record { plan = row.plan; value = draft.value; section = None })) (set (set v.guards g guard.Free) (length h) (guard.Read s.party c read_ticket)) x' parks' size (downgrade draft.phase (core cells c h))

@@ -1,5 +1,5 @@
 -- A downgrade does what it says: the rows follow the step.
-use Rattle.std.proofs.Common.{◌≡◌, ℕ, List, map, set, get_or, refl, ◌∙◌, subst, true, None, length-set}
+use Rattle.std.proofs.Common.{◌≡◌, ℕ, List, length, map, set, get_or, refl, ◌∙◌, ap, subst, true, None, length-set}
 use Rattle.phase_bits.specs.declared.holders.Holders.{Holders}
 use Rattle.phase_locker.specs.declared.ways.Given.{Given}
 use Rattle.phase_locker.specs.declared.ways.LockerKind.{LockerKind}
@@ -21,6 +21,7 @@ use Rattle.phase_schedule.specs.View.{view}
 use Rattle.phase_schedule.specs.Tracks.{FollowsStep, plans}
 use Rattle.phase_schedule.specs.Ready.{IsDraft, IsHoldingNumbered}
 use Rattle.phase_schedule.proofs.Called.{seen_locker}
+use Rattle.phase_schedule.proofs.ExitStays.{exit_stays, is_calm}
 use Rattle.phase_schedule.proofs.GuardSeen.{in_plan, held_shown, place_shown, writer_shown, has_free}
 use Rattle.phase_schedule.proofs.GuardDowngraded.{read_on}
 
@@ -50,4 +51,5 @@ did_read_on held place h rows s n g c k l l' given parks' draft row at row_at dr
           (subst (λ (kind : LockerKind). Fits kind (held l'.locker) parks' c) (same ∙ place_shown h (view held place rows) s (act.Downgrade g) g c true k.holding (λ q. held q.locker) (λ q. place q.locker) rows.sequentializers.items l at refl refl) fits) others size);
       guards = length-set _ _ _ ∙ length-set _ _ _;
       parties = refl;
+      exit = exit_stays (plans (view held place rows)) h s (length rows.guards.items) (view held place rows).exit (record { answer = answer.ReadGuard; given = given }) (ap is_calm k.holding.acting.acts) refl k.holding.acting.exit;
     })

@@ -4,6 +4,7 @@ use Rattle.std.proofs.lemmas.Bool.{cases_eq}
 use Rattle.std.specs.Prelude.{◌==◌, slice_get}
 use Rattle.std.specs.List.{find}
 use Rattle.std.specs.declared.option.Option.{Option}
+use Rattle.phase_bits.specs.declared.phase.Phase.{Phase}
 use Rattle.schedule_rules.specs.declared.plan.CellPlan.{CellPlan}
 use Rattle.schedule_rules.specs.Kinds.{cell_at}
 use Rattle.schedule_rules.specs.Changes.{Content, effect}
@@ -19,7 +20,7 @@ use Rattle.phase_schedule.specs.declared.rows.CellRow.{CellRow}
 use Rattle.phase_schedule.specs.declared.rows.Draft.{Draft}
 use Rattle.phase_schedule.specs.declared.rows.GuardRow.TheVariants as guard
 use Rattle.phase_schedule.specs.View.{View}
-use Rattle.phase_schedule.specs.Kept.{Open, cell_row, draft_of, guard_row, open_after, run_in, section_by}
+use Rattle.phase_schedule.specs.Kept.{Open, cell_row, draft_of, guard_row, open_after, run_in, section_by, stays_at}
 use Rattle.phase_schedule.specs.Tracks.{NumbersBelow, Tracks}
 use Rattle.phase_schedule.proofs.Numbers.{other_number, same_number}
 use Rattle.phase_schedule.proofs.Places.{row_at, set_view}
@@ -173,5 +174,5 @@ module _ (cells : List CellPlan) (h : List Event) (v : View) (t : Tracks cells h
         let none : _ = no_writer_left in
         let row_is : row ≡ cell_row (cell_at cells c) c (replay cells c h) (inside cells h) (open_after cells h) = row_at v.cells c row _ found in_rows (t.kept.cell c in_rows) in
         let value : draft.value ≡ (content_after_back cells c back_given (replay cells c h)).value = ap (λ (d : Draft). d.value) drafts ∙ ap (λ (y : Content). y.value) (sym content_here) in
-        let gone : None ≡ section_by c (inside cells h) (find (writes_cell c) (without_guard g (guards h))) (run_in c (sections h)) = rw (none_found (writes_cell c) (without_guard g (guards h)) none.0, no_run c (sections h) none.1) refl in
-        λ i. record { plan = (row_is i).plan; value = value i; section = gone i }
+        let gone : (stays : Phase) → None ≡ section_by c stays (inside cells h) (find (writes_cell c) (without_guard g (guards h))) (run_in c (sections h)) = λ stays. rw (none_found (writes_cell c) (without_guard g (guards h)) none.0, no_run c (sections h) none.1) refl in
+        λ i. record { plan = (row_is i).plan; value = value i; section = gone (stays_at (cell_at cells c) (content_after_back cells c back_given (replay cells c h)).phase (find (runs_in c) (sections h))) i }

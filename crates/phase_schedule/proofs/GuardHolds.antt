@@ -89,25 +89,25 @@ module _ (h : List Event) (v : View) (s : Step) (a : Act) (k : IsActing h v s a)
 -- the acts that are refused
 module _ (h : List Event) (v : View) (s : Step) (g : ℕ) where
   pub refused_look : IsActing h v s (act.Look g) → held.Nothing ≡ held_by (guard_of g s.party (guards h)) → FollowsStep h s (refused_line refusal.NoGuard) v v
-  refused_look k e = did_refuse h v s refusal.NoGuard k.ready (look_of (plans v) h s g k.idle None k.acts (held_none (guard_of g s.party (guards h)) e))
+  refused_look k e = did_refuse h v s refusal.NoGuard k.ready k.exit (look_of (plans v) h s g k.idle None k.acts (held_none (guard_of g s.party (guards h)) e))
 
   pub refused_release : IsActing h v s (act.Release g) → held.Nothing ≡ held_by (guard_of g s.party (guards h)) → FollowsStep h s (refused_line refusal.NoGuard) v v
-  refused_release k e = did_refuse h v s refusal.NoGuard k.ready (release_of (plans v) h s g k.idle None k.acts (held_none (guard_of g s.party (guards h)) e))
+  refused_release k e = did_refuse h v s refusal.NoGuard k.ready k.exit (release_of (plans v) h s g k.idle None k.acts (held_none (guard_of g s.party (guards h)) e))
 
   pub refused_set : (value : ℕ) → IsActing h v s (act.Set g value) → held.Nothing ≡ held_by (guard_of g s.party (guards h)) → FollowsStep h s (refused_line refusal.NoGuard) v v
-  refused_set value k e = did_refuse h v s refusal.NoGuard k.ready (set_of (plans v) h s g k.idle value None k.acts (held_none (guard_of g s.party (guards h)) e))
+  refused_set value k e = did_refuse h v s refusal.NoGuard k.ready k.exit (set_of (plans v) h s g k.idle value None k.acts (held_none (guard_of g s.party (guards h)) e))
 
   pub refused_set_read : (value c : ℕ) → IsActing h v s (act.Set g value) → held.Read c ≡ held_by (guard_of g s.party (guards h)) → FollowsStep h s (refused_line refusal.NotWriter) v v
-  refused_set_read value c k e = did_refuse h v s refusal.NotWriter k.ready (set_held (plans v) h s g k.idle c false (read_held h s.party g c e) value k.acts)
+  refused_set_read value c k e = did_refuse h v s refusal.NotWriter k.ready k.exit (set_held (plans v) h s g k.idle c false (read_held h s.party g c e) value k.acts)
 
   pub refused_downgrade : IsActing h v s (act.Downgrade g) → held.Nothing ≡ held_by (guard_of g s.party (guards h)) → FollowsStep h s (refused_line refusal.NoGuard) v v
-  refused_downgrade k e = did_refuse h v s refusal.NoGuard k.ready (downgrade_of (plans v) h s g k.idle None k.acts (held_none (guard_of g s.party (guards h)) e))
+  refused_downgrade k e = did_refuse h v s refusal.NoGuard k.ready k.exit (downgrade_of (plans v) h s g k.idle None k.acts (held_none (guard_of g s.party (guards h)) e))
 
   pub refused_downgrade_read : (c : ℕ) → IsActing h v s (act.Downgrade g) → held.Read c ≡ held_by (guard_of g s.party (guards h)) → FollowsStep h s (refused_line refusal.NotWriter) v v
-  refused_downgrade_read c k e = did_refuse h v s refusal.NotWriter k.ready (downgrade_held (plans v) h s g k.idle c false (read_held h s.party g c e) k.acts)
+  refused_downgrade_read c k e = did_refuse h v s refusal.NotWriter k.ready k.exit (downgrade_held (plans v) h s g k.idle c false (read_held h s.party g c e) k.acts)
 
   pub refused_clone : IsActing h v s (act.Clone g) → held.Nothing ≡ held_by (guard_of g s.party (guards h)) → FollowsStep h s (refused_line refusal.NoGuard) v v
-  refused_clone k e = did_refuse h v s refusal.NoGuard k.ready (clone_of (plans v) h s g k.idle None k.acts (held_none (guard_of g s.party (guards h)) e))
+  refused_clone k e = did_refuse h v s refusal.NoGuard k.ready k.exit (clone_of (plans v) h s g k.idle None k.acts (held_none (guard_of g s.party (guards h)) e))
 
   pub refused_clone_write : (c : ℕ) → IsActing h v s (act.Clone g) → held.Write c ≡ held_by (guard_of g s.party (guards h)) → FollowsStep h s (refused_line refusal.NoGuard) v v
-  refused_clone_write c k e = did_refuse h v s refusal.NoGuard k.ready (clone_held (plans v) h s g k.idle c true (write_held h s.party g c e) k.acts)
+  refused_clone_write c k e = did_refuse h v s refusal.NoGuard k.ready k.exit (clone_held (plans v) h s g k.idle c true (write_held h s.party g c e) k.acts)

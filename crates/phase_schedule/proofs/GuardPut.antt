@@ -3,10 +3,11 @@ use Rattle.std.proofs.Common.{◌≡◌, ◌≢◌, ℕ, suc, ◌<◌, List, len
 use Rattle.std.proofs.lemmas.Bool.{cases_eq}
 use Rattle.std.specs.Prelude.{◌==◌, slice_get}
 use Rattle.std.specs.List.{find}
+use Rattle.phase_bits.specs.declared.phase.Phase.{Phase}
 use Rattle.schedule_rules.specs.declared.plan.CellPlan.{CellPlan}
 use Rattle.schedule_rules.specs.Kinds.{cell_at}
 use Rattle.schedule_rules.specs.History.{Event, before}
-use Rattle.schedule_rules.specs.Sections.{sections}
+use Rattle.schedule_rules.specs.Sections.{runs_in, sections}
 use Rattle.schedule_rules.specs.Guards.{Guard, numbered, guards, put_in}
 use Rattle.schedule_rules.specs.Replay.{replay, inside}
 use Rattle.schedule_rules.specs.Waits.{Wait}
@@ -15,7 +16,7 @@ use Rattle.schedule_rules.proofs.Found.{only_one}
 use Rattle.schedule_rules.proofs.Opened.{numbered_put, numbered_put_other, put, writer_put, writes_put}
 use Rattle.phase_schedule.specs.declared.rows.CellRow.{CellRow}
 use Rattle.phase_schedule.specs.View.{View}
-use Rattle.phase_schedule.specs.Kept.{Open, cell_row, guard_row, open_after, run_in, section_by}
+use Rattle.phase_schedule.specs.Kept.{Open, cell_row, guard_row, open_after, run_in, section_by, stays_at}
 use Rattle.phase_schedule.specs.Meets.{put_row, put_section}
 use Rattle.phase_schedule.specs.Tracks.{Tracks}
 use Rattle.phase_schedule.proofs.Places.{row_at, same_view, set_view}
@@ -84,16 +85,20 @@ module _ (cells : List CellPlan) (h : List Event) (v : View) (t : Tracks cells h
       same : k ≡ g → y ≡ put value x
       same q = let new : Some (put value x) ≡ Some y = sym (numbered_put g value (guards h) x is) ∙ ap (λ j. numbered j guards_put) (sym q) ∙ e in cc
 
+  -- the flags that stay beside a run of the cell
+  abbrev stays : ℕ → Phase
+  stays d = stays_at (cell_at cells d) (replay cells d h).phase (find (runs_in d) (sections h))
+
   -- the row of the cell then
   module _ (row : CellRow) (found : row ≡ get_or v.cells c row) (in_rows : c < length v.cells) (ws : List Wait) where
     row_put : put_row value row ≡ cell_row (cell_at cells c) c (replay cells c h) (inside cells h) (open_put ws)
     row_put =
         let row_is : row ≡ cell_row (cell_at cells c) c (replay cells c h) (inside cells h) (open_after cells h) = row_at v.cells c row _ found in_rows (t.kept.cell c in_rows) in
-        let shown : put_section value (section_by c (inside cells h) (find (writes_cell c) (guards h)) (run_in c (sections h))) ≡ section_by c (inside cells h) (find (writes_cell c) guards_put) (run_in c (sections h)) =
-        ap (λ o. put_section value (section_by c (inside cells h) o (run_in c (sections h)))) (found_writer cells h v t g x is c at writes) ∙ ap (λ o. section_by c (inside cells h) o (run_in c (sections h))) (sym writer_after) in
+        let shown : put_section value (section_by c (stays c) (inside cells h) (find (writes_cell c) (guards h)) (run_in c (sections h))) ≡ section_by c (stays c) (inside cells h) (find (writes_cell c) guards_put) (run_in c (sections h)) =
+        ap (λ o. put_section value (section_by c (stays c) (inside cells h) o (run_in c (sections h)))) (found_writer cells h v t g x is c at writes) ∙ ap (λ o. section_by c (stays c) (inside cells h) o (run_in c (sections h))) (sym writer_after) in
         ap (put_row value) row_is ∙ (λ i. record { plan = cell_at cells c; value = (replay cells c h).value; section = shown i })
 
     pub cell_put : (d : ℕ) → d < length (set v.cells c (put_row value row)) → slice_get (set v.cells c (put_row value row)) d ≡ Some (cell_row (cell_at cells d) d (replay cells d h) (inside cells h) (open_put ws))
     cell_put =
         set_view v.cells c (put_row value row) (λ d. cell_row (cell_at cells d) d (replay cells d h) (inside cells h) (open_after cells h)) (λ d. cell_row (cell_at cells d) d (replay cells d h) (inside cells h) (open_put ws)) t.kept.cell
-        (λ d ne. ap (λ o. record { plan = cell_at cells d; value = (replay cells d h).value; section = section_by d (inside cells h) o (run_in d (sections h)) }) (writer_other d ne)) row_put
+        (λ d ne. ap (λ o. record { plan = cell_at cells d; value = (replay cells d h).value; section = section_by d (stays d) (inside cells h) o (run_in d (sections h)) }) (writer_other d ne)) row_put

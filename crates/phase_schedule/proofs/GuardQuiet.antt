@@ -76,9 +76,9 @@ module _ (cells : List CellPlan) (h : List Event) (v : View) (t : Tracks cells h
   pub quiet_step : (rows : List CellRow) (slots : List GuardRow) → IsLegalLine cells h s (record { answer = a; given = given.Nobody }) → IsSteadyWith cells h (record { waits = waits cells (told s a given.Nobody ∷ h); sections = sections h; guards = gs }) None
       → plans_in rows ≡ cells → ((d : ℕ) → d < length rows → slice_get rows d ≡ Some (cell_row (cell_at cells d) d (replay cells d h) (inside cells h) (record { waits = waits cells (told s a given.Nobody ∷ h); sections = sections h; guards = gs })))
       → ((k : ℕ) → k < length slots → slice_get slots k ≡ Some (guard_row (numbered k gs))) → ((k : ℕ) (y : Guard) → numbered k gs ≡ Some y → y.cell < length cells) → suc (length h) ≤ length slots
-      → Tracks cells (told s a given.Nobody ∷ h) (record { cells = rows; guards = slots; parties = v.parties; held = v.held; places = v.places; running = v.running; parks = v.parks })
+      → Tracks cells (told s a given.Nobody ∷ h) (record { cells = rows; guards = slots; parties = v.parties; held = v.held; places = v.places; running = v.running; parks = v.parks; exit = v.exit })
   quiet_step rows slots line steady planned row slot known room =
-      subst (λ hs. Tracks cells (told s a given.Nobody ∷ h) (record { cells = rows; guards = slots; parties = v.parties; held = hs; places = v.places; running = v.running; parks = v.parks }))
+      subst (λ hs. Tracks cells (told s a given.Nobody ∷ h) (record { cells = rows; guards = slots; parties = v.parties; held = hs; places = v.places; running = v.running; parks = v.parks; exit = v.exit }))
       (set_there v.held c (core cells c h) (t.locked.held c lt))
       (handed_over cells h v t s a given.Nobody c lt idle concerned waits_are gs None ss_are gs_are back_is rows slots (core cells c h) v.parks (size_same v.parks) (core cells c h) line agrees (λ d ne. core_stays d) tt tt apart refl flags (t.locked.fits c lt) (others_refl c v.parks) steady
       (kept_now cells h v t s a given.Nobody c lt idle concerned waits_are gs None ss_are gs_are back_is rows slots (core cells c h) v.parks (size_same v.parks) planned row slot known) room)

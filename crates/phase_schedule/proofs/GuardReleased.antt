@@ -117,7 +117,7 @@ module _ (cells : List CellPlan) (h : List Event) (v : View) (t : Tracks cells h
 
   -- a read guard is given back
   pub released_read : (x' : Holders) (parks' : Parking) → Hands c (leave_read (core cells c h)) v.parks l x' parks' → Fits (kind_at (cell_at cells c).place) x' parks' c → OthersStay c v.parks parks' → SameSize v.parks parks'
-      → Tracks cells (told s answer.Done l ∷ h) (record { cells = v.cells; guards = set v.guards g guard.Free; parties = v.parties; held = set v.held c x'; places = v.places; running = v.running; parks = parks' })
+      → Tracks cells (told s answer.Done l ∷ h) (record { cells = v.cells; guards = set v.guards g guard.Free; parties = v.parties; held = set v.held c x'; places = v.places; running = v.running; parks = parks'; exit = v.exit })
   released_read x' parks' hands fits others size =
       handed_over cells h v t s answer.Done l c lt idle (concerned cells h v t s g c false k acts lt idle room l) refl (without_guard g (guards h)) None
       (sections_are cells h v t s g c false k acts lt idle room l) (guards_are cells h v t s g c false k acts lt idle room l) (back_is cells h v t s g c false k acts lt idle room l)
@@ -160,7 +160,7 @@ module _ (cells : List CellPlan) (h : List Event) (v : View) (t : Tracks cells h
 
   -- a write guard is given back
   pub released_write : (x' : Holders) (parks' : Parking) → Hands c (leave_write draft.phase (core cells c h)) v.parks l x' parks' → Fits (kind_at (cell_at cells c).place) x' parks' c → OthersStay c v.parks parks' → SameSize v.parks parks'
-      → Tracks cells (told s answer.Done l ∷ h) (record { cells = set v.cells c row_published; guards = set v.guards g guard.Free; parties = v.parties; held = set v.held c x'; places = v.places; running = v.running; parks = parks' })
+      → Tracks cells (told s answer.Done l ∷ h) (record { cells = set v.cells c row_published; guards = set v.guards g guard.Free; parties = v.parties; held = set v.held c x'; places = v.places; running = v.running; parks = parks'; exit = v.exit })
   released_write x' parks' hands fits others size =
       handed_over cells h v t s answer.Done l c lt idle (concerned cells h v t s g c true k acts lt idle room l) refl (without_guard g (guards h)) (back_given cells h v t g k.guard k.found c k.cell k.writes)
       (sections_are cells h v t s g c true k acts lt idle room l) (guards_are cells h v t s g c true k acts lt idle room l) (back_is cells h v t s g c true k acts lt idle room l)

@@ -1,5 +1,5 @@
 -- A release does what it says: the rows follow the step.
-use Rattle.std.proofs.Common.{◌≡◌, ℕ, List, map, set, get_or, refl, ◌∙◌, subst, true, false, None, length-set}
+use Rattle.std.proofs.Common.{◌≡◌, ℕ, List, length, map, set, get_or, refl, ◌∙◌, ap, subst, true, false, None, length-set}
 use Rattle.phase_bits.specs.declared.holders.Holders.{Holders}
 use Rattle.phase_bits.specs.Records.{leave_read, leave_write}
 use Rattle.phase_locker.specs.declared.ways.Given.{Given}
@@ -21,6 +21,7 @@ use Rattle.phase_schedule.specs.View.{view}
 use Rattle.phase_schedule.specs.Tracks.{FollowsStep, plans}
 use Rattle.phase_schedule.specs.Ready.{IsDraft, IsHolding}
 use Rattle.phase_schedule.proofs.Called.{seen_locker}
+use Rattle.phase_schedule.proofs.ExitStays.{exit_stays, is_calm}
 use Rattle.phase_schedule.proofs.GuardSeen.{in_plan, held_shown, place_shown, writer_shown}
 use Rattle.phase_schedule.proofs.GuardReleased.{released_read, released_write}
 
@@ -39,6 +40,7 @@ module _ {L : Type 0} (held : L → Holders) (place : L → LockerKind) (h : Lis
             (subst (λ (kind : LockerKind). Fits kind (held l'.locker) parks' c) (same ∙ place_shown h (view held place rows) s (act.Release g) g c false k (λ q. held q.locker) (λ q. place q.locker) rows.sequentializers.items l at refl refl) fits) others size;
         guards = length-set _ _ _;
         parties = refl;
+        exit = exit_stays (plans (view held place rows)) h s (length rows.guards.items) (view held place rows).exit (record { answer = answer.Done; given = given }) (ap is_calm k.acting.acts) refl k.acting.exit;
       })
 
   -- a write guard
@@ -58,4 +60,5 @@ module _ {L : Type 0} (held : L → Holders) (place : L → LockerKind) (h : Lis
             (subst (λ (kind : LockerKind). Fits kind (held l'.locker) parks' c) (same ∙ place_shown h (view held place rows) s (act.Release g) g c true k (λ q. held q.locker) (λ q. place q.locker) rows.sequentializers.items l at refl refl) fits) others size;
         guards = length-set _ _ _;
         parties = refl;
+        exit = exit_stays (plans (view held place rows)) h s (length rows.guards.items) (view held place rows).exit (record { answer = answer.Done; given = given }) (ap is_calm k.acting.acts) refl k.acting.exit;
       })

@@ -11,6 +11,7 @@ use Rattle.schedule_rules.specs.declared.step.Act.{Act}
 use Rattle.schedule_rules.specs.declared.step.Step.{Step}
 use Rattle.schedule_rules.specs.Kinds.{cell_at}
 use Rattle.schedule_rules.specs.History.{Event, count}
+use Rattle.schedule_rules.specs.Sections.{runs_in, sections}
 use Rattle.schedule_rules.specs.Guards.{guards}
 use Rattle.schedule_rules.specs.Replay.{replay, inside}
 use Rattle.schedule_rules.specs.Core.{core}
@@ -22,7 +23,7 @@ use Rattle.phase_schedule.specs.declared.rows.Draft.{Draft}
 use Rattle.phase_schedule.specs.declared.rows.GuardRow.{GuardRow}
 use Rattle.phase_schedule.specs.declared.rows.GuardRow.TheVariants as guard
 use Rattle.phase_schedule.specs.View.{View}
-use Rattle.phase_schedule.specs.Kept.{cell_row, guard_row, kind_at, open_after, run_in, section_by}
+use Rattle.phase_schedule.specs.Kept.{cell_row, guard_row, kind_at, open_after, run_in, section_by, stays_at}
 use Rattle.phase_schedule.specs.Meets.{IsGuarded, IsReading, IsWriting}
 use Rattle.phase_schedule.specs.Tracks.{plans}
 use Rattle.phase_schedule.specs.Ready.{HasWriter, IsDraft, IsHolding, IsHoldingNumbered}
@@ -132,4 +133,4 @@ module _ (h : List Event) (v : View) (s : Step) (a : Act) (g c : ℕ) (k : IsHol
   pub guarded : (row : CellRow) → row ≡ get_or v.cells c row → IsGuarded row.section
   guarded row at =
       subst (λ (r : CellRow). IsGuarded r.section) (sym (cell_shown h v s a g c true k row at))
-      (subst (λ o. IsGuarded (section_by c (inside (plans v) h) o (run_in c (open_after (plans v) h).sections))) (sym writer_shown) tt)
+      (subst (λ o. IsGuarded (section_by c (stays_at (cell_at (plans v) c) (replay (plans v) c h).phase (find (runs_in c) (sections h))) (inside (plans v) h) o (run_in c (sections h)))) (sym writer_shown) tt)

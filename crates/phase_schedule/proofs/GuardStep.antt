@@ -62,7 +62,7 @@ module _ (cells : List CellPlan) (h : List Event) (v : View) (t : Tracks cells h
     module _ (rows : List CellRow) (slots : List GuardRow) (x' : Holders) (parks' : Parking) (size : SameSize v.parks parks') where
       -- what the rows hold then
       abbrev pub view_now : View
-      view_now = record { cells = rows; guards = slots; parties = v.parties; held = set v.held c x'; places = v.places; running = v.running; parks = parks' }
+      view_now = record { cells = rows; guards = slots; parties = v.parties; held = set v.held c x'; places = v.places; running = v.running; parks = parks'; exit = v.exit }
 
       -- the rows keep what stands open
       pub kept_now : plans_in rows ≡ cells → ((d : ℕ) → d < length rows → slice_get rows d ≡ Some (cell_row (cell_at cells d) d (content_with cells h b d) (inside cells h) opened_now))

@@ -2,7 +2,7 @@
 use Rattle.std.proofs.Common.{◌≡◌, ℕ, ◌+◌, List, refl, arith, Bool, true, false, Some}
 use Rattle.phase_locker.specs.declared.ways.How.{How}
 use Rattle.phase_locker.specs.declared.ways.How.TheVariants as how
-use Rattle.schedule_rules.specs.Calls.{Want}
+use Rattle.schedule_rules.specs.declared.step.Want.{Want}
 use Rattle.schedule_rules.specs.History.{Event}
 use Rattle.schedule_rules.specs.Waits.{Wait, wait_of, without_wait, shares_read, shares_write, drains_on}
 use Rattle.schedule_rules.specs.Holds.{readers_with, writers_with, drains_with}

@@ -31,6 +31,8 @@ pub mod RowOpens
 pub mod Alone
 pub mod Apart
 pub mod After
+pub mod ExitStays
+pub mod Registering
 -- A step that hands over, its line, and what a call of a sequentializer left
 pub mod Hands
 pub mod Lines
@@ -61,6 +63,10 @@ pub mod BegunRuns
 pub mod BegunWaits
 pub mod BegunSplit
 pub mod BegunTried
+pub mod BegunSettled
+pub mod BegunRows
+-- The steps of the exit
+pub mod ExitSteps
 -- Acts on guards
 pub mod GuardPhase
 pub mod GuardRefused
@@ -86,13 +92,19 @@ pub mod MadeEnds
 pub mod MadeKept
 pub mod MadeWrites
 pub mod MadeReads
+pub mod MadeCloses
 pub mod MadeFailed
+pub mod MadeFinal
 pub mod MadeDone
 -- Calls that may not access the value
 pub mod DeniedGifts
 pub mod DeniedHolds
 pub mod DeniedLegal
+pub mod DeniedContent
 pub mod Denied
+pub mod Declined
+pub mod DeclinedReads
+pub mod DeclinedBegun
 -- Runs: which schedules run, how a run begins, goes on and ends
 pub mod RunUnknown
 pub mod RunValid

@@ -51,10 +51,10 @@ module _ (cells : List CellPlan) (h : List Event) (s : Step) where
 
   -- a gift that is allowed last, on the cell that the step concerns
   module _ (a : Answer) (c : ℕ) (concerned : cell_concerned cells h s ≡ Some c) where
-    on_cell : (g : Given) → is_parking (cell_at cells c).place ≡ true → reaches c g (other_waits cells h s) ≡ true → ((is_readers g && downgrades s a) || is_freed_last cells h s a c) ≡ true → IsTrue (may_give_on cells h s (cell_concerned cells h s) a g)
+    on_cell : (g : Given) → is_parking (cell_at cells c).place ≡ true → reaches c g (other_waits cells h s) ≡ true → ((is_readers g && downgrades cells h s a) || is_freed_last cells h s a c) ≡ true → IsTrue (may_give_on cells h s (cell_concerned cells h s) a g)
     on_cell g parks reach free = subst (λ o. IsTrue (may_give_on cells h s o a g)) (sym concerned) (rw (parks, reach, free) refl)
 
-    pub may_last : (g : Given) → (is_nobody g ≡ false → is_parking (cell_at cells c).place ≡ true) → reaches c g (other_waits cells h s) ≡ true → ((is_readers g && downgrades s a) || is_freed_last cells h s a c) ≡ true → IsTrue (may_give_last cells h s a g)
+    pub may_last : (g : Given) → (is_nobody g ≡ false → is_parking (cell_at cells c).place ≡ true) → reaches c g (other_waits cells h s) ≡ true → ((is_readers g && downgrades cells h s a) || is_freed_last cells h s a c) ≡ true → IsTrue (may_give_last cells h s a g)
     may_last given.Nobody parks reach free = refl
     may_last (given.Writer q) parks reach free = on_cell (given.Writer q) (parks refl) reach free
     may_last given.Readers parks reach free = on_cell given.Readers (parks refl) reach free
@@ -66,7 +66,7 @@ module _ (cells : List CellPlan) (h : List Event) (s : Step) (a : Answer) where
 
   module _ (c : ℕ) (parks : Parking) (x : Holders) (idle : wait_of s.party (waits cells h) ≡ None) (concerned : cell_concerned cells h s ≡ Some c) (shows : Shows (waits cells h) parks) (fits : Fits (kind_at (cell_at cells c).place) x parks c) where
     -- it is given to parked calls of the cell
-    pub may_give_there : (g : Given) → IsListed c parks g → ((is_readers g && downgrades s a) || is_freed_last cells h s a c) ≡ true → IsTrue (may_give_last cells h s a g)
+    pub may_give_there : (g : Given) → IsListed c parks g → ((is_readers g && downgrades cells h s a) || is_freed_last cells h s a c) ≡ true → IsTrue (may_give_last cells h s a g)
     may_give_there g is free =
         may_last cells h s a c concerned g (λ some. parks_there (cell_at cells c).place x parks c g fits is some)
         (ap (λ ws. reaches c g ws) (none_without s.party (waits cells h) idle) ∙ reaches_given c g (waits cells h) parks shows is) free
@@ -83,5 +83,5 @@ module _ (cells : List CellPlan) (h : List Event) (s : Step) (a : Answer) where
     pub may_hand_there : (g : Given) (y : Holders) → Agrees cells c (event s (record { answer = a; given = g }) ∷ h) (waits cells h) y → MayHand c y parks g
         → waits cells (event s (record { answer = a; given = given.Nobody }) ∷ h) ≡ other_waits cells h s → IsTrue (may_give_last cells h s a g)
     may_hand_there given.Nobody y agrees may left = refl
-    may_hand_there (given.Writer q) y agrees may left = may_give_there (given.Writer q) may.1 (or_right (is_readers (given.Writer q) && downgrades s a) _ (freed_last (given.Writer q) y agrees may.0 left))
-    may_hand_there given.Readers y agrees may left = may_give_there given.Readers may.1 (or_right (is_readers given.Readers && downgrades s a) _ (freed_last given.Readers y agrees may.0 left))
+    may_hand_there (given.Writer q) y agrees may left = may_give_there (given.Writer q) may.1 (or_right (is_readers (given.Writer q) && downgrades cells h s a) _ (freed_last (given.Writer q) y agrees may.0 left))
+    may_hand_there given.Readers y agrees may left = may_give_there given.Readers may.1 (or_right (is_readers given.Readers && downgrades cells h s a) _ (freed_last given.Readers y agrees may.0 left))

@@ -23,20 +23,22 @@ use Rattle.schedule_rules.specs.declared.step.Act.TheVariants as act
 use Rattle.schedule_rules.specs.declared.step.Step.{Step}
 use Rattle.schedule_rules.specs.declared.line.Answer.{Answer}
 use Rattle.schedule_rules.specs.Kinds.{cell_at, is_parking}
-use Rattle.schedule_rules.specs.Calls.{Calls, Want, rule, waking_nature, initializes}
+use Rattle.schedule_rules.specs.Calls.{rule, waking_nature, initializes}
 use Rattle.schedule_rules.specs.History.{Event}
 use Rattle.schedule_rules.specs.Sections.{runs}
+use Rattle.exit_registry.specs.Registry.{first_of}
+use Rattle.schedule_rules.specs.Exits.{registry}
 use Rattle.schedule_rules.specs.Replay.{replay, phase_at, inside}
-use Rattle.schedule_rules.specs.Waits.{Wait as WaitingCall, wait_of, waits, other_waits, cell_concerned, cell_concerned_with, cell_of_attempt, attempt_with}
+use Rattle.schedule_rules.specs.Waits.{Wait as WaitingCall, wait_of, waits, other_waits, cell_concerned, cell_concerned_with, cell_of_attempt, attempt_of_turn, attempt_with}
 use Rattle.schedule_rules.specs.Holds.{has_own, keeps, readers, is_free_with}
 use Rattle.schedule_rules.specs.Due.{keeps_own, due_attempt}
 use Rattle.schedule_rules.specs.Gifts.{reaches, is_freed_first, may_give_first}
 use Rattle.schedule_rules.specs.Legal.{IsLegalLine, First, answer_of, due_at, may_give}
 use Rattle.phase_schedule.specs.declared.rows.Target.{Target}
 use Rattle.phase_schedule.specs.View.{View}
-use Rattle.phase_schedule.specs.Kept.{open_after, record_in, kind_at, target_of, call_of}
+use Rattle.phase_schedule.specs.Kept.{open_after, record_in, kind_at, target_of}
 use Rattle.phase_schedule.specs.Meets.{some_nature, lock_nature}
-use Rattle.phase_schedule.specs.Tracks.{RunBy, Tracks, plans}
+use Rattle.phase_schedule.specs.Tracks.{IsApart, Locked, RunBy, Tracks, plans}
 use Rattle.phase_schedule.specs.Ready.{Tries, is_try, IsAgain, IsAnswered, answer_by, opened_by, waits_left}
 use Rattle.phase_schedule.proofs.KeptShares.{row_kept}
 use Rattle.phase_schedule.proofs.GivenOn.{given_on, given_concerned, listed_hand, reaches_given}
@@ -57,7 +59,7 @@ pub record WaitsAt (p : ℕ) (ws : List WaitingCall) (t : Target) : Type 0 where
   pub wait : WaitingCall
   pub is : wait_of p ws ≡ Some wait
   pub cell : wait.cell ≡ t.cell
-  pub want : wait.want ≡ Calls t.call
+  pub want : wait.want ≡ t.want
 
 pub waits_at : (p : ℕ) (ws : List WaitingCall) (t : Target) → target_of (wait_of p ws) ≡ Some t → WaitsAt p ws t
 waits_at p ws t e = by (wait_of p ws) refl e
@@ -65,15 +67,12 @@ waits_at p ws t e = by (wait_of p ws) refl e
     cell_is : (w : WaitingCall) → target_of (Some w) ≡ Some t → w.cell ≡ t.cell
     cell_is w q = cc
 
-    call_is : (w : WaitingCall) → target_of (Some w) ≡ Some t → call_of w.want ≡ t.call
-    call_is w q = cc
-
-    want_is : (w : Want) → call_of w ≡ t.call → w ≡ Calls t.call
-    want_is (Calls k) q = ap (λ c. Calls c) q
+    want_is : (w : WaitingCall) → target_of (Some w) ≡ Some t → w.want ≡ t.want
+    want_is w q = cc
 
     by : (o : Option WaitingCall) → wait_of p ws ≡ o → target_of o ≡ Some t → WaitsAt p ws t
     by None is q = absurd (cc)
-    by (Some w) is q = record { wait = w; is = is; cell = cell_is w q; want = want_is w.want (call_is w q) }
+    by (Some w) is q = record { wait = w; is = is; cell = cell_is w q; want = want_is w q }
 
 module _ (cells : List CellPlan) (h : List Event) (s : Step) (t : Target) (is : Tries cells h s t) where
   -- an attempt concerns its cell
@@ -85,6 +84,13 @@ module _ (cells : List CellPlan) (h : List Event) (s : Step) (t : Target) (is : 
       by act.Again e = refl
       by (act.Made v) e = absurd (cc)
       by act.MadeFailed e = absurd (cc)
+      by act.Finished e = absurd (cc)
+      by act.FinishFailed e = absurd (cc)
+      by act.Exit e = sym (of_turn (first_of (registry cells h).left))
+        where
+          of_turn : (o : Option ℕ) → cell_of_attempt (attempt_of_turn o) ≡ o
+          of_turn None = refl
+          of_turn (Some c) = refl
       by (act.Look g) e = absurd (cc)
       by (act.Set g v) e = absurd (cc)
       by (act.Release g) e = absurd (cc)
@@ -112,7 +118,7 @@ module _ (h : List Event) (v : View) (s : Step) (n : ℕ) (t : Target) (is : IsA
   record_is = record_in t.cell (phase_at (plans v) t.cell h) (open_after (plans v) h)
 
   -- the call is not cyclic
-  pub calm : (initializes (Calls t.call) && runs s.party t.cell h) ≡ false
+  pub calm : (initializes (t.want) && runs s.party t.cell h) ≡ false
   calm = rw (at.cell, at.want) at (waits_calm (plans v) s.party h at.wait track.legal at.is)
 
   sound : IsSound v.parks
@@ -122,21 +128,22 @@ module _ (h : List Event) (v : View) (s : Step) (n : ℕ) (t : Target) (is : IsA
       sound_of (waits (plans v) h) v.parks track.locked.single track.locked.shows (omega (arith, rc, wc)) track.locked.few
 
   -- the locker keeps what the rule keeps
-  kept_same : (nature : LockNature) → nature ≡ lock_nature (rule (cell_at (plans v) t.cell) (Calls t.call) (phase_at (plans v) t.cell h)) → row_keeps (row_of v.parks s.party).waiting nature record_is ≡ keeps_own (plans v) h s.party (tried t)
+  kept_same : (nature : LockNature) → nature ≡ lock_nature (rule (cell_at (plans v) t.cell) (t.want) (phase_at (plans v) t.cell h)) → row_keeps (row_of v.parks s.party).waiting nature record_is ≡ keeps_own (plans v) h s.party (tried t)
   kept_same nature en =
       ap (λ m. row_keeps (row_of v.parks s.party).waiting m record_is) en
-      ∙ row_kept s.party (rule (cell_at (plans v) t.cell) (Calls t.call) (phase_at (plans v) t.cell h)) (waits (plans v) h) v.parks record_is track.locked.shows
+      ∙ row_kept s.party (rule (cell_at (plans v) t.cell) (t.want) (phase_at (plans v) t.cell h)) (waits (plans v) h) v.parks record_is track.locked.shows
 
-  module _ (k' : LockerKind) (x' : Holders) (r' : Option ℕ) (parks' : Parking) (a : Attempt) (g : Given) (ek : k' ≡ kind_at (cell_at (plans v) t.cell).place) (fits : Fits k' x' parks' t.cell) (others : OthersStay t.cell v.parks parks') (size : SameSize v.parks parks') (run_by : RunBy (plans v) (opened_by (plans v) h s t a g).sections (set v.running t.cell r')) where
+  module _ (k' : LockerKind) (x' : Holders) (r' : Option ℕ) (parks' : Parking) (a : Attempt) (g : Given) (ek : k' ≡ kind_at (cell_at (plans v) t.cell).place) (fits : Fits k' x' parks' t.cell) (others : OthersStay t.cell v.parks parks') (size : SameSize v.parks parks') (run_by : IsApart (opened_by (plans v) h s t a g) t.cell → RunBy (plans v) (opened_by (plans v) h s t a g).sections (set v.running t.cell r')) where
     -- from what stands open and a legal line
     answered : Opens t.cell (phase_at (plans v) t.cell h) (open_after (plans v) h) (opened_by (plans v) h s t a g) v.parks parks' x' → IsLegalLine (plans v) h s (record { answer = answer_by (plans v) h s t a; given = g }) → IsAnswered h (view_with v t.cell x' k' r' parks') s n t a g
     answered opens line =
+        let held : Locked (plans v) (λ c. replay (plans v) c h) (opened_by (plans v) h s t a g) (set v.held t.cell x') (set v.places t.cell k') parks' = locked_at (plans v) (λ c. replay (plans v) c h) (open_after (plans v) h) (opened_by (plans v) h s t a g) v.held v.places v.parks parks' t.cell x' k'
+        track.locked (inside_plan v t.cell is.attempt.cell) opens.held ek opens.before opens.apart fits others size opens.writers opens.shows opens.single in
         record {
           legal = track.legal;
           steady = track.steady;
-          locked = locked_at (plans v) (λ c. replay (plans v) c h) (open_after (plans v) h) (opened_by (plans v) h s t a g) v.held v.places v.parks parks' t.cell x' k'
-              track.locked (inside_plan v t.cell is.attempt.cell) opens.held ek opens.before opens.apart fits others size opens.writers opens.shows opens.single;
-          run_by = run_by;
+          locked = held;
+          run_by = run_by (held.apart t.cell);
           kept = kept_with (plans v) (λ c. replay (plans v) c h) (inside (plans v) h) (open_after (plans v) h) v t.cell x' k' r' parks' size track.kept;
           room = is.attempt.ready.room;
           party = is.attempt.ready.party;
@@ -147,19 +154,19 @@ module _ (h : List Event) (v : View) (s : Step) (n : ℕ) (t : Target) (is : IsA
         }
 
     -- a call that keeps what it has
-    kept_answered : (nature : LockNature) → nature ≡ lock_nature (rule (cell_at (plans v) t.cell) (Calls t.call) (phase_at (plans v) t.cell h)) → row_keeps (row_of v.parks s.party).waiting nature record_is ≡ true
+    kept_answered : (nature : LockNature) → nature ≡ lock_nature (rule (cell_at (plans v) t.cell) (t.want) (phase_at (plans v) t.cell h)) → row_keeps (row_of v.parks s.party).waiting nature record_is ≡ true
         → Keeps (record { cell = t.cell; party = s.party }) nature record_is v.parks (a, g) x' parks' → IsAnswered h (view_with v t.cell x' k' r' parks') s n t a g
     kept_answered nature en kept q =
         let own : keeps_own (plans v) h s.party (tried t) ≡ true = sym (kept_same nature en) ∙ kept in
-        let way = sym (ap (λ o. keeps o (rule (cell_at (plans v) t.cell) (Calls t.call) (phase_at (plans v) t.cell h)) (readers (plans v) t.cell h)) at.is) ∙ own in
-        let opens : Opens t.cell (phase_at (plans v) t.cell h) (open_after (plans v) h) (opened_at (plans v) h s t (other_waits (plans v) h s) (Got (got (lock_nature (rule (cell_at (plans v) t.cell) (Calls t.call) (phase_at (plans v) t.cell h))) (phase_of (phase_at (plans v) t.cell h))))) v.parks parks' x' =
+        let way = sym (ap (λ o. keeps o (rule (cell_at (plans v) t.cell) (t.want) (phase_at (plans v) t.cell h)) (readers (plans v) t.cell h)) at.is) ∙ own in
+        let opens : Opens t.cell (phase_at (plans v) t.cell h) (open_after (plans v) h) (opened_at (plans v) h s t (other_waits (plans v) h s) (Got (got (lock_nature (rule (cell_at (plans v) t.cell) (t.want) (phase_at (plans v) t.cell h))) (phase_of (phase_at (plans v) t.cell h))))) v.parks parks' x' =
         opens_kept (plans v) h s t (waits (plans v) h) at.wait at.is at.cell v.parks parks' x' (track.locked.apart t.cell) track.locked.single track.locked.shows sound q.rows q.held
-        (rule (cell_at (plans v) t.cell) (Calls t.call) (phase_at (plans v) t.cell h)) (kept_is t.cell at.wait (rule (cell_at (plans v) t.cell) (Calls t.call) (phase_at (plans v) t.cell h)) (readers (plans v) t.cell h) at.cell way) in
+        (rule (cell_at (plans v) t.cell) (t.want) (phase_at (plans v) t.cell h)) (kept_is t.cell at.wait (rule (cell_at (plans v) t.cell) (t.want) (phase_at (plans v) t.cell h)) (readers (plans v) t.cell h) at.cell way) in
         let due : answer_by (plans v) h s t a ≡ due_attempt (plans v) h s.party (tried t) (other_waits (plans v) h s) false = ap (answer_by (plans v) h s t) q.answer ∙ kept_due (plans v) h s t (other_waits (plans v) h s) calm nature en own in
         answered (rw (q.answer, q.given, en) opens) (subst (λ y. IsLegalLine (plans v) h s (record { answer = answer_by (plans v) h s t a; given = y })) (sym q.given) (legal_tried (plans v) h s t is.attempt.tries (answer_by (plans v) h s t a) false due))
 
     -- a call that gives up what it has
-    gave_answered : (fresh : Bool) (wake nature : LockNature) (between : Holders) (rows : Parking) → nature ≡ lock_nature (rule (cell_at (plans v) t.cell) (Calls t.call) (phase_at (plans v) t.cell h)) → wake ≡ some_nature (waking_nature (Calls t.call)) → row_keeps (row_of v.parks s.party).waiting nature record_is ≡ false
+    gave_answered : (fresh : Bool) (wake nature : LockNature) (between : Holders) (rows : Parking) → nature ≡ lock_nature (rule (cell_at (plans v) t.cell) (t.want) (phase_at (plans v) t.cell h)) → wake ≡ some_nature (waking_nature (t.want)) → row_keeps (row_of v.parks s.party).waiting nature record_is ≡ false
         → Hands t.cell (given_up (row_of v.parks s.party).waiting record_is) (freed s.party v.parks) g between rows → Judged (kind_at (cell_at (plans v) t.cell).place) fresh (record { cell = t.cell; party = s.party }) wake nature between rows a x' parks'
         → IsAnswered h (view_with v t.cell x' k' r' parks') s n t a g
     gave_answered fresh wake nature between rows en ew gone hands j =
@@ -198,11 +205,11 @@ module _ (h : List Event) (v : View) (s : Step) (n : ℕ) (t : Target) (is : IsA
         ])
 
     -- what the locker answered is due, and the records and rows are as told
-    pub again_answered : (k : LockerKind) (x : Holders) (wake nature : LockNature) → x ≡ record_is → k ≡ kind_at (cell_at (plans v) t.cell).place → nature ≡ lock_nature (rule (cell_at (plans v) t.cell) (Calls t.call) (number x.phase)) → wake ≡ some_nature (waking_nature (Calls t.call))
+    pub again_answered : (k : LockerKind) (x : Holders) (wake nature : LockNature) → x ≡ record_is → k ≡ kind_at (cell_at (plans v) t.cell).place → nature ≡ lock_nature (rule (cell_at (plans v) t.cell) (t.want) (number x.phase)) → wake ≡ some_nature (waking_nature (t.want))
         → MatchBool (row_keeps (row_of v.parks s.party).waiting nature x) (Keeps (record { cell = t.cell; party = s.party }) nature x v.parks (a, g) x' parks') (GivesUp k (record { cell = t.cell; party = s.party }) wake nature x v.parks (a, g) x' parks')
         → IsAnswered h (view_with v t.cell x' k' r' parks') s n t a g
     again_answered k x wake nature ex ek0 en ew steps =
-        let en' : nature ≡ lock_nature (rule (cell_at (plans v) t.cell) (Calls t.call) (phase_at (plans v) t.cell h)) = en ∙ ap (λ (y : Holders). lock_nature (rule (cell_at (plans v) t.cell) (Calls t.call) (number y.phase))) ex in
+        let en' : nature ≡ lock_nature (rule (cell_at (plans v) t.cell) (t.want) (phase_at (plans v) t.cell h)) = en ∙ ap (λ (y : Holders). lock_nature (rule (cell_at (plans v) t.cell) (t.want) (number y.phase))) ex in
         let steps' : MatchBool (row_keeps (row_of v.parks s.party).waiting nature record_is) (Keeps (record { cell = t.cell; party = s.party }) nature record_is v.parks (a, g) x' parks') (GivesUp k (record { cell = t.cell; party = s.party }) wake nature record_is v.parks (a, g) x' parks') =
         subst (λ y. MatchBool (row_keeps (row_of v.parks s.party).waiting nature y) (Keeps (record { cell = t.cell; party = s.party }) nature y v.parks (a, g) x' parks') (GivesUp k (record { cell = t.cell; party = s.party }) wake nature y v.parks (a, g) x' parks')) ex steps in
         elim (by_bool (row_keeps (row_of v.parks s.party).waiting nature record_is) steps') [

@@ -11,7 +11,8 @@ use Rattle.phase_locker.specs.Fits.{is_park}
 use Rattle.phase_locker.specs.Attempts.{MayWait}
 use Rattle.schedule_rules.specs.declared.plan.Place.{Place}
 use Rattle.schedule_rules.specs.declared.plan.Place.TheVariants as place
-use Rattle.schedule_rules.specs.Calls.{Nature, Reads, Writes, Want, waking_nature, way_of_nature}
+use Rattle.schedule_rules.specs.Calls.{Nature, Reads, Writes, waking_nature, way_of_nature}
+use Rattle.schedule_rules.specs.declared.step.Want.{Want}
 use Rattle.schedule_rules.specs.History.{Event}
 use Rattle.schedule_rules.specs.Sections.{sections}
 use Rattle.schedule_rules.specs.Guards.{guards}

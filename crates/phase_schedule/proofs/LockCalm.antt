@@ -1,5 +1,5 @@
 -- A call that waits asks no run of a cell that its own party runs: it would have been cyclic.
-use Rattle.std.proofs.Common.{◌≡◌, ◌≢◌, ◌==◌, ℕ, ◌≤◌, List, [], ◌∷◌, refl, arith, Bool, true, false, None, Some, subst, ◌&&◌, ◌||◌}
+use Rattle.std.proofs.Common.{◌≡◌, ◌≢◌, ◌==◌, ℕ, ◌≤◌, List, [], ◌∷◌, length, refl, arith, Bool, true, false, None, Some, subst, ◌&&◌, ◌||◌}
 use Rattle.std.specs.Prelude.{if◌then◌else◌}
 use Rattle.std.specs.List.{find}
 use Rattle.std.specs.declared.option.Option.{Option}
@@ -11,19 +11,24 @@ use Rattle.schedule_rules.specs.declared.step.Step.{Step}
 use Rattle.schedule_rules.specs.declared.line.Answer.{Answer}
 use Rattle.schedule_rules.specs.declared.line.Answer.TheVariants as answer
 use Rattle.schedule_rules.specs.declared.line.Line.{Line}
-use Rattle.schedule_rules.specs.Calls.{Calls, initializes}
-use Rattle.schedule_rules.specs.History.{Event, count}
-use Rattle.schedule_rules.specs.Sections.{Section, without_innermost, with_run, sections_ended, sections_after, runs_in, generates_for, runs, sections}
+use Rattle.schedule_rules.specs.Calls.{initializes}
+use Rattle.schedule_rules.specs.declared.step.Want.TheVariants.{Calls}
+use Rattle.schedule_rules.specs.History.{Event, act_of, accepts, count}
+use Rattle.schedule_rules.specs.Sections.{Section, is_turn, without_innermost, with_run, with_turn, sections_ended, sections_after, runs_in, generates_for, runs, sections}
 use Rattle.schedule_rules.specs.Waits.{Wait, Attempt, wait_of, attempt_of_wait, attempt, waits}
 use Rattle.schedule_rules.specs.Legal.{IsLegal, IsLegalLine}
 use Rattle.phase_schedule.proofs.Waited.{waiting_due, while_waiting}
 
 -- ---- the sections of a party at a cell
 
--- some section of the party is at the cell
+-- a generator's section of the party, at the cell
+abbrev generates_at : ℕ → ℕ → Section → Bool
+generates_at p c x = if is_turn x.want then false else ((x.party == p) && (x.cell == c))
+
+-- some generator's section of the party is at the cell
 abbrev own : ℕ → ℕ → List Section → Bool
 own p c [] = false
-own p c (x ∷ ss) = ((x.party == p) && (x.cell == c)) || own p c ss
+own p c (x ∷ ss) = generates_at p c x || own p c ss
 
 own_ended : (p c q : ℕ) (ss : List Section) → own p c ss ≡ false → own p c (without_innermost q ss) ≡ false
 own_ended p c q [] e = refl
@@ -59,6 +64,9 @@ calm_ended : (p q : ℕ) (b : Act) (ss : List Section) (o : Option Attempt) → 
 calm_ended p q b ss None k = tt
 calm_ended p q (act.Made v) ss (Some a) k = calm_by (initializes a.want) (own p a.cell ss) _ (own_ended p a.cell q ss) k
 calm_ended p q act.MadeFailed ss (Some a) k = calm_by (initializes a.want) (own p a.cell ss) _ (own_ended p a.cell q ss) k
+calm_ended p q act.Finished ss (Some a) k = calm_by (initializes a.want) (own p a.cell ss) _ (own_ended p a.cell q ss) k
+calm_ended p q act.FinishFailed ss (Some a) k = calm_by (initializes a.want) (own p a.cell ss) _ (own_ended p a.cell q ss) k
+calm_ended p q act.Exit ss (Some a) k = k
 calm_ended p q (act.Call c w) ss (Some a) k = k
 calm_ended p q act.Again ss (Some a) k = k
 calm_ended p q (act.Look g) ss (Some a) k = k
@@ -67,17 +75,25 @@ calm_ended p q (act.Release g) ss (Some a) k = k
 calm_ended p q (act.Downgrade g) ss (Some a) k = k
 calm_ended p q (act.Clone g) ss (Some a) k = k
 
-calm_run : (p q n : ℕ) (b : Act) (ss : List Section) (o : Option Attempt) → q ≢ p → Calm p ss o → Calm p (with_run b q n ss) o
-calm_run p q n b ss None ne k = tt
-calm_run p q n (act.Call c w) ss (Some a) ne k = calm_by (initializes a.want) (own p a.cell ss) _ (own_more p a.cell (record { party = q; cell = c; want = Calls w; start = n }) ss ne) k
-calm_run p q n act.Again ss (Some a) ne k = k
-calm_run p q n (act.Made v) ss (Some a) ne k = k
-calm_run p q n act.MadeFailed ss (Some a) ne k = k
-calm_run p q n (act.Look g) ss (Some a) ne k = k
-calm_run p q n (act.Set g v) ss (Some a) ne k = k
-calm_run p q n (act.Release g) ss (Some a) ne k = k
-calm_run p q n (act.Downgrade g) ss (Some a) ne k = k
-calm_run p q n (act.Clone g) ss (Some a) ne k = k
+calm_run : (p q n : ℕ) (is_open : Bool) (b : Act) (ss : List Section) (o : Option Attempt) → q ≢ p → Calm p ss o → Calm p (with_run b q n is_open ss) o
+calm_run p q n is_open b ss None ne k = tt
+calm_run p q n is_open (act.Call c w) ss (Some a) ne k = calm_by (initializes a.want) (own p a.cell ss) _ (own_more p a.cell (record { party = q; cell = c; want = Calls w; start = n; is_open = is_open }) ss ne) k
+calm_run p q n is_open act.Again ss (Some a) ne k = k
+calm_run p q n is_open (act.Made v) ss (Some a) ne k = k
+calm_run p q n is_open act.MadeFailed ss (Some a) ne k = k
+calm_run p q n is_open act.Finished ss (Some a) ne k = k
+calm_run p q n is_open act.FinishFailed ss (Some a) ne k = k
+calm_run p q n is_open act.Exit ss (Some a) ne k = k
+calm_run p q n is_open (act.Look g) ss (Some a) ne k = k
+calm_run p q n is_open (act.Set g v) ss (Some a) ne k = k
+calm_run p q n is_open (act.Release g) ss (Some a) ne k = k
+calm_run p q n is_open (act.Downgrade g) ss (Some a) ne k = k
+calm_run p q n is_open (act.Clone g) ss (Some a) ne k = k
+
+-- a turn is calm
+calm_turn : (p q n c : ℕ) (is_open : Bool) (ss : List Section) (o : Option Attempt) → Calm p ss o → Calm p (with_turn c q n is_open ss) o
+calm_turn p q n c is_open ss None k = tt
+calm_turn p q n c is_open ss (Some a) k = k
 
 module _ (cells : List CellPlan) where
   -- at most one section of a cell runs
@@ -89,7 +105,11 @@ module _ (cells : List CellPlan) where
   calm_beside : (h : List Event) (s : Step) (p : ℕ) → s.party ≢ p → (a : Answer) (ss : List Section) (o : Option Attempt) → Calm p ss o → Calm p (sections_after h s a ss) o
   calm_beside h s p ne (answer.Refused r) ss o k = k
   calm_beside h s p ne (answer.Access q) ss o k = k
-  calm_beside h s p ne answer.Running ss o k = calm_run p s.party _ _ ss o ne k
+  calm_beside h s p ne answer.Running ss o k = calm_run p s.party (length h) (accepts h) (act_of h s) ss o ne k
+  calm_beside h s p ne (answer.Finalizing c) ss o k = calm_turn p s.party (length h) c (accepts h) ss o k
+  calm_beside h s p ne (answer.Skipped c) ss o k = k
+  calm_beside h s p ne (answer.Round n) ss o k = k
+  calm_beside h s p ne answer.Closed ss o k = k
   calm_beside h s p ne _ ss o k = calm_ended p s.party s.act ss o k
 
   -- a call that begins to wait is not cyclic

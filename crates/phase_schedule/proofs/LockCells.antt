@@ -185,15 +185,16 @@ apart_waiting c p way a o ea apart f = by (is_drain way) refl
 
 -- ---- records and rows after a deed at one cell
 
-module _ (cells : List CellPlan) (content : ℕ → Content) (o o' : Open) (records : List Holders) (kinds : List LockerKind) (parks parks' : Parking) (c : ℕ) (x' : Holders) (k' : LockerKind) where
-  pub locked_at : Locked cells content o records kinds parks → c < length cells → x' ≡ record_in c (content c).phase o' → k' ≡ kind_at (cell_at cells c).place → ((d : ℕ) → d ≢ c → AsBefore d o o') → IsApart o' c
-      → Fits k' x' parks' c → OthersStay c parks parks' → SameSize parks parks' → length parks'.writers ≡ length parks.writers → Shows o'.waits parks' → IsSingle o'.waits → Locked cells content o' (set records c x') (set kinds c k') parks'
-  locked_at k inside ex ek before apart fits others size writers shows single =
+-- which may publish something there
+module _ (cells : List CellPlan) (content content' : ℕ → Content) (o o' : Open) (records : List Holders) (kinds : List LockerKind) (parks parks' : Parking) (c : ℕ) (x' : Holders) (k' : LockerKind) (same : (d : ℕ) → d ≢ c → content' d ≡ content d) where
+  pub locked_publishing : Locked cells content o records kinds parks → c < length cells → x' ≡ record_in c (content' c).phase o' → k' ≡ kind_at (cell_at cells c).place → ((d : ℕ) → d ≢ c → AsBefore d o o') → IsApart o' c
+      → Fits k' x' parks' c → OthersStay c parks parks' → SameSize parks parks' → length parks'.writers ≡ length parks.writers → Shows o'.waits parks' → IsSingle o'.waits → Locked cells content' o' (set records c x') (set kinds c k') parks'
+  locked_publishing k inside ex ek before apart fits others size writers shows single =
       record {
         held = λ d lt.
             elim (cases_eq d c) [
               | inl e ↦ rw e (slice_get_set_same records c x' (omega (arith, inside, k.held_count)) ∙ ap Some ex)
-              | inr ne ↦ slice_get_set_other records c d x' ne ∙ k.held d lt ∙ ap Some (sym (record_before d (content d).phase o o' (before d ne)))
+              | inr ne ↦ rw (same d ne) (slice_get_set_other records c d x' ne ∙ k.held d lt ∙ ap Some (sym (record_before d (content d).phase o o' (before d ne))))
             ];
         place = λ d lt.
             elim (cases_eq d c) [
@@ -203,7 +204,7 @@ module _ (cells : List CellPlan) (content : ℕ → Content) (o o' : Open) (reco
         fits = λ d lt.
             elim (cases_eq d c) [
               | inl e ↦ rw (e, sym ex, sym ek) fits
-              | inr ne ↦ rw (record_before d (content d).phase o o' (before d ne)) (fits_beside (kind_at (cell_at cells d).place) (record_in d (content d).phase o) parks parks' c d (k.fits d lt) others ne)
+              | inr ne ↦ rw (same d ne, record_before d (content d).phase o o' (before d ne)) (fits_beside (kind_at (cell_at cells d).place) (record_in d (content d).phase o) parks parks' c d (k.fits d lt) others ne)
             ];
         shows = shows;
         single = single;
@@ -218,3 +219,9 @@ module _ (cells : List CellPlan) (content : ℕ → Content) (o o' : Open) (reco
         writers_count = writers ∙ k.writers_count;
         few = let e = size.parties in let f = k.few in omega (arith, e, f);
       }
+
+-- which publishes nothing
+module _ (cells : List CellPlan) (content : ℕ → Content) (o o' : Open) (records : List Holders) (kinds : List LockerKind) (parks parks' : Parking) (c : ℕ) (x' : Holders) (k' : LockerKind) where
+  pub locked_at : Locked cells content o records kinds parks → c < length cells → x' ≡ record_in c (content c).phase o' → k' ≡ kind_at (cell_at cells c).place → ((d : ℕ) → d ≢ c → AsBefore d o o') → IsApart o' c
+      → Fits k' x' parks' c → OthersStay c parks parks' → SameSize parks parks' → length parks'.writers ≡ length parks.writers → Shows o'.waits parks' → IsSingle o'.waits → Locked cells content o' (set records c x') (set kinds c k') parks'
+  locked_at = locked_publishing cells content content o o' records kinds parks parks' c x' k' (λ d ne. refl)

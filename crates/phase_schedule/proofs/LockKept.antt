@@ -13,7 +13,8 @@ use Rattle.phase_locker.specs.Rows.{Rows as Parking, freed, IsSound}
 use Rattle.phase_locker.specs.Fits.{flagged}
 use Rattle.schedule_rules.specs.declared.plan.CellPlan.{CellPlan}
 use Rattle.schedule_rules.specs.declared.step.Step.{Step}
-use Rattle.schedule_rules.specs.Calls.{Nature, Reads, Writes, Want}
+use Rattle.schedule_rules.specs.Calls.{Nature, Reads, Writes}
+use Rattle.schedule_rules.specs.declared.step.Want.{Want}
 use Rattle.schedule_rules.specs.History.{Event}
 use Rattle.schedule_rules.specs.Guards.{reader, writer}
 use Rattle.schedule_rules.specs.Replay.{phase_at}

@@ -21,8 +21,7 @@ use Rattle.phase_locker.specs.Attempts.{MayWait, Judged, Waits, Gets, rows_waiti
 use Rattle.phase_locker.proofs.Judging.{by_bool, unheld}
 use Rattle.schedule_rules.specs.declared.plan.CellPlan.{CellPlan}
 use Rattle.schedule_rules.specs.declared.step.Step.{Step}
-use Rattle.schedule_rules.specs.Calls.{Calls}
-use Rattle.schedule_rules.specs.History.{Event}
+use Rattle.schedule_rules.specs.History.{Event, accepts}
 use Rattle.schedule_rules.specs.Sections.{Section}
 use Rattle.schedule_rules.specs.Guards.{writer}
 use Rattle.schedule_rules.specs.Replay.{phase_at}
@@ -100,7 +99,7 @@ module _ (cells : List CellPlan) (h : List Event) (s : Step) (t : Target) where
   who_is = record { cell = t.cell; party = s.party }
 
   abbrev pub section_of : Section
-  section_of = record { party = s.party; cell = t.cell; want = Calls t.call; start = length h }
+  section_of = record { party = s.party; cell = t.cell; want = t.want; start = length h; is_open = accepts h }
 
   module _ (ws : List WaitingCall) (parks parks' : Parking) (x' : Holders) (apart : IsApart (open_with h ws) t.cell) (single : IsSingle ws) (shows : Shows ws parks) where
     -- a write hold is opened

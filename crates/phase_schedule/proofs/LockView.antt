@@ -19,6 +19,7 @@ use Rattle.phase_schedule.specs.declared.rows.GuardRow.{GuardRow}
 use Rattle.phase_schedule.specs.declared.rows.PartyRow.{PartyRow}
 use Rattle.phase_schedule.specs.declared.rows.Target.{Target}
 use Rattle.phase_schedule.specs.declared.rows.Rows.{Rows}
+use Rattle.phase_schedule.specs.Exiting.{Exiting}
 use Rattle.phase_schedule.specs.View.{View, view}
 use Rattle.phase_schedule.specs.Kept.{open_after, record_in, kind_at, runner_in}
 use Rattle.phase_schedule.specs.Tracks.{plans}
@@ -28,10 +29,10 @@ use Rattle.phase_schedule.proofs.RowInner.{cell_seen}
 
 -- ---- one sequentializer is changed
 
-module _ {L : Type 0} (held : L → Holders) (place : L → LockerKind) (cells : List CellRow) (slots : List GuardRow) (parties : List PartyRow) (qs : List (LazySequentializer L Unit)) (c : ℕ) (q : LazySequentializer L Unit) (parks : Parking) where
+module _ {L : Type 0} (held : L → Holders) (place : L → LockerKind) (cells : List CellRow) (slots : List GuardRow) (parties : List PartyRow) (qs : List (LazySequentializer L Unit)) (c : ℕ) (q : LazySequentializer L Unit) (parks : Parking) (x : Exiting) where
   pub answered_seen : (h : List Event) (s : Step) (n : ℕ) (t : Target) (a : Attempt) (g : Given)
-      → IsAnswered h (record { cells = cells; guards = slots; parties = parties; held = set (map (λ x. held x.locker) qs) c (held q.locker); places = set (map (λ x. place x.locker) qs) c (place q.locker); running = set (map (λ x. x.running) qs) c q.running; parks = parks }) s n t a g
-      → IsAnswered h (record { cells = cells; guards = slots; parties = parties; held = map (λ x. held x.locker) (set qs c q); places = map (λ x. place x.locker) (set qs c q); running = map (λ x. x.running) (set qs c q); parks = parks }) s n t a g
+      → IsAnswered h (record { cells = cells; guards = slots; parties = parties; held = set (map (λ x. held x.locker) qs) c (held q.locker); places = set (map (λ x. place x.locker) qs) c (place q.locker); running = set (map (λ x. x.running) qs) c q.running; parks = parks; exit = x }) s n t a g
+      → IsAnswered h (record { cells = cells; guards = slots; parties = parties; held = map (λ x. held x.locker) (set qs c q); places = map (λ x. place x.locker) (set qs c q); running = map (λ x. x.running) (set qs c q); parks = parks; exit = x }) s n t a g
   answered_seen h s n t a g is = rw (map-set (λ x. held x.locker) qs c q, map-set (λ x. place x.locker) qs c q, map-set (λ x. x.running) qs c q) is
 
 -- ---- the sequentializer of the cell that is attempted, before its call

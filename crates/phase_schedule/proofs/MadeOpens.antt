@@ -1,4 +1,4 @@
--- What stands open after the outcome of a generator is apart and steady.
+-- What stands open after an outcome is apart and steady.
 use Rattle.std.proofs.Common.{◌≡◌, ◌≢◌, ℕ, suc, List, [], ◌∷◌, length, refl, arith, true, None, Some, inl, inr}
 use Rattle.std.proofs.lemmas.Bool.{cases_eq}
 use Rattle.std.specs.List.{find}
@@ -28,11 +28,11 @@ module _ (cells : List CellPlan) (h : List Event) (p : ℕ) (s : Section) (is : 
 
   -- the write guard that a run leaves
   abbrev pub writer_left : ℕ → Guard
-  writer_left v = record { number = length h; party = p; cell = s.cell; writes = true; start = s.start; changes = Ran (Some v) ∷ [] }
+  writer_left v = record { number = length h; party = p; cell = s.cell; writes = true; start = s.start; changes = Ran s.is_open (Some v) ∷ [] }
 
-  -- the section is given back
-  abbrev pub back_left : Option ℕ → Option Back
-  back_left made = Some (record { cell = s.cell; changes = Ran made ∷ [] })
+  -- the section is given back with this change
+  abbrev pub back_left : Change → Option Back
+  back_left ch = Some (record { cell = s.cell; changes = ch ∷ [] })
 
   -- what is open after a made that reads on
   abbrev pub opened_read : List Wait → Open
@@ -42,14 +42,14 @@ module _ (cells : List CellPlan) (h : List Event) (p : ℕ) (s : Section) (is : 
   abbrev pub opened_write : ℕ → List Wait → Open
   opened_write v ws = record { waits = ws; sections = rest; guards = writer_left v ∷ guards h }
 
-  -- after a run that failed
-  abbrev pub opened_failed : List Wait → Open
-  opened_failed ws = record { waits = ws; sections = rest; guards = guards h }
+  -- after an outcome that leaves no guard
+  abbrev pub opened_closed : List Wait → Open
+  opened_closed ws = record { waits = ws; sections = rest; guards = guards h }
 
   module _ (apart : (c : ℕ) → IsApart (open_after cells h) c) where
     -- what stands open excludes each other, before the gift
-    pub apart_failed : (d : ℕ) → IsApart (opened_failed (waits cells h)) d
-    apart_failed d =
+    pub apart_closed : (d : ℕ) → IsApart (opened_closed (waits cells h)) d
+    apart_closed d =
         let old : _ = apart d in
         let all : _ = count_ended (runs_in d) p (sections h) s is in
         record {
@@ -95,24 +95,24 @@ module _ (cells : List CellPlan) (h : List Event) (p : ℕ) (s : Section) (is : 
           away q = let some : _ = found_counts (writes_cell d) (writes_cell d) (guards h) x e (found_passes (writes_cell d) (guards h) x e) in let none : _ = (no_writer_here cells h p s is apart) in grind arith
 
       -- what is open is steady
-      pub steady_read : (v : ℕ) (ws : List Wait) → IsSteadyWith cells h (opened_read ws) (back_left (Some v))
+      pub steady_read : (v : ℕ) (ws : List Wait) → IsSteadyWith cells h (opened_read ws) (back_left (Ran s.is_open (Some v)))
       steady_read v ws =
           record {
             numbers = (omega arith, steady.numbers);
             guard_started = λ d x e. let old : _ = steady.guard_started d x e in omega arith;
-            guard = guard_left (Ran (Some v) ∷ []);
+            guard = guard_left (Ran s.is_open (Some v) ∷ []);
             section_started = λ d x e. let old : _ = steady.section_started d x ((started_left cells h p s is apart) d x e).1 in omega arith;
-            section = section_left (Ran (Some v) ∷ []);
+            section = section_left (Ran s.is_open (Some v) ∷ []);
           }
 
-      pub steady_failed : (ws : List Wait) → IsSteadyWith cells h (opened_failed ws) (back_left None)
-      steady_failed ws =
+      pub steady_closed : (ch : Change) (ws : List Wait) → IsSteadyWith cells h (opened_closed ws) (back_left ch)
+      steady_closed ch ws =
           record {
             numbers = numbers_more (length h) (suc (length h)) (guards h) steady.numbers (omega arith);
             guard_started = λ d x e. let old : _ = steady.guard_started d x e in omega arith;
-            guard = guard_left (Ran None ∷ []);
+            guard = guard_left (ch ∷ []);
             section_started = λ d x e. let old : _ = steady.section_started d x ((started_left cells h p s is apart) d x e).1 in omega arith;
-            section = section_left (Ran None ∷ []);
+            section = section_left (ch ∷ []);
           }
 
       pub steady_write : (v : ℕ) (ws : List Wait) → IsSteadyWith cells h (opened_write v ws) None

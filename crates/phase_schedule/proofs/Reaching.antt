@@ -7,7 +7,7 @@ use Rattle.phase_locker.specs.declared.ways.How.TheVariants as how
 use Rattle.phase_locker.specs.declared.ways.Given.TheVariants as given
 use Rattle.phase_locker.specs.Rows.{Rows, row_of, readers_of, writers_of, is_empty, occurs, reads_at, writes_at, IsSound}
 use Rattle.phase_locker.proofs.Counts.{is_one-if}
-use Rattle.schedule_rules.specs.Calls.{Want}
+use Rattle.schedule_rules.specs.declared.step.Want.{Want}
 use Rattle.schedule_rules.specs.Waits.{Wait, wait_of, parks_to_read, parks_to_write, parked_writers}
 use Rattle.schedule_rules.specs.Gifts.{reaches}
 use Rattle.phase_schedule.specs.Shown.{Shows, wait_row}

@@ -12,7 +12,7 @@ use Rattle.phase_locker.specs.declared.ways.Row.{Row}
 use Rattle.phase_locker.specs.Rows.{Rows, row_of, free_row, shares_at, claims_at, shares, claims, HasFree}
 use Rattle.phase_locker.specs.Fits.{open_reads, IsWriteOpen}
 use Rattle.schedule_rules.specs.declared.plan.CellPlan.{CellPlan}
-use Rattle.schedule_rules.specs.Calls.{Want}
+use Rattle.schedule_rules.specs.declared.step.Want.{Want}
 use Rattle.schedule_rules.specs.History.{Event, count}
 use Rattle.schedule_rules.specs.Waits.{Wait, wait_of, shares_read, shares_write, drains_on}
 use Rattle.schedule_rules.specs.Holds.{read_guards, write_holds, writers_with, drains_with}

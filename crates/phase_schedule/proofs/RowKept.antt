@@ -12,12 +12,11 @@ use Rattle.phase_locker.specs.declared.ways.How.{How}
 use Rattle.schedule_rules.specs.declared.plan.CellPlan.{CellPlan}
 use Rattle.schedule_rules.specs.declared.step.Step.{Step}
 use Rattle.schedule_rules.specs.Kinds.{cell_at}
-use Rattle.schedule_rules.specs.Calls.{Calls}
-use Rattle.schedule_rules.specs.History.{Event, count}
+use Rattle.schedule_rules.specs.History.{Event, count, accepts}
 use Rattle.schedule_rules.specs.Sections.{Section, innermost, runs_in, sections}
 use Rattle.schedule_rules.specs.Guards.{Guard, numbered, guards, writer}
-use Rattle.schedule_rules.specs.Replay.{replay, inside}
-use Rattle.schedule_rules.specs.Waits.{Wait, Attempt, attempt_of_wait, wait_of, with_wait, waits, waits_given, waits_given_with, wake_readers, other_waits, cell_concerned_with}
+use Rattle.schedule_rules.specs.Replay.{replay, phase_at, inside}
+use Rattle.schedule_rules.specs.Waits.{Wait, Attempt, attempt_of_wait, wait_of, with_wait, waits, waits_given, waits_given_with, wake_readers, other_waits, cell_concerned_with, cell_of_section}
 use Rattle.schedule_rules.specs.Holds.{writes_cell}
 use Rattle.schedule_rules.proofs.Earlier.{before_now}
 use Rattle.schedule_rules.proofs.Found.{none_found}
@@ -31,7 +30,7 @@ use Rattle.phase_schedule.specs.declared.rows.OpenSection.TheVariants as open_as
 use Rattle.phase_schedule.specs.declared.rows.PartyRow.{PartyRow}
 use Rattle.phase_schedule.specs.declared.rows.Target.{Target}
 use Rattle.phase_schedule.specs.View.{View}
-use Rattle.phase_schedule.specs.Kept.{call_of, cell_of, cell_row, guard_row, open_after, party_row, plans_in, section_of, target_of}
+use Rattle.phase_schedule.specs.Kept.{cell_row, guard_row, open_after, party_row, plans_in, section_of, stays_in, target_of}
 use Rattle.phase_schedule.specs.Shown.{AreWithin}
 use Rattle.phase_schedule.specs.Tracks.{IsSteady, Kept}
 use Rattle.phase_schedule.specs.Ready.{waits_left, still_open, with_section, with_guard}
@@ -47,7 +46,7 @@ use Rattle.phase_schedule.proofs.RowOpens.{no_run, next_slot}
 -- what is wanted again
 abbrev target_again : Option Attempt → Option Target
 target_again None = None
-target_again (Some a) = Some (record { cell = a.cell; call = call_of a.want })
+target_again (Some a) = Some (record { cell = a.cell; want = a.want })
 
 target_shown : (o : Option Wait) → target_of o ≡ target_again (attempt_of_wait o)
 target_shown None = refl
@@ -97,25 +96,25 @@ same_cell_row a b pl va se = λ i. record { plan = pl i; value = va i; section =
 
 module _ (cells : List CellPlan) (h : List Event) (v : View) (k : Kept cells (λ c. replay cells c h) (inside cells h) (open_after cells h) v) (s : Step) (t : Target) (g : Given) where
   -- the innermost cell of the party
-  pub inner_is : (row : PartyRow) → row ≡ get_or v.parties s.party row → s.party < length v.parties → row.innermost ≡ cell_of (innermost s.party (sections h))
+  pub inner_is : (row : PartyRow) → row ≡ get_or v.parties s.party row → s.party < length v.parties → row.innermost ≡ cell_of_section (innermost s.party (sections h))
   inner_is row at lt = ap (λ r. r.innermost) (row_at v.parties s.party row _ at lt (k.party s.party lt))
 
-  module _ (inner : Option ℕ) (inner_at : inner ≡ cell_of (innermost s.party (sections h))) where
+  module _ (inner : Option ℕ) (inner_at : inner ≡ cell_of_section (innermost s.party (sections h))) where
     -- the rows of the parties once the party's wait is over
     pub party_got : (j : ℕ) → j < length (set v.parties s.party (record { waiting = None; innermost = inner })) →
         slice_get (set v.parties s.party (record { waiting = None; innermost = inner })) j ≡ Some (party_row j (still_open cells h s t (waits_left cells h s t g)))
     party_got =
         set_view v.parties s.party (record { waiting = None; innermost = inner }) (λ j. party_row j (open_after cells h)) (λ j. party_row j (still_open cells h s t (waits_left cells h s t g))) k.party
-        (λ j ne. λ i. record { waiting = others_want cells h s g j ne i; innermost = cell_of (innermost j (sections h)) })
+        (λ j ne. λ i. record { waiting = others_want cells h s g j ne i; innermost = cell_of_section (innermost j (sections h)) })
         (λ i. record { waiting = target_of (sym (own_gone cells h s g) i); innermost = inner_at i })
 
     -- and where it waits
     pub party_waits : (way : How) → (j : ℕ) → j < length (set v.parties s.party (record { waiting = Some t; innermost = inner })) →
-        slice_get (set v.parties s.party (record { waiting = Some t; innermost = inner })) j ≡ Some (party_row j (still_open cells h s t (with_wait s.party way (Some (record { cell = t.cell; want = Calls t.call })) (waits_left cells h s t g))))
+        slice_get (set v.parties s.party (record { waiting = Some t; innermost = inner })) j ≡ Some (party_row j (still_open cells h s t (with_wait s.party way (Some (record { cell = t.cell; want = t.want })) (waits_left cells h s t g))))
     party_waits way =
-        set_view v.parties s.party (record { waiting = Some t; innermost = inner }) (λ j. party_row j (open_after cells h)) (λ j. party_row j (still_open cells h s t (with_wait s.party way (Some (record { cell = t.cell; want = Calls t.call })) (waits_left cells h s t g)))) k.party
-        (λ j ne. λ i. record { waiting = (ap target_of (wait_beside s.party j way (Some (record { cell = t.cell; want = Calls t.call })) (waits_left cells h s t g) ne) ∙ others_want cells h s g j ne) i; innermost = cell_of (innermost j (sections h)) })
-        (λ i. record { waiting = target_of (sym (wait_added s.party way (record { cell = t.cell; want = Calls t.call }) (waits_left cells h s t g)) i); innermost = inner_at i })
+        set_view v.parties s.party (record { waiting = Some t; innermost = inner }) (λ j. party_row j (open_after cells h)) (λ j. party_row j (still_open cells h s t (with_wait s.party way (Some (record { cell = t.cell; want = t.want })) (waits_left cells h s t g)))) k.party
+        (λ j ne. λ i. record { waiting = (ap target_of (wait_beside s.party j way (Some (record { cell = t.cell; want = t.want })) (waits_left cells h s t g) ne) ∙ others_want cells h s g j ne) i; innermost = cell_of_section (innermost j (sections h)) })
+        (λ i. record { waiting = target_of (sym (wait_added s.party way (record { cell = t.cell; want = t.want }) (waits_left cells h s t g)) i); innermost = inner_at i })
 
   -- where its section runs
   pub party_runs : (j : ℕ) → j < length (set v.parties s.party (record { waiting = None; innermost = Some t.cell })) →
@@ -139,7 +138,7 @@ module _ (cells : List CellPlan) (h : List Event) (v : View) (k : Kept cells (λ
   pub guard_known : (x : Guard) → x.cell < length cells → (j : ℕ) (y : Guard) → numbered j (x ∷ guards h) ≡ Some y → y.cell < length cells
   guard_known x lt j y e = let old : _ = k.guard_cell j y in grind arith
 
-  pub section_known : (n : ℕ) → t.cell < length cells → (j : ℕ) (y : Section) → find (runs_in j) (record { party = s.party; cell = t.cell; want = Calls t.call; start = n } ∷ sections h) ≡ Some y → j < length cells
+  pub section_known : (n : ℕ) → t.cell < length cells → (j : ℕ) (y : Section) → find (runs_in j) (record { party = s.party; cell = t.cell; want = t.want; start = n; is_open = accepts h } ∷ sections h) ≡ Some y → j < length cells
   section_known n lt j y e = let old : _ = k.section_cell j y in grind arith
 
   -- what is read of the cell
@@ -157,9 +156,9 @@ module _ (cells : List CellPlan) (h : List Event) (v : View) (k : Kept cells (λ
         (λ d ne. rw (other_number t.cell d ne) refl)
         (rw (same_number t.cell, before_now h) (same_cell_row _ _ (ap (λ r. r.plan) is) (ap (λ r. r.value) is) (λ i. Some (open_as.Guarded (record { phase = p_is i; value = (is i).value })))))
 
-    pub cell_runs : (ws : List Wait) (outer : Option ℕ) → outer ≡ cell_of (innermost s.party (sections h)) → (d : ℕ) → d < length (set v.cells t.cell (with_open (open_as.Generates (record { party = s.party; call = t.call; outer = outer }) (section_of t.cell s.party t.call)) row)) →
-        slice_get (set v.cells t.cell (with_open (open_as.Generates (record { party = s.party; call = t.call; outer = outer }) (section_of t.cell s.party t.call)) row)) d ≡ Some (cell_row (cell_at cells d) d (replay cells d h) (inside cells h) (with_section cells h s t ws))
+    pub cell_runs : (ws : List Wait) (outer : Option ℕ) → outer ≡ cell_of_section (innermost s.party (sections h)) → (d : ℕ) → d < length (set v.cells t.cell (with_open (open_as.Runs (record { party = s.party; want = t.want; outer = outer }) (section_of t.cell s.party t.want (stays_in (cell_at cells t.cell) t.want (accepts h) (phase_at cells t.cell h)))) row)) →
+        slice_get (set v.cells t.cell (with_open (open_as.Runs (record { party = s.party; want = t.want; outer = outer }) (section_of t.cell s.party t.want (stays_in (cell_at cells t.cell) t.want (accepts h) (phase_at cells t.cell h)))) row)) d ≡ Some (cell_row (cell_at cells d) d (replay cells d h) (inside cells h) (with_section cells h s t ws))
     cell_runs ws outer out =
-        set_view v.cells t.cell (with_open (open_as.Generates (record { party = s.party; call = t.call; outer = outer }) (section_of t.cell s.party t.call)) row) (λ d. cell_row (cell_at cells d) d (replay cells d h) (inside cells h) (open_after cells h)) (λ d. cell_row (cell_at cells d) d (replay cells d h) (inside cells h) (with_section cells h s t ws)) k.cell
+        set_view v.cells t.cell (with_open (open_as.Runs (record { party = s.party; want = t.want; outer = outer }) (section_of t.cell s.party t.want (stays_in (cell_at cells t.cell) t.want (accepts h) (phase_at cells t.cell h)))) row) (λ d. cell_row (cell_at cells d) d (replay cells d h) (inside cells h) (open_after cells h)) (λ d. cell_row (cell_at cells d) d (replay cells d h) (inside cells h) (with_section cells h s t ws)) k.cell
         (λ d ne. rw (other_number t.cell d ne) refl)
-        (rw (same_number t.cell, none_found (writes_cell t.cell) (guards h) no_writer) (same_cell_row _ _ (ap (λ r. r.plan) is) (ap (λ r. r.value) is) (ap (λ o. Some (open_as.Generates (record { party = s.party; call = t.call; outer = o }) (section_of t.cell s.party t.call))) out)))
+        (rw (same_number t.cell, none_found (writes_cell t.cell) (guards h) no_writer) (same_cell_row _ _ (ap (λ r. r.plan) is) (ap (λ r. r.value) is) (ap (λ o. Some (open_as.Runs (record { party = s.party; want = t.want; outer = o }) (section_of t.cell s.party t.want (stays_in (cell_at cells t.cell) t.want (accepts h) (phase_at cells t.cell h))))) out)))

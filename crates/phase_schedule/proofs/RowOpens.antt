@@ -3,17 +3,19 @@ use Rattle.std.proofs.Common.{◌≡◌, ◌≢◌, ℕ, ◌<◌, ◌≤◌, Lis
 use Rattle.std.specs.Prelude.{◌==◌, slice_get}
 use Rattle.schedule_rules.specs.Changes.{Put}
 use Rattle.schedule_rules.specs.History.{count, Event}
-use Rattle.schedule_rules.specs.Sections.{Section, innermost, without_innermost, runs_in}
+use Rattle.schedule_rules.specs.Sections.{Section, innermost, is_turn, without_innermost, runs_in}
 use Rattle.schedule_rules.specs.Guards.{Guard, numbered, without_guard, put_in, guards}
 use Rattle.schedule_rules.proofs.Found.{found_counts}
 use Rattle.schedule_rules.proofs.Opened.{innermost_kept}
-use Rattle.phase_schedule.specs.Kept.{run_in, cell_of, call_of, guard_row, want_of}
+use Rattle.phase_schedule.specs.Kept.{run_in, guard_row, want_of}
 use Rattle.phase_schedule.specs.Tracks.{NumbersBelow}
 use Rattle.phase_schedule.specs.declared.rows.GuardRow.{GuardRow}
 use Rattle.phase_schedule.specs.declared.rows.GuardRow.TheVariants as guard
-use Rattle.phase_seq.specs.Asks.{initializes}
-use Rattle.schedule_rules.specs.declared.plan.Call.{Call}
+use Rattle.phase_seq.specs.Asks.{finalizes, initializes}
+use Rattle.schedule_rules.specs.declared.step.Want.{Want}
+use Rattle.schedule_rules.specs.declared.step.Want.TheVariants.{Calls, Turns}
 use Rattle.schedule_rules.specs.declared.plan.Call.TheVariants as call
+use Rattle.schedule_rules.specs.Waits.{cell_of_section}
 
 -- no guard has a greater number
 pub numbered_above : (n g : ℕ) (gs : List Guard) → NumbersBelow n gs → n ≤ g → numbered g gs ≡ None
@@ -65,12 +67,18 @@ pub run_kept : (c p : ℕ) (ss : List Section) (s : Section) → innermost p ss 
 run_kept c p [] s e ne = cc
 run_kept c p (x ∷ ss) s e ne = grind (arith, run_kept c p ss s, innermost_kept p x.party ss)
 
-pub run_top : (p : ℕ) (ss : List Section) (s : Section) → innermost p ss ≡ Some s → count (runs_in s.cell) ss ≤ 1 → run_in s.cell ss ≡ Some (record { party = p; call = call_of s.want; outer = cell_of (innermost p (without_innermost p ss)) })
+pub run_top : (p : ℕ) (ss : List Section) (s : Section) → innermost p ss ≡ Some s → count (runs_in s.cell) ss ≤ 1 → run_in s.cell ss ≡ Some (record { party = p; want = s.want; outer = cell_of_section (innermost p (without_innermost p ss)) })
 run_top p [] s e n = cc
 run_top p (x ∷ ss) s e n = grind (arith, run_top p ss s, found_counts (λ y. y.party == p) (runs_in s.cell) ss s)
 
 -- the call of every run asked for it
-pub asked_run : (k : Call) → initializes (want_of k) ≡ true
-asked_run call.Phase = refl
-asked_run call.Read = refl
-asked_run call.Write = refl
+pub asked_run : (w : Want) → is_turn w ≡ false → initializes (want_of w) ≡ true
+asked_run (Calls call.Phase) e = refl
+asked_run (Calls call.Read) e = refl
+asked_run (Calls call.Write) e = refl
+asked_run Turns e = absurd (cc)
+
+-- and every turn for its finalizer
+pub asked_final : (w : Want) → w ≡ Turns → finalizes (want_of w) ≡ true
+asked_final (Calls k) e = absurd (cc)
+asked_final Turns e = refl

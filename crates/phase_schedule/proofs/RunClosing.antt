@@ -17,15 +17,18 @@ use Rattle.phase_locker.specs.Others.{OthersStay}
 use Rattle.phase_locker.proofs.Others.{fits_beside}
 use Rattle.phase_locker.proofs.Leaving.{write_has_no_reader}
 use Rattle.phase_seq.specs.declared.section.Section.{Section as SeqSection}
-use Rattle.phase_seq.specs.Stands.{IsRunning}
+use Rattle.phase_seq.specs.Stands.{IsFinalizing}
+use Rattle.schedule_rules.specs.declared.step.Want.{Want}
+use Rattle.schedule_rules.specs.declared.step.Want.TheVariants.{Calls, Turns}
 use Rattle.phase_schedule.specs.declared.rows.CellRow.{CellRow}
 use Rattle.phase_schedule.specs.declared.rows.GuardRow.{GuardRow}
 use Rattle.phase_schedule.specs.declared.rows.GuardRow.TheVariants as guard
 use Rattle.phase_schedule.specs.declared.rows.PartyRow.{PartyRow}
 use Rattle.phase_schedule.specs.declared.rows.RunRow.{RunRow}
 use Rattle.phase_schedule.specs.declared.rows.OpenSection.TheVariants as open_as
+use Rattle.phase_schedule.specs.Exiting.{Exiting}
 use Rattle.phase_schedule.specs.View.{View}
-use Rattle.phase_schedule.specs.Closing.{AreFree, AreIdle, HoldsAt, HoldsLocks, IsClosedAt, IsIdle, IsOfCell, IsSectionAt, RunsAt, locks_of, reads_row, writes_row}
+use Rattle.phase_schedule.specs.Closing.{AreFree, AreIdle, HoldsAt, HoldsLocks, HoldsSection, IsClosedAt, IsFinalAt, IsIdle, IsOfCell, IsOneAt, RunsAt, locks_of, reads_row, writes_row}
 use Rattle.phase_schedule.proofs.Numbers.{same_number, other_number}
 use Rattle.phase_schedule.proofs.Places.{slice_get_set_same, slice_get_set_other, mapped_at}
 use Rattle.phase_schedule.proofs.Passing.{count_set}
@@ -78,10 +81,10 @@ all_idle n cs le idle = λ j d lt. idle j (get_or cs j d) (omega (arith, lt, le)
 
 -- ---- rows, and sequentializers of any type
 
-module _ {L : Type 0} (held : L → Holders) (place : L → LockerKind) (runner : L → Option ℕ) where
+module _ {L : Type 0} (held : L → Holders) (place : L → LockerKind) (runner : L → Option ℕ) (exit : Exiting) where
   -- what these rows hold
   abbrev pub viewed : List CellRow → List GuardRow → List PartyRow → List L → Rows → View
-  viewed cs gs ps ls s = record { cells = cs; guards = gs; parties = ps; held = map held ls; places = map place ls; running = map runner ls; parks = s }
+  viewed cs gs ps ls s = record { cells = cs; guards = gs; parties = ps; held = map held ls; places = map place ls; running = map runner ls; parks = s; exit = exit }
 
   module _ (cs : List CellRow) (gs : List GuardRow) (ps : List PartyRow) (ls : List L) (s : Rows) (holds : HoldsLocks (viewed cs gs ps ls s)) where
     inside_lockers : (c : ℕ) → c < length cs → c < length ls
@@ -145,28 +148,6 @@ module _ {L : Type 0} (held : L → Holders) (place : L → LockerKind) (runner 
         get_is [] i y x d e q = absurd (cc)
         get_is (z ∷ xs) zero y x d e q = let k : z ≡ y = cc in sym k ∙ sym q
         get_is (z ∷ xs) (suc i) y x d e q = get_is xs i y x d e q
-
-    -- a section whose generator runs
-    module _ (c : ℕ) (lt : c < length cs) (row d : CellRow) (r : RunRow) (t : SeqSection) (l m : L) (is : row ≡ get_or cs c d) (gone : row.section ≡ Some (open_as.Generates r t)) (here : l ≡ get_or ls c m) where
-      run_open : IsWriteOpen (held l) s c
-      run_open =
-          let one : locks_of (holds.at c lt).row.section ≡ 1 = ap (λ (x : CellRow). locks_of x.section) (section_at c lt row d is) ∙ ap locks_of gone in
-          open_at c lt l m here (omega (arith, one))
-
-      -- it is that of its sequentializer
-      run_section : IsSectionAt c (runner l) t
-      run_section =
-          subst (λ (x : Option ℕ). IsSectionAt c x t) (runner_is c lt l m here)
-          (subst (λ o. RunsAt c (holds.at c lt).runner o) (ap (λ (x : CellRow). x.section) (section_at c lt row d is) ∙ gone) (holds.at c lt).runs)
-
-      pub run_inside : t.who.cell < length s.readers
-      run_inside = let cell : t.who.cell ≡ c = run_section.cell in let count : length s.readers ≡ length cs = holds.parks in omega (arith, cell, count, lt)
-
-      pub run_running : IsRunning t (runner l) (held l) s
-      run_running = record { party = run_section.party; asked = run_section.asked; known = run_section.known; locked = subst (λ (n : ℕ). IsWriteOpen (held l) s n) (sym run_section.cell) run_open }
-
-      pub run_fits : Fits (place l) (held l) s t.who.cell
-      run_fits = subst (λ (n : ℕ). Fits (place l) (held l) s n) (sym run_section.cell) (locker_fits c l m lt here)
 
     -- ---- after a call of one locker
 
@@ -295,68 +276,113 @@ module _ {L : Type 0} (held : L → Holders) (place : L → LockerKind) (runner 
           (write_back cs (set gs g guard.Free) c lt l' s' others size l m (holds.at c lt).row is (holds.at c lt).row_is (runs_still cs (set gs g guard.Free) c lt l' s' others size l m is still) (omega (arith, one, most)) (as_many (reads_row c) gs g guard.Free d inside (ap (reads_row c) e) refl)
           (write_open g q c t d l m inside e is) fits))
 
-    -- of a section whose generator runs
-    pub run_given : (c : ℕ) (lt : c < length cs) (row d : CellRow) (r : RunRow) (t : SeqSection) (l m l' : L) (s' : Rows) (cs' : List CellRow) → row ≡ get_or cs c d → row.section ≡ Some (open_as.Generates r t) → l ≡ get_or ls c m → OthersStay t.who.cell s s' → SameSize s s' → Fits (place l') (held l') s' t.who.cell → IsClosedAt c cs cs' → HoldsLocks (viewed cs' gs ps (set ls c l') s')
-    run_given c lt row d r t l m l' s' cs' found gone is beside size fitting closed =
-        let at : t.who.cell ≡ c = (run_section c lt row d r t l m found gone is).cell in
-        let others : OthersStay c s s' = subst (λ (n : ℕ). OthersStay n s s') at beside in
-        let fits : Fits (place l') (held l') s' c = subst (λ (n : ℕ). Fits (place l') (held l') s' n) at fitting in
-        let one : locks_of (holds.at c lt).row.section ≡ 1 = ap (λ (x : CellRow). locks_of x.section) (section_at c lt row d found) ∙ ap locks_of gone in
-        let none : locks_of closed.row.section ≡ 0 = ap locks_of closed.idle in
-        let most : _ = (holds.at c lt).one in
-        keeps cs' gs c lt l' s' others size closed.count holds.guards closed.others (λ j ne. refl) (λ j ne. refl)
-        (write_back cs' gs c lt l' s' others size l m closed.row is closed.row_is (subst (λ o. RunsAt c (runner l') o) (sym closed.idle) tt) (omega (arith, one, none, most)) refl (run_open c lt row d r t l m found gone is) fits)
+    -- ---- a section that is taken out of its row
 
-    -- the section of a write guard, or none, holds no lock of itself
-    pub none_given : (c : ℕ) (lt : c < length cs) (row d : CellRow) (cs' : List CellRow) → row ≡ get_or cs c d → locks_of row.section ≡ 0 → IsClosedAt c cs cs' → HoldsLocks (viewed cs' gs ps ls s)
-    none_given c lt row d cs' found empty closed =
-        record {
-          at = λ j k. elim (cases_eq j c) [ inl e ↦ subst (λ (n : ℕ). HoldsAt (viewed cs' gs ps ls s) n) (sym e) here | inr ne ↦ beside j ne (subst (λ (n : ℕ). j < n) closed.count k) ];
-          guards = subst (λ (n : ℕ). All (IsOfCell n) gs) (sym closed.count) holds.guards;
-          few = let k : _ = holds.few in let e : _ = closed.count in omega (arith, k, e);
-          lockers = holds.lockers ∙ sym closed.count;
-          places = holds.places ∙ sym closed.count;
-          runners = holds.runners ∙ sym closed.count;
-          parks = holds.parks ∙ sym closed.count;
-        }
+    module _ (c : ℕ) (lt : c < length cs) (cs' : List CellRow) (closed : IsClosedAt c cs cs') where
+      -- the locks of the rows stay open
+      pub taken : HoldsLocks (viewed cs' gs ps ls s)
+      taken =
+          record {
+            at = λ j k. elim (cases_eq j c) [ inl e ↦ subst (λ (n : ℕ). HoldsAt (viewed cs' gs ps ls s) n) (sym e) here | inr ne ↦ beside j ne (subst (λ (n : ℕ). j < n) closed.count k) ];
+            guards = subst (λ (n : ℕ). All (IsOfCell n) gs) (sym closed.count) holds.guards;
+            few = let k : _ = holds.few in let e : _ = closed.count in omega (arith, k, e);
+            lockers = holds.lockers ∙ sym closed.count;
+            places = holds.places ∙ sym closed.count;
+            runners = holds.runners ∙ sym closed.count;
+            parks = holds.parks ∙ sym closed.count;
+          }
+        where
+          here : HoldsAt (viewed cs' gs ps ls s) c
+          here =
+              let a = holds.at c lt in
+              let none : locks_of closed.row.section ≡ 0 = ap locks_of closed.idle in
+              let one : _ = a.one in
+              record {
+                row = closed.row;
+                record_of = a.record_of;
+                kind = a.kind;
+                runner = a.runner;
+                row_is = closed.row_is;
+                record_is = a.record_is;
+                kind_is = a.kind_is;
+                runner_is = a.runner_is;
+                runs = subst (λ o. RunsAt c a.runner o) (sym closed.idle) tt;
+                fits = a.fits;
+                reads = a.reads;
+                one = omega (arith, none, one);
+                writes = λ k. a.writes (omega (arith, none, k));
+              }
+
+          beside : (j : ℕ) → j ≢ c → j < length cs → HoldsAt (viewed cs' gs ps ls s) j
+          beside j ne k =
+              let a = holds.at j k in
+              record {
+                row = a.row;
+                record_of = a.record_of;
+                kind = a.kind;
+                runner = a.runner;
+                row_is = closed.others j ne ∙ a.row_is;
+                record_is = a.record_is;
+                kind_is = a.kind_is;
+                runner_is = a.runner_is;
+                runs = a.runs;
+                fits = a.fits;
+                reads = a.reads;
+                one = a.one;
+                writes = a.writes;
+              }
+
+      -- and that of a section that runs is open beside them
+      pub section_left : (row d : CellRow) (r : RunRow) (t : SeqSection) → row ≡ get_or cs c d → row.section ≡ Some (open_as.Runs r t) → HoldsSection (viewed cs' gs ps ls s) c r.want t
+      section_left row d r t found gone =
+          let a = holds.at c lt in
+          let shown : a.row.section ≡ Some (open_as.Runs r t) = ap (λ (x : CellRow). x.section) (section_at c lt row d found) ∙ gone in
+          let own : locks_of a.row.section ≡ 1 = ap locks_of shown in
+          let one : _ = a.one in
+          record {
+            cell = subst (λ (n : ℕ). c < n) (sym closed.count) lt;
+            others = taken;
+            row = closed.row;
+            row_is = closed.row_is;
+            idle = closed.idle;
+            alone = omega (arith, own, one);
+            runner = a.runner;
+            runner_is = a.runner_is;
+            one = subst (λ o. RunsAt c a.runner o) shown a.runs;
+            record_of = a.record_of;
+            record_is = a.record_is;
+            opened = a.writes (omega (arith, own));
+          }
+
+  -- ---- a section that is open beside the locks of the rows
+
+  module _ (cs : List CellRow) (gs : List GuardRow) (ps : List PartyRow) (ls : List L) (s : Rows) (c : ℕ) (w : Want) (t : SeqSection) (k : HoldsSection (viewed cs gs ps ls s) c w t) where
+    -- it is of the cell
+    section_cell : t.who.cell ≡ c
+    section_cell = by w k.one
       where
-        here : HoldsAt (viewed cs' gs ps ls s) c
-        here =
-            let a = holds.at c lt in
-            let before : locks_of a.row.section ≡ 0 = ap (λ (x : CellRow). locks_of x.section) (section_at c lt row d found) ∙ empty in
-            let none : locks_of closed.row.section ≡ 0 = ap locks_of closed.idle in
-            let same : locks_of closed.row.section ≡ locks_of a.row.section = none ∙ sym before in
-            record {
-              row = closed.row;
-              record_of = a.record_of;
-              kind = a.kind;
-              runner = a.runner;
-              row_is = closed.row_is;
-              record_is = a.record_is;
-              kind_is = a.kind_is;
-              runner_is = a.runner_is;
-              runs = subst (λ o. RunsAt c a.runner o) (sym closed.idle) tt;
-              fits = a.fits;
-              reads = a.reads;
-              one = rw same a.one;
-              writes = λ k. a.writes (subst (λ (n : ℕ). 0 < count_by (writes_row c) gs + n) same k);
-            }
+        by : (w : Want) → IsOneAt c k.runner w t → t.who.cell ≡ c
+        by (Calls n) o = o.cell
+        by Turns o = o.cell
 
-        beside : (j : ℕ) → j ≢ c → j < length cs → HoldsAt (viewed cs' gs ps ls s) j
-        beside j ne k =
-            let a = holds.at j k in
-            record {
-              row = a.row;
-              record_of = a.record_of;
-              kind = a.kind;
-              runner = a.runner;
-              row_is = closed.others j ne ∙ a.row_is;
-              record_is = a.record_is;
-              kind_is = a.kind_is;
-              runner_is = a.runner_is;
-              runs = a.runs;
-              fits = a.fits;
-              reads = a.reads;
-              one = a.one;
-              writes = a.writes;
-            }
+    module _ (l m : L) (here : l ≡ get_or ls c m) where
+      section_open : IsWriteOpen (held l) s c
+      section_open = subst (λ (x : Holders). IsWriteOpen x s c) (sym (mapped_at held ls c l k.record_of m here k.record_is)) k.opened
+
+      pub section_fits : Fits (place l) (held l) s t.who.cell
+      section_fits = subst (λ (n : ℕ). Fits (place l) (held l) s n) (sym section_cell) (locker_fits cs gs ps ls s k.others c l m k.cell here)
+
+      -- its finalizer runs
+      pub section_final : w ≡ Turns → IsFinalizing t (held l) s
+      section_final is =
+          let one : IsFinalAt c t = subst (λ (x : Want). IsOneAt c k.runner x t) is k.one in
+          record { asked = one.asked; locked = subst (λ (n : ℕ). IsWriteOpen (held l) s n) (sym section_cell) section_open }
+
+      -- once its lock is given back the locks of the rows are open
+      pub section_given : (l' : L) (s' : Rows) → OthersStay t.who.cell s s' → SameSize s s' → Fits (place l') (held l') s' t.who.cell → HoldsLocks (viewed cs gs ps (set ls c l') s')
+      section_given l' s' beside size fitting =
+          let others : OthersStay c s s' = subst (λ (n : ℕ). OthersStay n s s') section_cell beside in
+          let fits : Fits (place l') (held l') s' c = subst (λ (n : ℕ). Fits (place l') (held l') s' n) section_cell fitting in
+          let none : locks_of k.row.section ≡ 0 = ap locks_of k.idle in
+          keeps cs gs ps ls s k.others cs gs c k.cell l' s' others size refl k.others.guards (λ j ne. refl) (λ j ne. refl) (λ j ne. refl)
+          (write_back cs gs ps ls s k.others cs gs c k.cell l' s' others size l m k.row here k.row_is (subst (λ o. RunsAt c (runner l') o) (sym k.idle) tt) (omega (arith, none, k.alone)) refl section_open fits)

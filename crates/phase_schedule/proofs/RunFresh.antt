@@ -7,6 +7,7 @@ use Rattle.std.proofs.lemmas.Grind.{common_steps, replicate_next}
 use Rattle.std.proofs.lemmas.Option.{gets}
 use Rattle.phase_bits.specs.Number.{phase_of}
 use Rattle.phase_bits.specs.Records.{unheld}
+use Rattle.exit_registry.specs.Registry.{new_registry}
 use Rattle.phase_locker.specs.declared.ways.LockerKind.{LockerKind}
 use Rattle.phase_locker.specs.Rows.{no_rows}
 use Rattle.phase_locker.proofs.Fresh.{new_fits}
@@ -16,6 +17,8 @@ use Rattle.schedule_rules.specs.Kinds.{cell_at}
 use Rattle.schedule_rules.specs.Replay.{replay, inside}
 use Rattle.phase_schedule.specs.declared.rows.GuardRow.TheVariants as guard
 use Rattle.phase_schedule.specs.View.{View}
+use Rattle.phase_schedule.specs.declared.exit.Exit.{Exit}
+use Rattle.phase_schedule.specs.Exiting.{Exiting, IsExiting, IsFresh, exiting}
 use Rattle.phase_schedule.specs.Kept.{fresh_cell, idle_party, kind_at, open_after, plans_in}
 use Rattle.phase_schedule.specs.Tracks.{Kept, Locked, RunBy, Tracks, plans}
 use Rattle.phase_schedule.specs.Progress.{AreFresh}
@@ -76,8 +79,8 @@ locked_nothing xs b few =
     }
 
 -- the view of these rows
-abbrev nothing : List CellPlan → ℕ → ℕ → View
-nothing xs a b =
+abbrev nothing : List CellPlan → ℕ → ℕ → Exiting → View
+nothing xs a b x =
     record {
       cells = map fresh_cell xs;
       guards = replicate a guard.Free;
@@ -86,11 +89,12 @@ nothing xs a b =
       places = map kind_of xs;
       running = replicate (length xs) None;
       parks = no_rows (length xs) b;
+      exit = x;
     }
 
 -- rows of cells that are empty, of steps that opened nothing and of idle parties
-kept_nothing : (xs : List CellPlan) (a b : ℕ) → Kept xs (λ c. replay xs c []) (inside xs []) (open_after xs []) (nothing xs a b)
-kept_nothing xs a b =
+kept_nothing : (xs : List CellPlan) (a b : ℕ) (x : Exiting) → Kept xs (λ c. replay xs c []) (inside xs []) (open_after xs []) (nothing xs a b x)
+kept_nothing xs a b x =
     record {
       planned = plans_back xs;
       cell = λ d lt. mapped fresh_cell xs d (subst (λ (n : ℕ). d < n) (length-map xs fresh_cell) lt);
@@ -98,7 +102,7 @@ kept_nothing xs a b =
       party = λ d lt. all_same b d idle_party (subst (λ (n : ℕ). d < n) (length-replicate b _) lt);
       parties = length-replicate b _ ∙ sym (length-replicate b _);
       section_cell = λ d s e. absurd (cc);
-      guard_cell = λ g x e. absurd (cc);
+      guard_cell = λ g y e. absurd (cc);
       wait_cell = λ p w e. absurd (cc);
     }
 
@@ -106,37 +110,42 @@ kept_nothing xs a b =
 run_by_nobody : (xs : List CellPlan) → RunBy xs [] (replicate (length xs) None)
 run_by_nobody xs = record { each = λ c lt. all_same (length xs) c None lt; count = length-replicate (length xs) None }
 
-tracks_nothing : (xs : List CellPlan) (a b : ℕ) → b < 2 ^ 20 → Tracks xs [] (nothing xs a b)
-tracks_nothing xs a b few =
+tracks_nothing : (xs : List CellPlan) (a b : ℕ) (x : Exiting) → b < 2 ^ 20 → Tracks xs [] (nothing xs a b x)
+tracks_nothing xs a b x few =
     record {
       legal = tt;
       steady = record {
         numbers = tt;
-        guard_started = λ g x e. absurd (cc);
-        guard = λ g x e. absurd (cc);
+        guard_started = λ g y e. absurd (cc);
+        guard = λ g y e. absurd (cc);
         section_started = λ d s e. absurd (cc);
         section = λ d s e. refl;
       };
       locked = locked_nothing xs b few;
       run_by = run_by_nobody xs;
-      kept = kept_nothing xs a b;
+      kept = kept_nothing xs a b x;
       room = omega arith;
     }
 
+-- an exit that has not begun stands for the empty history
+pub exit_fresh : (xs : List CellPlan) (cells count : ℕ) (x : Exit) → cells ≡ length xs → IsFresh cells count x → IsExiting xs [] count (exiting x)
+exit_fresh xs cells count x size fresh = record { registry_is = fresh.registry ∙ ap new_registry size; owner_is = fresh.owner; turns_are = fresh.turns; room = fresh.room }
+
 -- so do those that a plan begins with
-pub begun : (plan : Plan) (count : ℕ) (v : View) → plan.parties < 2 ^ 20 → v.cells ≡ map fresh_cell plan.cells.items → v.guards ≡ replicate count guard.Free → v.parties ≡ replicate plan.parties idle_party → v.held ≡ replicate (length plan.cells.items) (unheld (phase_of 0)) → v.places ≡ map (λ (x : CellPlan). kind_at x.place) plan.cells.items → v.running ≡ replicate (length plan.cells.items) None → v.parks ≡ no_rows (length plan.cells.items) plan.parties →
+pub begun : (plan : Plan) (count : ℕ) (v : View) → plan.parties < 2 ^ 20 → v.cells ≡ map fresh_cell plan.cells.items → v.guards ≡ replicate count guard.Free → v.parties ≡ replicate plan.parties idle_party → v.held ≡ replicate (length plan.cells.items) (unheld (phase_of 0)) → v.places ≡ map (λ (x : CellPlan). kind_at x.place) plan.cells.items → v.running ≡ replicate (length plan.cells.items) None → v.parks ≡ no_rows (length plan.cells.items) plan.parties → IsExiting plan.cells.items [] count v.exit →
     AreFresh plan count v
-begun plan count v few ce gu pa he pl ru pk =
+begun plan count v few ce gu pa he pl ru pk ex =
     record {
-      follows = subst (λ cs. Tracks cs [] v) (sym planned) (subst (λ (w : View). Tracks plan.cells.items [] w) (sym same) (tracks_nothing plan.cells.items count plan.parties few));
+      follows = subst (λ cs. Tracks cs [] v) (sym planned) (subst (λ (w : View). Tracks plan.cells.items [] w) (sym same) (tracks_nothing plan.cells.items count plan.parties v.exit few));
       planned = planned;
       cells = ap length ce ∙ length-map plan.cells.items fresh_cell;
       guards = ap length gu ∙ length-replicate count _;
       parties = ap length pa ∙ length-replicate plan.parties _;
+      exit = ex;
     }
   where
-    same : v ≡ nothing plan.cells.items count plan.parties
-    same = λ i. record { cells = ce i; guards = gu i; parties = pa i; held = he i; places = pl i; running = ru i; parks = pk i }
+    same : v ≡ nothing plan.cells.items count plan.parties v.exit
+    same = λ i. record { cells = ce i; guards = gu i; parties = pa i; held = he i; places = pl i; running = ru i; parks = pk i; exit = v.exit }
 
     planned : plans v ≡ plan.cells.items
     planned = ap plans_in ce ∙ plans_back plan.cells.items

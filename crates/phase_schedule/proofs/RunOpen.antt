@@ -7,28 +7,33 @@ use Rattle.std.proofs.lemmas.Option.{get_or_from_slice_get}
 use Rattle.std.specs.Prelude.{count_by}
 use Rattle.std.specs.List.{find}
 use Rattle.std.specs.declared.option.Option.{Option}
+use Rattle.phase_bits.specs.declared.phase.Phase.{Phase}
+use Rattle.phase_bits.specs.Number.{IsKnown, phase_of}
 use Rattle.phase_locker.specs.Natures.{read_ticket, write_ticket}
 use Rattle.schedule_rules.specs.declared.plan.CellPlan.{CellPlan}
+use Rattle.schedule_rules.specs.declared.step.Want.{Want}
+use Rattle.schedule_rules.specs.declared.step.Want.TheVariants.{Calls, Turns}
 use Rattle.schedule_rules.specs.Kinds.{cell_at}
 use Rattle.schedule_rules.specs.Changes.{Content}
 use Rattle.schedule_rules.specs.Core.{core}
 use Rattle.schedule_rules.specs.History.{Event, count}
-use Rattle.schedule_rules.specs.Sections.{Section, innermost, runs_in, sections}
+use Rattle.schedule_rules.specs.Sections.{Section, innermost, is_turn, runs_in, sections}
 use Rattle.schedule_rules.specs.Guards.{Guard, numbered, guards}
 use Rattle.schedule_rules.specs.Holds.{reads_cell, writes_cell, read_guards}
-use Rattle.schedule_rules.specs.Replay.{replay, inside}
-use Rattle.schedule_rules.specs.Waits.{waits}
+use Rattle.schedule_rules.specs.Replay.{phase_at, replay, inside}
+use Rattle.schedule_rules.specs.Waits.{waits, cell_of_section}
 use Rattle.phase_schedule.specs.declared.rows.GuardRow.{GuardRow}
 use Rattle.phase_schedule.specs.declared.rows.GuardRow.TheVariants as guard
 use Rattle.phase_schedule.specs.declared.rows.RunRow.{RunRow}
 use Rattle.phase_schedule.specs.View.{View}
-use Rattle.phase_schedule.specs.Kept.{call_of, cell_of, cell_row, guard_row, kind_at, open_after, open_run, run_in, runner_in, section_by}
+use Rattle.phase_schedule.specs.Kept.{cell_row, guard_row, kind_at, open_after, open_run, run_in, runner_in, runner_of, section_by, section_of, stays_at}
 use Rattle.phase_schedule.specs.Tracks.{NumbersBelow, Tracks}
-use Rattle.phase_schedule.specs.Closing.{HoldsAt, HoldsLocks, IsOfCell, RunsAt, locks_of, reads_row, writes_row}
+use Rattle.phase_schedule.specs.Closing.{HoldsAt, HoldsLocks, IsOfCell, IsOneAt, RunsAt, locks_of, reads_row, writes_row}
 use Rattle.phase_schedule.proofs.Passing.{count_free, count_test, count_set, count_before}
 use Rattle.phase_schedule.proofs.RowCounts.{open_reads_shown, write_open_shown}
 use Rattle.phase_schedule.proofs.Places.{planned_length}
 use Rattle.phase_schedule.proofs.RowOpens.{numbered_above, asked_run}
+use Rattle.phase_schedule.proofs.GuardPhase.{phase_known, stays_known}
 use Rattle.phase_schedule.proofs.Same.{agrees_core}
 use Rattle.phase_schedule.proofs.Slots.{set_shows}
 
@@ -75,32 +80,41 @@ row_writes c x = by x.writes
     by true = refl
     by false = refl
 
--- a section that generates is one that runs
-section_counted : (c : ℕ) (within : Guard → Content) (o : Option Guard) (ss : List Section) → locks_of (section_by c within o (run_in c ss)) ≤ count (runs_in c) ss
-section_counted c within (Some x) ss = omega arith
-section_counted c within None ss = run_counted ss
+-- a row that shows a section that runs has one
+section_counted : (c : ℕ) (stays : Phase) (within : Guard → Content) (o : Option Guard) (ss : List Section) → locks_of (section_by c stays within o (run_in c ss)) ≤ count (runs_in c) ss
+section_counted c stays within (Some x) ss = omega arith
+section_counted c stays within None ss = run_counted ss
   where
-    run_counted : (ss : List Section) → locks_of (open_run c (run_in c ss)) ≤ count (runs_in c) ss
+    run_counted : (ss : List Section) → locks_of (open_run c stays (run_in c ss)) ≤ count (runs_in c) ss
     run_counted [] = omega arith
     run_counted (s ∷ ss) = by (s.cell == c) _ (run_counted ss)
       where
-        by : (b : Bool) (r : RunRow) → locks_of (open_run c (run_in c ss)) ≤ count (runs_in c) ss → locks_of (open_run c (cond b (Some r) (run_in c ss))) ≤ cond b (count (runs_in c) ss + 1) (count (runs_in c) ss)
+        by : (b : Bool) (r : RunRow) → locks_of (open_run c stays (run_in c ss)) ≤ count (runs_in c) ss → locks_of (open_run c stays (cond b (Some r) (run_in c ss))) ≤ cond b (count (runs_in c) ss + 1) (count (runs_in c) ss)
         by true r le = omega arith
         by false r le = le
 
--- a section that generates is that of the party that runs
-section_runs : (c : ℕ) (within : Guard → Content) (o : Option Guard) (ss : List Section) → RunsAt c (runner_in c ss) (section_by c within o (run_in c ss))
-section_runs c within (Some x) ss = tt
-section_runs c within None ss = run_runs ss
+-- the section that it shows is that of the cell's sequentializer
+section_runs : (c : ℕ) (stays : Phase) (within : Guard → Content) (o : Option Guard) (ss : List Section) → IsKnown stays → RunsAt c (runner_in c ss) (section_by c stays within o (run_in c ss))
+section_runs c stays within (Some x) ss known = tt
+section_runs c stays within None ss known = run_runs ss
   where
-    run_runs : (ss : List Section) → RunsAt c (runner_in c ss) (open_run c (run_in c ss))
+    one_at : (s : Section) (w : Want) → IsOneAt c (cond (is_turn w) None (Some s.party)) w (section_of c s.party w stays)
+    one_at s (Calls k) = record { cell = refl; party = refl; asked = asked_run (Calls k) refl; known = known }
+    one_at s Turns = record { cell = refl; asked = refl }
+
+    run_runs : (ss : List Section) → RunsAt c (runner_in c ss) (open_run c stays (run_in c ss))
     run_runs [] = tt
     run_runs (s ∷ ss) = by (s.cell == c) (run_runs ss)
       where
-        by : (b : Bool) → RunsAt c (runner_in c ss) (open_run c (run_in c ss))
-            → RunsAt c (cond b (Some s.party) (runner_in c ss)) (open_run c (cond b (Some (record { party = s.party; call = call_of s.want; outer = cell_of (innermost s.party ss) })) (run_in c ss)))
-        by true rest = record { cell = refl; party = refl; asked = asked_run (call_of s.want); known = record { below = omega (arith) } }
+        by : (b : Bool) → RunsAt c (runner_in c ss) (open_run c stays (run_in c ss))
+            → RunsAt c (runner_of (cond b (Some s) (find (runs_in c) ss))) (open_run c stays (cond b (Some (record { party = s.party; want = s.want; outer = cell_of_section (innermost s.party ss) })) (run_in c ss)))
+        by true rest = one_at s s.want
         by false rest = rest
+
+-- the flags that stay are known
+stays_at_known : (x : CellPlan) (p : ℕ) (o : Option Section) → IsKnown (phase_of p) → IsKnown (stays_at x p o)
+stays_at_known x p None known = record { below = omega arith }
+stays_at_known x p (Some s) known = stays_known x s.want s.is_open p known
 
 -- ---- rows that stand for a history
 
@@ -146,11 +160,14 @@ module _ (cells : List CellPlan) (h : List Event) (v : View) (t : Tracks cells h
         parks = t.locked.readers_count ∙ sym as_many;
       }
     where
+      stays : ℕ → Phase
+      stays c = stays_at (cell_at cells c) (phase_at cells c h) (find (runs_in c) (sections h))
+
       holds_at : (c : ℕ) → c < length cells → c < length v.cells → HoldsAt v c
       holds_at c lt inside_rows =
           let reads = reads_counted c in
           let writes = writes_counted c in
-          let section = section_counted c (inside cells h) (find (writes_cell c) (guards h)) (sections h) in
+          let section = section_counted c (stays c) (inside cells h) (find (writes_cell c) (guards h)) (sections h) in
           let apart : _ = (t.locked.apart c).one in
           let shown = open_reads_shown c (waits cells h) v.parks t.locked.single t.locked.shows cells h (core cells c h) (agrees_core cells c h (waits cells h)) in
           record {
@@ -162,7 +179,7 @@ module _ (cells : List CellPlan) (h : List Event) (v : View) (t : Tracks cells h
             kind_is = t.locked.place c lt;
             runner = runner_in c (sections h);
             runner_is = t.run_by.each c lt;
-            runs = section_runs c (inside cells h) (find (writes_cell c) (guards h)) (sections h);
+            runs = section_runs c (stays c) (inside cells h) (find (writes_cell c) (guards h)) (sections h) (stays_at_known (cell_at cells c) (phase_at cells c h) (find (runs_in c) (sections h)) (phase_known cells c h));
             fits = t.locked.fits c lt;
             reads = omega (arith, reads, shown);
             one = omega (arith, writes, section, apart);

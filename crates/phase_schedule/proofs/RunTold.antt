@@ -14,6 +14,7 @@ use Rattle.schedule_rules.specs.Replay.{replay, inside}
 use Rattle.schedule_rules.specs.Transcripts.{AreFinals, final_of, told}
 use Rattle.phase_schedule.specs.declared.rows.CellRow.{CellRow}
 use Rattle.phase_schedule.specs.View.{Made, View}
+use Rattle.phase_schedule.specs.Exiting.{IsExiting}
 use Rattle.phase_schedule.specs.Kept.{cell_row, last_of, open_after, record_in}
 use Rattle.phase_schedule.specs.Tracks.{Follows, FollowsStep, Tracks, event, plans}
 use Rattle.phase_schedule.specs.Ready.{IsNext}
@@ -40,6 +41,7 @@ is_next h x steps s can =
       ready = record { follows = subst (λ y. Follows y x.rows) (sym can.history) can.made.follows; room = omega (arith, can.room, long); party = can.known.party };
       number = sym long;
       known = can.known;
+      exit = subst (λ y. IsExiting (plans x.rows) y (length x.rows.guards) x.rows.exit) (sym can.history) can.made.exit;
     }
   where
     long : length h ≡ length steps
@@ -52,6 +54,7 @@ has_stepped h old new steps s l can did lines room finals final_room =
     record {
       made = record {
         follows = subst (λ cs. Tracks cs (past new (steps ++ s ∷ [])) new.rows) (sym planned) (subst (λ y. Tracks (plans old.rows) y new.rows) (sym grown) did.follows);
+        exit = rw (planned, grown, did.guards) did.exit;
         lines = ap length lines ∙ counted_more old.lines l (length old.lines) refl ∙ ap (λ n. n + 1) can.made.lines ∙ sym (counted_more steps s (length steps) refl);
         line_room = let e : _ = can.made.line_room in let g : _ = did.guards in omega (arith, e, g, room);
         finals = finals ∙ can.made.finals;

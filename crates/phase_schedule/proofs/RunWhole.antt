@@ -4,6 +4,7 @@ use Rattle.std.proofs.lemmas.Grind.{common_steps}
 use Rattle.schedule_rules.specs.declared.plan.Plan.{Plan}
 use Rattle.schedule_rules.specs.declared.step.Step.{Step}
 use Rattle.schedule_rules.specs.declared.transcript.Transcript.{Transcript}
+use Rattle.schedule_rules.specs.Exits.{ended_turns}
 use Rattle.schedule_rules.specs.Legal.{IsLegal}
 use Rattle.schedule_rules.specs.Transcripts.{AreFinals, IsKnown, IsLegalTranscript, account_of, schedule_of, told}
 use Rattle.phase_schedule.specs.Errors.{cause_of}
@@ -30,12 +31,13 @@ module _ (plan : Plan) (steps : List Step) (x : Made) (i : ℕ) (made : HasMade 
       same_cells = planned_length x.rows.cells plan.cells.items planned
 
   -- after the last step the transcript is legal
-  pub legal_transcript : (t : Transcript) → length steps ≤ i → t.lines.items ≡ x.lines → t.finals.items ≡ finals_of x.rows → IsLegalTranscript (schedule_of plan steps) (account_of t)
-  legal_transcript t le lines finals =
+  pub legal_transcript : (t : Transcript) → length steps ≤ i → t.lines.items ≡ x.lines → t.finals.items ≡ finals_of x.rows → t.exits.items ≡ x.rows.exit.turns → IsLegalTranscript (schedule_of plan steps) (account_of t)
+  legal_transcript t le lines finals exits =
       record {
         lines = ap length lines ∙ made.lines ∙ ap length all;
         legal = subst (λ cs. IsLegal cs (told [] steps t.lines.items)) planned (subst (λ h. IsLegal (plans x.rows) h) same made.follows.legal);
         finals = subst (λ cs. AreFinals t.finals.items cs (told [] steps t.lines.items)) planned (subst (λ h. AreFinals t.finals.items (plans x.rows) h) same (finals_are (past x (take i steps)) x.rows t.finals.items made.follows finals));
+        exits = exits ∙ made.exit.turns_are ∙ ap ended_turns same;
       }
     where
       all : take i steps ≡ steps

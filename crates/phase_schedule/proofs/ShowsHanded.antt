@@ -12,7 +12,7 @@ use Rattle.phase_locker.proofs.Counts.{is_one-if, write_inside}
 use Rattle.phase_locker.proofs.Shares.{row-shared_other}
 use Rattle.phase_locker.proofs.Handed.{row-shared_same}
 use Rattle.phase_locker.proofs.Holding.{all_read}
-use Rattle.schedule_rules.specs.Calls.{Want}
+use Rattle.schedule_rules.specs.declared.step.Want.{Want}
 use Rattle.schedule_rules.specs.Waits.{Wait, wait_of, parks_to_read, parks_to_write, parked_readers, parked_writers, wake_reader, wake_writer}
 use Rattle.phase_schedule.specs.Shown.{Shows, wait_row}
 use Rattle.phase_schedule.proofs.Each.{writer_other}

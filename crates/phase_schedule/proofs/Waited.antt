@@ -44,6 +44,9 @@ module _ (cells : List CellPlan) where
     due_by ws chosen act.Again e = refl
     due_by ws chosen (act.Made v) e = absurd (cc)
     due_by ws chosen act.MadeFailed e = absurd (cc)
+    due_by ws chosen act.Finished e = absurd (cc)
+    due_by ws chosen act.FinishFailed e = absurd (cc)
+    due_by ws chosen act.Exit e = refl
     due_by ws chosen (act.Look g) e = absurd (cc)
     due_by ws chosen (act.Set g v) e = absurd (cc)
     due_by ws chosen (act.Release g) e = absurd (cc)

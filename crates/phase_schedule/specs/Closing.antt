@@ -7,7 +7,9 @@ use Rattle.phase_bits.specs.Number.{IsKnown}
 use Rattle.phase_locker.specs.declared.ways.LockerKind.{LockerKind}
 use Rattle.phase_locker.specs.Fits.{Fits, IsWriteOpen, open_reads}
 use Rattle.phase_seq.specs.declared.section.Section.{Section as SeqSection}
-use Rattle.phase_seq.specs.Asks.{initializes}
+use Rattle.phase_seq.specs.Asks.{initializes, finalizes}
+use Rattle.schedule_rules.specs.declared.step.Want.{Want}
+use Rattle.schedule_rules.specs.declared.step.Want.TheVariants.{Calls, Turns}
 use Rattle.phase_schedule.specs.declared.rows.CellRow.{CellRow}
 use Rattle.phase_schedule.specs.declared.rows.GuardRow.{GuardRow}
 use Rattle.phase_schedule.specs.declared.rows.GuardRow.TheVariants as guard
@@ -27,10 +29,10 @@ writes_row c guard.Free = false
 writes_row c (guard.Read q d lock) = false
 writes_row c (guard.Write q d lock) = d == c
 
--- how many write locks an open section holds of itself: that of a generator's section
+-- how many write locks an open section holds of itself: that of a section that runs
 abbrev pub locks_of : Option OpenSection → ℕ
 locks_of None = 0
-locks_of (Some (open_as.Generates r section)) = 1
+locks_of (Some (open_as.Runs r section)) = 1
 locks_of (Some (open_as.Guarded d)) = 0
 
 -- the section is the one of the cell, of the party that runs there, a run was asked for, and the flags that stay are
@@ -41,10 +43,20 @@ pub record IsSectionAt (c : ℕ) (running : Option ℕ) (section : SeqSection) :
   pub asked : initializes section.want ≡ true
   pub known : IsKnown section.stays
 
--- where a generator runs in the cell, its section is the one of the cell's sequentializer
+-- the section is the one of the cell, and a finalizer was asked for
+pub record IsFinalAt (c : ℕ) (section : SeqSection) : Type 0 where
+  pub cell : section.who.cell ≡ c
+  pub asked : finalizes section.want ≡ true
+
+-- the section that runs is the one of the cell's sequentializer, by what opened it
+abbrev pub IsOneAt : ℕ → Option ℕ → Want → SeqSection → Type 0
+IsOneAt c running (Calls k) section = IsSectionAt c running section
+IsOneAt c running Turns section = IsFinalAt c section
+
+-- where a section runs in the cell, it is the one of the cell's sequentializer
 abbrev pub RunsAt : ℕ → Option ℕ → Option OpenSection → Type 0
 RunsAt c running None = Unit {0}
-RunsAt c running (Some (open_as.Generates r section)) = IsSectionAt c running section
+RunsAt c running (Some (open_as.Runs r section)) = IsOneAt c running r.want section
 RunsAt c running (Some (open_as.Guarded d)) = Unit {0}
 
 -- the locks of the cell that the rows hold are open at its locker, and the section that runs is its sequentializer's
@@ -78,6 +90,21 @@ pub record HoldsLocks (v : View) : Type 0 where
   pub places : length v.places ≡ length v.cells
   pub runners : length v.running ≡ length v.cells
   pub parks : length v.parks.readers ≡ length v.cells
+
+-- besides the locks and sections of the rows, this section is open at the cell, whose row has none
+pub record HoldsSection (v : View) (c : ℕ) (w : Want) (section : SeqSection) : Type 0 where
+  pub cell : c < length v.cells
+  pub others : HoldsLocks v
+  pub row : CellRow
+  pub row_is : slice_get v.cells c ≡ Some row
+  pub idle : row.section ≡ None
+  pub alone : count_by (writes_row c) v.guards ≡ 0
+  pub runner : Option ℕ
+  pub runner_is : slice_get v.running c ≡ Some runner
+  pub one : IsOneAt c runner w section
+  pub record_of : Holders
+  pub record_is : slice_get v.held c ≡ Some record_of
+  pub opened : IsWriteOpen record_of v.parks c
 
 -- the row of no guard
 abbrev pub IsFree : GuardRow → Type 0

@@ -1,11 +1,13 @@
 pub mod Errors
 pub mod Standing
+pub mod Exiting
 pub mod View
 pub mod Shown
 pub mod Kept
 pub mod Meets
 pub mod Tracks
 pub mod Ready
+pub mod Answered
 pub mod Closing
 pub mod Progress
 pub mod Inside
@@ -21,6 +23,7 @@ pub use Rattle.schedule_rules.specs.History
 pub use Rattle.schedule_rules.specs.Sections
 pub use Rattle.schedule_rules.specs.Guards
 pub use Rattle.schedule_rules.specs.Replay
+pub use Rattle.schedule_rules.specs.Exits
 pub use Rattle.schedule_rules.specs.Waits
 pub use Rattle.schedule_rules.specs.Holds
 pub use Rattle.schedule_rules.specs.Refusals

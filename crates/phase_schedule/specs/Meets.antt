@@ -1,5 +1,5 @@
 -- What is read off single rows.
-use Rattle.std.specs.Prelude.{ℕ, Bool, false, ◌==◌, if◌then◌else◌}
+use Rattle.std.specs.Prelude.{ℕ, false, ◌==◌, if◌then◌else◌}
 use Rattle.std.specs.declared.option.Option.{Option}
 use Rattle.std.specs.declared.option.Option.TheVariants.{None, Some}
 use Rattle.phase_locker.specs.declared.tickets.LockNature.{LockNature}
@@ -13,7 +13,10 @@ use Rattle.schedule_rules.specs.declared.plan.Call.TheVariants as call
 use Rattle.phase_seq.specs.declared.section.Section.{Section as SeqSection}
 use Rattle.phase_seq.specs.declared.section.Finished.{Finished}
 use Rattle.phase_seq.specs.declared.section.Finished.TheVariants as finished
-use Rattle.schedule_rules.specs.declared.plan.Call.{Call}
+use Rattle.schedule_rules.specs.declared.step.Want.{Want}
+use Rattle.schedule_rules.specs.declared.step.Want.TheVariants.{Calls, Turns}
+use Rattle.schedule_rules.specs.declared.line.Answer.{Answer}
+use Rattle.schedule_rules.specs.declared.line.Answer.TheVariants as answer
 use Rattle.schedule_rules.specs.declared.plan.CellPlan.{CellPlan}
 use Rattle.schedule_rules.specs.Calls.{Nature, Reads, Writes}
 use Rattle.schedule_rules.specs.Guards.{Guard}
@@ -27,22 +30,17 @@ use Rattle.phase_schedule.specs.declared.rows.OpenSection.{OpenSection}
 use Rattle.phase_schedule.specs.declared.rows.OpenSection.TheVariants as open_as
 use Rattle.phase_schedule.specs.declared.rows.RunRow.{RunRow}
 
--- the section whose generator runs
+-- the section whose generator or finalizer runs
 abbrev pub run_of : Option OpenSection → Option RunRow
 run_of None = None
-run_of (Some (open_as.Generates r section)) = Some r
+run_of (Some (open_as.Runs r section)) = Some r
 run_of (Some (open_as.Guarded d)) = None
 
 -- what the holder of a write guard sees
 abbrev pub drafted : Option OpenSection → Option Draft
 drafted None = None
-drafted (Some (open_as.Generates r section)) = None
+drafted (Some (open_as.Runs r section)) = None
 drafted (Some (open_as.Guarded d)) = Some d
-
--- the party runs it
-abbrev pub ran_by : ℕ → Option RunRow → Bool
-ran_by p None = false
-ran_by p (Some r) = r.party == p
 
 -- what a row holds for a party
 abbrev pub held_for : ℕ → GuardRow → Held
@@ -80,29 +78,29 @@ IsWriting (guard.Write q c lock) = Unit {0}
 -- a write guard carries the section
 abbrev pub IsGuarded : Option OpenSection → Type 0
 IsGuarded None = ⊥
-IsGuarded (Some (open_as.Generates r section)) = ⊥
+IsGuarded (Some (open_as.Runs r section)) = ⊥
 IsGuarded (Some (open_as.Guarded d)) = Unit {0}
 
--- the section's generator runs
+-- the section's generator or finalizer runs
 abbrev pub IsGenerating : Option OpenSection → Type 0
 IsGenerating None = ⊥
-IsGenerating (Some (open_as.Generates r section)) = Unit {0}
+IsGenerating (Some (open_as.Runs r section)) = Unit {0}
 IsGenerating (Some (open_as.Guarded d)) = ⊥
 
 -- the section after its holder set a value
 abbrev pub put_section : ℕ → Option OpenSection → Option OpenSection
 put_section v None = None
-put_section v (Some (open_as.Generates r section)) = Some (open_as.Generates r section)
+put_section v (Some (open_as.Runs r section)) = Some (open_as.Runs r section)
 put_section v (Some (open_as.Guarded d)) = Some (open_as.Guarded (record { phase = d.phase; value = Some v }))
 
 -- the row after its holder set a value
 abbrev pub put_row : ℕ → CellRow → CellRow
 put_row v row = record { plan = row.plan; value = row.value; section = put_section v row.section }
 
--- the section whose generator runs, as its sequentializer gave it
+-- the section that runs, as its sequentializer gave it
 abbrev pub section_in : Option OpenSection → Option SeqSection
 section_in None = None
-section_in (Some (open_as.Generates r section)) = Some section
+section_in (Some (open_as.Runs r section)) = Some section
 section_in (Some (open_as.Guarded d)) = None
 
 -- the end of the run leaves a read lock
@@ -126,15 +124,21 @@ IsFailed (finished.Write lock p) = ⊥
 IsFailed (finished.Phase p) = ⊥
 IsFailed (finished.Failed p) = Unit {0}
 
--- what a call with this want asks of a cell
+-- what is asked of a cell by what wants this
 abbrev pub ask_for : CellPlan → SeqWant → Ask
-ask_for x w = record { want = w; fast = false; tol = record { retry = x.retry; leak = false } }
+ask_for x w = record { want = w; fast = false; tol = record { retry = x.retry; leak = x.leak } }
 
--- what a call asks of its cell
-abbrev pub ask_of : CellPlan → Call → Option Ask
-ask_of x call.Phase = None
-ask_of x call.Read = Some (ask_for x want.Read)
-ask_of x call.Write = Some (ask_for x want.Write)
+-- what is asked of a cell: nothing by a call for its phase
+abbrev pub ask_of : CellPlan → Want → Option Ask
+ask_of x (Calls call.Phase) = None
+ask_of x (Calls call.Read) = Some (ask_for x want.Read)
+ask_of x (Calls call.Write) = Some (ask_for x want.Write)
+ask_of x Turns = Some (ask_for x want.Finalize)
+
+-- the answer of what opens a section that runs in the cell with this number
+abbrev pub opened_answer : Want → ℕ → Answer
+opened_answer (Calls k) c = answer.Running
+opened_answer Turns c = answer.Finalizing c
 
 -- what a step gave, of which one part at most is something
 abbrev pub given_first : Given → Given → Given

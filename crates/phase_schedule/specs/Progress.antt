@@ -12,6 +12,7 @@ use Rattle.schedule_rules.specs.History.{Event}
 use Rattle.schedule_rules.specs.Transcripts.{IsKnown, told}
 use Rattle.phase_schedule.specs.declared.rows.CellRow.{CellRow}
 use Rattle.phase_schedule.specs.View.{View, Made}
+use Rattle.phase_schedule.specs.Exiting.{IsExiting}
 use Rattle.phase_schedule.specs.Kept.{kind_at, last_of}
 use Rattle.phase_schedule.specs.Tracks.{Follows, plans}
 
@@ -26,6 +27,7 @@ pub record AreFresh (plan : Plan) (count : ℕ) (v : View) : Type 0 where
   pub cells : length v.cells ≡ length plan.cells.items
   pub guards : length v.guards ≡ count
   pub parties : length v.parties ≡ plan.parties
+  pub exit : IsExiting plan.cells.items [] count v.exit
 
 -- the history of these steps with the lines so far
 abbrev pub past : Made → List Step → List Event
@@ -34,6 +36,7 @@ past x steps = told [] steps x.lines
 -- these steps were made, and all room was taken before
 pub record HasMade (x : Made) (steps : List Step) : Type 0 where
   pub follows : Follows (past x steps) x.rows
+  pub exit : IsExiting (plans x.rows) (past x steps) (length x.rows.guards) x.rows.exit
   pub lines : length x.lines ≡ length steps
   pub line_room : length x.rows.guards ≤ x.line_room
   pub finals : x.finals ≡ []

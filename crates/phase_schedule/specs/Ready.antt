@@ -1,20 +1,12 @@
 -- What the deeds on rows may count on.
-use Rattle.std.specs.Prelude.{◌⊎◌, ℕ, Bool, true, false, List, ◌∷◌, ◌≡◌, ◌≢◌, ◌<◌, length, if◌then◌else◌}
+use Rattle.std.specs.Prelude.{ℕ, Bool, true, false, List, [], ◌∷◌, ◌≡◌, ◌≢◌, ◌<◌, length, if◌then◌else◌}
 use Rattle.std.specs.List.{find}
 use Rattle.std.specs.declared.option.Option.{Option}
 use Rattle.std.specs.declared.option.Option.TheVariants.{None, Some}
 use Rattle.phase_bits.specs.declared.phase.Phase.{Phase}
-use Rattle.phase_bits.specs.Number.{phase_of}
-use Rattle.phase_locker.specs.Natures.{read_ticket, write_ticket}
-use Rattle.phase_locker.specs.declared.ways.Who.{Who}
-use Rattle.phase_locker.specs.declared.ways.Given.TheVariants.{Nobody}
-use Rattle.phase_seq.specs.declared.ask.Ask.{Ask}
-use Rattle.phase_seq.specs.declared.section.Begun.{Begun}
-use Rattle.phase_seq.specs.declared.section.Begun.TheVariants as begun
-use Rattle.phase_seq.specs.declared.section.Section.{Section as SeqSection}
-use Rattle.phase_seq.specs.Begins.{begun_by}
-use Rattle.schedule_rules.specs.Answers.{if_accessible}
-use Rattle.schedule_rules.specs.Phases.{is_accessible}
+use Rattle.exit_registry.specs.declared.turns.Turn.{Turn}
+use Rattle.exit_registry.specs.declared.turns.Turn.TheVariants as turn
+use Rattle.schedule_rules.specs.Answers.{if_accessible, answer_of_run}
 use Rattle.phase_locker.specs.declared.tickets.Attempt.{Attempt}
 use Rattle.phase_locker.specs.declared.tickets.Attempt.TheVariants.{Got, Wait}
 use Rattle.phase_locker.specs.declared.tickets.LockResult.{LockResult}
@@ -30,12 +22,15 @@ use Rattle.schedule_rules.specs.declared.step.Step.{Step}
 use Rattle.schedule_rules.specs.declared.line.Answer.{Answer}
 use Rattle.schedule_rules.specs.declared.line.Answer.TheVariants as answer
 use Rattle.schedule_rules.specs.Kinds.{cell_at}
-use Rattle.schedule_rules.specs.Calls.{Calls, asks, call_initializes}
-use Rattle.schedule_rules.specs.History.{Event, act_of}
-use Rattle.schedule_rules.specs.Sections.{Section, innermost, without_innermost, runs, sections}
+use Rattle.schedule_rules.specs.Calls.{asks}
+use Rattle.schedule_rules.specs.declared.step.Want.{Want}
+use Rattle.schedule_rules.specs.declared.step.Want.TheVariants.{Calls, Turns}
+use Rattle.schedule_rules.specs.History.{Event, act_of, accepts}
+use Rattle.schedule_rules.specs.Sections.{Section, innermost, is_turn, without_innermost, runs, sections}
 use Rattle.schedule_rules.specs.Guards.{Guard, numbered, guards, reader, writer}
 use Rattle.schedule_rules.specs.Replay.{replay, phase_at, inside}
-use Rattle.schedule_rules.specs.Waits.{Wait as WaitingCall, attempt, wait_of, with_wait, waits, waits_given, other_waits}
+use Rattle.schedule_rules.specs.Exits.{finishing, registry}
+use Rattle.schedule_rules.specs.Waits.{Wait as WaitingCall, act_for, attempt, wait_of, with_wait, waits, waits_given, other_waits, cell_of_section}
 use Rattle.schedule_rules.specs.Holds.{writes_cell}
 use Rattle.schedule_rules.specs.Refusals.{refusal}
 use Rattle.schedule_rules.specs.Legal.{IsLegal, IsLegalLine}
@@ -44,8 +39,8 @@ use Rattle.phase_schedule.specs.declared.rows.Draft.{Draft}
 use Rattle.phase_schedule.specs.declared.look_up.Run.{Run}
 use Rattle.phase_schedule.specs.declared.rows.Target.{Target}
 use Rattle.phase_schedule.specs.View.{View}
-use Rattle.phase_schedule.specs.Kept.{Open, open_after, cell_of, call_of, draft_of, section_of, target_of}
-use Rattle.phase_schedule.specs.Meets.{ask_of}
+use Rattle.phase_schedule.specs.Exiting.{IsExiting, HasTaken}
+use Rattle.phase_schedule.specs.Kept.{Open, open_after, draft_of, target_of}
 use Rattle.phase_schedule.specs.Tracks.{Follows, IsSteady, Kept, Locked, RunBy, plans}
 
 -- the rows stand for the history, and have a place for one step more, of this party
@@ -59,28 +54,31 @@ pub record IsNext (h : List Event) (v : View) (s : Step) (n : ℕ) : Type 0 wher
   pub ready : IsReady h v s
   pub number : n ≡ length h
   pub known : IsKnown (length v.parties) (length v.cells) s
+  pub exit : IsExiting (plans v) h (length v.guards) v.exit
 
 -- ---- attempts
 
--- a call, or one more attempt of one
+-- a call, one more attempt, or a step of the exit
 abbrev pub is_try : Act → Bool
 is_try (act.Call c k) = true
 is_try act.Again = true
+is_try act.Exit = true
 is_try _ = false
 
--- the step attempts this call
+-- the step attempts this
 pub record Tries (cells : List CellPlan) (h : List Event) (s : Step) (t : Target) : Type 0 where
   pub tries : is_try s.act ≡ true
   pub free : refusal cells h s ≡ None
-  pub attempted : attempt cells h s ≡ Some (record { cell = t.cell; want = Calls t.call })
-  pub does : act_of h s ≡ act.Call t.cell t.call
+  pub attempted : attempt cells h s ≡ Some (record { cell = t.cell; want = t.want })
+  pub does : act_of h s ≡ act_for t.cell t.want
 
--- the step with the next number attempts this call at a known cell
+-- the step with the next number attempts this at a known cell
 pub record IsAttempt (h : List Event) (v : View) (s : Step) (n : ℕ) (t : Target) : Type 0 where
   pub ready : IsReady h v s
   pub number : n ≡ length h
   pub cell : t.cell < length v.cells
   pub tries : Tries (plans v) h s t
+  pub exit : HasTaken (plans v) h s (length v.guards) v.exit
 
 -- its party does not wait
 pub record IsFirst (h : List Event) (v : View) (s : Step) (n : ℕ) (t : Target) : Type 0 where
@@ -105,19 +103,29 @@ module _ (cells : List CellPlan) (h : List Event) (s : Step) (t : Target) where
   abbrev pub phase_now : ℕ
   phase_now = phase_at cells t.cell h
 
-  -- a run is asked
+  -- a section that runs is opened where the lock to write is got: a run is asked, or it is a turn
   abbrev pub asks_run : Bool
-  asks_run = asks (cell_at cells t.cell) (Calls t.call) phase_now
+  asks_run = if is_turn t.want then true else asks (cell_at cells t.cell) t.want phase_now
 
   -- this answer where the value may be accessed
   abbrev pub if_made : Answer → Answer
   if_made a = if_accessible (cell_at cells t.cell) (replay cells t.cell h) a
 
-  -- the answer of a call that got this of its locker
+  -- the answer of what wants no lock
+  abbrev pub answer_unlocked : Want → Phase → Answer
+  answer_unlocked (Calls k) q = answer.Phase q
+  answer_unlocked Turns q = answer.Skipped t.cell
+
+  -- the answer of what is to open a section that runs
+  abbrev pub answer_to_run : Want → Answer
+  answer_to_run (Calls k) = answer_of_run (cell_at cells t.cell) (accepts h) (replay cells t.cell h)
+  answer_to_run Turns = answer.Finalizing t.cell
+
+  -- the answer of what got this of its locker
   abbrev pub answer_of_lock : Lock → Answer
-  answer_of_lock (got.None q) = answer.Phase q
+  answer_of_lock (got.None q) = answer_unlocked t.want q
   answer_of_lock (got.Read lock) = if_made answer.ReadGuard
-  answer_of_lock (got.Write lock) = if asks_run then answer.Running else if_made answer.WriteGuard
+  answer_of_lock (got.Write lock) = if asks_run then answer_to_run t.want else if_made answer.WriteGuard
 
   -- the answer of the attempt, by what its locker answered
   abbrev pub answer_by : Attempt → Answer
@@ -131,7 +139,7 @@ module _ (cells : List CellPlan) (h : List Event) (s : Step) (t : Target) where
   -- one section more
   abbrev pub with_section : List WaitingCall → Open
   with_section ws =
-      record { waits = ws; sections = record { party = s.party; cell = t.cell; want = Calls t.call; start = length h } ∷ sections h; guards = guards h }
+      record { waits = ws; sections = record { party = s.party; cell = t.cell; want = t.want; start = length h; is_open = accepts h } ∷ sections h; guards = guards h }
 
   -- one guard more
   abbrev pub with_guard : Guard → List WaitingCall → Open
@@ -145,7 +153,7 @@ module _ (cells : List CellPlan) (h : List Event) (s : Step) (t : Target) where
 
   -- what stands open after the attempt, by what its locker answered and gave, as long as the call keeps what it got
   abbrev pub opened_by : Attempt → Given → Open
-  opened_by (Wait way) g = still_open (with_wait s.party way (Some (record { cell = t.cell; want = Calls t.call })) (waits_left g))
+  opened_by (Wait way) g = still_open (with_wait s.party way (Some (record { cell = t.cell; want = t.want })) (waits_left g))
   opened_by (Got lock) g = opened_by_lock lock (waits_left g)
 
 -- the locker of the cell answered so and gave this, and the other rows are as they were
@@ -162,78 +170,6 @@ pub record IsAnswered (h : List Event) (v : View) (s : Step) (n : ℕ) (t : Targ
   pub tries : Tries (plans v) h s t
   pub line : IsLegalLine (plans v) h s (record { answer = answer_by (plans v) h s t a; given = g })
 
--- the party of the call, and its cell
-abbrev pub who_of : Step → Target → Who
-who_of s t = record { cell = t.cell; party = s.party }
-
--- what the sequentializer begins for the call, by what its locker answered
-abbrev pub begun_for : List CellPlan → List Event → Step → Target → Option Ask → Attempt → Begun
-begun_for cells h s t None a = begun.Missed
-begun_for cells h s t (Some ask) a = begun_by (who_of s t) ask (phase_of (phase_at cells t.cell h)) a
-
--- the call was one attempt at a lock, which the sequentializer answered so
-pub record IsTried (h : List Event) (v : View) (s : Step) (n : ℕ) (t : Target) (b : Begun) (g : Given) : Type 0 where
-  pub attempt : Attempt
-  pub answered : IsAnswered h v s n t attempt g
-  pub asked : ask_of (cell_at (plans v) t.cell) t.call ≢ None
-  pub begun : b ≡ begun_for (plans v) h s t (ask_of (cell_at (plans v) t.cell) t.call) attempt
-
--- the sequentializer turned the call back before any lock was tried
-pub record IsTurnedBack (h : List Event) (v : View) (s : Step) (n : ℕ) (t : Target) (b : Begun) (g : Given) : Type 0 where
-  pub first : IsFirst h v s n t
-  pub begun : b ≡ begun.Cyclic
-  pub given : g ≡ Nobody
-  pub asks : call_initializes t.call ≡ true
-  pub runs : runs s.party t.cell h ≡ true
-
--- the sequentializer answered so
-abbrev pub IsBegun : List Event → View → Step → ℕ → Target → Begun → Given → Type 0
-IsBegun h v s n t b g = IsTurnedBack h v s n t b g ⊎ IsTried h v s n t b g
-
--- the call got a lock to read
-pub record IsReadAt (h : List Event) (v : View) (s : Step) (n : ℕ) (t : Target) (p : Phase) (g : Given) : Type 0 where
-  pub answered : IsAnswered h v s n t (Got (got.Read read_ticket)) g
-  pub phase : p ≡ phase_of (phase_at (plans v) t.cell h)
-
--- the call got the lock to write, and whether a run is asked
-pub record IsOpening (h : List Event) (v : View) (s : Step) (n : ℕ) (t : Target) (asked : Bool) (g : Given) : Type 0 where
-  pub answered : IsAnswered h v s n t (Got (got.Write write_ticket)) g
-  pub asks : asks_run (plans v) h s t ≡ asked
-
--- no run is asked at the phase that the cell has
-pub record IsOpeningAt (h : List Event) (v : View) (s : Step) (n : ℕ) (t : Target) (p : Phase) (g : Given) : Type 0 where
-  pub opening : IsOpening h v s n t false g
-  pub phase : p ≡ phase_of (phase_at (plans v) t.cell h)
-
--- a run is asked, and this is its section
-pub record IsRun (h : List Event) (v : View) (s : Step) (n : ℕ) (t : Target) (opened : SeqSection) (g : Given) : Type 0 where
-  pub opening : IsOpening h v s n t true g
-  pub section : opened ≡ section_of t.cell s.party t.call
-
--- the value may be accessed
-abbrev pub IsMade : List Event → View → Target → Bool → Type 0
-IsMade h v t b = is_accessible (cell_at (plans v) t.cell).kind (phase_at (plans v) t.cell h) ≡ b
-
--- the call gets a read guard
-pub record IsReadGuard (h : List Event) (v : View) (s : Step) (n : ℕ) (t : Target) (g : Given) : Type 0 where
-  pub answered : IsAnswered h v s n t (Got (got.Read read_ticket)) g
-  pub made : IsMade h v t true
-
--- the call gets a write guard
-pub record IsWriteGuard (h : List Event) (v : View) (s : Step) (n : ℕ) (t : Target) (p : Phase) (g : Given) : Type 0 where
-  pub opening : IsOpeningAt h v s n t p g
-  pub made : IsMade h v t true
-
--- the call may not access the value, and has a lock to read
-pub record IsDeniedRead (h : List Event) (v : View) (s : Step) (n : ℕ) (t : Target) (p : Phase) (g : Given) : Type 0 where
-  pub reads : IsReadAt h v s n t p g
-  pub made : IsMade h v t false
-
--- the call may not access the value, and has the lock to write
-pub record IsDeniedWrite (h : List Event) (v : View) (s : Step) (n : ℕ) (t : Target) (p : Phase) (g : Given) : Type 0 where
-  pub opening : IsOpeningAt h v s n t p g
-  pub made : IsMade h v t false
-
 -- ---- the acts of a party that does not wait
 
 -- the party that makes the step does not wait
@@ -241,7 +177,7 @@ pub record IsIdle (h : List Event) (v : View) (s : Step) (n : ℕ) : Type 0 wher
   pub next : IsNext h v s n
   pub idle : wait_of s.party (waits (plans v) h) ≡ None
 
--- the party that makes the step waits with this call
+-- the party that makes the step waits with this
 pub record IsWaiting (h : List Event) (v : View) (s : Step) (n : ℕ) (t : Target) : Type 0 where
   pub next : IsNext h v s n
   pub waiting : target_of (wait_of s.party (waits (plans v) h)) ≡ Some t
@@ -249,6 +185,7 @@ pub record IsWaiting (h : List Event) (v : View) (s : Step) (n : ℕ) (t : Targe
 -- a party that does not wait does this
 pub record IsActing (h : List Event) (v : View) (s : Step) (a : Act) : Type 0 where
   pub ready : IsReady h v s
+  pub exit : IsExiting (plans v) h (length v.guards) v.exit
   pub idle : wait_of s.party (waits (plans v) h) ≡ None
   pub acts : s.act ≡ a
 
@@ -267,8 +204,8 @@ pub record IsInnermost (h : List Event) (v : View) (p : ℕ) (run : Run) : Type 
   pub section : Section
   pub found : innermost p (sections h) ≡ Some section
   pub cell : section.cell ≡ run.cell
-  pub call : call_of section.want ≡ run.call
-  pub outer : run.outer ≡ cell_of (innermost p (without_innermost p (sections h)))
+  pub want : section.want ≡ run.want
+  pub outer : run.outer ≡ cell_of_section (innermost p (without_innermost p (sections h)))
   pub inside : run.cell < length v.cells
 
 -- the innermost section that the party runs, where there is one
@@ -280,18 +217,39 @@ IsInnermostOr h v p (Some run) = IsInnermost h v p run
 pub record IsMadeToRead (h : List Event) (v : View) (s : Step) (n value : ℕ) (run : Run) : Type 0 where
   pub made : IsNumbered h v s n (act.Made value)
   pub ended : IsInnermost h v s.party run
-  pub reads : run.call ≡ call.Read
+  pub reads : run.want ≡ Calls call.Read
 
 -- the party's generator made a value, and what asked for it leaves a write guard
 pub record IsMadeToWrite (h : List Event) (v : View) (s : Step) (n value : ℕ) (run : Run) : Type 0 where
   pub made : IsNumbered h v s n (act.Made value)
   pub ended : IsInnermost h v s.party run
-  pub writes : run.call ≢ call.Read
+  pub runs : is_turn run.want ≡ false
+  pub writes : run.want ≢ Calls call.Read
 
 -- the party's generator failed
 pub record IsFailing (h : List Event) (v : View) (s : Step) (run : Run) : Type 0 where
   pub acting : IsActing h v s act.MadeFailed
   pub ended : IsInnermost h v s.party run
+  pub runs : is_turn run.want ≡ false
+
+-- how its turn ends
+abbrev pub turn_of : Bool → Turn
+turn_of fine = if fine then turn.Done else turn.Failed
+
+-- the party's finalizer ended
+pub record IsFinishing (h : List Event) (v : View) (s : Step) (run : Run) (fine : Bool) : Type 0 where
+  pub acting : IsActing h v s (finishing fine)
+  pub ended : IsInnermost h v s.party run
+  pub turns : run.want ≡ Turns
+
+-- the party may make a step of the exit, owns it, and no cell is left
+pub record IsLooking (h : List Event) (v : View) (s : Step) : Type 0 where
+  pub ready : IsReady h v s
+  pub idle : wait_of s.party (waits (plans v) h) ≡ None
+  pub acts : s.act ≡ act.Exit
+  pub free : refusal (plans v) h s ≡ None
+  pub none : (registry (plans v) h).left ≡ []
+  pub exit : HasTaken (plans v) h s (length v.guards) v.exit
 
 -- an open guard of the party on this cell, which writes or reads
 pub record IsHeld (h : List Event) (p g c : ℕ) (w : Bool) : Type 0 where

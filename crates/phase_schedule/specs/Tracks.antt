@@ -21,6 +21,7 @@ use Rattle.schedule_rules.specs.Waits.{Wait, wait_of}
 use Rattle.schedule_rules.specs.Holds.{writes_cell}
 use Rattle.schedule_rules.specs.Legal.{IsLegal}
 use Rattle.phase_schedule.specs.View.{View}
+use Rattle.phase_schedule.specs.Exiting.{IsExiting}
 use Rattle.phase_schedule.specs.Kept.{Open, open_after, cell_row, guard_row, party_row, readers_in, writers_in, drains_in, record_in, runner_in, kind_at, plans_in}
 use Rattle.phase_schedule.specs.Shown.{Shows, IsSingle}
 
@@ -96,8 +97,9 @@ Follows h v = Tracks (plans v) h v
 abbrev pub event : Step → Line → Event
 event s l = record { step = s; line = l }
 
--- after the step with this line the new rows stand for the longer history
+-- after the step with this line the new rows stand for the longer history, and so does the exit
 pub record FollowsStep (h : List Event) (s : Step) (l : Line) (old new : View) : Type 0 where
   pub follows : Tracks (plans old) (event s l ∷ h) new
   pub guards : length new.guards ≡ length old.guards
   pub parties : length new.parties ≡ length old.parties
+  pub exit : IsExiting (plans old) (event s l ∷ h) (length old.guards) new.exit

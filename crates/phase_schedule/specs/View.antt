@@ -8,12 +8,13 @@ use Rattle.phase_schedule.specs.declared.rows.CellRow.{CellRow}
 use Rattle.phase_schedule.specs.declared.rows.GuardRow.{GuardRow}
 use Rattle.phase_schedule.specs.declared.rows.PartyRow.{PartyRow}
 use Rattle.phase_schedule.specs.declared.rows.Rows.{Rows}
+use Rattle.phase_schedule.specs.Exiting.{Exiting, exiting}
 use Rattle.phase_schedule.specs.declared.progress.Progress.{Progress}
 use Rattle.schedule_rules.specs.declared.line.Line.{Line}
 use Rattle.schedule_rules.specs.declared.transcript.Final.{Final}
 
 -- the rows of cells, steps and parties, the records of the lockers and where their calls wait, which party runs the
--- generator of each cell, and who is parked
+-- generator of each cell, who is parked, and where the exit stands
 pub record View : Type 0 where
   pub cells : List CellRow
   pub guards : List GuardRow
@@ -22,6 +23,7 @@ pub record View : Type 0 where
   pub places : List LockerKind
   pub running : List (Option ℕ)
   pub parks : Parking
+  pub exit : Exiting
 
 -- what these rows hold
 abbrev pub view : {L : Type 0} → (L → Holders) → (L → LockerKind) → Rows L → View
@@ -34,6 +36,7 @@ view held place rows =
       places = map (λ q. place q.locker) rows.sequentializers.items;
       running = map (λ q. q.running) rows.sequentializers.items;
       parks = rows.parks;
+      exit = exiting rows.exit;
     }
 
 -- what a run so far holds: its rows, its lines and its finals, and how much room these have

@@ -1,33 +1,35 @@
 //! The attempts of calls.
 
-ghost use Rattle.std.specs.Prelude.{◌≡◌, ℕ, List};
-ghost use Rattle.phase_locker.specs.declared.tickets.Attempt.TheVariants.{Wait};
+ghost use Rattle.std.specs.Prelude.{◌≡◌, List};
 ghost use Rattle.schedule_rules.specs.History.{Event};
 ghost use Rattle.phase_schedule.specs.View.{view};
-ghost use Rattle.phase_schedule.specs.Meets.{ask_of};
+ghost use Rattle.phase_schedule.specs.Meets.{ask_of, opened_answer};
 ghost use Rattle.phase_schedule.specs.Tracks.{FollowsStep};
-ghost use Rattle.phase_schedule.specs.Ready.{IsAgain, IsAnswered, IsBegun, IsFirst, IsOpeningAt, IsReadAt, IsReadGuard, IsRun, IsWriteGuard};
+ghost use Rattle.phase_schedule.specs.Ready.{IsAgain, IsFirst};
+ghost use Rattle.phase_schedule.specs.Answered.{IsBegun, IsRead, IsReadGuard, IsRun, IsSkipped, IsWait, IsWrite, IsWriteGuard};
 
+use crate::begins::{again, begin};
 use crate::line::quiet;
 use crate::rows::{Draft, GuardRow, OpenSection, Rows, RunRow, Target};
 use phase_bits::Phase;
 use phase_locker::{Given, How, PhaseLocker, ReadTicket, Who, WriteTicket};
-use phase_seq::{Ask, Begun, Section, Tolerance, Want};
-use schedule_rules::{Answer, Call, CellPlan, Line, Step};
+use phase_seq::{Ask, Begun, Section, Tolerance};
+use schedule_rules::{Answer, Call, CellPlan, Line, Step, Turn, Want};
 use std::mem;
 
-/// What a call asks of its cell: `None` for `phase`, which asks for nothing but the phase.
-fn ask_of(plan: CellPlan, call: Call) -> Option<Ask>
-    ensures { result ≡ ask_of plan call }
+/// What is asked of a cell: `None` by `phase`, which asks for nothing but the phase.
+fn ask_of(plan: CellPlan, want: Want) -> Option<Ask>
+    ensures { result ≡ ask_of plan want }
 {
-    let want = match call {
-        Call::Phase => return None,
-        Call::Read => Want::Read,
-        Call::Write => Want::Write,
+    let want = match want {
+        Want::Calls(Call::Phase) => return None,
+        Want::Calls(Call::Read) => phase_seq::Want::Read,
+        Want::Calls(Call::Write) => phase_seq::Want::Write,
+        Want::Turns => phase_seq::Want::Finalize,
     };
     let tol = Tolerance {
         retry: plan.retry,
-        leak: false,
+        leak: plan.leak,
     };
     Some(Ask {
         want,
@@ -36,44 +38,71 @@ fn ask_of(plan: CellPlan, call: Call) -> Option<Ask>
     })
 }
 
+/// The answer of an attempt that opens a section which runs.
+fn opened(target: Target) -> Answer
+    ensures { result ≡ opened_answer target.want target.cell }
+{
+    match target.want {
+        Want::Calls(_) => Answer::Running,
+        Want::Turns => Answer::Finalizing(target.cell),
+    }
+}
+
 impl<L: PhaseLocker> Rows<L> {
-    /// A call of a party that does not wait.
+    /// An attempt of a party that does not wait.
     pub fn first(&mut self, n: u32, s: &Step, target: Target) -> Line
         ghost h: { List Event }
         requires { IsFirst h (view L.held L.place self.old) s.now n target }
         ensures { FollowsStep h s.now result (view L.held L.place self.old) (view L.held L.place self.new) }
     {
         let cell = target.cell as usize;
-        let Some(ask) = ask_of(self.cells[cell].plan, target.call) else {
+        let plan = self.cells[cell].plan;
+        let Some(ask) = ask_of(plan, target.want) else {
             return quiet(Answer::Phase(self.sequentializers[cell].locker().phase()));
         };
         let who = Who {
             cell: target.cell,
             party: s.party,
         };
-        let (begun, given) = self.sequentializers[cell].begin(&mut self.parks, who, ask, None);
+        let (begun, given) = begin(
+            &mut self.sequentializers[cell],
+            &mut self.parks,
+            who,
+            ask,
+            plan.kind,
+            &mut self.exit.registry,
+        );
         self.begun(n, s, target, begun, given)
     }
 
-    /// One more attempt of a call that waits.
+    /// One more attempt of a party that waits.
     pub fn again(&mut self, n: u32, s: &Step, target: Target) -> Line
         ghost h: { List Event }
         requires { IsAgain h (view L.held L.place self.old) s.now n target }
         ensures { FollowsStep h s.now result (view L.held L.place self.old) (view L.held L.place self.new) }
     {
         let cell = target.cell as usize;
-        let Some(ask) = ask_of(self.cells[cell].plan, target.call) else {
+        let plan = self.cells[cell].plan;
+        let Some(ask) = ask_of(plan, target.want) else {
             unreachable!();
         };
         let who = Who {
             cell: target.cell,
             party: s.party,
         };
-        let (begun, given) = self.sequentializers[cell].again(&mut self.parks, who, ask, None);
+        let (begun, given) = again(
+            &mut self.sequentializers[cell],
+            &mut self.parks,
+            who,
+            ask,
+            plan.kind,
+            &mut self.exit.registry,
+        );
         self.begun(n, s, target, begun, given)
     }
 
     /// Keeps what the sequentializer answered.
+    #[inline(always)]
     fn begun(&mut self, n: u32, s: &Step, target: Target, begun: Begun, given: Given) -> Line
         ghost h: { List Event }
         requires { IsBegun h (view L.held L.place self.old) s.now n target begun given }
@@ -85,16 +114,16 @@ impl<L: PhaseLocker> Rows<L> {
             Begun::Read(lock, phase) => self.read(n, s, target, phase, lock, given),
             Begun::Write(lock, phase) => self.write(n, s, target, phase, lock, given),
             Begun::Run(section) => self.run(n, s, target, section, given),
-            Begun::Nothing(_) => unreachable!(),
+            Begun::Final(section) => self.run(n, s, target, section, given),
+            Begun::Nothing(_) => self.skip(n, s, target, given),
             Begun::Missed => unreachable!(),
-            Begun::Final(_section) => unreachable!(),
         }
     }
 
     /// The call waits.
     fn wait(&mut self, n: u32, s: &Step, target: Target, how: How, given: Given) -> Line
         ghost h: { List Event }
-        requires { IsAnswered h (view L.held L.place self.old) s.now n target (Wait how) given }
+        requires { IsWait h (view L.held L.place self.old) s.now n target how given }
         ensures { FollowsStep h s.now result (view L.held L.place self.old) (view L.held L.place self.new) }
     {
         self.parties[s.party as usize].waiting = Some(target);
@@ -115,7 +144,7 @@ impl<L: PhaseLocker> Rows<L> {
         given: Given,
     ) -> Line
         ghost h: { List Event }
-        requires { IsReadAt h (view L.held L.place self.old) s.now n target phase given }
+        requires { IsRead h (view L.held L.place self.old) s.now n target phase given }
         ensures { FollowsStep h s.now result (view L.held L.place self.old) (view L.held L.place self.new) }
     {
         if phase.contains(Phase::INITIALIZED) {
@@ -137,7 +166,7 @@ impl<L: PhaseLocker> Rows<L> {
         given: Given,
     ) -> Line
         ghost h: { List Event }
-        requires { IsOpeningAt h (view L.held L.place self.old) s.now n target phase given }
+        requires { IsWrite h (view L.held L.place self.old) s.now n target phase given }
         ensures { FollowsStep h s.now result (view L.held L.place self.old) (view L.held L.place self.new) }
     {
         if phase.contains(Phase::INITIALIZED) {
@@ -147,7 +176,21 @@ impl<L: PhaseLocker> Rows<L> {
         }
     }
 
-    /// Opens a section, whose generator runs.
+    /// A turn ends without a finalizer.
+    fn skip(&mut self, n: u32, s: &Step, target: Target, given: Given) -> Line
+        ghost h: { List Event }
+        requires { IsSkipped h (view L.held L.place self.old) s.now n target given }
+        ensures { FollowsStep h s.now result (view L.held L.place self.old) (view L.held L.place self.new) }
+    {
+        self.parties[s.party as usize].waiting = None;
+        self.exit.end_turn(target.cell, Turn::Skipped);
+        Line {
+            answer: Answer::Skipped(target.cell),
+            given,
+        }
+    }
+
+    /// Opens a section, whose generator or finalizer runs.
     fn run(&mut self, n: u32, s: &Step, target: Target, section: Section, given: Given) -> Line
         ghost h: { List Event }
         requires { IsRun h (view L.held L.place self.old) s.now n target section given }
@@ -156,14 +199,14 @@ impl<L: PhaseLocker> Rows<L> {
         let party = &mut self.parties[s.party as usize];
         let run = RunRow {
             party: s.party,
-            call: target.call,
+            want: target.want,
             outer: party.innermost,
         };
         party.waiting = None;
         party.innermost = Some(target.cell);
-        self.cells[target.cell as usize].open(OpenSection::Generates(run, section));
+        self.cells[target.cell as usize].open(OpenSection::Runs(run, section));
         Line {
-            answer: Answer::Running,
+            answer: opened(target),
             given,
         }
     }

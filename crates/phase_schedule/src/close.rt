@@ -2,19 +2,22 @@
 
 ghost use Rattle.std.specs.Prelude.{◌≡◌, ◌<◌, length, slice_set};
 ghost use Rattle.phase_schedule.specs.View.{view};
-ghost use Rattle.phase_schedule.specs.Closing.{HoldsLocks, AreFree, AreIdle, IsClosedAt};
+ghost use Rattle.phase_schedule.specs.Closing.{HoldsLocks, HoldsSection, AreFree, AreIdle, IsClosedAt};
 ghost use Rattle.phase_schedule.specs.declared.rows.GuardRow.TheVariants.{Free};
 
 use crate::finished::no_lock;
 use crate::lockers::{release_read, release_write};
 use crate::rows::{CellRow, GuardRow, OpenSection, Rows};
 use phase_locker::PhaseLocker;
+use phase_seq::Section;
+use schedule_rules::{Turned, Want};
 use std::mem;
 
 impl<L: PhaseLocker> Rows<L> {
-    /// Gives back what is still open, and ends the rows. It takes no memory.
-    pub fn close(mut self)
+    /// Gives back what is still open, and ends the rows. What is left is the turns that ended. It takes no memory.
+    pub fn close(mut self) -> Vec<Turned>
         requires { HoldsLocks (view L.held L.place self) }
+        ensures { result.items ≡ self.exit.turns.items }
     {
         for guard in 0..self.guards.len() {
             self.close_guard(guard);
@@ -28,9 +31,11 @@ impl<L: PhaseLocker> Rows<L> {
             parties: _,
             sequentializers: _,
             parks: _,
+            exit,
         } = self;
         end_guards(guards);
         end_cells(cells);
+        exit.turns
     }
 
     /// Gives the guard of this row back, where there is one.
@@ -40,6 +45,7 @@ impl<L: PhaseLocker> Rows<L> {
         ensures holds { HoldsLocks (view L.held L.place self.new) }
         ensures guards { self.new.guards.items ≡ slice_set self.old.guards.items guard Free }
         ensures cells { self.new.cells.items ≡ self.old.cells.items }
+        ensures exit { self.new.exit ≡ self.old.exit }
     {
         match mem::replace(&mut self.guards[guard], GuardRow::Free) {
             GuardRow::Free => {},
@@ -63,24 +69,41 @@ impl<L: PhaseLocker> Rows<L> {
         }
     }
 
-    /// Gives the lock of a section whose generator runs back, where there is one.
+    /// Gives the lock of a section that runs back, where there is one.
     fn close_run(&mut self, cell: usize)
         requires holds { HoldsLocks (view L.held L.place self.old) }
         requires inside { cell < length self.old.cells.items }
         ensures holds { HoldsLocks (view L.held L.place self.new) }
         ensures guards { self.new.guards.items ≡ self.old.guards.items }
         ensures cells { IsClosedAt cell self.old.cells.items self.new.cells.items }
+        ensures exit { self.new.exit ≡ self.old.exit }
     {
         let Some(section) = self.cells[cell].section.take() else {
             return;
         };
         match section {
-            OpenSection::Generates(_, section) => {
-                let row = &mut self.sequentializers[cell];
+            OpenSection::Runs(run, section) => self.close_section(cell, run.want, section),
+            OpenSection::Guarded(_) => {},
+        }
+    }
+
+    /// Gives the lock of this section of the cell back.
+    fn close_section(&mut self, cell: usize, want: Want, section: Section)
+        requires { HoldsSection (view L.held L.place self.old) cell want section }
+        ensures holds { HoldsLocks (view L.held L.place self.new) }
+        ensures guards { self.new.guards.items ≡ self.old.guards.items }
+        ensures cells { self.new.cells.items ≡ self.old.cells.items }
+        ensures exit { self.new.exit ≡ self.old.exit }
+    {
+        let row = &mut self.sequentializers[cell];
+        match want {
+            Want::Calls(_) => {
                 let (finished, _given) = row.finish(&mut self.parks, section, false);
                 no_lock(finished);
             },
-            OpenSection::Guarded(_) => {},
+            Want::Turns => {
+                let (_phase, _given) = row.finish_final(&mut self.parks, section, false);
+            },
         }
     }
 }

@@ -1,11 +1,11 @@
 //! Calls that may not access the value: they give their lock back in the same step.
 
-ghost use Rattle.std.specs.Prelude.{◌≡◌, ℕ, List};
+ghost use Rattle.std.specs.Prelude.{◌≡◌, List};
 ghost use Rattle.schedule_rules.specs.History.{Event};
 ghost use Rattle.phase_schedule.specs.View.{view};
 ghost use Rattle.phase_schedule.specs.Meets.{given_first};
 ghost use Rattle.phase_schedule.specs.Tracks.{FollowsStep};
-ghost use Rattle.phase_schedule.specs.Ready.{IsDeniedRead, IsDeniedWrite};
+ghost use Rattle.phase_schedule.specs.Answered.{IsDeniedRead, IsDeniedWrite};
 
 use crate::lockers::{release_read, release_write};
 use crate::rows::{Rows, Target};
@@ -24,7 +24,7 @@ fn given_first(first: Given, last: Given) -> Given
 }
 
 impl<L: PhaseLocker> Rows<L> {
-    /// A call that got a lock to read gives it back.
+    /// A call that got a lock to read gives it back, at the phase that is published.
     pub fn deny_read(
         &mut self,
         n: u32,
@@ -47,7 +47,7 @@ impl<L: PhaseLocker> Rows<L> {
         }
     }
 
-    /// A call that got the lock to write gives it back, with the phase as it was.
+    /// A call that got the lock to write gives it back, with this phase.
     pub fn deny_write(
         &mut self,
         n: u32,

@@ -2,6 +2,7 @@
 
 ghost use Rattle.std.specs.Prelude.{◌≡◌, ◌<◌, ◌^◌, ◌∷◌, ◌++◌, [], length, None, IfOk, IfErr};
 ghost use Rattle.schedule_rules.specs.Core.{core};
+ghost use Rattle.schedule_rules.specs.Exits.{ended_turns};
 ghost use Rattle.schedule_rules.specs.Kinds.{cell_at};
 ghost use Rattle.schedule_rules.specs.Legal.{IsLegal};
 ghost use Rattle.schedule_rules.specs.Transcripts.{AreFinals, IsKnown};
@@ -100,10 +101,12 @@ impl<L: PhaseLocker> Engine<L> {
         &self.progress.rows.parks
     }
 
-    /// The lines so far, and what each cell is left with. What is still open is given back. It takes no memory.
+    /// The lines so far, what each cell is left with, and the turns of the exit that ended. What is still open is given
+    /// back. It takes no memory.
     pub fn finish(self) -> Transcript
         ensures lines { result.lines.items ≡ self.lines }
         ensures finals { AreFinals result.finals.items self.cells (history self) }
+        ensures exits { result.exits.items ≡ ended_turns (history self) }
         ensures told { length self.lines ≡ length self.steps }
         ensures legal { IsLegal self.cells (history self) }
     {

@@ -1,6 +1,6 @@
 //! The rows before the first step.
 
-ghost use Rattle.std.specs.Prelude.{◌≡◌, ◌<◌, ◌≤◌, ◌^◌, [], IfOk, length, map, replicate, vec_capacity, true, None};
+ghost use Rattle.std.specs.Prelude.{◌≡◌, ◌<◌, ◌≤◌, ◌^◌, [], IfOk, length, map, replicate, vec_capacity, None};
 ghost use Rattle.phase_bits.specs.Number.{phase_of};
 ghost use Rattle.phase_bits.specs.Records.{unheld};
 ghost use Rattle.phase_schedule.specs.Kept.{fresh_cell, idle_party, kind_at};
@@ -8,6 +8,7 @@ ghost use Rattle.phase_schedule.specs.declared.rows.GuardRow.TheVariants as guar
 ghost use Rattle.phase_schedule.specs.View.{view};
 ghost use Rattle.phase_schedule.specs.Progress.{AreFresh, TakesPlaces};
 
+use crate::exit::Exit;
 use crate::rows::{CellRow, GuardRow, PartyRow, Rows, Target};
 use phase_bits::Phase;
 use phase_locker::{LockerKind, Parks, PhaseLocker};
@@ -101,6 +102,7 @@ impl<L: PhaseLocker> Rows<L> {
         let parties = fresh_parties(alloc, plan.parties)?;
         let parks = Parks::new(alloc, plan.cells.len() as u32, plan.parties)?;
         let sequentializers = fresh_sequentializers(alloc, &plan.cells)?;
+        let exit = Exit::new(alloc, plan.cells.len() as u32, count)?;
         let mut guards = Vec::with_capacity(alloc, count as usize)?;
         let mut cells = match Vec::with_capacity(alloc, plan.cells.len()) {
             Ok(cells) => cells,
@@ -117,6 +119,7 @@ impl<L: PhaseLocker> Rows<L> {
             parties,
             sequentializers,
             parks,
+            exit,
         })
     }
 }

@@ -2,7 +2,7 @@
 
 ghost use Rattle.std.specs.Prelude.{◌≡◌, ◌+◌, ◌<◌, ◌↔◌, IsNone, OnSome, length};
 ghost use Rattle.phase_bits.specs.Number.{IsKnown};
-ghost use Rattle.phase_bits.specs.Records.{IsValid, admit_read, leave_read, leave_write, most_readers};
+ghost use Rattle.phase_bits.specs.Records.{admit_read, leave_read, leave_write, most_readers};
 ghost use Rattle.phase_locker.specs.Rows.{HasFree, SameSize};
 ghost use Rattle.phase_locker.specs.Fits.{Fits, IsWriteOpen, KeepsFit, open_reads};
 ghost use Rattle.phase_locker.specs.Gifts.{Downgrades, Hands};

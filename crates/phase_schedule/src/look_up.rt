@@ -1,6 +1,6 @@
 //! What the rows tell of a cell, a party and a guard.
 
-ghost use Rattle.std.specs.Prelude.{◌≡◌, ℕ, List};
+ghost use Rattle.std.specs.Prelude.{◌≡◌, List};
 ghost use Rattle.schedule_rules.specs.History.{Event};
 ghost use Rattle.schedule_rules.specs.Guards.{guard_of, guards};
 ghost use Rattle.phase_schedule.specs.View.{view};
@@ -11,7 +11,7 @@ ghost use Rattle.phase_schedule.specs.Ready.{HasParty, HasWriter, IsDraft, IsInn
 
 use crate::rows::{CellRow, Draft, GuardRow, OpenSection, PartyRow, Rows, RunRow};
 use phase_locker::PhaseLocker;
-use schedule_rules::Call;
+use schedule_rules::Want;
 
 /// What an open guard of a party holds.
 #[derive(Clone, Copy, PartialEq, Eq, Debug)]
@@ -28,18 +28,18 @@ pub enum Held {
 #[derive(Clone, Copy, PartialEq, Eq, Debug)]
 pub struct Run {
     pub cell: u32,
-    pub call: Call,
+    pub want: Want,
     /// The cell of the party's next outer section, where there is one.
     pub outer: Option<u32>,
 }
 
 impl CellRow {
-    /// The section whose generator runs.
+    /// The section whose generator or finalizer runs.
     pub fn run(&self) -> Option<RunRow>
         ensures { result ≡ run_of self.now.section }
     {
         match &self.section {
-            Some(OpenSection::Generates(run, _)) => Some(*run),
+            Some(OpenSection::Runs(run, _)) => Some(*run),
             _ => None,
         }
     }
@@ -110,7 +110,7 @@ impl<L: PhaseLocker> Rows<L> {
         };
         Some(Run {
             cell,
-            call: run.call,
+            want: run.want,
             outer: run.outer,
         })
     }

@@ -1,6 +1,6 @@
 //! The outcomes of generators.
 
-ghost use Rattle.std.specs.Prelude.{◌≡◌, ℕ, List};
+ghost use Rattle.std.specs.Prelude.{List};
 ghost use Rattle.schedule_rules.specs.History.{Event};
 ghost use Rattle.phase_schedule.specs.View.{view};
 ghost use Rattle.phase_schedule.specs.Tracks.{FollowsStep};
@@ -11,7 +11,7 @@ use crate::line::{quiet, refused};
 use crate::look_up::Run;
 use crate::rows::{Draft, GuardRow, OpenSection, Rows};
 use phase_locker::PhaseLocker;
-use schedule_rules::{Act, Answer, Call, Line, Refusal, Step};
+use schedule_rules::{Act, Answer, Call, Line, Refusal, Step, Want};
 use std::mem;
 
 impl<L: PhaseLocker> Rows<L> {
@@ -22,9 +22,10 @@ impl<L: PhaseLocker> Rows<L> {
         ensures { FollowsStep h s.now result (view L.held L.place self.old) (view L.held L.place self.new) }
     {
         match self.innermost(s.party) {
-            Some(run) => match run.call {
-                Call::Read => self.made_to_read(n, s, run, value),
-                _ => self.made_to_write(n, s, run, value),
+            Some(run) => match run.want {
+                Want::Calls(Call::Read) => self.made_to_read(n, s, run, value),
+                Want::Calls(_) => self.made_to_write(n, s, run, value),
+                Want::Turns => refused(Refusal::NoOutcome),
             },
             None => refused(Refusal::NoSection),
         }
@@ -81,7 +82,10 @@ impl<L: PhaseLocker> Rows<L> {
         ensures { FollowsStep h s.now result (view L.held L.place self.old) (view L.held L.place self.new) }
     {
         match self.innermost(s.party) {
-            Some(run) => self.fail(s, run),
+            Some(run) => match run.want {
+                Want::Calls(_) => self.fail(s, run),
+                Want::Turns => refused(Refusal::NoOutcome),
+            },
             None => refused(Refusal::NoSection),
         }
     }

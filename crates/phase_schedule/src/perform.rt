@@ -1,6 +1,6 @@
 //! One step on the rows.
 
-ghost use Rattle.std.specs.Prelude.{◌≡◌, ℕ, List};
+ghost use Rattle.std.specs.Prelude.{List};
 ghost use Rattle.schedule_rules.specs.History.{Event};
 ghost use Rattle.phase_schedule.specs.View.{view};
 ghost use Rattle.phase_schedule.specs.Tracks.{FollowsStep};
@@ -9,7 +9,7 @@ ghost use Rattle.phase_schedule.specs.Ready.{IsIdle, IsNext, IsWaiting};
 use crate::line::refused;
 use crate::rows::{Rows, Target};
 use phase_locker::PhaseLocker;
-use schedule_rules::{Act, Line, Refusal, Step};
+use schedule_rules::{Act, Line, Refusal, Step, Want};
 
 impl<L: PhaseLocker> Rows<L> {
     /// Makes the step with this number, and gives its line. A step that is refused changes nothing.
@@ -24,7 +24,7 @@ impl<L: PhaseLocker> Rows<L> {
         }
     }
 
-    /// The step of a party whose call waits.
+    /// The step of a party that waits.
     fn go_on(&mut self, n: u32, s: &Step, target: Target) -> Line
         ghost h: { List Event }
         requires { IsWaiting h (view L.held L.place self.old) s.now n target }
@@ -43,15 +43,25 @@ impl<L: PhaseLocker> Rows<L> {
         ensures { FollowsStep h s.now result (view L.held L.place self.old) (view L.held L.place self.new) }
     {
         match s.act {
-            Act::Call { cell, call } => self.first(n, s, Target { cell, call }),
+            Act::Call { cell, call } => self.first(
+                n,
+                s,
+                Target {
+                    cell,
+                    want: Want::Calls(call),
+                },
+            ),
             Act::Again => refused(Refusal::NotWaiting),
             Act::Made { value } => self.made(n, s, value),
             Act::MadeFailed => self.made_failed(s),
+            Act::Finished => self.finished(s, true),
+            Act::FinishFailed => self.finished(s, false),
             Act::Look { guard } => self.look(s, guard),
             Act::Set { guard, value } => self.set(s, guard, value),
             Act::Release { guard } => self.release(s, guard),
             Act::Downgrade { guard } => self.downgrade(n, s, guard),
             Act::Clone { guard } => self.clone_guard(n, s, guard),
+            Act::Exit => self.exit(n, s),
         }
     }
 }

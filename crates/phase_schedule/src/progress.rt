@@ -1,6 +1,6 @@
 //! A run so far.
 
-ghost use Rattle.std.specs.Prelude.{◌≡◌, ◌<◌, ◌≤◌, ◌^◌, ℕ, List, [], IfOk, length, vec_capacity};
+ghost use Rattle.std.specs.Prelude.{◌≡◌, ◌<◌, ◌≤◌, ◌^◌, List, [], IfOk, length, vec_capacity};
 ghost use Rattle.schedule_rules.specs.History.{Event};
 ghost use Rattle.phase_schedule.specs.View.{view, seen};
 ghost use Rattle.phase_schedule.specs.Progress.{CanFinish, CanStep, HasStepped, IsNew, TakesPlaces, finals_of};
@@ -47,11 +47,13 @@ impl<L: PhaseLocker> Progress<L> {
         line
     }
 
-    /// The lines, and what each cell is left with. What is still open is given back. It takes no memory.
+    /// The lines, what each cell is left with, and the turns of the exit that ended. What is still open is given back. It
+    /// takes no memory.
     pub fn finish(self) -> Transcript
         requires { CanFinish (seen L.held L.place self) }
         ensures lines { result.lines.items ≡ self.lines.items }
         ensures finals { result.finals.items ≡ finals_of (view L.held L.place self.rows) }
+        ensures exits { result.exits.items ≡ (view L.held L.place self.rows).exit.turns }
     {
         let Progress {
             rows,
@@ -59,8 +61,12 @@ impl<L: PhaseLocker> Progress<L> {
             mut finals,
         } = self;
         rows.tell_finals(&mut finals);
-        rows.close();
-        Transcript { lines, finals }
+        let exits = rows.close();
+        Transcript {
+            lines,
+            finals,
+            exits,
+        }
     }
 }
 

@@ -1,17 +1,19 @@
-//! The rows that a run keeps: one for each cell, each step and each party, the lockers of the cells, and who is parked.
+//! The rows that a run keeps: one for each cell, each step and each party, the lockers of the cells, who is parked, and
+//! where the exit stands.
 
+use crate::exit::Exit;
 use phase_bits::Phase;
 use phase_locker::{Parks, PhaseLocker, ReadTicket, WriteTicket};
 use phase_seq::{LazySequentializer, Section};
-use schedule_rules::{Call, CellPlan};
+use schedule_rules::{CellPlan, Want};
 
-/// A section whose generator runs.
+/// A section whose generator or finalizer runs.
 #[derive(Clone, Copy, PartialEq, Eq, Debug)]
 pub struct RunRow {
     /// The party that runs it.
     pub party: u32,
-    /// The call that asked for it.
-    pub call: Call,
+    /// What opened it.
+    pub want: Want,
     /// The cell of the party's next outer section, where there is one.
     pub outer: Option<u32>,
 }
@@ -27,8 +29,8 @@ pub struct Draft {
 
 /// The open section of a cell.
 pub enum OpenSection {
-    /// Its generator runs.
-    Generates(RunRow, Section),
+    /// Its generator or finalizer runs.
+    Runs(RunRow, Section),
     /// An open write guard carries it, and its lock.
     Guarded(Draft),
 }
@@ -60,17 +62,17 @@ pub enum GuardRow {
     },
 }
 
-/// A call at a cell.
+/// What is attempted at a cell.
 #[derive(Clone, Copy, PartialEq, Eq, Debug)]
 pub struct Target {
     pub cell: u32,
-    pub call: Call,
+    pub want: Want,
 }
 
 /// What is kept of a party. How it waits, the rows of `Parks` say.
 #[derive(Clone, Copy, PartialEq, Eq, Debug)]
 pub struct PartyRow {
-    /// The call that waits.
+    /// What it waits with.
     pub waiting: Option<Target>,
     /// The cell of the innermost section that the party runs.
     pub innermost: Option<u32>,
@@ -87,4 +89,6 @@ pub struct Rows<L: PhaseLocker> {
     pub sequentializers: Vec<LazySequentializer<L, ()>>,
     /// How each party waits, and who is parked at each cell.
     pub parks: Parks,
+    /// Where the exit stands.
+    pub exit: Exit,
 }

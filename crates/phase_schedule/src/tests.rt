@@ -1,206 +1,16 @@
-//! Runs whose answers are known from elsewhere, and the causes for which a schedule does not run.
+//! Runs of each act, and the causes for which a schedule does not run.
 
-ghost use Rattle.std.specs.Prelude.{◌≡◌, ◌<◌, ◌^◌, length, IfOk};
-ghost use Rattle.schedule_rules.specs.Transcripts.{schedule_of, IsValid};
-
-use crate::engine::Engine;
 use crate::error::RunError;
-use crate::line::quiet;
 use crate::run::run_schedule;
-use phase_bits::Phase;
-use phase_locker::{HolderLocker, Parks, PhaseLocker, Waiting};
-use schedule_rules::{
-    Act, Answer, Call, CellPlan, Given, How, Kind, Line, Place, Plan, Refusal, Step, Transcript,
+use crate::test_runs::{
+    Row, again, call, clone, downgrade, empty, expect_rows, expect_waits, gives, left, look, made,
+    made_failed, plan, plan_of, release, row, set,
 };
-use std::alloc::{AllocError, Global};
+use phase_bits::Phase;
+use phase_locker::Waiting;
+use schedule_rules::{Answer, Call, CellPlan, Given, How, Kind, Place, Refusal};
 use std::process::Abort;
 use std::test::Fail;
-
-/// A step and the line that it is to have.
-type Row = (Step, Line);
-
-/// A step whose line gives nothing.
-fn row(step: Step, answer: Answer) -> Row {
-    (step, quiet(answer))
-}
-
-/// A step that is done, and gives this.
-fn gives(step: Step, given: Given) -> Row {
-    let answer = Answer::Done;
-    (step, Line { answer, given })
-}
-
-fn call(party: u32, cell: u32, call: Call) -> Step {
-    Step {
-        party,
-        act: Act::Call { cell, call },
-    }
-}
-
-fn made(party: u32, value: u64) -> Step {
-    Step {
-        party,
-        act: Act::Made { value },
-    }
-}
-
-fn look(party: u32, guard: u32) -> Step {
-    Step {
-        party,
-        act: Act::Look { guard },
-    }
-}
-
-fn set(party: u32, guard: u32, value: u64) -> Step {
-    Step {
-        party,
-        act: Act::Set { guard, value },
-    }
-}
-
-fn release(party: u32, guard: u32) -> Step {
-    Step {
-        party,
-        act: Act::Release { guard },
-    }
-}
-
-fn made_failed(party: u32) -> Step {
-    let act = Act::MadeFailed;
-    Step { party, act }
-}
-
-fn again(party: u32) -> Step {
-    let act = Act::Again;
-    Step { party, act }
-}
-
-fn downgrade(party: u32, guard: u32) -> Step {
-    Step {
-        party,
-        act: Act::Downgrade { guard },
-    }
-}
-
-fn clone(party: u32, guard: u32) -> Step {
-    Step {
-        party,
-        act: Act::Clone { guard },
-    }
-}
-
-/// A plan of cells whose calls wait so, and whose generators are run again after they failed.
-fn plan(alloc: Global, parties: u32, cells: usize, place: Place) -> Result<Plan, AllocError>
-    ensures cells { IfOk result (λ p. length p.cells.items ≡ cells) }
-    ensures parties { IfOk result (λ p. p.parties ≡ parties) }
-{
-    let kind = Kind::LockedLazy;
-    let retry = true;
-    plan_of(alloc, parties, cells, CellPlan { kind, retry, place })
-}
-
-/// A plan of such cells.
-fn plan_of(alloc: Global, parties: u32, cells: usize, cell: CellPlan) -> Result<Plan, AllocError>
-    ensures cells { IfOk result (λ p. length p.cells.items ≡ cells) }
-    ensures parties { IfOk result (λ p. p.parties ≡ parties) }
-{
-    Ok(Plan {
-        parties,
-        cells: vec![in alloc; cell; cells]?,
-    })
-}
-
-/// The steps of a table.
-fn steps_of(alloc: Global, rows: &[Row]) -> Result<Vec<Step>, AllocError> {
-    let mut steps = Vec::new(alloc);
-    for (step, _) in rows {
-        steps.push(*step)?;
-    }
-    Ok(steps)
-}
-
-/// Runs a schedule step by step.
-fn run_steps(alloc: Global, plan: &Plan, steps: &[Step]) -> Result<Transcript, RunError>
-    requires { IsValid (schedule_of plan.now steps.now) }
-{
-    let mut engine = Engine::<HolderLocker>::new(alloc, plan, steps.len() as u32)?;
-    for s in steps {
-        let _line = engine.step(s);
-    }
-    Ok(engine.finish())
-}
-
-/// Expects the lines of a table, of a whole run and step by step.
-fn expect_rows(rt: &impl Abort, alloc: Global, plan: &Plan, rows: &[Row]) -> Result<(), Fail> {
-    let steps = steps_of(alloc, rows)?;
-    assert!(rt; plan.cells.len() < 10 && steps.len() < 100);
-    let whole = run_schedule(alloc, plan, &steps)?;
-    let single = run_steps(alloc, plan, &steps)?;
-    assert!(rt; whole.lines.len() == rows.len());
-    assert!(rt; single.lines.len() == rows.len());
-    for (i, (_, line)) in rows.iter().enumerate() {
-        assert!(rt; whole.lines[i] == *line, "at {i}");
-        assert!(rt; single.lines[i] == *line, "at {i}");
-    }
-    assert!(rt; single.finals == whole.finals);
-    Ok(())
-}
-
-/// How a party waits, and at which cell; cell 0 where it does not wait.
-fn wait_in(parks: &Parks, party: u32) -> (Waiting, u32)
-    requires { party < length parks.now.rows }
-{
-    let waiting = parks.waiting(party);
-    if waiting == Waiting::Free {
-        (waiting, 0)
-    } else {
-        (waiting, parks.cell_of(party))
-    }
-}
-
-/// The phase that the locker of cell 0 has after these steps, and how a party waits then.
-fn seen_after(
-    alloc: Global,
-    plan: &Plan,
-    steps: &[Step],
-    party: u32,
-) -> Result<(Phase, (Waiting, u32)), RunError>
-    requires valid { IsValid (schedule_of plan.now steps.now) }
-    requires party { party < plan.now.parties }
-    requires cell { 0 < length plan.now.cells.items }
-{
-    let mut engine = Engine::<HolderLocker>::new(alloc, plan, steps.len() as u32)?;
-    for s in steps {
-        let _line = engine.step(s);
-    }
-    let phase = engine.locker(0).phase();
-    let wait = wait_in(engine.parks(), party);
-    let _transcript = engine.finish();
-    Ok((phase, wait))
-}
-
-/// Expects this phase after the first steps of a table, so many, and how each party waits then, at cell 0.
-fn expect_waits(
-    rt: &impl Abort,
-    alloc: Global,
-    plan: &Plan,
-    rows: &[Row],
-    phase: Phase,
-    waits: &[Waiting],
-) -> Result<(), Fail> {
-    let steps = steps_of(alloc, rows)?;
-    assert!(rt; plan.cells.len() == 1 && steps.len() < 100);
-    let _whole = run_schedule(alloc, plan, &steps)?;
-    for party in 0..plan.parties {
-        assert!(rt; (party as usize) < waits.len());
-        let seen = seen_after(alloc, plan, &steps, party)?;
-        assert!(rt;
-            seen == (phase, (waits[party as usize], 0)),
-            "party {party}"
-        );
-    }
-    Ok(())
-}
 
 #[test]
 fn answers_are_those_known(rt: HostRuntime) -> Result<(), Fail> {
@@ -217,7 +27,8 @@ fn answers_are_those_known(rt: HostRuntime) -> Result<(), Fail> {
         row(look(0, 7), Answer::Value(33)),
     ];
     let one = plan(alloc, 1, 1, Place::Spin)?;
-    expect_rows(&rt, alloc, &one, &one_party)?;
+    let is_left = [left(Phase::INITIALIZED, 33)];
+    expect_rows(&rt, alloc, &one, &one_party, &is_left, &[])?;
     let two_parties = [
         row(call(0, 0, Call::Write), Answer::Running),
         row(made(0, 7), Answer::WriteGuard),
@@ -227,7 +38,8 @@ fn answers_are_those_known(rt: HostRuntime) -> Result<(), Fail> {
         row(call(1, 0, Call::Phase), Answer::Phase(Phase::INITIALIZED)),
     ];
     let two = plan(alloc, 2, 1, Place::Spin)?;
-    expect_rows(&rt, alloc, &two, &two_parties)?;
+    let is_left = [left(Phase::INITIALIZED, 7)];
+    expect_rows(&rt, alloc, &two, &two_parties, &is_left, &[])?;
     let nested = [
         row(call(0, 0, Call::Read), Answer::Running),
         row(call(0, 1, Call::Read), Answer::Running),
@@ -238,7 +50,8 @@ fn answers_are_those_known(rt: HostRuntime) -> Result<(), Fail> {
         row(look(0, 4), Answer::Value(5)),
     ];
     let nest = plan(alloc, 1, 2, Place::Spin)?;
-    expect_rows(&rt, alloc, &nest, &nested)
+    let are_left = [left(Phase::INITIALIZED, 5), left(Phase::INITIALIZED, 4)];
+    expect_rows(&rt, alloc, &nest, &nested, &are_left, &[])
 }
 
 #[test]
@@ -254,10 +67,11 @@ fn a_generator_runs_once(rt: HostRuntime) -> Result<(), Fail> {
     let once = CellPlan {
         kind: Kind::LockedLazy,
         retry: false,
+        leak: false,
         place: Place::Spin,
     };
     let plan = plan_of(rt.alloc(), 1, 1, once)?;
-    expect_rows(&rt, rt.alloc(), &plan, &rows)
+    expect_rows(&rt, rt.alloc(), &plan, &rows, &[empty(skipped)], &[])
 }
 
 #[test]
@@ -282,7 +96,8 @@ fn steps_are_refused(rt: HostRuntime) -> Result<(), Fail> {
         row(made(1, 5), Answer::Refused(Refusal::NoSection)),
     ];
     let plan = plan(rt.alloc(), 2, 1, Place::Spin)?;
-    expect_rows(&rt, rt.alloc(), &plan, &rows)
+    let is_left = [left(Phase::INITIALIZED, 5)];
+    expect_rows(&rt, rt.alloc(), &plan, &rows, &is_left, &[])
 }
 
 #[test]
@@ -299,7 +114,8 @@ fn locks_are_handed_over(rt: HostRuntime) -> Result<(), Fail> {
         gives(release(2, 5), Given::Writer(1)),
         row(again(1), Answer::WriteGuard),
     ];
-    expect_rows(&rt, alloc, &plan, &rows)?;
+    let is_left = [left(Phase::INITIALIZED, 7)];
+    expect_rows(&rt, alloc, &plan, &rows, &is_left, &[])?;
     let parked = [Waiting::Free, Waiting::ParkedWrite, Waiting::ParkedRead];
     expect_waits(&rt, alloc, &plan, &rows[..4], Phase::empty(), &parked)?;
     let shared = [Waiting::Free, Waiting::ParkedWrite, Waiting::ShareRead];
@@ -339,7 +155,8 @@ fn readers_and_writers_park(rt: HostRuntime) -> Result<(), Fail> {
         row(look(0, 18), Answer::Value(9)),
         row(downgrade(0, 18), Answer::Refused(Refusal::NotWriter)),
     ];
-    expect_rows(&rt, alloc, &plan, &rows)
+    let is_left = [left(Phase::INITIALIZED, 9)];
+    expect_rows(&rt, alloc, &plan, &rows, &is_left, &[])
 }
 
 #[test]

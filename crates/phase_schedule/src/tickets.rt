@@ -82,14 +82,14 @@ impl CellRow {
         }
     }
 
-    /// The section whose generator runs. It is gone from the row then.
+    /// The section whose generator or finalizer runs. It is gone from the row then.
     pub fn end_run(&mut self) -> Section
         requires { IsGenerating self.old.section }
         ensures row { self.new ≡ record self.old { section = None } }
         ensures section { Some result ≡ section_in self.old.section }
     {
         match self.section.take() {
-            Some(OpenSection::Generates(_, section)) => section,
+            Some(OpenSection::Runs(_, section)) => section,
             _ => unreachable!(),
         }
     }
@@ -104,7 +104,7 @@ impl CellRow {
         match self.section.take() {
             Some(OpenSection::Guarded(_)) => {},
             None => unreachable!(),
-            Some(OpenSection::Generates(_, _section)) => unreachable!(),
+            Some(OpenSection::Runs(_, _section)) => unreachable!(),
         }
         self.value = draft.value;
     }
@@ -145,7 +145,7 @@ impl CellRow {
         match section {
             None => {},
             Some(OpenSection::Guarded(_)) => unreachable!(),
-            Some(OpenSection::Generates(_, _section)) => unreachable!(),
+            Some(OpenSection::Runs(_, _section)) => unreachable!(),
         }
     }
 }

@@ -11,6 +11,7 @@ use Rattle.phase_seq.specs.Begins.{is_cyclic}
 
 -- ---- the answers
 
+-- the call waits
 abbrev pub is_wait : Begun → Bool
 is_wait (Wait how) = true
 is_wait Missed = false
@@ -21,6 +22,7 @@ is_wait (Write t p) = false
 is_wait (Run section) = false
 is_wait (Final section) = false
 
+-- the call is barred, and does not wait
 abbrev pub is_missed : Begun → Bool
 is_missed (Wait how) = false
 is_missed Missed = true
@@ -31,6 +33,7 @@ is_missed (Write t p) = false
 is_missed (Run section) = false
 is_missed (Final section) = false
 
+-- the call is turned back as cyclic
 abbrev pub is_turned_back : Begun → Bool
 is_turned_back (Wait how) = false
 is_turned_back Missed = false
@@ -41,6 +44,7 @@ is_turned_back (Write t p) = false
 is_turned_back (Run section) = false
 is_turned_back (Final section) = false
 
+-- the generator is to be run
 abbrev pub is_run : Begun → Bool
 is_run (Wait how) = false
 is_run Missed = false
@@ -51,6 +55,7 @@ is_run (Write t p) = false
 is_run (Run section) = true
 is_run (Final section) = false
 
+-- the finalizer is to be run
 abbrev pub is_final : Begun → Bool
 is_final (Wait how) = false
 is_final Missed = false

@@ -29,19 +29,27 @@ finalization_panicked = 128
 abbrev pub outcome : Bool → ℕ
 outcome made = if made then initialized else bit_or initialization_panicked initialization_skiped
 
+-- the flags after a run, beside those that stay
+abbrev pub flags_reached : ℕ → Bool → ℕ
+flags_reached stays made = bit_or stays (outcome made)
+
 -- the phase that a run reaches beside the flags that stay
 abbrev pub reached : Phase → Bool → Phase
-reached stays made = phase_of (bit_or (number stays) (outcome made))
+reached stays made = phase_of (flags_reached (number stays) made)
 
 -- the flag that a finalizer sets
 abbrev pub final_outcome : Bool → ℕ
 final_outcome fine = if fine then finalized_flag else finalization_panicked
 
+-- the flags after a finalizer
+abbrev pub flags_finalized : ℕ → Bool → ℕ
+flags_finalized p fine = bit_or p (final_outcome fine)
+
 -- the phase that a finalizer reaches
 abbrev pub finalized : Phase → Bool → Phase
-finalized p fine = phase_of (bit_or (number p) (final_outcome fine))
+finalized p fine = phase_of (flags_finalized (number p) fine)
 
--- no flag stays on a cell that is not registered for the exit
+-- no flag stays on a cell without a registry
 abbrev pub unregistered : Phase
 unregistered = phase_of 0
 
@@ -49,15 +57,27 @@ unregistered = phase_of 0
 abbrev pub registration : Bool → ℕ
 registration is_open = if is_open then registered else registration_refused
 
--- the flags that stay beside those of a run, on a cell of this phase: those of the registration, which is tried where the
--- phase is empty, in a registry that is open or closed
-abbrev pub staying : Bool → Phase → Phase
-staying is_open p = phase_of (if number p == 0 then registration is_open else without_flags (number p) initialization_flags)
+-- the flags that stay beside those of a run, on a cell with these: those of the registration, which is tried where there
+-- are none, in a registry that is open or closed
+abbrev pub flags_staying : Bool → ℕ → ℕ
+flags_staying is_open p = if p == 0 then registration is_open else without_flags p initialization_flags
 
--- the phase of a cell that could not be registered, and that no generator runs for
+-- the same, of a cell of this phase
+abbrev pub staying : Bool → Phase → Phase
+staying is_open p = phase_of (flags_staying is_open (number p))
+
+-- the flags of a cell that could not be registered, and that no generator runs for
+abbrev pub flags_refused : ℕ
+flags_refused = bit_or registration_refused initialization_skiped
+
+-- the phase of such a cell
 abbrev pub refused : Phase
-refused = phase_of (bit_or registration_refused initialization_skiped)
+refused = phase_of flags_refused
 
 -- the generator of a cell whose flags stay so runs: the cell is registered, or puts up with not being it
+abbrev pub flags_generate : Bool → ℕ → Bool
+flags_generate leak stays = has stays registered || leak
+
+-- the same, of a phase
 abbrev pub may_generate : Bool → Phase → Bool
-may_generate leak stays = has (number stays) registered || leak
+may_generate leak stays = flags_generate leak (number stays)

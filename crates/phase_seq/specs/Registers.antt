@@ -1,4 +1,4 @@
--- What a call does beside its attempt on a cell that is registered for the exit.
+-- What a call does beside its attempt on a cell that has a registry, in which it is registered for the exit.
 use Rattle.std.specs.Prelude.{◌≡◌, ◌⊎◌, ℕ, ◌<◌, ◌==◌, Bool, false, ◌&&◌, not, if◌then◌else◌, MatchBool, Option, Some, None}
 use Rattle.std.proofs.Common.{inl, inr}
 use Rattle.std.specs.Borrow.{MutBor}
@@ -8,8 +8,10 @@ use Rattle.phase_bits.specs.Number.{number}
 use Rattle.exit_registry.specs.Registry.{Registry, cells_of, is_known, after_register}
 use Rattle.phase_locker.specs.declared.ways.Given.{Given}
 use Rattle.phase_locker.specs.declared.ways.Given.TheVariants.{Nobody}
-use Rattle.phase_locker.specs.Rows.{Rows}
-use Rattle.phase_locker.specs.Fits.{IsWriteOpen}
+use Rattle.phase_locker.specs.declared.ways.LockerKind.{LockerKind}
+use Rattle.phase_locker.specs.Rows.{Rows, SameSize}
+use Rattle.phase_locker.specs.Others.{OthersStay}
+use Rattle.phase_locker.specs.Fits.{Fits, IsWriteOpen}
 use Rattle.phase_seq.specs.declared.section.Section.{Section}
 use Rattle.phase_seq.specs.declared.section.Begun.{Begun}
 use Rattle.phase_seq.specs.declared.section.Begun.TheVariants as begun
@@ -86,15 +88,19 @@ Settles leak m p (begun.Final section, given) h s r h' s' = Stays (begun.Final s
 
 -- ---- the call
 
--- a call on a cell that is registered for the exit: it begins as on any other, and what it began is settled
-pub record Registers (Enters : Begun × Given → Holders → Rows → Type 0) (leak : Bool) (m : Registry) (p : Phase) (r : Begun × Given) (h' : Holders) (s' : Rows) : Type 0 where
+-- a call on a cell with this number that is registered for the exit: it begins as on any other, which leaves the cell's
+-- locker of this kind and the rows fitting, and what it began is settled
+pub record Registers (Enters : Begun × Given → Holders → Rows → Type 0) (k : LockerKind) (c : ℕ) (s : Rows) (leak : Bool) (m : Registry) (p : Phase) (r : Begun × Given) (h' : Holders) (s' : Rows) : Type 0 where
   pub entered : Begun × Given
   pub held : Holders
   pub rows : Rows
   pub enters : Enters entered held rows
+  pub fits : Fits k held rows c
+  pub others : OthersStay c s rows
+  pub same : SameSize s rows
   pub settles : Settles leak m p entered held rows r h' s'
 
 -- a call, on a cell with this registry or with none
-abbrev pub On : Option Registry → (Begun × Given → Holders → Rows → Type 0) → Bool → Phase → Begun × Given → Holders → Rows → Type 0
-On None Enters leak p r h' s' = Enters r h' s'
-On (Some m) Enters leak p r h' s' = Registers Enters leak m p r h' s'
+abbrev pub On : Option Registry → (Begun × Given → Holders → Rows → Type 0) → LockerKind → ℕ → Rows → Bool → Phase → Begun × Given → Holders → Rows → Type 0
+On None Enters k c s leak p r h' s' = Enters r h' s'
+On (Some m) Enters k c s leak p r h' s' = Registers Enters k c s leak m p r h' s'

@@ -23,8 +23,8 @@ pub trait GeneratorTolerance {
 
 /// What makes a cell's value. It is static_init's `Generator`; that it may fail, and `attempt`, are this project's own.
 ///
-/// `generate` is for callers that share the generator, `attempt` for the one that owns it. Whether a generator may be called is its own
-/// condition, which holds after each call where it held before.
+/// `generate` is for callers that share the generator, `attempt` for the one that owns it. Whether a generator may be
+/// called is its own condition, which holds after each call where it held before.
 pub trait Generator<T>: GeneratorTolerance {
     // It may be called.
     ghost may_call: { Self → Type 0 };

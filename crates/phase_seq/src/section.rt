@@ -55,11 +55,12 @@ pub enum Begun {
     Missed,
     /// The call asks for a run of the generator that its own party is running.
     Cyclic,
-    /// No run is due, and no lock is wanted: the phase of the cell.
+    /// No lock is left, and nothing is to be run: the phase of the cell.
     Nothing(Phase),
     /// A read lock, and the phase of the cell.
     Read(ReadTicket, Phase),
-    /// A write lock, and the phase of the cell.
+    /// A write lock, and the phase of the cell. Where the cell could not be registered, it is the phase that says so, and
+    /// is to be published by giving the lock back with it.
     Write(WriteTicket, Phase),
     /// The generator is to be run, and `finish` to be told its outcome.
     Run(Section),

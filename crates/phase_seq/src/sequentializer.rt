@@ -78,6 +78,7 @@ impl<L: PhaseLocker, G> LazySequentializer<L, G> {
     /// cell where its phase is empty. Where the cell is not registered and puts up with no leak, no generator runs: the
     /// phase becomes REGISTRATION_REFUSED | INITIALIZATION_SKIPED, and the call is left with what it wants, as after a
     /// run. It answers `Nothing`, `Read` or `Write` then; a write lock is to be given back with that phase.
+    #[inline(always)]
     pub fn begin(
         &mut self,
         parks: &mut Parks,
@@ -90,7 +91,7 @@ impl<L: PhaseLocker, G> LazySequentializer<L, G> {
         requires free { (row_of parks.old who.party).waiting ≡ Free }
         requires fits { Fits (L.place self.old.locker) (L.held self.old.locker) parks.old who.cell }
         requires registry { ForSome reg (λ m. MayRegister who.cell (L.held self.old.locker) parks.old m.now) }
-        ensures begins { On (option_copied_mut reg.entry) (Begins (L.place self.old.locker) who ask self.old.running (L.held self.old.locker) parks.old) ask.tol.leak (L.held self.old.locker).phase result (L.held self.new.locker) parks.new }
+        ensures begins { On (option_copied_mut reg.entry) (Begins (L.place self.old.locker) who ask self.old.running (L.held self.old.locker) parks.old) (L.place self.old.locker) who.cell parks.old ask.tol.leak (L.held self.old.locker).phase result (L.held self.new.locker) parks.new }
         ensures registry { left_behind reg.exit ≡ option_map (after_asking (shall_run who ask self.old.running (L.held self.old.locker)) who.cell (L.held self.old.locker).phase) (option_copied_mut reg.entry) }
         ensures waits { is_wait result.0 ≡ shall_wait who ask self.old.running (L.held self.old.locker) }
         ensures missed { is_missed result.0 ≡ shall_miss who ask self.old.running (L.held self.old.locker) }
@@ -122,6 +123,7 @@ impl<L: PhaseLocker, G> LazySequentializer<L, G> {
 
     /// A call of a party that waits at this cell. It answers as `begin`, with `reg` as there, and what the party has by
     /// its waiting goes into the attempt, as `again` of the locker says.
+    #[inline(always)]
     pub fn again(
         &mut self,
         parks: &mut Parks,
@@ -136,7 +138,7 @@ impl<L: PhaseLocker, G> LazySequentializer<L, G> {
         requires slow { ask.fast ≡ false }
         requires fits { Fits (L.place self.old.locker) (L.held self.old.locker) parks.old who.cell }
         requires registry { ForSome reg (λ m. MayRegister who.cell (L.held self.old.locker) parks.old m.now) }
-        ensures resumes { On (option_copied_mut reg.entry) (Resumes (L.place self.old.locker) who ask self.old.running (L.held self.old.locker) parks.old) ask.tol.leak (L.held self.old.locker).phase result (L.held self.new.locker) parks.new }
+        ensures resumes { On (option_copied_mut reg.entry) (Resumes (L.place self.old.locker) who ask self.old.running (L.held self.old.locker) parks.old) (L.place self.old.locker) who.cell parks.old ask.tol.leak (L.held self.old.locker).phase result (L.held self.new.locker) parks.new }
         ensures registry { left_behind reg.exit ≡ option_map (after_asking (is_admitted result.0 && asks_run ask (L.held self.old.locker).phase) who.cell (L.held self.old.locker).phase) (option_copied_mut reg.entry) }
         ensures cyclic { is_turned_back result.0 ≡ is_cyclic ask.want who.party self.old.running }
         ensures runs { is_run result.0 ≡ (if is_refused ask.tol.leak (option_copied_mut reg.entry) (L.held self.old.locker).phase then false else (is_admitted result.0 && asks_run ask (L.held self.old.locker).phase)) }

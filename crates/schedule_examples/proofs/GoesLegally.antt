@@ -5,6 +5,7 @@ use Rattle.std.specs.List.{list_any}
 use Rattle.phase_bits.specs.Records.{most_readers}
 use Rattle.schedule_rules.specs.declared.plan.CellPlan.{CellPlan}
 use Rattle.schedule_rules.specs.declared.transcript.Final.{Final}
+use Rattle.exit_registry.specs.declared.turns.Turned.{Turned}
 use Rattle.schedule_rules.specs.History.{Event, count}
 use Rattle.schedule_rules.specs.Sections.{runs_in, sections}
 use Rattle.schedule_rules.specs.Guards.{guards}
@@ -13,7 +14,7 @@ use Rattle.schedule_rules.specs.Holds.{reads_cell, writes_cell, readers, writers
 use Rattle.schedule_rules.specs.Refusals.{refusal}
 use Rattle.schedule_rules.specs.Legal.{IsLegal, IsLegalLine, IsExclusive, may_give}
 use Rattle.schedule_rules.specs.Transcripts.{told, final_of, AreFinals, IsLegalTranscript}
-use Rattle.schedule_examples.specs.Examples.{Row, steps_of, lines_of, history_of, due_line, due_lines_from, gifts_from, excludes, cells_named, all_exclude, each_excludes, holds_from, finals_from, Goes}
+use Rattle.schedule_examples.specs.Examples.{Row, steps_of, lines_of, history_of, due_line, due_lines_from, gifts_from, excludes, cells_named, all_exclude, each_excludes, holds_from, finals_from, GoesWith}
 
 -- the number is in the list
 abbrev is_in : ℕ → List ℕ → Bool
@@ -175,13 +176,14 @@ as_many [] = refl
 as_many (r ∷ rs) = ap suc (as_many rs)
 
 -- what goes is legal
-pub goes-is-legal : (parties : ℕ) (cells : List CellPlan) (rows : List Row) (left : List Final) → Goes cells rows left
-    → IsLegalTranscript (record { parties = parties; cells = cells; steps = steps_of rows }) (record { lines = lines_of rows; finals = left })
-goes-is-legal parties cells rows left g = record {
+pub goes-is-legal : (parties : ℕ) (cells : List CellPlan) (rows : List Row) (left : List Final) (turns : List Turned) → GoesWith cells rows left turns
+    → IsLegalTranscript (record { parties = parties; cells = cells; steps = steps_of rows }) (record { lines = lines_of rows; finals = left; exits = turns })
+goes-is-legal parties cells rows left turns g = record {
   lines = as_many rows;
   legal = legal_from cells [] rows tt g.lines g.gifts g.holds;
   finals = subst (λ xs. AreFinals xs cells (history_of rows)) g.finals (record {
     count = finals_count cells 0 cells (history_of rows);
     each = λ c d. let same : 0 + c ≡ c = omega arith in final_at cells 0 cells (history_of rows) c d ∙ ap (λ n. Some (final_of cells n (history_of rows))) same;
   });
+  exits = sym g.exits;
 }

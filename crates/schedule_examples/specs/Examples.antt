@@ -1,18 +1,21 @@
--- Which lines the rules allow for a schedule, one after another, and what the cells are left with.
+-- Which lines the rules allow for a schedule, one after another, what the cells are left with, and which turns of the exit
+-- end.
 use Rattle.std.specs.Prelude.{ℕ, Bool, true, false, ◌+◌, ◌≡◌, ◌==◌, ◌&&◌, ◌||◌, List, [], ◌∷◌, ◌++◌, map, nat_le}
 use Rattle.phase_bits.specs.Records.{most_readers}
 use Rattle.schedule_rules.specs.declared.plan.CellPlan.{CellPlan}
 use Rattle.schedule_rules.specs.declared.step.Step.{Step}
 use Rattle.schedule_rules.specs.declared.line.Line.{Line}
 use Rattle.schedule_rules.specs.declared.transcript.Final.{Final}
+use Rattle.exit_registry.specs.declared.turns.Turned.{Turned}
 use Rattle.schedule_rules.specs.History.{Event}
 use Rattle.schedule_rules.specs.Sections.{sections}
 use Rattle.schedule_rules.specs.Guards.{guards}
+use Rattle.schedule_rules.specs.Exits.{ended_turns}
 use Rattle.schedule_rules.specs.Waits.{waits}
 use Rattle.schedule_rules.specs.Holds.{readers, writers, drains}
 use Rattle.schedule_rules.specs.Refusals.{refusal}
 use Rattle.schedule_rules.specs.Legal.{Moment, First, Last, answer_of, due_at, may_give, IsLegalLine}
-use Rattle.schedule_rules.specs.Transcripts.{told, final_of}
+use Rattle.schedule_rules.specs.Transcripts.{told, final_of, IsLegalTranscript}
 
 -- a step and the line that it is answered by: when it gives what it gives, and whether a call that readers alone bar
 -- drains
@@ -95,12 +98,18 @@ module _ (cells : List CellPlan) where
 abbrev pub finals_of : List CellPlan → List Row → List Final
 finals_of cells rows = finals_from cells 0 cells (history_of rows)
 
--- on these cells the steps of the rows may be answered by the lines of the rows, and the cells are left with this
-pub record Goes (cells : List CellPlan) (rows : List Row) (left : List Final) : Type 0 where
+-- on these cells the steps of the rows may be answered by the lines of the rows, the cells are left with this, and these
+-- turns of the exit ended
+pub record GoesWith (cells : List CellPlan) (rows : List Row) (left : List Final) (turns : List Turned) : Type 0 where
   pub lines : due_lines_from cells [] rows ≡ lines_of rows
   pub gifts : gifts_from cells [] rows ≡ true
   pub holds : holds_from cells [] rows ≡ true
   pub finals : finals_of cells rows ≡ left
+  pub exits : ended_turns (history_of rows) ≡ turns
+
+-- the same, where no turn ended
+abbrev pub Goes : List CellPlan → List Row → List Final → Type 0
+Goes cells rows left = GoesWith cells rows left []
 
 -- after these rows, which may go so, no choice makes this line legal for this step
 pub record IsWrong (cells : List CellPlan) (rows : List Row) (s : Step) (l : Line) : Type 0 where
@@ -108,3 +117,13 @@ pub record IsWrong (cells : List CellPlan) (rows : List Row) (s : Step) (l : Lin
   pub gifts : gifts_from cells [] rows ≡ true
   pub holds : holds_from cells [] rows ≡ true
   pub wrong : IsLegalLine cells (history_of rows) s l → ⊥
+
+-- after these rows, which may go so and leave this, no transcript that tells of these turns is legal
+pub record IsWrongExit (cells : List CellPlan) (rows : List Row) (left : List Final) (turns : List Turned) : Type 0 where
+  pub lines : due_lines_from cells [] rows ≡ lines_of rows
+  pub gifts : gifts_from cells [] rows ≡ true
+  pub holds : holds_from cells [] rows ≡ true
+  pub finals : finals_of cells rows ≡ left
+  pub wrong : (parties : ℕ)
+      → IsLegalTranscript (record { parties = parties; cells = cells; steps = steps_of rows }) (record { lines = lines_of rows; finals = left; exits = turns })
+      → ⊥

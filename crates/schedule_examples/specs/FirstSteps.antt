@@ -11,7 +11,7 @@ empty_schedule = record { parties = 0; cells = []; steps = [] }
 
 -- its transcript
 abbrev pub empty_account : Account
-empty_account = record { lines = []; finals = [] }
+empty_account = record { lines = []; finals = []; exits = [] }
 
 -- a read, a write that sets another value, and a read of that
 abbrev pub first_rows : List Row
@@ -37,7 +37,7 @@ first_schedule = record { parties = 1; cells = cell ∷ []; steps = steps_of fir
 
 -- its transcript
 abbrev pub first_account : Account
-first_account = record { lines = lines_of first_rows; finals = first_finals }
+first_account = record { lines = lines_of first_rows; finals = first_finals; exits = [] }
 
 -- a run that fails in a cell without retry, and a read and a write after it
 abbrev pub once_rows : List Row
@@ -59,4 +59,4 @@ once_schedule = record { parties = 1; cells = once_cell ∷ []; steps = steps_of
 
 -- its transcript
 abbrev pub once_account : Account
-once_account = record { lines = lines_of once_rows; finals = once_finals }
+once_account = record { lines = lines_of once_rows; finals = once_finals; exits = [] }

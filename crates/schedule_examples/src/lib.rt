@@ -1,7 +1,9 @@
-//! Worked schedules: what the rules answer, step by step. Each is a theorem, and nothing here runs.
+//! Worked schedules: what the rules answer, step by step. Each is a theorem, and nothing here runs. It stands on
+//! `schedule_rules` for the rules, and on `schedule_text` for the texts of some of the schedules.
 #![tactic(auto)]
 
 pub mod downgrades;
+pub mod exits;
 pub mod failures;
 pub mod first;
 pub mod guards;
@@ -10,6 +12,10 @@ pub mod nesting;
 pub mod once;
 pub mod parking;
 pub mod refusals;
+pub mod registration;
 pub mod texts;
+pub mod turns;
 pub mod waiting;
 pub mod wrong;
+pub mod wrong_exits;
+pub mod wrong_registration;

@@ -3,9 +3,10 @@
 ghost use Rattle.std.specs.Prelude.{[], ◌∷◌, ◌≡◌, ◌++◌, codes};
 ghost use Rattle.schedule_text.specs.ScheduleText.{schedule_text};
 ghost use Rattle.schedule_text.specs.TranscriptText.{transcript_text};
-ghost use Rattle.schedule_examples.specs.Examples.{Goes};
-ghost use Rattle.schedule_examples.specs.Words.{cell, once_cell};
+ghost use Rattle.schedule_examples.specs.Examples.{Goes, GoesWith};
+ghost use Rattle.schedule_examples.specs.Words.{cell, once_cell, exit_cell, parking_exit_cell, leaking_cell, parking_once_leaking_cell};
 ghost use Rattle.schedule_examples.specs.FirstSteps.{empty_schedule, empty_account, first_rows, first_finals, first_schedule, first_account, once_rows, once_finals, once_schedule, once_account};
+ghost use Rattle.schedule_examples.specs.ExitSteps.{skipping_rows, skipping_finals, skipping_turns, skipping_schedule, skipping_account, finalizing_rows, finalizing_finals, finalizing_turns, finalizing_schedule, finalizing_account, closing_rows, closing_finals, closing_turns, closing_schedule, closing_account};
 
 /// The texts of a schedule without parties, cells and steps.
 pub fn the_empty_schedule_is_spelled()
@@ -40,4 +41,48 @@ pub fn the_schedule_of_one_run_is_spelled()
         ++ codes "3 access Phase (Initialization panicked | Initialization skiped)\n"
         ++ codes "4 phase Phase (Initialization panicked | Initialization skiped)\n"
         ++ codes "cell 0 Phase (Initialization panicked | Initialization skiped) none\nend\n" }
+{}
+
+/// The texts of a turn that comes before the value of its cell is published.
+pub fn the_schedule_of_a_skipped_turn_is_spelled()
+    ensures goes { GoesWith (parking_exit_cell ∷ []) skipping_rows skipping_finals skipping_turns }
+    ensures schedule { schedule_text skipping_schedule
+        ≡ codes "schedule 1\nparties 2\ncell LockedLazyFinalize park\nsteps\n"
+        ++ codes "0 read 0\n1 exit\n1 exit\n0 made 4\n0 release 3\n"
+        ++ codes "1 exit\n1 phase 0\n1 exit\nend\n" }
+    ensures transcript { transcript_text skipping_account
+        ≡ codes "transcript 1\n0 running\n1 round 1\n2 skipped 0\n3 read-guard\n4 done\n5 closed\n"
+        ++ codes "6 phase Phase (Initialized | Registered)\n7 refused 10 ExitBegun\n"
+        ++ codes "cell 0 Phase (Initialized | Registered) 4\nexit 0 skipped\nend\n" }
+{}
+
+/// The texts of a turn whose finalizer fails, and of one whose finalizer succeeds.
+pub fn the_schedule_of_two_turns_is_spelled()
+    ensures goes { GoesWith (exit_cell ∷ parking_once_leaking_cell ∷ []) finalizing_rows finalizing_finals finalizing_turns }
+    ensures schedule { schedule_text finalizing_schedule
+        ≡ codes "schedule 1\nparties 2\ncell LockedLazyFinalize spin\n"
+        ++ codes "cell LockedLazyFinalize park once leak\nsteps\n"
+        ++ codes "0 write 0\n0 exit\n0 finished\n0 made 1\n0 release 3\n0 read 1\n0 made 2\n0 release 6\n"
+        ++ codes "1 exit\n1 exit\n1 finish_failed\n1 exit\n1 finished\n1 exit\nend\n" }
+    ensures transcript { transcript_text finalizing_account
+        ≡ codes "transcript 1\n0 running\n1 refused 11 Inside\n2 refused 8 NoOutcome\n3 write-guard\n4 done\n"
+        ++ codes "5 running\n6 read-guard\n7 done\n8 round 2\n9 finalizing 1\n"
+        ++ codes "10 phase Phase (Initialized | Registered | Finalization panicked)\n11 finalizing 0\n"
+        ++ codes "12 phase Phase (Initialized | Registered | Finalized)\n13 closed\n"
+        ++ codes "cell 0 Phase (Initialized | Registered | Finalized) 1\n"
+        ++ codes "cell 1 Phase (Initialized | Registered | Finalization panicked) 2\n"
+        ++ codes "exit 1 failed\nexit 0 done\nend\n" }
+{}
+
+/// The texts of an exit without cells, and of two cells that ask to be registered after it.
+pub fn the_schedule_of_an_exit_without_cells_is_spelled()
+    ensures goes { GoesWith (exit_cell ∷ leaking_cell ∷ []) closing_rows closing_finals closing_turns }
+    ensures schedule { schedule_text closing_schedule
+        ≡ codes "schedule 1\nparties 1\ncell LockedLazyFinalize spin\ncell LockedLazyFinalize spin leak\nsteps\n"
+        ++ codes "0 exit\n0 read 0\n0 read 1\n0 made 9\n0 exit\nend\n" }
+    ensures transcript { transcript_text closing_account
+        ≡ codes "transcript 1\n0 closed\n1 access Phase (Initialization skiped | Registration refused)\n"
+        ++ codes "2 running\n3 read-guard\n4 refused 10 ExitBegun\n"
+        ++ codes "cell 0 Phase (Initialization skiped | Registration refused) none\n"
+        ++ codes "cell 1 Phase (Initialized | Registration refused) 9\nend\n" }
 {}

@@ -1,175 +1,257 @@
 -- Where a generator runs, and where a value may not be accessed.
-use Rattle.std.proofs.Common.{◌≡◌, ◌≢◌, ℕ, List, refl, sym, ◌∙◌, ap, subst, arith, Bool, true, false, not, ◌&&◌, None, Some}
+use Rattle.std.proofs.Common.{◌≡◌, ◌≢◌, ℕ, List, [], ◌∷◌, refl, sym, ◌∙◌, ap, subst, arith, Bool, true, false, not, ◌&&◌, None, Some, inl, inr}
 use Rattle.std.specs.Prelude.{◌==◌, if◌then◌else◌}
 use Rattle.std.specs.List.{find}
 use Rattle.std.specs.declared.option.Option.{Option}
-use Rattle.phase_bits.specs.Number.{phase_of}
+use Rattle.exit_registry.specs.Registry.{first_of}
+use Rattle.phase_bits.specs.declared.phase.Phase.{Phase}
 use Rattle.phase_bits.specs.Flags.{has, initialized}
-use Rattle.schedule_rules.specs.declared.plan.Call.TheVariants as call
+use Rattle.phase_locker.specs.declared.ways.Given.{Given}
+use Rattle.schedule_rules.specs.declared.plan.Call.{Call}
 use Rattle.schedule_rules.specs.declared.plan.CellPlan.{CellPlan}
 use Rattle.schedule_rules.specs.declared.step.Act.{Act}
 use Rattle.schedule_rules.specs.declared.step.Act.TheVariants as act
 use Rattle.schedule_rules.specs.declared.step.Step.{Step}
+use Rattle.schedule_rules.specs.declared.step.Want.{Want}
+use Rattle.schedule_rules.specs.declared.step.Want.TheVariants.{Calls, Turns}
 use Rattle.schedule_rules.specs.declared.line.Line.{Line}
 use Rattle.schedule_rules.specs.declared.line.Answer.{Answer}
 use Rattle.schedule_rules.specs.declared.line.Answer.TheVariants as answer
-use Rattle.schedule_rules.specs.declared.line.Refusal.{Refusal}
 use Rattle.schedule_rules.specs.Kinds.{cell_at}
-use Rattle.schedule_rules.specs.Phases.{shall_init}
-use Rattle.schedule_rules.specs.Calls.{Want, Calls, Reads, rule, initializes}
-use Rattle.schedule_rules.specs.Changes.{Content}
-use Rattle.schedule_rules.specs.History.{Event}
-use Rattle.schedule_rules.specs.Sections.{Section, innermost, runs_in, generates_for, runs, sections}
-use Rattle.schedule_rules.specs.Guards.{Guard, numbered, guards}
-use Rattle.schedule_rules.specs.Replay.{phase_at}
-use Rattle.schedule_rules.specs.Waits.{Attempt, Wait, wait_of, attempt_of_wait, cell_of_attempt, waits, cell_concerned}
-use Rattle.schedule_rules.specs.Holds.{is_barred, holding_with}
-use Rattle.schedule_rules.specs.Refusals.{refusal}
-use Rattle.schedule_rules.specs.Answers.{if_accessible, answer_admitted}
-use Rattle.schedule_rules.specs.Due.{answer_of_made, due_tried, due_made, due_look, due_clone, due_answer, meeting}
-use Rattle.schedule_rules.specs.Legal.{IsLegal, IsLegalLine, answer_of}
-use Rattle.schedule_rules.specs.Laws.{waits_judged, IsDenied}
+use Rattle.schedule_rules.specs.Phases.{shall_init, runs_generator}
+use Rattle.schedule_rules.specs.Changes.{Content, Asked, is_declined, content_asked, effect}
+use Rattle.schedule_rules.specs.History.{Event, act_of, accepts}
+use Rattle.schedule_rules.specs.Sections.{Section, runs_in, generates_for, runs, sections}
+use Rattle.schedule_rules.specs.Exits.{registry}
+use Rattle.schedule_rules.specs.Replay.{Back, back_at_once, replay, phase_at, content_after_back}
+use Rattle.schedule_rules.specs.Waits.{attempt, cell_of_attempt, attempt_of_turn, cell_concerned}
+use Rattle.schedule_rules.specs.Legal.{IsLegal, IsLegalLine}
+use Rattle.schedule_rules.specs.Laws.{IsTurnedAway, KeepsValues}
 use Rattle.schedule_rules.proofs.Found.{found_passes}
 use Rattle.schedule_rules.proofs.Each.{each_found}
-use Rattle.schedule_rules.proofs.Waiting.{due_at-judged}
-use Rattle.schedule_rules.proofs.Grows.{IsWanted}
-use Rattle.schedule_rules.proofs.Initialized.{in_turn, sound}
+use Rattle.schedule_rules.proofs.Backs.{back_here, back_elsewhere}
+use Rattle.schedule_rules.proofs.Cases.{IsTrying, Calling, Asking, Resting, Cases, calling-tries}
+use Rattle.schedule_rules.proofs.Steps.{of_legal}
+use Rattle.schedule_rules.proofs.Grows.{Needs, IsStanding}
+use Rattle.schedule_rules.proofs.Initialized.{sound}
+use Rattle.schedule_rules.proofs.Facts.{apart, same_number}
 
--- an answer fits the cell: a run is wanted where one begins, and where the value may not be accessed, none is
-abbrev Fits : CellPlan → ℕ → Answer → Type 0
-Fits x p answer.Running = shall_init x.retry p ≡ true
-Fits x p (answer.Access q) = (q ≡ phase_of p) × (shall_init x.retry p ≡ false) × (has p initialized ≡ false)
-Fits x p _ = Unit {0}
+-- on the empty phase alone a run is wanted without retry
+empty-where-wanted : (retry : Bool) (p : ℕ) → shall_init retry p ≡ true → retry ≡ false → p ≡ 0
+empty-where-wanted true p e once = absurd (apart once)
+empty-where-wanted false p e once = grind arith
 
--- an answer where the value may be accessed, and no run is wanted
-accessed-fits : (x : CellPlan) (y : Content) (a : Answer) → shall_init x.retry y.phase ≡ false → Fits x y.phase a → Fits x y.phase (if_accessible x y a)
-accessed-fits x y a e f = by (has y.phase initialized) refl
+-- where no run is wanted and there is no value, the cell has no retry
+once-where-unwanted : (retry : Bool) (p : ℕ) → shall_init retry p ≡ false → has p initialized ≡ false → retry ≡ false
+once-where-unwanted false p e lacks = refl
+once-where-unwanted true p e lacks = absurd (by (has p initialized) e lacks)
   where
-    by : (b : Bool) → has y.phase initialized ≡ b → Fits x y.phase (if_accessible x y a)
-    by true g = rw g f
-    by false g = rw g (refl, e, g)
+    by : (b : Bool) → not b ≡ false → b ≡ false → ⊥
+    by true f g = apart g
+    by false f g = apart f
 
--- the answer of a call that is admitted
-admitted-fits : (x : CellPlan) (w : Want) (y : Content) → Fits x y.phase (answer_admitted x w y)
-admitted-fits x (Calls call.Phase) y = tt
-admitted-fits x (Calls call.Read) y = by (shall_init x.retry y.phase) refl
+-- and its phase is not empty
+ended-where-unwanted : (retry : Bool) (p : ℕ) → shall_init retry p ≡ false → has p initialized ≡ false → p ≢ 0
+ended-where-unwanted retry p e lacks z = by (subst (λ b. shall_init b p ≡ false) (once-where-unwanted retry p e lacks) e)
   where
-    by : (b : Bool) → shall_init x.retry y.phase ≡ b → Fits x y.phase (answer_admitted x (Calls call.Read) y)
-    by true e = rw (e, e) e
-    by false e = rw e (accessed-fits x y answer.ReadGuard e tt)
-admitted-fits x (Calls call.Write) y = by (shall_init x.retry y.phase) refl
-  where
-    by : (b : Bool) → shall_init x.retry y.phase ≡ b → Fits x y.phase (answer_admitted x (Calls call.Write) y)
-    by true e = rw e e
-    by false e = rw e (accessed-fits x y answer.WriteGuard e tt)
+    by : (p == 0) ≡ false → ⊥
+    by f = grind arith
 
 module _ (cells : List CellPlan) where
-  module _ (h : List Event) (c p : ℕ) where
-    -- the answer fits the cell as it is
-    abbrev FitsHere : Answer → Type 0
-    FitsHere a = Fits (cell_at cells c) (phase_at cells c h) a
-
-    -- that of an attempt
-    tried-fits : (o : Option Attempt) (ws : List Wait) (chosen : Bool) → cell_of_attempt o ≡ Some c → FitsHere (due_tried cells h p o ws chosen)
-    tried-fits None ws chosen e = tt
-    tried-fits (Some a) ws chosen e =
-        let m : _ = meeting cells h p a ws in let x : CellPlan = cell_at cells a.cell in let here : a.cell ≡ c = cc in
-        subst (λ d. Fits (cell_at cells d) (phase_at cells d h) (due_tried cells h p (Some a) ws chosen)) here
-        (in_turn (Fits x m.content.phase) (initializes a.want && m.own_run) (not m.kept && is_barred (rule x a.want m.content.phase) m.holding)
-        _ (answer_admitted x a.want m.content) tt (λ way. tt) (admitted-fits x a.want m.content))
-
-    -- that of a generator's value
-    made-fits : (v : ℕ) (o : Option Section) → FitsHere (due_made cells h v o)
-    made-fits v None = tt
-    made-fits v (Some s) = by s.want
+  module _ (h : List Event) (p : ℕ) where
+    -- an attempt concerns its cell
+    concerned : (a : Act) → IsTrying a → cell_concerned cells h (record { party = p; act = a }) ≡ cell_of_attempt (attempt cells h (record { party = p; act = a }))
+    concerned (act.Call c k) t = refl
+    concerned act.Again t = refl
+    concerned act.Exit t = by (first_of (registry cells h).left)
       where
-        by : (w : Want) → FitsHere (answer_of_made w)
-        by (Calls call.Phase) = tt
-        by (Calls call.Read) = tt
-        by (Calls call.Write) = tt
+        by : (o : Option ℕ) → o ≡ cell_of_attempt (attempt_of_turn o)
+        by None = refl
+        by (Some c) = refl
+    concerned _ t = absurd t
 
-    -- that of a look
-    look-fits : (o : Option Guard) → FitsHere (due_look cells h o)
-    look-fits None = tt
-    look-fits (Some x) = tt
-
-    -- that of a clone
-    clone-fits : (ws : List Wait) (o : Option Guard) → FitsHere (due_clone cells h ws o)
-    clone-fits ws None = tt
-    clone-fits ws (Some x) = by (is_barred (Some Reads) (holding_with x.cell h ws))
+    -- so a call is at the cell that its step concerns
+    called_at : (a : Act) (c d : ℕ) (k : Call) → Calling cells h p a c k → cell_concerned cells h (record { party = p; act = a }) ≡ Some d → c ≡ d
+    called_at a c d k t e = same (sym (concerned a (calling-tries a t.acts) ∙ ap cell_of_attempt t.tried) ∙ e)
       where
-        by : (b : Bool) → FitsHere (if b then answer.Borrowed else answer.ReadGuard)
-        by true = tt
-        by false = tt
+        same : Some c ≡ Some d → c ≡ d
+        same x = cc
 
-    -- that of each act
-    due-fits : (a : Act) (ws : List Wait) (chosen : Bool) → cell_concerned cells h (record { party = p; act = a }) ≡ Some c
-        → FitsHere (due_answer cells h (record { party = p; act = a }) ws chosen)
-    due-fits (act.Call d k) ws chosen e = tried-fits (Some (record { cell = d; want = Calls k })) ws chosen e
-    due-fits act.Again ws chosen e = tried-fits (attempt_of_wait (wait_of p (waits cells h))) ws chosen e
-    due-fits (act.Made v) ws chosen e = made-fits v (innermost p (sections h))
-    due-fits act.MadeFailed ws chosen e = tt
-    due-fits (act.Look g) ws chosen e = look-fits (numbered g (guards h))
-    due-fits (act.Set g v) ws chosen e = tt
-    due-fits (act.Release g) ws chosen e = tt
-    due-fits (act.Downgrade g) ws chosen e = tt
-    due-fits (act.Clone g) ws chosen e = clone-fits ws (numbered g (guards h))
+    -- where this is a run, one is wanted at the cell
+    abbrev IsWanted : ℕ → Act → Answer → Type 0
+    IsWanted c a r = r ≡ answer.Running → cell_concerned cells h (record { party = p; act = a }) ≡ Some c → shall_init (cell_at cells c).retry (phase_at cells c h) ≡ true
 
-  -- the answer of a legal line fits the cell that its step concerns
-  legal-fits : (h : List Event) (s : Step) (l : Line) (c : ℕ) → IsLegalLine cells h s l → cell_concerned cells h s ≡ Some c
-      → Fits (cell_at cells c) (phase_at cells c h) l.answer
-  legal-fits h s l c k e =
-      subst (Fits (cell_at cells c) (phase_at cells c h)) (sym (k.answered ∙ ap (answer_of (refusal cells h s)) (due_at-judged cells k.moment h s l.given k.chosen)))
-      (by (refusal cells h s))
-    where
-      by : (o : Option Refusal) → Fits (cell_at cells c) (phase_at cells c h) (answer_of o (due_answer cells h s (waits_judged cells k.moment h s l.given) k.chosen))
-      by None = due-fits h c s.party s.act (waits_judged cells k.moment h s l.given) k.chosen e
-      by (Some r) = tt
+    wanted : (c : ℕ) → Cases cells h p (IsWanted c)
+    wanted c = record {
+      cyclic = λ a d j t e. absurd (cc);
+      waiting = λ a d w way t e. absurd (cc);
+      phased = λ a d t e. absurd (cc);
+      reading = λ a d t q e. absurd (cc);
+      writing = λ a d t q e. absurd (cc);
+      running = λ a d j t q e n. subst (λ z. shall_init (cell_at cells z).retry (phase_at cells z h) ≡ true) (called_at a d c j t n) q.wanted;
+      declined = λ a d j t q e. absurd (cc);
+      denied = λ a d j t q e. absurd (cc);
+      skipped = λ a d t q e. absurd (cc);
+      finalizing = λ a d t q u e. absurd (cc);
+      round = λ d ds e n f. absurd (cc);
+      closed = λ e n f. absurd (cc);
+      made_read = λ v t f d e. absurd (cc);
+      made_write = λ v t f d e. absurd (cc);
+      failed = λ t f d e. absurd (cc);
+      finished = λ t f d e. absurd (cc);
+      finish_failed = λ t f d e. absurd (cc);
+      looked = λ g v x f e. absurd (cc);
+      set = λ g v x f w e. absurd (cc);
+      released = λ g x f e. absurd (cc);
+      downgraded = λ g x f w e. absurd (cc);
+      borrowed = λ g x f w e. absurd (cc);
+      cloned = λ g x f w e. absurd (cc);
+    }
+
+    module _ (i : Given) where
+      -- the event of the party
+      abbrev event : Act → Answer → Event
+      event a r = record { step = record { party = p; act = a }; line = record { answer = r; given = i } }
+
+      -- what a call gives back that leaves nothing open
+      abbrev asked : ℕ → Call → Back
+      asked c j = record { cell = c; changes = Asked (accepts h) j ∷ [] }
+
+      module _ (a : Act) (c : ℕ) (j : Call) (q : Phase) (t : Calling cells h p a c j) where
+        -- it is given back at its cell alone
+        back : back_at_once h (act_of h (record { party = p; act = a })) ≡ Some (asked c j)
+        back = ap (back_at_once h) t.does
+
+        others : (d : ℕ) → c ≢ d → replay cells d (event a (answer.Access q) ∷ h) ≡ replay cells d h
+        others d ne = back_elsewhere cells d (back_at_once h (act_of h (record { party = p; act = a }))) (asked c j) (replay cells d h) back (other ne)
+          where
+            other : c ≢ d → (c == d) ≡ false
+            other n = grind arith
+
+        here : replay cells c (event a (answer.Access q) ∷ h) ≡ content_asked (cell_at cells c) (accepts h) j (replay cells c h)
+        here = back_here cells c (back_at_once h (act_of h (record { party = p; act = a }))) (asked c j) (replay cells c h) back (same_number c c refl)
+
+        -- by whether it was declined
+        chosen : (b : Bool) → is_declined (cell_at cells c) j (accepts h) (phase_at cells c h) ≡ b
+            → replay cells c (event a (answer.Access q) ∷ h) ≡ (if b then record { phase = 36; value = (replay cells c h).value } else replay cells c h)
+        chosen b e = here ∙ ap (λ (d : Bool). if d then record { phase = 36; value = (replay cells c h).value } else replay cells c h) e
+
+        denies : Resting cells h p c j false → q ≡ record { bits = phase_at cells c h } → IsTurnedAway cells h (event a (answer.Access q)) c q
+        denies r e = record {
+          shown = e ∙ ap (λ y. record { bits = y.phase }) (sym stays);
+          others_stay = others;
+          reason = inl (
+            stays,
+            record {
+              shown = e;
+              once = once-where-unwanted (cell_at cells c).retry (phase_at cells c h) r.unwanted r.accessed;
+              lacks = r.accessed;
+              ended = ended-where-unwanted (cell_at cells c).retry (phase_at cells c h) r.unwanted r.accessed;
+            },
+          );
+        }
+          where
+            stays : replay cells c (event a (answer.Access q) ∷ h) ≡ replay cells c h
+            stays = chosen false (ap (λ (b : Bool). b && not (runs_generator (cell_at cells c) (accepts h) (phase_at cells c h))) r.unasked)
+
+        pub declines : Asking cells h p c j false → q ≡ record { bits = 36 } → IsTurnedAway cells h (event a (answer.Access q)) c q
+        declines r e = record {
+          shown = e ∙ ap (λ y. record { bits = y.phase }) (sym left);
+          others_stay = others;
+          reason = inr (record { call = j; tried = t.tried; declines = declined; shown = e; left = ap (λ y. y.phase) left });
+        }
+          where
+            declined : is_declined (cell_at cells c) j (accepts h) (phase_at cells c h) ≡ true
+            declined = rw r.asked (ap not r.generates)
+
+            left : replay cells c (event a (answer.Access q) ∷ h) ≡ record { phase = 36; value = (replay cells c h).value }
+            left = chosen true declined
+
+      -- where this says that the value may not be accessed, it is turned away
+      abbrev IsAway : ℕ → Phase → Act → Answer → Type 0
+      IsAway c q a r = r ≡ answer.Access q → cell_concerned cells h (record { party = p; act = a }) ≡ Some c → IsTurnedAway cells h (event a (answer.Access q)) c q
+
+      shown_by : (q r : Phase) → answer.Access r ≡ answer.Access q → q ≡ r
+      shown_by q r e = cc
+
+      away : (c : ℕ) (q : Phase) → Cases cells h p (IsAway c q)
+      away c q = record {
+        cyclic = λ a d j t e. absurd (cc);
+        waiting = λ a d w way t e. absurd (cc);
+        phased = λ a d t e. absurd (cc);
+        reading = λ a d t r e. absurd (cc);
+        writing = λ a d t r e. absurd (cc);
+        running = λ a d j t r e. absurd (cc);
+        declined = λ a d j t r e n.
+            subst (λ z. IsTurnedAway cells h (event a (answer.Access q)) z q) (called_at a d c j t n) (declines a d j q t r (shown_by q (record { bits = 36 }) e));
+        denied = λ a d j t r e n.
+            subst (λ z. IsTurnedAway cells h (event a (answer.Access q)) z q) (called_at a d c j t n) (denies a d j q t r (shown_by q (record { bits = phase_at cells d h }) e));
+        skipped = λ a d t r e. absurd (cc);
+        finalizing = λ a d t r u e. absurd (cc);
+        round = λ d ds e n f. absurd (cc);
+        closed = λ e n f. absurd (cc);
+        made_read = λ v t f d e. absurd (cc);
+        made_write = λ v t f d e. absurd (cc);
+        failed = λ t f d e. absurd (cc);
+        finished = λ t f d e. absurd (cc);
+        finish_failed = λ t f d e. absurd (cc);
+        looked = λ g v x f e. absurd (cc);
+        set = λ g v x f w e. absurd (cc);
+        released = λ g x f e. absurd (cc);
+        downgraded = λ g x f w e. absurd (cc);
+        borrowed = λ g x f w e. absurd (cc);
+        cloned = λ g x f w e. absurd (cc);
+      }
+
+  -- a legal line that says that the value may not be accessed
+  pub turned_away : (h : List Event) (s : Step) (l : Line) (c : ℕ) (q : Phase) → IsLegalLine cells h s l → l.answer ≡ answer.Access q → cell_concerned cells h s ≡ Some c
+      → IsTurnedAway cells h (record { step = s; line = l }) c q
+  turned_away h s l c q k e n =
+      subst (λ r. IsTurnedAway cells h (record { step = s; line = record { answer = r; given = l.given } }) c q) (sym e)
+      (of_legal cells h s l k (IsAway h s.party l.given c q) (λ a r f. absurd (cc)) (away h s.party l.given c q) e n)
 
   -- without retry a run begins on the empty phase
   pub begins_on_empty : (h : List Event) (s : Step) (l : Line) (c : ℕ) → IsLegalLine cells h s l → l.answer ≡ answer.Running → cell_concerned cells h s ≡ Some c
       → (cell_at cells c).retry ≡ false → phase_at cells c h ≡ 0
-  begins_on_empty h s l c k r e once = empty (subst (Fits (cell_at cells c) (phase_at cells c h)) r (legal-fits h s l c k e))
-    where
-      empty : shall_init (cell_at cells c).retry (phase_at cells c h) ≡ true → phase_at cells c h ≡ 0
-      empty w = let f : (phase_at cells c h == 0) ≡ true = subst (λ b. shall_init b (phase_at cells c h) ≡ true) once w in grind arith
+  begins_on_empty h s l c k r e once =
+      empty-where-wanted (cell_at cells c).retry (phase_at cells c h) (of_legal cells h s l k (IsWanted h s.party c) (λ a q f. absurd (cc)) (wanted h s.party c) r e) once
 
   -- and it stays empty while the generator runs
   pub runs_on_empty : (h : List Event) (p c : ℕ) → IsLegal cells h → runs p c h ≡ true → (cell_at cells c).retry ≡ false → phase_at cells c h ≡ 0
-  runs_on_empty h p c k r once = by (find (runs_in c) (sections h)) refl
+  runs_on_empty h p c k r once = by (find (runs_in c) (sections h)) refl r
     where
-      none : find (runs_in c) (sections h) ≡ None → ⊥
-      none e = apart (sym r ∙ ap (generates_for p) e)
-        where
-          apart : true ≡ false → ⊥
-          apart x = cc
-
-      by : (o : Option Section) → find (runs_in c) (sections h) ≡ o → phase_at cells c h ≡ 0
-      by None e = absurd (none e)
-      by (Some s) e =
+      needed : (s : Section) → find (runs_in c) (sections h) ≡ Some s → (w : Want) → s.want ≡ w → generates_for p (Some s) ≡ true → Needs w (cell_at cells s.cell) (phase_at cells s.cell h) → phase_at cells c h ≡ 0
+      needed s e (Calls j) d g u =
           let same : (s.cell == c) ≡ true = found_passes (runs_in c) (sections h) s e in
           let here : s.cell ≡ c = grind arith in
-          let there : shall_init (cell_at cells s.cell).retry (phase_at cells s.cell h) ≡ true = each_found (runs_in c) (IsWanted cells h None) (sections h) s e (sound cells h k).wanted in
-          let w : shall_init (cell_at cells c).retry (phase_at cells c h) ≡ true = subst (λ d. shall_init (cell_at cells d).retry (phase_at cells d h) ≡ true) here there in
-          let f : (phase_at cells c h == 0) ≡ true = subst (λ b. shall_init b (phase_at cells c h) ≡ true) once w in
-          grind arith
-
-  -- what answers that the value may not be accessed
-  pub denied_after_failure : (h : List Event) (s : Step) (l : Line) (c : ℕ) (q : _) → IsLegalLine cells h s l → l.answer ≡ answer.Access q → cell_concerned cells h s ≡ Some c → IsDenied cells h c q
-  denied_after_failure h s l c q k r e = by (subst (Fits (cell_at cells c) (phase_at cells c h)) r (legal-fits h s l c k e))
-    where
-      by : Fits (cell_at cells c) (phase_at cells c h) (answer.Access q) → IsDenied cells h c q
-      by t = record { shown = t.0; once = once (cell_at cells c).retry (t.1); lacks = t.2; ended = ended (once (cell_at cells c).retry (t.1)) (t.1) }
+          empty-where-wanted (cell_at cells c).retry (phase_at cells c h) (subst (λ z. shall_init (cell_at cells z).retry (phase_at cells z h) ≡ true) here u) once
+      needed s e Turns d g u = absurd (by d g)
         where
-          once : (b : Bool) → shall_init b (phase_at cells c h) ≡ false → b ≡ false
-          once false f = refl
-          once true f = absurd (apart (ap not f) t.2)
+          by : s.want ≡ Turns → generates_for p (Some s) ≡ true → ⊥
+          by d g = turn (rw d at g)
             where
-              apart : not (not (has (phase_at cells c h) initialized)) ≡ true → has (phase_at cells c h) initialized ≡ false → ⊥
-              apart x y = cc
+              turn : false ≡ true → ⊥
+              turn x = cc
 
-          ended : (cell_at cells c).retry ≡ false → shall_init (cell_at cells c).retry (phase_at cells c h) ≡ false → phase_at cells c h ≢ 0
-          ended o f z = absurd (apart (phase_at cells c h) z (subst (λ b. shall_init b (phase_at cells c h) ≡ false) o f))
-            where
-              apart : (n : ℕ) → n ≡ 0 → (n == 0) ≡ false → ⊥
-              apart n x y = grind arith
+      by : (o : Option Section) → find (runs_in c) (sections h) ≡ o → generates_for p o ≡ true → phase_at cells c h ≡ 0
+      by None e g = absurd (cc)
+      by (Some s) e g = needed s e s.want refl g (each_found (runs_in c) (IsStanding cells h) (sections h) s e (sound cells h k).standing)
+
+-- what may not access the value leaves every value, and what is open
+pub keeps_values : (cells : List CellPlan) (h : List Event) (s : Step) (p : Phase) (g : Given) → KeepsValues cells h (record { step = s; line = record { answer = answer.Access p; given = g } })
+keeps_values cells h s p g = record { sections_stay = refl; guards_stay = refl; values_stay = λ c. by c (act_of h s) }
+  where
+    asked : (x : CellPlan) (b : Bool) (j : Call) (y : Content) → (content_asked x b j y).value ≡ y.value
+    asked x b j y = one (is_declined x j b y.phase)
+      where
+        one : (d : Bool) → (if d then record { phase = 36; value = y.value } else y).value ≡ y.value
+        one true = refl
+        one false = refl
+
+    by : (c : ℕ) (a : Act) → (content_after_back cells c (back_at_once h a) (replay cells c h)).value ≡ (replay cells c h).value
+    by c (act.Call d j) = here (d == c)
+      where
+        here : (b : Bool) → (if b then effect (cell_at cells c) (Asked (accepts h) j ∷ []) (replay cells c h) else replay cells c h).value ≡ (replay cells c h).value
+        here true = asked (cell_at cells c) (accepts h) j (replay cells c h)
+        here false = refl
+    by c _ = refl

@@ -2,6 +2,7 @@
 use Rattle.std.proofs.Common.{◌≡◌, ℕ, List, Bool, true, false, ◌&&◌, Some, None, refl, ◌∙◌, ap}
 use Rattle.std.specs.Prelude.{if◌then◌else◌, is_none}
 use Rattle.std.specs.declared.option.Option.{Option}
+use Rattle.phase_bits.specs.declared.phase.Phase.{Phase}
 use Rattle.phase_bits.specs.Number.{phase_of}
 use Rattle.schedule_rules.specs.declared.plan.Call.TheVariants as call
 use Rattle.schedule_rules.specs.declared.plan.CellPlan.{CellPlan}
@@ -11,7 +12,9 @@ use Rattle.schedule_rules.specs.declared.line.Refusal.{Refusal}
 use Rattle.schedule_rules.specs.declared.line.Answer.{Answer}
 use Rattle.schedule_rules.specs.declared.line.Answer.TheVariants as answer
 use Rattle.schedule_rules.specs.Phases.{is_accessible}
-use Rattle.schedule_rules.specs.Calls.{Want, Calls, Reads}
+use Rattle.schedule_rules.specs.Calls.{Reads}
+use Rattle.schedule_rules.specs.declared.step.Want.{Want}
+use Rattle.schedule_rules.specs.declared.step.Want.TheVariants.{Calls, Turns}
 use Rattle.schedule_rules.specs.Changes.{Content}
 use Rattle.schedule_rules.specs.History.{Event}
 use Rattle.schedule_rules.specs.Sections.{Section}
@@ -20,15 +23,10 @@ use Rattle.schedule_rules.specs.Waits.{Wait}
 use Rattle.schedule_rules.specs.Holds.{is_barred, holding_with}
 use Rattle.schedule_rules.specs.Refusals.{refusal}
 use Rattle.schedule_rules.specs.Answers.{if_accessible}
-use Rattle.schedule_rules.specs.Due.{answer_of_made, due_made, due_look, due_clone, due_answer}
+use Rattle.schedule_rules.specs.Due.{answer_of_made, due_finished, due_made, due_look, due_clone, due_answer}
 use Rattle.schedule_rules.specs.Legal.{IsLegalLine, answer_of}
 use Rattle.schedule_rules.specs.Laws.{waits_judged}
-use Rattle.schedule_rules.proofs.Waiting.{due_at-judged}
-
--- the second of two that both hold
-pub second : (x y : Bool) → (x && y) ≡ true → y ≡ true
-second true y e = e
-second false y e = absurd (cc)
+use Rattle.schedule_rules.proofs.Judged.{due_at-judged}
 
 module _ (P : Answer → Type 0) where
   -- one of two answers
@@ -50,6 +48,12 @@ module _ (P : Answer → Type 0) where
         by (Calls call.Phase) = w
         by (Calls call.Read) = r
         by (Calls call.Write) = w
+        by Turns = w
+
+    -- that of a finalizer that ends
+    pub finished : (fine : Bool) (o : Option Section) → P answer.Done → ((p : Phase) → P (answer.Phase p)) → P (due_finished cells h fine o)
+    finished fine None d p = d
+    finished fine (Some s) d p = p _
 
     -- that of a look
     pub looked : (o : Option Guard) → P answer.Done → ((v : ℕ) → P (answer.Value v)) → P (due_look cells h o)

@@ -17,6 +17,20 @@ each_else {X} t P Q (x ∷ xs) none f ps = by (t x) refl none (λ n. each_else t
     by true e n rest = absurd (omega arith)
     by false e n rest = (f x e ps.0, rest n)
 
+-- where none passes a test, what holds of those that do not pass holds of all
+pub each_none : {X : Type 0} (t : X → Bool) (Q : X → Type 0) (xs : List X) → count t xs ≡ 0 → ((x : X) → t x ≡ false → Q x) → AllByRecursion Q xs
+each_none t Q [] none f = tt
+each_none {X} t Q (x ∷ xs) none f = by (t x) refl none (λ n. each_none t Q xs n f)
+  where
+    by : (b : Bool) → t x ≡ b → cond b (count t xs + 1) (count t xs) ≡ 0 → (count t xs ≡ 0 → AllByRecursion Q xs) → AllByRecursion Q (x ∷ xs)
+    by true e n rest = absurd (omega arith)
+    by false e n rest = (f x e, rest n)
+
+-- a fact that follows from another holds of all
+pub each_mapped : {X : Type 0} (P Q : X → Type 0) (xs : List X) → ((x : X) → P x → Q x) → AllByRecursion P xs → AllByRecursion Q xs
+each_mapped P Q [] f ps = tt
+each_mapped P Q (x ∷ xs) f ps = (f x ps.0, each_mapped P Q xs f ps.1)
+
 -- what is found is one of them
 pub each_found : {X : Type 0} (q : X → Bool) (P : X → Type 0) (xs : List X) (x : X) → find q xs ≡ Some x → AllByRecursion P xs → P x
 each_found q P [] x e ps = absurd (cc)

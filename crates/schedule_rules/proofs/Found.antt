@@ -22,3 +22,8 @@ none_found p (x ∷ xs) e = grind (arith, none_found p xs)
 pub found_passes : {X : Type 0} (p : X → Bool) (xs : List X) (x : X) → find p xs ≡ Some x → p x ≡ true
 found_passes p [] x e = cc
 found_passes p (y ∷ xs) x e = grind (arith, found_passes p xs x)
+
+-- what is not found is not counted
+pub none_counted : {X : Type 0} (p : X → Bool) (xs : List X) → find p xs ≡ None → count p xs ≡ 0
+none_counted p [] e = refl
+none_counted p (x ∷ xs) e = grind (arith, none_counted p xs)

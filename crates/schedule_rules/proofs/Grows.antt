@@ -1,38 +1,34 @@
--- What an event leaves: each generator runs where a run is wanted, and each holder of a write guard sees a value.
-use Rattle.std.proofs.Common.{◌≡◌, ◌<◌, ℕ, List, [], ◌∷◌, length, refl, sym, ◌∙◌, ap, subst, arith, Bool, true, false, not, cond, None, Some}
-use Rattle.std.specs.Prelude.{◌==◌}
-use Rattle.std.specs.List.{find, AllByRecursion}
-use Rattle.std.specs.declared.option.Option.{Option}
-use Rattle.phase_bits.specs.Number.{phase_of}
+-- What a legal step leaves: each section stands on the phase that it needs, and each holder of a write guard sees a value.
+use Rattle.std.proofs.Common.{◌≡◌, ℕ, List, [], ◌∷◌, length, refl, sym, ◌∙◌, ap, subst, arith, Bool, true, false, not, ◌&&◌, None, Some}
+use Rattle.std.specs.Prelude.{◌==◌, if◌then◌else◌}
+use Rattle.std.specs.List.{AllByRecursion}
+use Rattle.std.specs.Int.RustNames.{bit_and, bit_or}
+use Rattle.std.proofs.lemmas.Nat.{and_or_self, and_or_apart}
 use Rattle.phase_bits.specs.Flags.{has, initialized}
+use Rattle.phase_locker.specs.declared.ways.Given.{Given}
 use Rattle.schedule_rules.specs.declared.plan.Call.{Call}
+use Rattle.schedule_rules.specs.declared.plan.Call.TheVariants as call
 use Rattle.schedule_rules.specs.declared.plan.CellPlan.{CellPlan}
 use Rattle.schedule_rules.specs.declared.step.Act.{Act}
 use Rattle.schedule_rules.specs.declared.step.Act.TheVariants as act
-use Rattle.schedule_rules.specs.declared.step.Step.{Step}
-use Rattle.phase_locker.specs.declared.ways.How.{How}
-use Rattle.phase_locker.specs.declared.ways.Given.{Given}
+use Rattle.schedule_rules.specs.declared.step.Want.{Want}
+use Rattle.schedule_rules.specs.declared.step.Want.TheVariants.{Calls, Turns}
 use Rattle.schedule_rules.specs.declared.line.Answer.{Answer}
 use Rattle.schedule_rules.specs.declared.line.Answer.TheVariants as answer
-use Rattle.schedule_rules.specs.declared.line.Refusal.{Refusal}
 use Rattle.schedule_rules.specs.Kinds.{cell_at}
-use Rattle.schedule_rules.specs.Phases.{shall_init}
-use Rattle.schedule_rules.specs.Changes.{Content, Ran, effect}
-use Rattle.schedule_rules.specs.History.{Event, act_of, count}
-use Rattle.schedule_rules.specs.Sections.{Section, innermost, without_innermost, runs_in, with_run, sections}
+use Rattle.schedule_rules.specs.Phases.{shall_init, flags_kept, runs_generator}
+use Rattle.schedule_rules.specs.Changes.{Content, Change, Ran, Asked, Put, Ended, content_asked, effect}
+use Rattle.schedule_rules.specs.History.{Event, act_of, accepts, count}
+use Rattle.schedule_rules.specs.Sections.{Section, innermost, without_innermost, is_turn, runs_in, with_run, sections_ended, sections}
 use Rattle.schedule_rules.specs.Guards.{Guard, numbered, without_guard, with_reader, with_writer, guards}
-use Rattle.schedule_rules.specs.Replay.{Back, back_of_run, back_of_step, replay, phase_at, content_after_back}
+use Rattle.schedule_rules.specs.Replay.{Back, back_of_run, back_of_turn, back_of_guard, back_at_once, back_of_step, replay, phase_at, content_after_back}
 use Rattle.schedule_rules.specs.Holds.{writes_cell}
 use Rattle.schedule_rules.specs.Legal.{IsExclusive}
-use Rattle.schedule_rules.proofs.Found.{found_counts}
-use Rattle.schedule_rules.proofs.Opened.{count_ended, count_removed}
-use Rattle.schedule_rules.proofs.Each.{each_else, each_found, each_ended, each_removed, each_put}
-
-pub same_number : (m : ℕ) → (m == m) ≡ true
-same_number m = grind arith
-
-other_number : (m n : ℕ) → (m == n) ≡ false → (n == m) ≡ false
-other_number m n e = grind arith
+use Rattle.schedule_rules.proofs.Each.{each_mapped, each_else, each_found, each_ended, each_removed, each_put}
+use Rattle.schedule_rules.proofs.Exclusion.{no_writer_beside, no_run_left, no_run_beside, no_writer_left}
+use Rattle.schedule_rules.proofs.Backs.{no_phase_back, no_read_back, back_here, back_elsewhere}
+use Rattle.schedule_rules.proofs.Cases.{no_end, calling-tries, trying, IsCalling, Calling, Asking, Resting, Cases}
+use Rattle.schedule_rules.proofs.Facts.{apart, same_number, turned_number}
 
 -- where a run is wanted, INITIALIZED is not there
 pub wanted-lacks : (retry : Bool) (p : ℕ) → shall_init retry p ≡ true → has p initialized ≡ false
@@ -43,269 +39,267 @@ wanted-lacks true p e = by (has p initialized) e
     by true f = absurd (cc)
 wanted-lacks false p e = let empty : p ≡ 0 = grind arith in subst (λ q. has q initialized ≡ false) (sym empty) refl
 
--- 1 where the test holds
-abbrev pub one_if : Bool → ℕ
-one_if b = cond b 1 0
+-- a run that succeeds sets it
+pub has_made : (p : ℕ) → has (bit_or p initialized) initialized ≡ true
+has_made p = rw (and_or_self 1 p) refl
 
-is_one : (b : Bool) → b ≡ true → one_if b ≡ 1
-is_one b e = rw e refl
+-- other flags leave it
+pub has_more : (p m : ℕ) → bit_and m initialized ≡ 0 → has (bit_or p m) initialized ≡ has p initialized
+has_more p m e = ap (λ z. z == 1) (and_or_apart 1 p m e)
 
--- an event
-abbrev pub event : Step → Answer → Given → Event
-event s a g = record { step = s; line = record { answer = a; given = g } }
+-- what a section needs of the phase of its cell: a generator that a run is wanted, and a finalizer that there is a value
+abbrev pub Needs : Want → CellPlan → ℕ → Type 0
+Needs (Calls k) x p = shall_init x.retry p ≡ true
+Needs Turns x p = has p initialized ≡ true
 
--- the act is a call, or goes on with one
-abbrev pub IsCalling : Act → Type 0
-IsCalling (act.Call c j) = Unit {0}
-IsCalling act.Again = Unit {0}
-IsCalling _ = ⊥
+-- a generator's section needs a phase that lacks INITIALIZED
+pub needs-lacks : (w : Want) (x : CellPlan) (p : ℕ) → is_turn w ≡ false → Needs w x p → has p initialized ≡ false
+needs-lacks (Calls k) x p d n = wanted-lacks x.retry p n
+needs-lacks Turns x p d n = absurd (apart d)
 
-module _ (cells : List CellPlan) (h : List Event) where
-  -- what the cell holds after this is given back
-  abbrev pub content_with : Option Back → ℕ → Content
-  content_with b c = content_after_back cells c b (replay cells c h)
+-- a generator ended in the section
+abbrev pub HasRun : List Change → Type 0
+HasRun [] = ⊥
+HasRun (Ran o m ∷ chs) = Unit {0}
+HasRun (Asked o k ∷ chs) = HasRun chs
+HasRun (Put v ∷ chs) = HasRun chs
+HasRun (Ended fine ∷ chs) = HasRun chs
 
-  -- the section's generator runs where a run is wanted
-  abbrev pub IsWanted : Option Back → Section → Type 0
-  IsWanted b s = shall_init (cell_at cells s.cell).retry (content_with b s.cell).phase ≡ true
+-- on this content the holder of the guard sees a value, and where it was made in the guard's section none was there
+abbrev pub SeesValue : CellPlan → Guard → Content → Type 0
+SeesValue q x y = (has (effect q x.changes y).phase initialized ≡ true) × (HasRun x.changes → has y.phase initialized ≡ false)
+
+module _ (cells : List CellPlan) where
+  -- the section stands on the phase that it needs
+  abbrev pub IsStanding : List Event → Section → Type 0
+  IsStanding h s = Needs s.want (cell_at cells s.cell) (phase_at cells s.cell h)
 
   -- the holder of a write guard sees a value
-  abbrev pub IsReady : Option Back → Guard → Type 0
-  IsReady b x = x.writes ≡ true → has (effect (cell_at cells x.cell) x.changes (content_with b x.cell)).phase initialized ≡ true
+  abbrev pub IsReady : List Event → Guard → Type 0
+  IsReady h x = x.writes ≡ true → SeesValue (cell_at cells x.cell) x (replay cells x.cell h)
 
-  -- each generator runs where a run is wanted, and each holder of a write guard sees a value
-  pub record IsSound (b : Option Back) (ss : List Section) (gs : List Guard) : Type 0 where
-    pub wanted : AllByRecursion (IsWanted b) ss
-    pub ready : AllByRecursion (IsReady b) gs
+  -- each section stands on the phase that it needs, and each holder of a write guard sees a value
+  pub record IsSound (h : List Event) : Type 0 where
+    pub standing : AllByRecursion (IsStanding h) (sections h)
+    pub ready : AllByRecursion (IsReady h) (guards h)
 
-  -- no value is lost
-  abbrev pub IsKept : Option Back → Type 0
-  IsKept b = (c : ℕ) → has (phase_at cells c h) initialized ≡ true → has (content_with b c).phase initialized ≡ true
+  -- the same after one more event, and no value is lost
+  pub record Grows (h : List Event) (e : Event) : Type 0 where
+    pub sound : IsSound (e ∷ h)
+    pub kept : (c : ℕ) → has (phase_at cells c h) initialized ≡ true → has (phase_at cells c (e ∷ h)) initialized ≡ true
 
-  -- the same after one more event
-  pub record Grows (e : Event) : Type 0 where
-    pub back : Option Back
-    pub backed : back_of_step h e.step e.line.answer ≡ back
-    pub sound : IsSound back (sections (e ∷ h)) (guards (e ∷ h))
-    pub kept : IsKept back
+  module _ (h : List Event) (p : ℕ) (i : Given) (k : IsSound h) (alone : (c : ℕ) → IsExclusive cells h c) where
+    -- the event of the party
+    abbrev pub event : Act → Answer → Event
+    event a r = record { step = record { party = p; act = a }; line = record { answer = r; given = i } }
 
-  module _ (k : IsSound None (sections h) (guards h)) (alone : (c : ℕ) → IsExclusive cells h c) where
-    -- an event that opens nothing, ends nothing and gives nothing back
-    pub quiet : (e : Event) → sections (e ∷ h) ≡ sections h → guards (e ∷ h) ≡ guards h → back_of_step h e.step e.line.answer ≡ None → Grows e
-    quiet e a b c = record {
-      back = None;
-      backed = c;
-      sound = record { wanted = subst (AllByRecursion (IsWanted None)) (sym a) k.wanted; ready = subst (AllByRecursion (IsReady None)) (sym b) k.ready };
-      kept = λ d r. r;
+    -- an event that leaves what each cell holds
+    keeps : (e : Event) → ((d : ℕ) → replay cells d (e ∷ h) ≡ replay cells d h) → AllByRecursion (IsStanding h) (sections (e ∷ h)) → AllByRecursion (IsReady h) (guards (e ∷ h)) → Grows h e
+    keeps e same ss gs = record {
+      sound = record {
+        standing = each_mapped (IsStanding h) (IsStanding (e ∷ h)) (sections (e ∷ h)) (λ s u. subst (λ y. Needs s.want (cell_at cells s.cell) y.phase) (sym (same s.cell)) u) ss;
+        ready = each_mapped (IsReady h) (IsReady (e ∷ h)) (guards (e ∷ h))
+            (λ x r w. subst (SeesValue (cell_at cells x.cell) x) (sym (same x.cell)) (r w)) gs;
+      };
+      kept = λ c r. subst (λ y. has y.phase initialized ≡ true) (sym (same c)) r;
     }
 
-    -- where a section of the cell runs, no guard writes it
-    no_writer_beside : (c : ℕ) (q : Section → Bool) (s : Section) → find q (sections h) ≡ Some s → s.cell ≡ c → count (writes_cell c) (guards h) ≡ 0
-    no_writer_beside c q s e f =
-        let runs : 0 < count (runs_in c) (sections h) = found_counts q (runs_in c) (sections h) s e (rw f (same_number c)) in
-        omega (arith, (alone c).one_writer, runs)
+    -- what gives nothing back leaves what each cell holds
+    nothing_back : (e : Event) → back_of_step h e.step e.line.answer ≡ None → (d : ℕ) → replay cells d (e ∷ h) ≡ replay cells d h
+    nothing_back e none d = ap (λ o. content_after_back cells d o (replay cells d h)) none
 
-    -- where a guard writes the cell, no section of it runs
-    no_run_beside : (g : ℕ) (x : Guard) → numbered g (guards h) ≡ Some x → x.writes ≡ true → count (runs_in x.cell) (sections h) ≡ 0
-    no_run_beside g x e w =
-        let writes : 0 < count (writes_cell x.cell) (guards h) = found_counts (λ y. y.number == g) (writes_cell x.cell) (guards h) x e (rw w (same_number x.cell)) in
-        omega (arith, (alone x.cell).one_writer, writes)
+    -- an event that opens nothing, ends nothing and leaves what each cell holds
+    quiet : (e : Event) → sections (e ∷ h) ≡ sections h → guards (e ∷ h) ≡ guards h → ((d : ℕ) → replay cells d (e ∷ h) ≡ replay cells d h) → Grows h e
+    quiet e a b same = keeps e same (subst (AllByRecursion (IsStanding h)) (sym a) k.standing) (subst (AllByRecursion (IsReady h)) (sym b) k.ready)
 
-    -- nor another guard
-    no_writer_left : (g : ℕ) (x : Guard) → numbered g (guards h) ≡ Some x → x.writes ≡ true → count (writes_cell x.cell) (without_guard g (guards h)) ≡ 0
-    no_writer_left g x e w =
-        let one : one_if (writes_cell x.cell x) ≡ 1 = is_one (writes_cell x.cell x) (rw w (same_number x.cell)) in
-        omega (arith, (alone x.cell).one_writer, count_removed (writes_cell x.cell) g (guards h) x e, one)
-
-    -- and where a section ends, no other of its cell is left
-    no_run_left : (p : ℕ) (s : Section) → innermost p (sections h) ≡ Some s → count (runs_in s.cell) (without_innermost p (sections h)) ≡ 0
-    no_run_left p s e =
-        let one : one_if (runs_in s.cell s) ≡ 1 = is_one (runs_in s.cell s) (same_number s.cell) in
-        omega (arith, (alone s.cell).one_writer, count_ended (runs_in s.cell) p (sections h) s e, one)
-
-    -- what is given back of one cell leaves the sections of others
-    wanted_elsewhere : (b : Back) (s : Section) → runs_in b.cell s ≡ false → IsWanted None s → IsWanted (Some b) s
-    wanted_elsewhere b s e u = rw (other_number s.cell b.cell e) u
-
-    -- and the write guards of others
-    ready_elsewhere : (b : Back) (x : Guard) → writes_cell b.cell x ≡ false → IsReady None x → IsReady (Some b) x
-    ready_elsewhere b x e r w = rw (other_number x.cell b.cell (rw w at e)) (r w)
-
-    -- a section that a generator's value ends, and gives back
-    pub made_and_read : (p v : ℕ) (g : Given) (t : Section) → innermost p (sections h) ≡ Some t → Grows (event (record { party = p; act = act.Made v }) answer.ReadGuard g)
-    made_and_read p v g t e = let b : Back = record { cell = t.cell; changes = Ran (Some v) ∷ [] } in record {
-      back = Some b;
-      backed = ap (λ o. back_of_run (Some v) o) e;
+    -- an event that gives a section back, and leaves nothing of its cell held to write
+    changes : (e : Event) (b : Back) → back_of_step h e.step e.line.answer ≡ Some b
+        → AllByRecursion (IsStanding h) (sections (e ∷ h)) → count (runs_in b.cell) (sections (e ∷ h)) ≡ 0
+        → AllByRecursion (IsReady h) (guards (e ∷ h)) → count (writes_cell b.cell) (guards (e ∷ h)) ≡ 0
+        → (has (phase_at cells b.cell h) initialized ≡ true → has (effect (cell_at cells b.cell) b.changes (replay cells b.cell h)).phase initialized ≡ true) → Grows h e
+    changes e b back ss no_section gs no_writer value = record {
       sound = record {
-        wanted = each_else (runs_in t.cell) (IsWanted None) (IsWanted (Some b)) (without_innermost p (sections h)) (no_run_left p t e) (wanted_elsewhere b) (each_ended (IsWanted None) p (sections h) k.wanted);
-        ready = rw e ((λ w. absurd (cc)), each_else (writes_cell t.cell) (IsReady None) (IsReady (Some b)) (guards h) (no_writer_beside t.cell (λ s. s.party == p) t e refl) (ready_elsewhere b) k.ready);
+        standing = each_else (runs_in b.cell) (IsStanding h) (IsStanding (e ∷ h)) (sections (e ∷ h)) no_section
+            (λ s f u. subst (λ y. Needs s.want (cell_at cells s.cell) y.phase) (sym (stays s.cell (turned_number s.cell b.cell f))) u) ss;
+        ready = each_else (writes_cell b.cell) (IsReady h) (IsReady (e ∷ h)) (guards (e ∷ h)) no_writer
+            (λ x f r w. subst (SeesValue (cell_at cells x.cell) x) (sym (stays x.cell (turned_number x.cell b.cell (rw w at f)))) (r w)) gs;
       };
-      kept = λ c r. by c (t.cell == c) r;
+      kept = λ c r. by c (b.cell == c) refl r;
     }
       where
-        by : (c : ℕ) (b : Bool) → has (phase_at cells c h) initialized ≡ true → has (cond b (effect (cell_at cells c) (Ran (Some v) ∷ []) (replay cells c h)) (replay cells c h)).phase initialized ≡ true
-        by c true r = refl
-        by c false r = r
+        stays : (d : ℕ) → (b.cell == d) ≡ false → replay cells d (e ∷ h) ≡ replay cells d h
+        stays d other = back_elsewhere cells d (back_of_step h e.step e.line.answer) b (replay cells d h) back other
 
-    -- a section that a generator's value ends, and a write guard carries on
-    pub made_and_written : (p v : ℕ) (g : Given) (t : Section) → innermost p (sections h) ≡ Some t → Grows (event (record { party = p; act = act.Made v }) answer.WriteGuard g)
-    made_and_written p v g t e = record {
-      back = None;
-      backed = refl;
-      sound = record {
-        wanted = each_ended (IsWanted None) p (sections h) k.wanted;
-        ready = rw e ((λ w. refl), k.ready);
-      };
-      kept = λ c r. r;
-    }
+        here : has (phase_at cells b.cell h) initialized ≡ true → has (phase_at cells b.cell (e ∷ h)) initialized ≡ true
+        here r = subst (λ y. has y.phase initialized ≡ true) (sym (back_here cells b.cell (back_of_step h e.step e.line.answer) b (replay cells b.cell h) back (same_number b.cell b.cell refl))) (value r)
 
-    -- a section that a failure ends
-    pub failed : (p : ℕ) (g : Given) (t : Section) → innermost p (sections h) ≡ Some t → Grows (event (record { party = p; act = act.MadeFailed }) answer.Failed g)
-    failed p g t e = let b : Back = record { cell = t.cell; changes = Ran None ∷ [] } in record {
-      back = Some b;
-      backed = ap (λ o. back_of_run None o) e;
-      sound = record {
-        wanted = each_else (runs_in t.cell) (IsWanted None) (IsWanted (Some b)) (without_innermost p (sections h)) (no_run_left p t e) (wanted_elsewhere b) (each_ended (IsWanted None) p (sections h) k.wanted);
-        ready = each_else (writes_cell t.cell) (IsReady None) (IsReady (Some b)) (guards h) (no_writer_beside t.cell (λ s. s.party == p) t e refl) (ready_elsewhere b) k.ready;
-      };
-      kept = λ c r. by c (t.cell == c) refl r;
-    }
+        by : (c : ℕ) (d : Bool) → (b.cell == c) ≡ d → has (phase_at cells c h) initialized ≡ true → has (phase_at cells c (e ∷ h)) initialized ≡ true
+        by c true same r =
+            let s : b.cell ≡ c = grind arith in
+            subst (λ d. has (phase_at cells d (e ∷ h)) initialized ≡ true) s (here (subst (λ d. has (phase_at cells d h) initialized ≡ true) (sym s) r))
+        by c false other r = subst (λ y. has y.phase initialized ≡ true) (sym (stays c other)) r
+
+    -- ---- calls and turns
+
+    -- the sections that stand, where none ends
+    still : (a : Act) → IsCalling a → AllByRecursion (IsStanding h) (sections_ended a p (sections h))
+    still a t = subst (AllByRecursion (IsStanding h)) (sym (no_end a p (sections h) (calling-tries a t))) k.standing
+
+    -- a call for the phase
+    phased : (a : Act) (c : ℕ) (q : _) → Calling cells h p a c call.Phase → Grows h (event a (answer.Phase q))
+    phased a c q t = quiet (event a (answer.Phase q)) (no_end a p (sections h) (calling-tries a t.acts)) refl (nothing_back (event a (answer.Phase q)) (no_phase_back h p a t.acts))
+
+    -- a call that is declined: nothing holds its cell to write
+    declined : (a : Act) (c : ℕ) (j : Call) (r : _) → Calling cells h p a c j → Asking cells h p c j false → Grows h (event a (answer.Access r))
+    declined a c j r t q =
+        changes (event a (answer.Access r)) (record { cell = c; changes = Asked (accepts h) j ∷ [] }) (ap (back_at_once h) t.does)
+        k.standing (let u : _ = q.unheld (alone c) in omega (arith, u)) k.ready (let u : _ = q.unheld (alone c) in omega (arith, u))
+        (λ v. absurd (apart (sym v ∙ wanted-lacks (cell_at cells c).retry (phase_at cells c h) q.wanted)))
+
+    -- a call that may not access the value: no run is asked
+    pub denied_stays : (a : Act) (c : ℕ) (j : Call) (r : _) → Calling cells h p a c j → Resting cells h p c j false → (d : ℕ) → replay cells d (event a (answer.Access r) ∷ h) ≡ replay cells d h
+    denied_stays a c j r t q d = by (c == d) refl
       where
-        no_value : has (phase_at cells t.cell h) initialized ≡ false
-        no_value = wanted-lacks (cell_at cells t.cell).retry (phase_at cells t.cell h) (each_found (λ s. s.party == p) (IsWanted None) (sections h) t e k.wanted)
+        here : content_asked (cell_at cells c) (accepts h) j (replay cells c h) ≡ replay cells c h
+        here = ap (λ (b : Bool). if b && not (runs_generator (cell_at cells c) (accepts h) (phase_at cells c h)) then record { phase = 36; value = (replay cells c h).value } else replay cells c h) q.unasked
 
-        clash : (c : ℕ) → (t.cell == c) ≡ true → has (phase_at cells c h) initialized ≡ true → ⊥
-        clash c same r = let s : t.cell ≡ c = grind arith in let n : has (phase_at cells c h) initialized ≡ false = subst (λ d. has (phase_at cells d h) initialized ≡ false) s no_value in apart (sym r ∙ n)
-          where
-            apart : true ≡ false → ⊥
-            apart x = cc
+        b : Back
+        b = record { cell = c; changes = Asked (accepts h) j ∷ [] }
 
-        by : (c : ℕ) (b : Bool) → (t.cell == c) ≡ b → has (phase_at cells c h) initialized ≡ true → has (cond b (effect (cell_at cells c) (Ran None ∷ []) (replay cells c h)) (replay cells c h)).phase initialized ≡ true
-        by c true same r = absurd (clash c same r)
-        by c false same r = r
+        by : (x : Bool) → (c == d) ≡ x → replay cells d (event a (answer.Access r) ∷ h) ≡ replay cells d h
+        by true e =
+            let s : c ≡ d = grind arith in
+            back_here cells d (back_at_once h (act_of h (record { party = p; act = a }))) b (replay cells d h) (ap (back_at_once h) t.does) e
+            ∙ subst (λ z. content_asked (cell_at cells z) (accepts h) j (replay cells z h) ≡ replay cells z h) s here
+        by false e = back_elsewhere cells d (back_at_once h (act_of h (record { party = p; act = a }))) b (replay cells d h) (ap (back_at_once h) t.does) e
 
-    -- a set
-    pub set : (p g v : ℕ) (i : Given) → Grows (event (record { party = p; act = act.Set g v }) answer.Done i)
-    set p g v i = record {
-      back = None;
-      backed = refl;
-      sound = record { wanted = k.wanted; ready = each_put (IsReady None) g v (guards h) (λ x r. r) k.ready };
-      kept = λ c r. r;
-    }
+    denied : (a : Act) (c : ℕ) (j : Call) (r : _) → Calling cells h p a c j → Resting cells h p c j false → Grows h (event a (answer.Access r))
+    denied a c j r t q = quiet (event a (answer.Access r)) refl refl (denied_stays a c j r t q)
+
+    -- a call whose generator runs
+    running : (a : Act) (c : ℕ) (j : Call) → Calling cells h p a c j → Asking cells h p c j true → Grows h (event a answer.Running)
+    running a c j t q =
+        keeps (event a answer.Running) (λ d. refl)
+        (subst (λ b. AllByRecursion (IsStanding h) (with_run b p (length h) (accepts h) (sections h))) (sym t.does) (q.wanted, k.standing)) k.ready
+
+    -- a call that gets a guard to read
+    reading : (a : Act) (c : ℕ) → Calling cells h p a c call.Read → Grows h (event a answer.ReadGuard)
+    reading a c t =
+        keeps (event a answer.ReadGuard) (nothing_back (event a answer.ReadGuard) (no_read_back h p a t.acts)) (still a t.acts)
+        (subst (λ b. AllByRecursion (IsReady h) (with_reader h p b (guards h))) (sym t.does) ((λ w. absurd (cc)), k.ready))
+
+    -- a call that gets a guard to write without a run
+    writing : (a : Act) (c : ℕ) → Calling cells h p a c call.Write → has (phase_at cells c h) initialized ≡ true → Grows h (event a answer.WriteGuard)
+    writing a c t r =
+        keeps (event a answer.WriteGuard) (λ d. refl) (still a t.acts)
+        (subst (λ b. AllByRecursion (IsReady h) (with_writer h p b (guards h))) (sym t.does) ((λ w. (r, λ n. absurd n)), k.ready))
+
+    -- ---- sections that end
+
+    -- a section that ends and is given back: its guards stay, besides those to read
+    ended : (e : Event) (t : Section) (ch : _) → innermost p (sections h) ≡ Some t → sections (e ∷ h) ≡ without_innermost p (sections h)
+        → back_of_step h e.step e.line.answer ≡ Some (record { cell = t.cell; changes = ch ∷ [] })
+        → AllByRecursion (IsReady h) (guards (e ∷ h)) → ((c : ℕ) → count (writes_cell c) (guards (e ∷ h)) ≡ count (writes_cell c) (guards h))
+        → (has (phase_at cells t.cell h) initialized ≡ true → has (effect (cell_at cells t.cell) (ch ∷ []) (replay cells t.cell h)).phase initialized ≡ true) → Grows h e
+    ended e t ch f left back gs same value =
+        changes e (record { cell = t.cell; changes = ch ∷ [] }) back (subst (AllByRecursion (IsStanding h)) (sym left) (each_ended (IsStanding h) p (sections h) k.standing))
+        (ap (count (runs_in t.cell)) left ∙ no_run_left cells h alone p t f) gs (same t.cell ∙ no_writer_beside cells h alone p t f) value
+
+    -- where a generator runs there is no value
+    pub lacks : (t : Section) → innermost p (sections h) ≡ Some t → is_turn t.want ≡ false → has (phase_at cells t.cell h) initialized ≡ false
+    lacks t f d = needs-lacks t.want (cell_at cells t.cell) (phase_at cells t.cell h) d (each_found (λ s. s.party == p) (IsStanding h) (sections h) t f k.standing)
+
+    -- a generator that fails
+    failed : (t : Section) → innermost p (sections h) ≡ Some t → is_turn t.want ≡ false → Grows h (event act.MadeFailed answer.Failed)
+    failed t f d =
+        ended (event act.MadeFailed answer.Failed) t (Ran t.is_open None) f refl (ap (back_of_run None) f) k.ready (λ c. refl)
+        (λ r. absurd (apart (sym r ∙ lacks t f d)))
+
+    -- a generator's value that its call reads
+    made_read : (v : ℕ) (t : Section) → innermost p (sections h) ≡ Some t → Grows h (event (act.Made v) answer.ReadGuard)
+    made_read v t f =
+        ended (event (act.Made v) answer.ReadGuard) t (Ran t.is_open (Some v)) f refl (ap (back_of_run (Some v)) f) (rw f ((λ w. absurd (cc)), k.ready)) (λ c. rw f refl)
+        (λ r. has_made (flags_kept (cell_at cells t.cell) t.is_open (phase_at cells t.cell h)))
+
+    -- one that a write guard carries on
+    made_write : (v : ℕ) (t : Section) → innermost p (sections h) ≡ Some t → is_turn t.want ≡ false → Grows h (event (act.Made v) answer.WriteGuard)
+    made_write v t f d =
+        keeps (event (act.Made v) answer.WriteGuard) (λ e. refl) (each_ended (IsStanding h) p (sections h) k.standing)
+        (rw f ((λ w. (has_made (flags_kept (cell_at cells t.cell) t.is_open (phase_at cells t.cell h)), λ n. lacks t f d)), k.ready))
+
+    -- a finalizer that ends
+    finished : (t : Section) → innermost p (sections h) ≡ Some t → (q : _) → Grows h (event act.Finished (answer.Phase q))
+    finished t f q =
+        ended (event act.Finished (answer.Phase q)) t (Ended true) f refl (ap (back_of_turn true) f) k.ready (λ c. refl)
+        (λ r. has_more (phase_at cells t.cell h) 64 refl ∙ r)
+
+    finish_failed : (t : Section) → innermost p (sections h) ≡ Some t → (q : _) → Grows h (event act.FinishFailed (answer.Phase q))
+    finish_failed t f q =
+        ended (event act.FinishFailed (answer.Phase q)) t (Ended false) f refl (ap (back_of_turn false) f) k.ready (λ c. refl)
+        (λ r. has_more (phase_at cells t.cell h) 128 refl ∙ r)
+
+    -- ---- guards
 
     -- a guard to read is given back
-    pub released_reader : (p g : ℕ) (i : Given) (x : Guard) → numbered g (guards h) ≡ Some x → x.writes ≡ false → Grows (event (record { party = p; act = act.Release g }) answer.Done i)
-    released_reader p g i x e w = record {
-      back = None;
-      backed = rw e (rw w refl);
-      sound = record { wanted = k.wanted; ready = each_removed (IsReady None) g (guards h) k.ready };
-      kept = λ c r. r;
-    }
+    released_reader : (g : ℕ) (x : Guard) → numbered g (guards h) ≡ Some x → x.writes ≡ false → Grows h (event (act.Release g) answer.Done)
+    released_reader g x f w =
+        keeps (event (act.Release g) answer.Done) (nothing_back (event (act.Release g) answer.Done) (ap back_of_guard f ∙ ap (λ b. if b then Some (record { cell = x.cell; changes = x.changes }) else None) w))
+        k.standing (each_removed (IsReady h) g (guards h) k.ready)
 
     -- a guard to write is given back, with its section
-    pub released_writer : (p g : ℕ) (i : Given) (x : Guard) → numbered g (guards h) ≡ Some x → x.writes ≡ true → Grows (event (record { party = p; act = act.Release g }) answer.Done i)
-    released_writer p g i x e w = let b : Back = record { cell = x.cell; changes = x.changes } in record {
-      back = Some b;
-      backed = rw e (rw w refl);
-      sound = record {
-        wanted = each_else (runs_in x.cell) (IsWanted None) (IsWanted (Some b)) (sections h) (no_run_beside g x e w) (wanted_elsewhere b) k.wanted;
-        ready = each_else (writes_cell x.cell) (IsReady None) (IsReady (Some b)) (without_guard g (guards h)) (no_writer_left g x e w) (ready_elsewhere b) (each_removed (IsReady None) g (guards h) k.ready);
-      };
-      kept = λ c r. by c (x.cell == c) refl r;
-    }
+    written : (e : Event) (g : ℕ) (x : Guard) → numbered g (guards h) ≡ Some x → x.writes ≡ true → sections (e ∷ h) ≡ sections h
+        → back_of_step h e.step e.line.answer ≡ back_of_guard (numbered g (guards h))
+        → AllByRecursion (IsReady h) (guards (e ∷ h)) → ((c : ℕ) → count (writes_cell c) (guards (e ∷ h)) ≡ count (writes_cell c) (without_guard g (guards h))) → Grows h e
+    written e g x f w stay back gs same =
+        changes e (record { cell = x.cell; changes = x.changes })
+        (back ∙ ap back_of_guard f ∙ ap (λ b. if b then Some (record { cell = x.cell; changes = x.changes }) else None) w)
+        (subst (AllByRecursion (IsStanding h)) (sym stay) k.standing) (ap (count (runs_in x.cell)) stay ∙ no_run_beside cells h alone g x f w)
+        gs (same x.cell ∙ no_writer_left cells h alone g x f w) (λ r. (each_found (λ y. y.number == g) (IsReady h) (guards h) x f k.ready w).0)
+
+    released : (g : ℕ) (x : Guard) → numbered g (guards h) ≡ Some x → Grows h (event (act.Release g) answer.Done)
+    released g x f = by x.writes refl
       where
-        value : has (effect (cell_at cells x.cell) x.changes (replay cells x.cell h)).phase initialized ≡ true
-        value = each_found (λ y. y.number == g) (IsReady None) (guards h) x e k.ready w
+        by : (b : Bool) → x.writes ≡ b → Grows h (event (act.Release g) answer.Done)
+        by true w = written (event (act.Release g) answer.Done) g x f w refl refl (each_removed (IsReady h) g (guards h) k.ready) (λ c. refl)
+        by false w = released_reader g x f w
 
-        by : (c : ℕ) (b : Bool) → (x.cell == c) ≡ b → has (phase_at cells c h) initialized ≡ true → has (cond b (effect (cell_at cells c) x.changes (replay cells c h)) (replay cells c h)).phase initialized ≡ true
-        by c true same r = let s : x.cell ≡ c = grind arith in subst (λ d. has (effect (cell_at cells d) x.changes (replay cells d h)).phase initialized ≡ true) s value
-        by c false same r = r
+    -- it is turned into a guard to read
+    downgraded : (g : ℕ) (x : Guard) → numbered g (guards h) ≡ Some x → x.writes ≡ true → Grows h (event (act.Downgrade g) answer.ReadGuard)
+    downgraded g x f w =
+        written (event (act.Downgrade g) answer.ReadGuard) g x f w refl refl (rw f ((λ d. absurd (cc)), each_removed (IsReady h) g (guards h) k.ready)) (λ c. rw f refl)
 
-    -- a guard to write is turned into one to read: its section is given back
-    pub downgraded_writer : (p g : ℕ) (i : Given) (x : Guard) → numbered g (guards h) ≡ Some x → x.writes ≡ true → Grows (event (record { party = p; act = act.Downgrade g }) answer.ReadGuard i)
-    downgraded_writer p g i x e w = let k : Grows (event (record { party = p; act = act.Release g }) answer.Done i) = released_writer p g i x e w in record {
-      back = k.back;
-      backed = k.backed;
-      sound = record {
-        wanted = k.sound.wanted;
-        ready = rw e ((λ d. absurd (cc)), k.sound.ready);
-      };
-      kept = k.kept;
-    }
+    -- a read guard more
+    cloned : (g : ℕ) (x : Guard) → numbered g (guards h) ≡ Some x → Grows h (event (act.Clone g) answer.ReadGuard)
+    cloned g x f = keeps (event (act.Clone g) answer.ReadGuard) (λ d. refl) k.standing (rw f ((λ w. absurd (cc)), k.ready))
 
-    -- a guard to read is taken off, and one put in its place
-    pub downgraded_reader : (p g : ℕ) (i : Given) (x : Guard) → numbered g (guards h) ≡ Some x → x.writes ≡ false → Grows (event (record { party = p; act = act.Downgrade g }) answer.ReadGuard i)
-    downgraded_reader p g i x e w = record {
-      back = None;
-      backed = rw e (rw w refl);
-      sound = record { wanted = k.wanted; ready = rw e ((λ d. absurd (cc)), each_removed (IsReady None) g (guards h) k.ready) };
-      kept = λ c r. r;
+    -- each legal step
+    pub cases : Cases cells h p (λ a r. Grows h (event a r))
+    cases = record {
+      cyclic = λ a d j t. quiet (event a answer.Cyclic) (no_end a p (sections h) (calling-tries a t.acts)) refl (λ d. refl);
+      waiting = λ a d w way t. quiet (event a (answer.Waiting way)) (no_end a p (sections h) (trying cells h p a d w t)) refl (λ d. refl);
+      phased = λ a c t. phased a c _ t;
+      reading = λ a c t q. reading a c t;
+      writing = λ a c t q. writing a c t q.accessed;
+      running = running;
+      declined = λ a c j t q. declined a c j _ t q;
+      denied = λ a c j t q. denied a c j _ t q;
+      skipped = λ a c t q. quiet (event a (answer.Skipped c)) refl refl (λ d. refl);
+      finalizing = λ a c t q u. keeps (event a (answer.Finalizing c)) (λ d. refl) (q, k.standing) k.ready;
+      round = λ c cs e n. quiet (event act.Exit _) refl refl (λ d. refl);
+      closed = λ e n. quiet (event act.Exit _) refl refl (λ d. refl);
+      made_read = λ v t f d. made_read v t f;
+      made_write = made_write;
+      failed = failed;
+      finished = λ t f d. finished t f _;
+      finish_failed = λ t f d. finish_failed t f _;
+      looked = λ g v x f. quiet (event (act.Look g) _) refl refl (λ d. refl);
+      set = λ g v x f w. keeps (event (act.Set g v) answer.Done) (λ d. refl) k.standing (each_put (IsReady h) g v (guards h) (λ y r. r) k.ready);
+      released = released;
+      downgraded = downgraded;
+      borrowed = λ g x f w. quiet (event (act.Clone g) _) refl refl (λ d. refl);
+      cloned = λ g x f w. cloned g x f;
     }
 
     -- a step that is refused
-    pub refused : (s : Step) (r : Refusal) (i : Given) → Grows (event s (answer.Refused r) i)
-    refused s r i = quiet (event s (answer.Refused r) i) refl refl refl
-
-    -- a call that is cyclic
-    pub cyclic : (p : ℕ) (a : Act) (i : Given) → IsCalling a → Grows (event (record { party = p; act = a }) answer.Cyclic i)
-    cyclic p (act.Call c j) i t = quiet _ refl refl refl
-    cyclic p act.Again i t = quiet _ refl refl refl
-    cyclic p _ i t = absurd t
-
-    -- a call that waits
-    pub waiting : (p : ℕ) (a : Act) (w : How) (i : Given) → IsCalling a → Grows (event (record { party = p; act = a }) (answer.Waiting w) i)
-    waiting p (act.Call c j) w i t = quiet _ refl refl refl
-    waiting p act.Again w i t = quiet _ refl refl refl
-    waiting p _ w i t = absurd t
-
-    -- a call that asks for the phase
-    pub phased : (p : ℕ) (a : Act) (y : Content) (i : Given) → IsCalling a → Grows (event (record { party = p; act = a }) (answer.Phase (record { bits = y.phase })) i)
-    phased p (act.Call c j) y i t = quiet _ refl refl refl
-    phased p act.Again y i t = quiet _ refl refl refl
-    phased p _ y i t = absurd t
-
-    -- a call that may not access the value
-    pub denied : (p : ℕ) (a : Act) (n : ℕ) (i : Given) → Grows (event (record { party = p; act = a }) (answer.Access (phase_of n)) i)
-    denied p a n i = quiet _ refl refl refl
-
-    -- a call whose generator runs
-    pub running : (p c : ℕ) (a : Act) (j : Call) (i : Given) → IsCalling a → act_of h (record { party = p; act = a }) ≡ act.Call c j → shall_init (cell_at cells c).retry (phase_at cells c h) ≡ true → Grows (event (record { party = p; act = a }) answer.Running i)
-    running p c a j i calls does u = record {
-      back = None;
-      backed = refl;
-      sound = record { wanted = subst (λ b. AllByRecursion (IsWanted None) (with_run b p (length h) (sections h))) (sym does) (u, k.wanted); ready = k.ready };
-      kept = λ d r. r;
-    }
-
-    -- a call that gets a guard to read
-    pub reading : (p c : ℕ) (a : Act) (j : Call) (i : Given) → IsCalling a → act_of h (record { party = p; act = a }) ≡ act.Call c j → Grows (event (record { party = p; act = a }) answer.ReadGuard i)
-    reading p c (act.Call d m) j i t does = record {
-      back = None;
-      backed = refl;
-      sound = record { wanted = k.wanted; ready = ((λ w. absurd (cc)), k.ready) };
-      kept = λ e r. r;
-    }
-    reading p c act.Again j i t does = record {
-      back = None;
-      backed = refl;
-      sound = record { wanted = k.wanted; ready = subst (λ b. AllByRecursion (IsReady None) (with_reader h p b (guards h))) (sym does) ((λ w. absurd (cc)), k.ready) };
-      kept = λ e r. r;
-    }
-    reading p c _ j i t does = absurd t
-
-    -- a call that gets a guard to write without a run
-    pub writing : (p c : ℕ) (a : Act) (j : Call) (i : Given) → IsCalling a → act_of h (record { party = p; act = a }) ≡ act.Call c j → has (phase_at cells c h) initialized ≡ true → Grows (event (record { party = p; act = a }) answer.WriteGuard i)
-    writing p c a j i t does u = record {
-      back = None;
-      backed = refl;
-      sound = record {
-        wanted = by a t;
-        ready = subst (λ b. AllByRecursion (IsReady None) (with_writer h p b (guards h))) (sym does) ((λ w. u), k.ready);
-      };
-      kept = λ e r. r;
-    }
-      where
-        by : (a : Act) → IsCalling a → AllByRecursion (IsWanted None) (sections (event (record { party = p; act = a }) answer.WriteGuard i ∷ h))
-        by (act.Call d m) t = k.wanted
-        by act.Again t = k.wanted
-        by _ t = absurd t
+    pub refused : (a : Act) (r : _) → Grows h (event a (answer.Refused r))
+    refused a r = quiet (event a (answer.Refused r)) refl refl (λ d. refl)

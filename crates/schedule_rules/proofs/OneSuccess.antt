@@ -1,302 +1,198 @@
 -- A generator of a cell succeeds at most once.
-use Rattle.std.proofs.Common.{◌≡◌, ◌<◌, ◌≤◌, ℕ, ◌+◌, List, [], ◌∷◌, length, refl, sym, ◌∙◌, ap, subst, arith, Bool, true, false, cond, None, Some, ◌⊎◌, inl, inr}
-use Rattle.std.specs.Prelude.{◌==◌, is_some}
-use Rattle.std.specs.List.{find}
+use Rattle.std.proofs.Common.{◌≡◌, ◌<◌, ◌≤◌, ◌+◌, ℕ, List, [], ◌∷◌, refl, sym, ◌∙◌, ap, subst, arith, Bool, true, false, cond, Some, None, ◌⊎◌, inl, inr}
+use Rattle.std.specs.Prelude.{◌==◌, if◌then◌else◌}
 use Rattle.std.specs.declared.option.Option.{Option}
 use Rattle.phase_bits.specs.Flags.{has, initialized}
+use Rattle.phase_locker.specs.declared.ways.Given.{Given}
 use Rattle.schedule_rules.specs.declared.plan.CellPlan.{CellPlan}
 use Rattle.schedule_rules.specs.declared.step.Act.{Act}
 use Rattle.schedule_rules.specs.declared.step.Act.TheVariants as act
-use Rattle.schedule_rules.specs.declared.step.Step.{Step}
-use Rattle.schedule_rules.specs.declared.plan.Call.{Call}
-use Rattle.schedule_rules.specs.declared.plan.Call.TheVariants as call
-use Rattle.schedule_rules.specs.declared.line.Line.{Line}
-use Rattle.phase_locker.specs.declared.ways.Given.{Given}
-use Rattle.schedule_rules.specs.declared.line.Refusal.{Refusal}
-use Rattle.schedule_rules.specs.declared.line.Refusal.TheVariants as refusals
 use Rattle.schedule_rules.specs.declared.line.Answer.{Answer}
 use Rattle.schedule_rules.specs.declared.line.Answer.TheVariants as answer
 use Rattle.schedule_rules.specs.Kinds.{cell_at}
-use Rattle.schedule_rules.specs.Phases.{shall_init}
-use Rattle.schedule_rules.specs.Changes.{effect}
-use Rattle.schedule_rules.specs.History.{Event, act_of, latest_act, count}
-use Rattle.schedule_rules.specs.Sections.{Section, innermost, runs_in, sections}
-use Rattle.schedule_rules.specs.Guards.{Guard, numbered, without_guard, reader_beside, with_writer, reader_made, writer_made, guards}
-use Rattle.schedule_rules.specs.Replay.{back_of_run, back_of_guard, replay, phase_at, content_after_back}
+use Rattle.schedule_rules.specs.Phases.{flags_kept}
+use Rattle.schedule_rules.specs.Changes.{Ran, effect}
+use Rattle.schedule_rules.specs.History.{Event, count}
+use Rattle.schedule_rules.specs.Sections.{Section, innermost, is_turn, runs_in, sections}
+use Rattle.schedule_rules.specs.Guards.{Guard, numbered, without_guard, with_reader, with_writer, guards}
+use Rattle.schedule_rules.specs.Replay.{Back, back_of_run, back_of_guard, back_of_step, replay, phase_at}
 use Rattle.schedule_rules.specs.Holds.{writes_cell}
-use Rattle.schedule_rules.specs.Calls.{Want, Calls}
-use Rattle.schedule_rules.specs.Waits.{Wait, wait_of, attempt_of_wait, waits}
-use Rattle.schedule_rules.specs.Refusals.{refusal, refusal_by}
-use Rattle.schedule_rules.specs.Due.{answer_of_made, due_made}
-use Rattle.schedule_rules.specs.Legal.{IsLegal, IsLegalLine, answer_of, due_at}
+use Rattle.schedule_rules.specs.Legal.{IsLegal}
 use Rattle.schedule_rules.specs.Laws.{successes, is_success}
-use Rattle.schedule_rules.proofs.Found.{found_counts, found_passes}
+use Rattle.schedule_rules.proofs.Alone.{alone}
+use Rattle.schedule_rules.proofs.Found.{found_counts}
 use Rattle.schedule_rules.proofs.Opened.{count_removed, writes_put}
-use Rattle.schedule_rules.proofs.GoesOn.{Agrees, wait-agrees}
-use Rattle.schedule_rules.proofs.Waiting.{due_at-judged}
 use Rattle.schedule_rules.proofs.Each.{each_found}
-use Rattle.schedule_rules.proofs.Grows.{IsReady, IsWanted, wanted-lacks, one_if}
-use Rattle.schedule_rules.proofs.Initialized.{alone, sound, initialized-stays}
+use Rattle.schedule_rules.proofs.Backs.{back_here}
+use Rattle.schedule_rules.proofs.Cases.{trying, IsTrying, Calling, Cases, calling-tries, turning-tries}
+use Rattle.schedule_rules.proofs.Steps.{of_legal}
+use Rattle.schedule_rules.proofs.Grows.{IsReady, IsStanding, has_made, needs-lacks}
+use Rattle.schedule_rules.proofs.Initialized.{sound, initialized-stays}
+use Rattle.schedule_rules.proofs.Facts.{apart, at_least}
 
--- what is not found is not counted
-none_counted : {X : Type 0} (p : X → Bool) (xs : List X) → find p xs ≡ None → count p xs ≡ 0
-none_counted p [] e = refl
-none_counted p (x ∷ xs) e = grind (arith, none_counted p xs)
+-- what is refused is no success
+refused_fails : (c : ℕ) (a : Act) (r : _) (o : Option Section) → is_success c a (answer.Refused r) o ≡ false
+refused_fails c (act.Made v) r o = refl
+refused_fails c _ r o = refl
 
--- a number that no guard bears takes none away
-none_removed : (t : Guard → Bool) (g : ℕ) (gs : List Guard) → numbered g gs ≡ None → count t (without_guard g gs) ≡ count t gs
-none_removed t g [] e = refl
-none_removed t g (x ∷ gs) e = grind (arith, none_removed t g gs)
+-- nor is what attempts something
+try_fails : (c : ℕ) (a : Act) (r : Answer) (o : Option Section) → IsTrying a → is_success c a r o ≡ false
+try_fails c (act.Call d k) r o t = refl
+try_fails c act.Again r o t = refl
+try_fails c act.Exit r o t = refl
+try_fails c _ r o t = absurd t
 
--- a guard to read beside another writes nothing
-beside_keeps : (n p c : ℕ) (o : Option Guard) (gs : List Guard) → count (writes_cell c) (reader_beside n p o gs) ≡ count (writes_cell c) gs
-beside_keeps n p c None gs = refl
-beside_keeps n p c (Some x) gs = refl
-
--- a guard to read that a run leaves writes nothing
-made_keeps : (n p c : ℕ) (o : Option Section) (gs : List Guard) → count (writes_cell c) (reader_made n p o gs) ≡ count (writes_cell c) gs
-made_keeps n p c None gs = refl
-made_keeps n p c (Some s) gs = refl
-
--- one more or the same
-at_least : (b : Bool) (n : ℕ) → n ≤ cond b (n + 1) n
-at_least true n = omega arith
-at_least false n = omega arith
-
--- a guard to write takes none away
-writer_adds : (h : List Event) (p c : ℕ) (a : Act) (gs : List Guard) → count (writes_cell c) gs ≤ count (writes_cell c) (with_writer h p a gs)
-writer_adds h p c (act.Call d k) gs = at_least (d == c) (count (writes_cell c) gs)
-writer_adds h p c act.Again gs = omega arith
-writer_adds h p c (act.Made v) gs = by (innermost p (sections h))
-  where
-    by : (o : Option Section) → count (writes_cell c) gs ≤ count (writes_cell c) (writer_made (length h) p v o gs)
-    by None = omega arith
-    by (Some s) = at_least (s.cell == c) (count (writes_cell c) gs)
-writer_adds h p c act.MadeFailed gs = omega arith
-writer_adds h p c (act.Look g) gs = omega arith
-writer_adds h p c (act.Set g v) gs = omega arith
-writer_adds h p c (act.Release g) gs = omega arith
-writer_adds h p c (act.Downgrade g) gs = omega arith
-writer_adds h p c (act.Clone g) gs = omega arith
-
-module _ (cells : List CellPlan) where
+module _ (cells : List CellPlan) (c : ℕ) where
   -- a value is published in the cell, or a guard to write it is open
-  abbrev IsMade : ℕ → List Event → Type 0
-  IsMade c h = (has (phase_at cells c h) initialized ≡ true) ⊎ (0 < count (writes_cell c) (guards h))
+  abbrev IsMade : List Event → Type 0
+  IsMade h = (has (phase_at cells c h) initialized ≡ true) ⊎ (0 < count (writes_cell c) (guards h))
 
-  -- then no generator of the cell runs
-  made-rests : (c : ℕ) (h : List Event) → IsLegal cells h → IsMade c h → count (runs_in c) (sections h) ≡ 0
-  made-rests c h k (inr w) = omega (arith, (alone cells h k c).one_writer)
-  made-rests c h k (inl r) = by (find (runs_in c) (sections h)) refl
-    where
-      by : (o : Option Section) → find (runs_in c) (sections h) ≡ o → count (runs_in c) (sections h) ≡ 0
-      by None e = none_counted (runs_in c) (sections h) e
-      by (Some s) e =
-          let same : (s.cell == c) ≡ true = found_passes (runs_in c) (sections h) s e in
-          let here : s.cell ≡ c = grind arith in
-          let wanted : shall_init (cell_at cells s.cell).retry (phase_at cells s.cell h) ≡ true = each_found (runs_in c) (IsWanted cells h None) (sections h) s e (sound cells h k).wanted in
-          let lacks : has (phase_at cells s.cell h) initialized ≡ false = wanted-lacks (cell_at cells s.cell).retry (phase_at cells s.cell h) wanted in
-          absurd (apart (sym r ∙ subst (λ d. has (phase_at cells d h) initialized ≡ false) here lacks))
-        where
-          apart : true ≡ false → ⊥
-          apart x = cc
+  module _ (h : List Event) (p : ℕ) (i : Given) (legal : IsLegal cells h) where
+    -- the event of the party
+    abbrev event : Act → Answer → Event
+    event a r = record { step = record { party = p; act = a }; line = record { answer = r; given = i } }
 
-  -- where a party goes on and is answered, it goes on with a call
-  goes_on_by_call : (h : List Event) (p : ℕ) (l : Line) → IsLegalLine cells h (record { party = p; act = act.Again }) l → l.answer ≡ answer.ReadGuard
-      → (c : ℕ) × (j : Call) × (latest_act p h ≡ act.Call c j)
-  goes_on_by_call h p l k r = by (wait_of p (waits cells h)) refl (wait-agrees cells p h) (refusal_by cells (is_some (wait_of p (waits cells h))) h p act.Again) refl k.answered
-    where
-      by : (o : Option Wait) → wait_of p (waits cells h) ≡ o → Agrees (attempt_of_wait (wait_of p (waits cells h))) (latest_act p h)
-          → (x : Option Refusal) → refusal_by cells (is_some (wait_of p (waits cells h))) h p act.Again ≡ x
-          → l.answer ≡ answer_of x (due_at cells k.moment h (record { party = p; act = act.Again }) l.given k.chosen)
-          → (c : ℕ) × (j : Call) × (latest_act p h ≡ act.Call c j)
-      by o e agrees (Some q) f due = absurd (apart (sym r ∙ due))
-        where
-          apart : answer.ReadGuard ≡ answer.Refused q → ⊥
-          apart x = cc
-      by None e agrees None f due = absurd (apart (subst (λ o. refusal_by cells (is_some o) h p act.Again ≡ None) e f))
-        where
-          apart : Some refusals.NotWaiting ≡ None → ⊥
-          apart x = cc
-      by (Some y) e agrees None f due = (y.cell, call_of y.want, subst (λ o. Agrees (attempt_of_wait o) (latest_act p h)) e agrees (call_of y.want) (whole y.want))
-        where
-          call_of : Want → Call
-          call_of (Calls j) = j
+    -- the step ends a generator's section of the cell by a value, and then there is one
+    abbrev Succeeds : Act → Answer → Type 0
+    Succeeds a r = (t : Section) × (innermost p (sections h) ≡ Some t) × (t.cell ≡ c) × (is_turn t.want ≡ false) × IsMade (event a r ∷ h)
 
-          whole : (v : Want) → v ≡ Calls (call_of v)
-          whole (Calls j) = refl
+    -- a guard to write stays or publishes its value, and a success is one of a generator of the cell
+    record Leaves (a : Act) (r : Answer) : Type 0 where
+      pub stays : 0 < count (writes_cell c) (guards h) → IsMade (event a r ∷ h)
+      pub succeeds : is_success c a r (innermost p (sections h)) ≡ true → Succeeds a r
 
-  module _ (c : ℕ) (h : List Event) (p : ℕ) (k : IsLegal cells h) (w : 0 < count (writes_cell c) (guards h)) where
-    -- a guard that writes the cell publishes its value where its section is given back, and without others the cell is
-    -- not written
-    published_or_left : (g : ℕ) (o : Option Guard) → numbered g (guards h) ≡ o
-        → (has (content_after_back cells c (back_of_guard (numbered g (guards h))) (replay cells c h)).phase initialized ≡ true)
-        ⊎ (0 < count (writes_cell c) (without_guard g (guards h)))
-    published_or_left g None e = inr (let same : _ = none_removed (writes_cell c) g (guards h) e in omega (arith, same))
-    published_or_left g (Some x) e = by (writes_cell c x) refl
+    -- a step that takes no guard off, and is no success
+    leaves : (a : Act) (r : Answer) → is_success c a r (innermost p (sections h)) ≡ false
+        → count (writes_cell c) (guards h) ≤ count (writes_cell c) (guards (event a r ∷ h)) → Leaves a r
+    leaves a r f more = record { stays = λ w. inr (omega (arith, more, w)); succeeds = λ s. absurd (apart (sym s ∙ f)) }
+
+    tries : (a : Act) (r : Answer) → IsTrying a → count (writes_cell c) (guards h) ≤ count (writes_cell c) (guards (event a r ∷ h)) → Leaves a r
+    tries a r t more = leaves a r (try_fails c a r (innermost p (sections h)) t) more
+
+    reading : (a : Act) (d : ℕ) (k : _) → Calling cells h p a d k → Leaves a answer.ReadGuard
+    reading a d k t =
+        tries a answer.ReadGuard (calling-tries a t.acts)
+        (subst (λ b. count (writes_cell c) (guards h) ≤ count (writes_cell c) (with_reader h p b (guards h))) (sym t.does) (omega arith))
+
+    writing : (a : Act) (d : ℕ) (k : _) → Calling cells h p a d k → Leaves a answer.WriteGuard
+    writing a d k t =
+        tries a answer.WriteGuard (calling-tries a t.acts)
+        (subst (λ b. count (writes_cell c) (guards h) ≤ count (writes_cell c) (with_writer h p b (guards h))) (sym t.does) (at_least (d == c) (count (writes_cell c) (guards h))))
+
+    -- a value made, whose section is of this cell or not
+    made : (v : ℕ) (r : Answer) (t : Section) → innermost p (sections h) ≡ Some t → is_turn t.want ≡ false → is_success c (act.Made v) r (Some t) ≡ (t.cell == c)
+        → count (writes_cell c) (guards h) ≤ count (writes_cell c) (guards (event (act.Made v) r ∷ h)) → ((t.cell == c) ≡ true → IsMade (event (act.Made v) r ∷ h)) → Leaves (act.Made v) r
+    made v r t f d is more makes = record {
+      stays = λ w. inr (omega (arith, more, w));
+      succeeds = λ s. of (sym is ∙ subst (λ o. is_success c (act.Made v) r o ≡ true) f s);
+    }
       where
-        by : (b : Bool) → writes_cell c x ≡ b
-            → (has (content_after_back cells c (back_of_guard (numbered g (guards h))) (replay cells c h)).phase initialized ≡ true)
-            ⊎ (0 < count (writes_cell c) (without_guard g (guards h)))
-        by false f =
-            inr (let one : _ = count_removed (writes_cell c) g (guards h) x e in let zero : one_if (writes_cell c x) ≡ 0 = rw f refl in omega (arith, one, zero))
-        by true f = inl (published x.writes refl f)
-          where
-            sees : x.writes ≡ true → has (effect (cell_at cells x.cell) x.changes (replay cells x.cell h)).phase initialized ≡ true
-            sees d = each_found (λ y. y.number == g) (IsReady cells h None) (guards h) x e (sound cells h k).ready d
+        of : (t.cell == c) ≡ true → Succeeds (act.Made v) r
+        of same = let s : t.cell ≡ c = grind arith in (t, f, s, d, makes same)
 
-            published : (b : Bool) → x.writes ≡ b → writes_cell c x ≡ true
-                → has (content_after_back cells c (back_of_guard (numbered g (guards h))) (replay cells c h)).phase initialized ≡ true
-            published false d n = absurd (apart (rw d at n))
-              where
-                apart : false ≡ true → ⊥
-                apart y = cc
-            published true d n =
-                let same : (x.cell == c) ≡ true = rw d at n in
-                let here : x.cell ≡ c = grind arith in
-                rw e (rw d (rw same (subst (λ a. has (effect (cell_at cells a) x.changes (replay cells a h)).phase initialized ≡ true) here (sees d))))
+    made_read : (v : ℕ) (t : Section) → innermost p (sections h) ≡ Some t → is_turn t.want ≡ false → Leaves (act.Made v) answer.ReadGuard
+    made_read v t f d =
+        made v answer.ReadGuard t f d refl (rw f (omega arith))
+        (λ same. inl (subst (λ y. has y.phase initialized ≡ true)
+        (sym (back_here cells c (back_of_run (Some v) (innermost p (sections h))) (record { cell = t.cell; changes = Ran t.is_open (Some v) ∷ [] }) (replay cells c h) (ap (back_of_run (Some v)) f) same))
+        (has_made (flags_kept (cell_at cells c) t.is_open (phase_at cells c h)))))
 
-    -- the event of a step with this answer
-    abbrev event : Act → Answer → Given → Event
-    event a r i = record { step = record { party = p; act = a }; line = record { answer = r; given = i } }
+    made_write : (v : ℕ) (t : Section) → innermost p (sections h) ≡ Some t → is_turn t.want ≡ false → Leaves (act.Made v) answer.WriteGuard
+    made_write v t f d =
+        made v answer.WriteGuard t f d refl (rw f (at_least (t.cell == c) (count (writes_cell c) (guards h)))) (λ same. inr (rw f (rw same (omega arith))))
 
-    -- a guard that is given back publishes its value, and others stay
-    released : (g : ℕ) (i : Given) → IsMade c (event (act.Release g) answer.Done i ∷ h)
-    released g i = published_or_left g (numbered g (guards h)) refl
-
-    -- so does one that is turned into a guard to read
-    downgraded : (g : ℕ) (i : Given) → IsMade c (event (act.Downgrade g) answer.ReadGuard i ∷ h)
-    downgraded g i = by (published_or_left g (numbered g (guards h)) refl)
+    -- a guard that is taken off publishes its value where it writes the cell
+    taken : (a : Act) (r : Answer) (g : ℕ) (x : Guard) → numbered g (guards h) ≡ Some x → is_success c a r (innermost p (sections h)) ≡ false
+        → back_of_step h (record { party = p; act = a }) r ≡ back_of_guard (numbered g (guards h))
+        → count (writes_cell c) (guards (event a r ∷ h)) ≡ count (writes_cell c) (without_guard g (guards h)) → Leaves a r
+    taken a r g x f fails back less = record { stays = λ w. by x.writes (x.cell == c) refl refl w; succeeds = λ s. absurd (apart (sym s ∙ fails)) }
       where
-        by : (has (content_after_back cells c (back_of_guard (numbered g (guards h))) (replay cells c h)).phase initialized ≡ true)
-            ⊎ (0 < count (writes_cell c) (without_guard g (guards h))) → IsMade c (event (act.Downgrade g) answer.ReadGuard i ∷ h)
-        by (inl r) = inl r
-        by (inr n) = inr (rw (beside_keeps (length h) p c (numbered g (guards h)) (without_guard g (guards h))) n)
+        left : writes_cell c x ≡ false → 0 < count (writes_cell c) (guards h) → IsMade (event a r ∷ h)
+        left n w =
+            let one : count (writes_cell c) (guards h) ≡ count (writes_cell c) (without_guard g (guards h)) + 0 =
+            count_removed (writes_cell c) g (guards h) x f ∙ ap (λ b. count (writes_cell c) (without_guard g (guards h)) + cond b 1 0) n in
+            inr (omega (arith, one, less, w))
 
-    -- what is done takes a guard to write away only where its value is published
-    done : (a : Act) (i : Given) → IsMade c (event a answer.Done i ∷ h)
-    done (act.Release g) i = released g i
-    done (act.Set g v) i = inr (rw (writes_put c g v (guards h)) w)
-    done (act.Call d j) i = inr w
-    done act.Again i = inr w
-    done (act.Made v) i = inr w
-    done act.MadeFailed i = inr w
-    done (act.Look g) i = inr w
-    done (act.Downgrade g) i = inr w
-    done (act.Clone g) i = inr w
+        seen : x.writes ≡ true → (x.cell == c) ≡ true → has (effect (cell_at cells c) x.changes (replay cells c h)).phase initialized ≡ true
+        seen w same =
+            let s : x.cell ≡ c = grind arith in
+            subst (λ d. has (effect (cell_at cells d) x.changes (replay cells d h)).phase initialized ≡ true) s
+            (each_found (λ y. y.number == g) (IsReady cells h) (guards h) x f (sound cells h legal).ready w).0
 
-    -- a guard to read takes one to write away only by a downgrade
-    read : (a : Act) (l : Line) → IsLegalLine cells h (record { party = p; act = a }) l → l.answer ≡ answer.ReadGuard → IsMade c (event a answer.ReadGuard l.given ∷ h)
-    read (act.Call d j) l m r = inr w
-    read act.Again l m r = let t : _ = goes_on_by_call h p l m r in inr (rw t.2 w)
-    read (act.Made v) l m r = inr (rw (made_keeps (length h) p c (innermost p (sections h)) (guards h)) w)
-    read act.MadeFailed l m r = inr w
-    read (act.Look g) l m r = inr w
-    read (act.Set g v) l m r = inr w
-    read (act.Release g) l m r = inr w
-    read (act.Downgrade g) l m r = downgraded g l.given
-    read (act.Clone g) l m r = inr (rw (beside_keeps (length h) p c (numbered g (guards h)) (guards h)) w)
+        by : (b d : Bool) → x.writes ≡ b → (x.cell == c) ≡ d → 0 < count (writes_cell c) (guards h) → IsMade (event a r ∷ h)
+        by true true w same n =
+            let b : Back = record { cell = x.cell; changes = x.changes } in
+            inl (subst (λ y. has y.phase initialized ≡ true)
+            (sym (back_here cells c (back_of_step h (record { party = p; act = a }) r) b (replay cells c h) (back ∙ ap back_of_guard f ∙ ap (λ d. if d then Some b else None) w) same)) (seen w same))
+        by true false w same n = left (rw w same) n
+        by false d w same n = left (rw w refl) n
 
-    -- any legal step leaves the guard to write, or publishes its value
-    any_step : (a : Act) (l : Line) → IsLegalLine cells h (record { party = p; act = a }) l → IsMade c (record { step = record { party = p; act = a }; line = l } ∷ h)
-    any_step a l m = by l.answer refl
-      where
-        by : (r : Answer) → l.answer ≡ r → IsMade c (event a r l.given ∷ h)
-        by answer.ReadGuard e = read a l m e
-        by answer.WriteGuard e = inr (omega (arith, writer_adds h p c (act_of h (record { party = p; act = a })) (guards h)))
-        by answer.Done e = done a l.given
-        by _ e = inr w
+    -- each legal step
+    cases : Cases cells h p Leaves
+    cases = record {
+      cyclic = λ a d j t. tries a _ (calling-tries a t.acts) (omega arith);
+      waiting = λ a d w way t. tries a _ (trying cells h p a d w t) (omega arith);
+      phased = λ a d t. tries a _ (calling-tries a t.acts) (omega arith);
+      reading = λ a d t q. reading a d _ t;
+      writing = λ a d t q. writing a d _ t;
+      running = λ a d j t q. tries a _ (calling-tries a t.acts) (omega arith);
+      declined = λ a d j t q. tries a _ (calling-tries a t.acts) (omega arith);
+      denied = λ a d j t q. tries a _ (calling-tries a t.acts) (omega arith);
+      skipped = λ a d t q. tries a _ (turning-tries a t.acts) (omega arith);
+      finalizing = λ a d t q u. tries a _ (turning-tries a t.acts) (omega arith);
+      round = λ d ds e n. leaves act.Exit _ refl (omega arith);
+      closed = λ e n. leaves act.Exit _ refl (omega arith);
+      made_read = λ v t f d. made_read v t f (ap is_turn d);
+      made_write = made_write;
+      failed = λ t f d. leaves act.MadeFailed _ refl (omega arith);
+      finished = λ t f d. leaves act.Finished _ refl (omega arith);
+      finish_failed = λ t f d. leaves act.FinishFailed _ refl (omega arith);
+      looked = λ g v x f. leaves (act.Look g) _ refl (omega arith);
+      set = λ g v x f w. leaves (act.Set g v) _ refl (let s : _ = writes_put c g v (guards h) in omega (arith, s));
+      released = λ g x f. taken (act.Release g) answer.Done g x f refl refl refl;
+      downgraded = λ g x f w. taken (act.Downgrade g) answer.ReadGuard g x f refl refl (rw f refl);
+      borrowed = λ g x f w. leaves (act.Clone g) _ refl (omega arith);
+      cloned = λ g x f w. leaves (act.Clone g) _ refl (rw f (omega arith));
+    }
 
-  -- once a value was made, it stays
-  made-stays : (c : ℕ) (e : Event) (h : List Event) → IsLegal cells (e ∷ h) → IsMade c h → IsMade c (e ∷ h)
-  made-stays c e h k (inl r) = inl (initialized-stays cells h e c k r)
-  made-stays c e h k (inr w) = any_step c h e.step.party k.2 w e.step.act e.line k.0
-
--- a success ends a section of the cell
-success-runs : (c : ℕ) (a : Act) (r : Answer) (o : Option Section) → is_success c a r o ≡ true → (s : Section) × (o ≡ Some s) × ((s.cell == c) ≡ true)
-success-runs c (act.Made v) (answer.Refused q) o e = absurd (cc)
-success-runs c (act.Made v) r None e = absurd (by r e)
-  where
-    by : (r : Answer) → is_success c (act.Made v) r None ≡ true → ⊥
-    by (answer.Refused q) e = cc
-    by _ e = cc
-success-runs c (act.Made v) r (Some s) e = (s, refl, by r e)
-  where
-    by : (r : Answer) → is_success c (act.Made v) r (Some s) ≡ true → (s.cell == c) ≡ true
-    by (answer.Refused q) e = absurd (cc)
-    by _ e = e
-success-runs c _ r o e = absurd (cc)
-
-module _ (cells : List CellPlan) where
-  module _ (c : ℕ) (h : List Event) (p v : ℕ) (i : Given) where
-    -- the event of a value made
-    abbrev made_event : Answer → Event
-    made_event r = record { step = record { party = p; act = act.Made v }; line = record { answer = r; given = i } }
-
-    -- a value made is published, or a guard to write it is open
-    made-by : (t : Section) → innermost p (sections h) ≡ Some t → (t.cell == c) ≡ true → (w : Want) → IsMade cells c (made_event (answer_of_made w) ∷ h)
-    made-by t e same (Calls call.Read) =
-        let published : has (content_after_back cells c (back_of_run (Some v) (innermost p (sections h))) (replay cells c h)).phase initialized ≡ true =
-        rw e (rw same refl)
-        in inl published
-    made-by t e same (Calls call.Write) = inr (rw e (rw same (omega arith)))
-    made-by t e same (Calls call.Phase) = inr (rw e (rw same (omega arith)))
-
-    -- so is it by any legal line of a success
-    made-legal : (r : Answer) (o : Option Refusal) (t : Option Section) → refusal cells h (record { party = p; act = act.Made v }) ≡ o → innermost p (sections h) ≡ t
-        → r ≡ answer_of o (due_made cells h v t) → is_success c (act.Made v) r t ≡ true → IsMade cells c (made_event r ∷ h)
-    made-legal r (Some q) t f e due ok = absurd (refused due ok)
-      where
-        refused : r ≡ answer.Refused q → is_success c (act.Made v) r t ≡ true → ⊥
-        refused d n = apart (subst (λ x. is_success c (act.Made v) x t ≡ true) d n)
-          where
-            apart : false ≡ true → ⊥
-            apart y = cc
-    made-legal r None None f e due ok = absurd (nothing due ok)
-      where
-        nothing : r ≡ answer.Done → is_success c (act.Made v) r None ≡ true → ⊥
-        nothing d n = apart (subst (λ x. is_success c (act.Made v) x None ≡ true) d n)
-          where
-            apart : false ≡ true → ⊥
-            apart y = cc
-    made-legal r None (Some s) f e due ok =
-        let t : _ = success-runs c (act.Made v) r (Some s) ok in
-        subst (λ x. IsMade cells c (made_event x ∷ h)) (sym due) (made-by s e (same s t.0 t.1 t.2) s.want)
-      where
-        same : (s t : Section) → Some s ≡ Some t → (t.cell == c) ≡ true → (s.cell == c) ≡ true
-        same s t n m = let x : s ≡ t = cc in rw x m
-
-  -- a legal success leaves a value made
-  success-makes : (c : ℕ) (h : List Event) (s : Step) (l : Line) → IsLegalLine cells h s l → is_success c s.act l.answer (innermost s.party (sections h)) ≡ true
-      → IsMade cells c (record { step = s; line = l } ∷ h)
-  success-makes c h s l k ok = by s.act k.answered ok
-    where
-      by : (a : Act) → l.answer ≡ answer_of (refusal cells h (record { party = s.party; act = a })) (due_at cells k.moment h (record { party = s.party; act = a }) l.given k.chosen)
-          → is_success c a l.answer (innermost s.party (sections h)) ≡ true → IsMade cells c (record { step = record { party = s.party; act = a }; line = l } ∷ h)
-      by (act.Made v) due n =
-          made-legal c h s.party v l.given l.answer (refusal cells h (record { party = s.party; act = act.Made v })) (innermost s.party (sections h)) refl refl (due ∙ ap (answer_of (refusal cells h (record { party = s.party; act = act.Made v }))) (due_at-judged cells k.moment h (record { party = s.party; act = act.Made v }) l.given k.chosen)) n
-      by _ due n = absurd (cc)
+    -- where a value was made no generator of the cell runs
+    made_rests : IsMade h → (t : Section) → innermost p (sections h) ≡ Some t → t.cell ≡ c → is_turn t.want ≡ false → ⊥
+    made_rests (inl r) t f here d =
+        apart (sym (subst (λ z. has (phase_at cells z h) initialized ≡ true) (sym here) r)
+        ∙ needs-lacks t.want (cell_at cells t.cell) (phase_at cells t.cell h) d (each_found (λ s. s.party == p) (IsStanding cells h) (sections h) t f (sound cells h legal).standing))
+    made_rests (inr w) t f here d =
+        let same : (t.cell == c) ≡ true = grind arith in
+        let runs : 0 < count (runs_in c) (sections h) = found_counts (λ s. s.party == p) (runs_in c) (sections h) t f same in
+        omega (arith, (alone cells h legal c).one_writer, w, runs)
 
   -- no value was made in the cell, or one was, and it stays
-  counted : (c : ℕ) (h : List Event) → IsLegal cells h → (successes c h ≡ 0) ⊎ ((successes c h ≡ 1) × IsMade cells c h)
-  counted c [] k = inl refl
-  counted c (e ∷ h) k = by (is_success c e.step.act e.line.answer (innermost e.step.party (sections h))) refl (counted c h k.2)
-    where
-      by : (b : Bool) → is_success c e.step.act e.line.answer (innermost e.step.party (sections h)) ≡ b
-          → (successes c h ≡ 0) ⊎ ((successes c h ≡ 1) × IsMade cells c h)
-          → (cond b (successes c h + 1) (successes c h) ≡ 0) ⊎ ((cond b (successes c h + 1) (successes c h) ≡ 1) × IsMade cells c (e ∷ h))
-      by true ok (inl none) = inr (omega (arith, none), success-makes c h e.step e.line k.0 ok)
-      by true ok (inr one) =
-          let t : _ = success-runs c e.step.act e.line.answer (innermost e.step.party (sections h)) ok in
-          let runs : 0 < count (runs_in c) (sections h) = found_counts (λ s. s.party == e.step.party) (runs_in c) (sections h) t.0 t.1 t.2 in
-          absurd (omega (arith, runs, made-rests cells c h k.2 one.1))
-      by false ok (inl none) = inl none
-      by false ok (inr one) = inr (one.0, made-stays cells c e h k one.1)
+  abbrev IsCounted : List Event → Type 0
+  IsCounted h = (successes c h ≡ 0) ⊎ ((successes c h ≡ 1) × IsMade h)
 
-  -- at most one generator of a cell ends by a value
-  pub one-success : (c : ℕ) (h : List Event) → IsLegal cells h → successes c h ≤ 1
-  one-success c h k = by (counted c h k)
+  counted : (h : List Event) → IsLegal cells h → IsCounted h
+  counted [] k = inl refl
+  counted (e ∷ h) k = by (is_success c e.step.act e.line.answer (innermost e.step.party (sections h))) refl (counted h k.2)
     where
-      by : (successes c h ≡ 0) ⊎ ((successes c h ≡ 1) × IsMade cells c h) → successes c h ≤ 1
+      is : Leaves h e.step.party e.line.given k.2 e.step.act e.line.answer
+      is = of_legal cells h e.step e.line k.0 (Leaves h e.step.party e.line.given k.2)
+          (λ a r. leaves h e.step.party e.line.given k.2 a (answer.Refused r) (refused_fails c a r (innermost e.step.party (sections h))) (omega arith))
+          (cases h e.step.party e.line.given k.2)
+
+      stays : IsMade h → IsMade (e ∷ h)
+      stays (inl r) = inl (initialized-stays cells h e c k r)
+      stays (inr w) = is.stays w
+
+      by : (b : Bool) → is_success c e.step.act e.line.answer (innermost e.step.party (sections h)) ≡ b → IsCounted h
+          → (cond b (successes c h + 1) (successes c h) ≡ 0) ⊎ ((cond b (successes c h + 1) (successes c h) ≡ 1) × IsMade (e ∷ h))
+      by true ok (inl none) = inr (omega (arith, none), (is.succeeds ok).4)
+      by true ok (inr one) = let t : _ = is.succeeds ok in absurd (made_rests h e.step.party e.line.given k.2 one.1 t.0 t.1 t.2 t.3)
+      by false ok (inl none) = inl none
+      by false ok (inr one) = inr (one.0, stays one.1)
+
+  -- at most one generator of the cell ends by a value
+  pub one-success : (h : List Event) → IsLegal cells h → successes c h ≤ 1
+  one-success h k = by (counted h k)
+    where
+      by : IsCounted h → successes c h ≤ 1
       by (inl none) = omega (arith, none)
       by (inr one) = omega (arith, one.0)

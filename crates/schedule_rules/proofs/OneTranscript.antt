@@ -6,6 +6,7 @@ use Rattle.std.specs.declared.option.Option.TheVariants.{None, Some}
 use Rattle.std.proofs.lemmas.List.{same_lists}
 use Rattle.std.proofs.lemmas.List.{get_or_past}
 use Rattle.std.proofs.lemmas.Option.{get_or_from_slice_get}
+use Rattle.exit_registry.specs.Registry.{first_of}
 use Rattle.schedule_rules.specs.declared.plan.CellPlan.{CellPlan}
 use Rattle.schedule_rules.specs.declared.step.Step.{Step}
 use Rattle.schedule_rules.specs.declared.line.Line.{Line}
@@ -22,8 +23,11 @@ use Rattle.schedule_rules.specs.declared.step.Act.TheVariants as act
 use Rattle.schedule_rules.specs.declared.transcript.Final.{Final}
 use Rattle.schedule_rules.specs.History.{Event}
 use Rattle.schedule_rules.specs.Kinds.{no_cell, cell_at, is_parking}
-use Rattle.schedule_rules.specs.Calls.{Want, Calls, rule, initializes}
-use Rattle.schedule_rules.specs.Waits.{Attempt, attempt, Wait, wait_of, attempt_of_wait, waits, other_waits, cell_concerned}
+use Rattle.schedule_rules.specs.Calls.{rule, initializes}
+use Rattle.schedule_rules.specs.declared.step.Want.{Want}
+use Rattle.schedule_rules.specs.declared.step.Want.TheVariants.{Calls}
+use Rattle.schedule_rules.specs.Exits.{registry, ended_turns}
+use Rattle.schedule_rules.specs.Waits.{Attempt, attempt, Wait, wait_of, attempt_of_wait, attempt_of_turn, waits, other_waits, cell_concerned}
 use Rattle.schedule_rules.specs.Refusals.{refusal}
 use Rattle.schedule_rules.specs.Answers.{way_at, Meeting, answer_barred, answer_admitted, answer_of_attempt}
 use Rattle.schedule_rules.specs.Holds.{is_barred}
@@ -55,7 +59,7 @@ one_way place.Park v w e = absurd (cc)
 -- so an attempt there has one answer
 one_answer : (x : CellPlan) (w : Want) (m : Meeting) (b d : Bool) → is_parking x.place ≡ false → answer_of_attempt x w m b ≡ answer_of_attempt x w m d
 one_answer x w m b d e =
-    ap (λ (y : Answer). if initializes w && m.own_run then answer.Cyclic else if not m.kept && is_barred (rule x w m.content.phase) m.holding then y else answer_admitted x w m.content)
+    ap (λ (y : Answer). if initializes w && m.own_run then answer.Cyclic else if not m.kept && is_barred (rule x w m.content.phase) m.holding then y else answer_admitted x m.cell m.is_open w m.content)
     same
   where
     same : answer_barred x w m b ≡ answer_barred x w m d
@@ -83,6 +87,7 @@ module _ (cells : List CellPlan) (spins : NoneParks cells) where
     due_alike : (p : ℕ) (a : Act) (ws : List Wait) (b d : Bool) → due_answer cells h (record { party = p; act = a }) ws b ≡ due_answer cells h (record { party = p; act = a }) ws d
     due_alike p (act.Call c k) ws b d = tried_alike p (Some (record { cell = c; want = Calls k })) ws b d
     due_alike p act.Again ws b d = tried_alike p (attempt_of_wait (wait_of p (waits cells h))) ws b d
+    due_alike p act.Exit ws b d = tried_alike p (attempt_of_turn (first_of (registry cells h).left)) ws b d
     due_alike p _ ws b d = refl
 
     -- nothing may be given at the first moment
@@ -156,3 +161,7 @@ pub finals_of_legal : (x : Schedule) (t u : Account) → NoneParks x.cells → I
 finals_of_legal x t u spins a b =
     let P : List Line → Type 0 = λ ls. AreFinals t.finals x.cells (told [] x.steps ls) in
     same_finals t.finals u.finals x.cells (told [] x.steps u.lines) (subst P (lines_of_legal x t u spins a b) a.finals) b.finals
+
+-- the turns of the exit of two legal transcripts
+pub exits_of_legal : (x : Schedule) (t u : Account) → NoneParks x.cells → IsLegalTranscript x t → IsLegalTranscript x u → t.exits ≡ u.exits
+exits_of_legal x t u spins a b = a.exits ∙ ap (λ ls. ended_turns (told [] x.steps ls)) (lines_of_legal x t u spins a b) ∙ sym b.exits

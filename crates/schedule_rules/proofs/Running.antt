@@ -3,6 +3,12 @@ use Rattle.std.proofs.Common.{◌≡◌, ◌≢◌, ℕ, List, Bool, true, false
 use Rattle.std.specs.Prelude.{if◌then◌else◌, is_none}
 use Rattle.std.specs.declared.option.Option.{Option}
 use Rattle.std.specs.declared.option.Option.TheVariants.{None, Some}
+use Rattle.exit_registry.specs.declared.registry.Look.{Look}
+use Rattle.exit_registry.specs.declared.registry.Look.TheVariants as look
+use Rattle.exit_registry.specs.Registry.{first_of, look_at}
+use Rattle.phase_bits.specs.Number.{phase_of}
+use Rattle.phase_bits.specs.Flags.{has, initialized}
+use Rattle.phase_seq.specs.Phases.{flags_refused}
 use Rattle.phase_locker.specs.declared.ways.How.{How}
 use Rattle.schedule_rules.specs.declared.plan.Call.TheVariants as call
 use Rattle.schedule_rules.specs.declared.plan.CellPlan.{CellPlan}
@@ -13,38 +19,60 @@ use Rattle.schedule_rules.specs.declared.line.Line.{Line}
 use Rattle.schedule_rules.specs.declared.line.Answer.{Answer}
 use Rattle.schedule_rules.specs.declared.line.Answer.TheVariants as answer
 use Rattle.schedule_rules.specs.Kinds.{cell_at}
-use Rattle.schedule_rules.specs.Phases.{shall_init}
-use Rattle.schedule_rules.specs.Calls.{Want, Calls, rule, asks, initializes}
+use Rattle.schedule_rules.specs.Phases.{shall_init, runs_generator}
+use Rattle.schedule_rules.specs.Calls.{Reads, Writes, rule, asks, initializes}
+use Rattle.schedule_rules.specs.declared.step.Want.{Want}
+use Rattle.schedule_rules.specs.declared.step.Want.TheVariants.{Calls, Turns}
 use Rattle.schedule_rules.specs.Changes.{Content}
 use Rattle.schedule_rules.specs.History.{Event}
 use Rattle.schedule_rules.specs.Sections.{innermost, sections}
 use Rattle.schedule_rules.specs.Guards.{numbered, guards}
-use Rattle.schedule_rules.specs.Waits.{Attempt, attempt, Wait, wait_of, waits, attempt_of_wait}
+use Rattle.schedule_rules.specs.Exits.{registry}
+use Rattle.schedule_rules.specs.Waits.{Attempt, attempt, Wait, wait_of, waits, attempt_of_wait, attempt_of_turn}
 use Rattle.schedule_rules.specs.Holds.{is_barred}
 use Rattle.schedule_rules.specs.Refusals.{refusal}
-use Rattle.schedule_rules.specs.Answers.{Meeting, answer_admitted}
-use Rattle.schedule_rules.specs.Due.{due_tried, due_answer, meeting}
+use Rattle.schedule_rules.specs.Answers.{Meeting, answer_of_run, if_accessible, call_answer_admitted, turn_answer_admitted, answer_admitted}
+use Rattle.schedule_rules.specs.Due.{answer_of_look, due_tried, due_answer, meeting}
 use Rattle.schedule_rules.specs.Legal.{IsLegalLine}
 use Rattle.schedule_rules.specs.Laws.{is_running, waits_judged, is_asking_attempt, is_asking_step}
-use Rattle.schedule_rules.proofs.Answered.{accessed, made, looked, cloned, legal_by}
+use Rattle.schedule_rules.proofs.Answered.{accessed, made, finished, looked, cloned, legal_by}
 
 -- the answer begins no run
 abbrev Rests : Answer → Type 0
 Rests a = is_running a ≡ false
 
--- a call that is not barred begins a run exactly where it asks for one
-admitted : (x : CellPlan) (w : Want) (y : Content) → is_running (answer_admitted x w y) ≡ asks x w y.phase
-admitted x (Calls call.Phase) y = refl
-admitted x (Calls call.Read) y = by (shall_init x.retry y.phase) refl
+-- a run that is asked begins where its generator runs
+asked : (x : CellPlan) (o : Bool) (y : Content) → is_running (answer_of_run x o y) ≡ runs_generator x o y.phase
+asked x o y = by (runs_generator x o y.phase)
   where
-    by : (b : Bool) → shall_init x.retry y.phase ≡ b → is_running (answer_admitted x (Calls call.Read) y) ≡ asks x (Calls call.Read) y.phase
-    by true e = rw (e, e) refl
-    by false e = rw e (accessed Rests x y answer.ReadGuard refl refl)
-admitted x (Calls call.Write) y = by (shall_init x.retry y.phase) refl
+    by : (b : Bool) → is_running (if b then answer.Running else answer.Access (phase_of flags_refused)) ≡ b
+    by true = refl
+    by false = refl
+
+-- a call that is not barred begins a run exactly where it asks for one, and its generator runs
+admitted : (x : CellPlan) (c : ℕ) (o : Bool) (w : Want) (y : Content) → is_running (answer_admitted x c o w y) ≡ (asks x w y.phase && runs_generator x o y.phase)
+admitted x c o (Calls call.Phase) y = refl
+admitted x c o (Calls call.Read) y = by (shall_init x.retry y.phase) refl
   where
-    by : (b : Bool) → shall_init x.retry y.phase ≡ b → is_running (answer_admitted x (Calls call.Write) y) ≡ asks x (Calls call.Write) y.phase
-    by true e = rw e refl
-    by false e = rw e (accessed Rests x y answer.WriteGuard refl refl)
+    by : (b : Bool) → shall_init x.retry y.phase ≡ b
+        → is_running (call_answer_admitted (if b then Some Writes else Some Reads) x o call.Read y) ≡ (b && runs_generator x o y.phase)
+    by true e = rw e (asked x o y)
+    by false e = accessed Rests x y answer.ReadGuard refl refl
+admitted x c o (Calls call.Write) y = by (shall_init x.retry y.phase)
+  where
+    by : (b : Bool) → is_running (if b then answer_of_run x o y else if_accessible x y answer.WriteGuard) ≡ (b && runs_generator x o y.phase)
+    by true = asked x o y
+    by false = accessed Rests x y answer.WriteGuard refl refl
+admitted x c o Turns y = by (has y.phase initialized)
+  where
+    by : (b : Bool) → is_running (turn_answer_admitted (if b then Some Writes else None) c) ≡ false
+    by true = refl
+    by false = refl
+
+-- a look for registered cells begins none
+told : (l : Look) → is_running (answer_of_look l) ≡ false
+told (look.Round n) = refl
+told look.Closed = refl
 
 -- cyclic, else waiting, else as it asks
 in_turn : (cyclic kept barred asked : Bool) (w : How) (r : Answer) → is_running r ≡ asked
@@ -57,11 +85,12 @@ in_turn false false false asked w r p = p
 module _ (cells : List CellPlan) (h : List Event) (ws : List Wait) (chosen : Bool) where
   -- an attempt begins a run exactly where it asks for one
   tried : (p : ℕ) (o : Option Attempt) → is_running (due_tried cells h p o ws chosen) ≡ is_asking_attempt cells h p o ws
-  tried p None = refl
+  tried p None = told (look_at (registry cells h).pending)
   tried p (Some a) =
       let m : Meeting = meeting cells h p a ws in let x : CellPlan = cell_at cells a.cell in
-      in_turn (initializes a.want && m.own_run) m.kept (is_barred (rule x a.want m.content.phase) m.holding) (asks x a.want m.content.phase) _
-      (answer_admitted x a.want m.content) (admitted x a.want m.content)
+      in_turn (initializes a.want && m.own_run) m.kept (is_barred (rule x a.want m.content.phase) m.holding)
+      (asks x a.want m.content.phase && runs_generator x m.is_open m.content.phase) _ (answer_admitted x a.cell m.is_open a.want m.content)
+      (admitted x a.cell m.is_open a.want m.content)
 
   -- each act
   due : (p : ℕ) (a : Act)
@@ -70,6 +99,9 @@ module _ (cells : List CellPlan) (h : List Event) (ws : List Wait) (chosen : Boo
   due p act.Again = tried p (attempt_of_wait (wait_of p (waits cells h)))
   due p (act.Made v) = made Rests cells h v (innermost p (sections h)) refl refl refl
   due p act.MadeFailed = refl
+  due p act.Exit = tried p (attempt_of_turn (first_of (registry cells h).left))
+  due p act.Finished = finished Rests cells h true (innermost p (sections h)) refl (λ q. refl)
+  due p act.FinishFailed = finished Rests cells h false (innermost p (sections h)) refl (λ q. refl)
   due p (act.Look g) = looked Rests cells h (numbered g (guards h)) refl (λ v. refl)
   due p (act.Set g v) = refl
   due p (act.Release g) = refl

@@ -7,6 +7,9 @@ use Rattle.phase_bits.specs.Number.{phase_of}
 use Rattle.phase_locker.specs.declared.ways.How.{How}
 use Rattle.phase_locker.specs.declared.ways.Given.{Given}
 use Rattle.phase_locker.specs.declared.ways.Given.TheVariants as given
+use Rattle.exit_registry.specs.declared.registry.Look.{Look}
+use Rattle.exit_registry.specs.declared.registry.Look.TheVariants as look
+use Rattle.exit_registry.specs.Registry.{first_of, look_at}
 use Rattle.schedule_rules.specs.declared.plan.Call.{Call}
 use Rattle.schedule_rules.specs.declared.plan.Call.TheVariants as call
 use Rattle.schedule_rules.specs.declared.plan.CellPlan.{CellPlan}
@@ -17,27 +20,35 @@ use Rattle.schedule_rules.specs.declared.line.Line.{Line}
 use Rattle.schedule_rules.specs.declared.line.Answer.{Answer}
 use Rattle.schedule_rules.specs.declared.line.Answer.TheVariants as answer
 use Rattle.schedule_rules.specs.declared.line.Refusal.{Refusal}
-use Rattle.schedule_rules.specs.Phases.{is_accessible}
-use Rattle.schedule_rules.specs.Calls.{Want, Calls, Nature, Reads, Writes, rule, asks, initializes}
+use Rattle.schedule_rules.specs.Phases.{is_accessible, runs_generator}
+use Rattle.schedule_rules.specs.Calls.{Nature, Reads, Writes, rule, asks, initializes}
+use Rattle.schedule_rules.specs.declared.step.Want.{Want}
+use Rattle.schedule_rules.specs.declared.step.Want.TheVariants.{Calls, Turns}
 use Rattle.schedule_rules.specs.Changes.{Content}
 use Rattle.schedule_rules.specs.History.{Event}
 use Rattle.schedule_rules.specs.Sections.{Section, innermost, runs, sections}
 use Rattle.schedule_rules.specs.Guards.{Guard, numbered, guards}
 use Rattle.schedule_rules.specs.Replay.{phase_at}
-use Rattle.schedule_rules.specs.Waits.{Attempt, attempt, Wait, wait_of, waits, attempt_of_wait}
+use Rattle.schedule_rules.specs.Exits.{registry}
+use Rattle.schedule_rules.specs.Waits.{Attempt, attempt, Wait, wait_of, waits, attempt_of_wait, attempt_of_turn}
 use Rattle.schedule_rules.specs.Holds.{is_barred, holding_with}
 use Rattle.schedule_rules.specs.Refusals.{refusal}
-use Rattle.schedule_rules.specs.Answers.{if_accessible, Meeting, call_answer_admitted, answer_admitted}
-use Rattle.schedule_rules.specs.Due.{answer_of_made, keeps_own, due_attempt, due_tried, due_made, due_look, due_clone, due_answer, meeting}
+use Rattle.schedule_rules.specs.Answers.{if_accessible, Meeting, answer_of_run, call_answer_admitted, turn_answer_admitted, answer_admitted}
+use Rattle.schedule_rules.specs.Due.{answer_of_made, answer_of_look, due_finished, keeps_own, due_attempt, due_tried, due_made, due_look, due_clone, due_answer, meeting}
 use Rattle.schedule_rules.specs.Kinds.{cell_at}
-use Rattle.schedule_rules.specs.Legal.{Moment, First, Last, IsLegalLine, answer_of, due_at, may_give}
+use Rattle.schedule_rules.specs.Legal.{Moment, IsLegalLine, answer_of, due_at, may_give}
 use Rattle.schedule_rules.specs.Gifts.{is_nobody}
+use Rattle.schedule_rules.proofs.Judged.{due_at-judged}
 use Rattle.schedule_rules.specs.Laws.{is_waiting, is_borrowed, waits_judged, is_barred_attempt, is_barred_step, is_barred_clone, is_borrowing_step}
 
 -- the answer says that the step is refused
 abbrev is_refused : Answer → Bool
 is_refused (answer.Refused r) = true
 is_refused _ = false
+
+nothing_else : (b : Bool) → (b || false) ≡ b
+nothing_else true = refl
+nothing_else false = refl
 
 -- a test of answers that none passes which a step gets where nothing bars it. All that wait have one result
 record Tests (t : Answer → Bool) (waiting borrowed : Bool) : Type 0 where
@@ -46,6 +57,10 @@ record Tests (t : Answer → Bool) (waiting borrowed : Bool) : Type 0 where
   pub read_guard : t answer.ReadGuard ≡ false
   pub write_guard : t answer.WriteGuard ≡ false
   pub running : t answer.Running ≡ false
+  pub finalizing : (c : ℕ) → t (answer.Finalizing c) ≡ false
+  pub skipped : (c : ℕ) → t (answer.Skipped c) ≡ false
+  pub round : (n : ℕ) → t (answer.Round n) ≡ false
+  pub closed : t answer.Closed ≡ false
   pub done : t answer.Done ≡ false
   pub access : (p : _) → t (answer.Access p) ≡ false
   pub failed : t answer.Failed ≡ false
@@ -60,6 +75,10 @@ tests_waiting = record {
   read_guard = refl;
   write_guard = refl;
   running = refl;
+  finalizing = λ c. refl;
+  skipped = λ c. refl;
+  round = λ n. refl;
+  closed = refl;
   done = refl;
   access = λ p. refl;
   failed = refl;
@@ -75,6 +94,10 @@ tests_borrowed = record {
   read_guard = refl;
   write_guard = refl;
   running = refl;
+  finalizing = λ c. refl;
+  skipped = λ c. refl;
+  round = λ n. refl;
+  closed = refl;
   done = refl;
   access = λ p. refl;
   failed = refl;
@@ -90,6 +113,10 @@ tests_refused = record {
   read_guard = refl;
   write_guard = refl;
   running = refl;
+  finalizing = λ c. refl;
+  skipped = λ c. refl;
+  round = λ n. refl;
+  closed = refl;
   done = refl;
   access = λ p. refl;
   failed = refl;
@@ -109,15 +136,27 @@ module _ (t : Answer → Bool) (waiting borrowed : Bool) (is : Tests t waiting b
   accessed x y a e = one_of_two (is_accessible x.kind y.phase) a (answer.Access (phase_of y.phase)) e (is.access _)
 
   -- a call that is not barred
-  admitted_call : (n : Option Nature) (x : CellPlan) (k : Call) (y : Content) → t (call_answer_admitted n x k y) ≡ false
-  admitted_call None x k y = is.phase _
-  admitted_call (Some Reads) x k y = accessed x y answer.ReadGuard is.read_guard
-  admitted_call (Some Writes) x k y =
-      one_of_two (asks x (Calls k) y.phase) answer.Running (if_accessible x y answer.WriteGuard) is.running (accessed x y answer.WriteGuard is.write_guard)
+  admitted_call : (n : Option Nature) (x : CellPlan) (o : Bool) (k : Call) (y : Content) → t (call_answer_admitted n x o k y) ≡ false
+  admitted_call None x o k y = is.phase _
+  admitted_call (Some Reads) x o k y = accessed x y answer.ReadGuard is.read_guard
+  admitted_call (Some Writes) x o k y =
+      one_of_two (asks x (Calls k) y.phase) (answer_of_run x o y) (if_accessible x y answer.WriteGuard)
+      (one_of_two (runs_generator x o y.phase) answer.Running (answer.Access _) is.running (is.access _)) (accessed x y answer.WriteGuard is.write_guard)
+
+  -- a turn that is not barred
+  admitted_turn : (n : Option Nature) (c : ℕ) → t (turn_answer_admitted n c) ≡ false
+  admitted_turn None c = is.skipped c
+  admitted_turn (Some n) c = is.finalizing c
 
   -- the same for whatever is attempted
-  admitted : (x : CellPlan) (w : Want) (y : Content) → t (answer_admitted x w y) ≡ false
-  admitted x (Calls k) y = admitted_call (rule x (Calls k) y.phase) x k y
+  admitted : (x : CellPlan) (c : ℕ) (o : Bool) (w : Want) (y : Content) → t (answer_admitted x c o w y) ≡ false
+  admitted x c o (Calls k) y = admitted_call (rule x (Calls k) y.phase) x o k y
+  admitted x c o Turns y = admitted_turn (rule x Turns y.phase) c
+
+  -- a look for registered cells
+  told : (l : Look) → t (answer_of_look l) ≡ false
+  told (look.Round n) = is.round n
+  told look.Closed = is.closed
 
   -- cyclic, else waiting, else an answer that does not pass
   in_turn : (cyclic kept barred : Bool) (w : How) (r : Answer) → t r ≡ false
@@ -130,21 +169,27 @@ module _ (t : Answer → Bool) (waiting borrowed : Bool) (is : Tests t waiting b
   module _ (cells : List CellPlan) (h : List Event) (ws : List Wait) (chosen : Bool) where
     -- an attempt waits exactly where it is barred
     tried : (p : ℕ) (o : Option Attempt) → t (due_tried cells h p o ws chosen) ≡ (is_barred_attempt cells h p o ws && waiting)
-    tried p None = is.done
+    tried p None = told (look_at (registry cells h).pending)
     tried p (Some a) =
         let m : Meeting = meeting cells h p a ws in let x : CellPlan = cell_at cells a.cell in
-        in_turn (initializes a.want && m.own_run) m.kept (is_barred (rule x a.want m.content.phase) m.holding) _ (answer_admitted x a.want m.content)
-        (admitted x a.want m.content)
+        in_turn (initializes a.want && m.own_run) m.kept (is_barred (rule x a.want m.content.phase) m.holding) _ (answer_admitted x a.cell m.is_open a.want m.content)
+        (admitted x a.cell m.is_open a.want m.content)
 
     -- a value made
     made_call : (w : Want) → t (answer_of_made w) ≡ false
     made_call (Calls call.Phase) = is.write_guard
     made_call (Calls call.Read) = is.read_guard
     made_call (Calls call.Write) = is.write_guard
+    made_call Turns = is.write_guard
 
     made : (v : ℕ) (o : Option Section) → t (due_made cells h v o) ≡ false
     made v None = is.done
     made v (Some s) = made_call s.want
+
+    -- a finalizer that ends
+    finished : (fine : Bool) (o : Option Section) → t (due_finished cells h fine o) ≡ false
+    finished fine None = is.done
+    finished fine (Some s) = is.phase _
 
     -- a look
     looked : (o : Option Guard) → t (due_look cells h o) ≡ false
@@ -164,16 +209,11 @@ module _ (t : Answer → Bool) (waiting borrowed : Bool) (is : Tests t waiting b
     due : (p : ℕ) (a : Act)
         → t (due_answer cells h (record { party = p; act = a }) ws chosen) ≡ ((is_barred_attempt cells h p (attempt cells h (record { party = p; act = a })) ws && waiting) || (is_barred_clone cells h a ws && borrowed))
     due p (act.Call c k) = tried p (Some (record { cell = c; want = Calls k })) ∙ sym (nothing_else _)
-      where
-        nothing_else : (b : Bool) → (b || false) ≡ b
-        nothing_else true = refl
-        nothing_else false = refl
     due p act.Again = tried p (attempt_of_wait (wait_of p (waits cells h))) ∙ sym (nothing_else _)
-      where
-        nothing_else : (b : Bool) → (b || false) ≡ b
-        nothing_else true = refl
-        nothing_else false = refl
     due p (act.Made v) = made v (innermost p (sections h))
+    due p act.Exit = tried p (attempt_of_turn (first_of (registry cells h).left)) ∙ sym (nothing_else _)
+    due p act.Finished = finished true (innermost p (sections h))
+    due p act.FinishFailed = finished false (innermost p (sections h))
     due p act.MadeFailed = is.failed
     due p (act.Look g) = looked (numbered g (guards h))
     due p (act.Set g v) = is.done
@@ -185,12 +225,6 @@ module _ (t : Answer → Bool) (waiting borrowed : Bool) (is : Tests t waiting b
   unless_refused : (r : Option Refusal) (a : Answer) → ((q : Refusal) → t (answer.Refused q) ≡ false) → t (answer_of r a) ≡ (is_none r && t a)
   unless_refused None a f = refl
   unless_refused (Some r) a f = f r
-
--- the answer that is due, where these calls of others wait
-pub due_at-judged : (cells : List CellPlan) (m : Moment) (h : List Event) (s : Step) (g : Given) (chosen : Bool)
-    → due_at cells m h s g chosen ≡ due_answer cells h s (waits_judged cells m h s g) chosen
-due_at-judged cells First h s g chosen = refl
-due_at-judged cells Last h s g chosen = refl
 
 -- one of two, of which one does not count
 first_alone : (a x y : Bool) → (a && ((x && true) || (y && false))) ≡ (a && x)

@@ -1,5 +1,5 @@
--- The answers of calls, by what they meet at the cell.
-use Rattle.std.specs.Prelude.{Bool, true, false, not, ◌&&◌, if◌then◌else◌}
+-- The answers of calls and turns, by what they meet at the cell.
+use Rattle.std.specs.Prelude.{ℕ, Bool, true, false, not, ◌&&◌, if◌then◌else◌}
 use Rattle.std.specs.Option.{unwrap_or}
 use Rattle.std.specs.declared.option.Option.{Option}
 use Rattle.std.specs.declared.option.Option.TheVariants.{None, Some}
@@ -12,8 +12,10 @@ use Rattle.schedule_rules.specs.declared.line.Answer.{Answer}
 use Rattle.schedule_rules.specs.declared.line.Answer.TheVariants as answer
 use Rattle.phase_locker.specs.declared.ways.How.{How}
 use Rattle.phase_locker.specs.declared.ways.How.TheVariants as how
-use Rattle.schedule_rules.specs.Phases.{is_accessible}
-use Rattle.schedule_rules.specs.Calls.{Want, Calls, Nature, Reads, Writes, rule, asks, initializes, waking_nature, way_of_nature}
+use Rattle.schedule_rules.specs.declared.step.Want.{Want}
+use Rattle.schedule_rules.specs.declared.step.Want.TheVariants.{Calls, Turns}
+use Rattle.schedule_rules.specs.Phases.{NoRun, is_accessible, runs_generator, phase_reached}
+use Rattle.schedule_rules.specs.Calls.{Nature, Reads, Writes, rule, asks, initializes, waking_nature, way_of_nature}
 use Rattle.schedule_rules.specs.Changes.{Content}
 use Rattle.schedule_rules.specs.Holds.{Holding, is_barred, is_barred_by_readers}
 
@@ -25,19 +27,31 @@ if_accessible x y a = if is_accessible x.kind y.phase then a else answer.Access 
 abbrev pub answer_of_value : Content → Answer
 answer_of_value y = answer.Value (unwrap_or y.value 0)
 
+-- the answer of a run that is asked, by whether the registry is open: where no generator runs, the value may not be
+-- accessed at the phase that is reached
+abbrev pub answer_of_run : CellPlan → Bool → Content → Answer
+answer_of_run x is_open y =
+    if runs_generator x is_open y.phase then answer.Running else answer.Access (phase_of (phase_reached x is_open y.phase NoRun))
+
 -- the answer of a call that gets the lock to write
-abbrev pub call_answer_written : CellPlan → Call → Content → Answer
-call_answer_written x k y = if asks x (Calls k) y.phase then answer.Running else if_accessible x y answer.WriteGuard
+abbrev pub call_answer_written : CellPlan → Bool → Call → Content → Answer
+call_answer_written x is_open k y = if asks x (Calls k) y.phase then answer_of_run x is_open y else if_accessible x y answer.WriteGuard
 
 -- the answer of a call that is not barred, by its rule
-abbrev pub call_answer_admitted : Option Nature → CellPlan → Call → Content → Answer
-call_answer_admitted None x k y = answer.Phase (phase_of y.phase)
-call_answer_admitted (Some Reads) x k y = if_accessible x y answer.ReadGuard
-call_answer_admitted (Some Writes) x k y = call_answer_written x k y
+abbrev pub call_answer_admitted : Option Nature → CellPlan → Bool → Call → Content → Answer
+call_answer_admitted None x is_open k y = answer.Phase (phase_of y.phase)
+call_answer_admitted (Some Reads) x is_open k y = if_accessible x y answer.ReadGuard
+call_answer_admitted (Some Writes) x is_open k y = call_answer_written x is_open k y
 
--- the answer of an attempt that is not barred, by what the cell holds
-abbrev pub answer_admitted : CellPlan → Want → Content → Answer
-answer_admitted x (Calls k) y = call_answer_admitted (rule x (Calls k) y.phase) x k y
+-- a turn finalizes its cell where it wants a lock, and else skips it
+abbrev pub turn_answer_admitted : Option Nature → ℕ → Answer
+turn_answer_admitted None c = answer.Skipped c
+turn_answer_admitted (Some n) c = answer.Finalizing c
+
+-- the answer of an attempt that is not barred, by what the cell with this number holds and whether the registry is open
+abbrev pub answer_admitted : CellPlan → ℕ → Bool → Want → Content → Answer
+answer_admitted x c is_open (Calls k) y = call_answer_admitted (rule x (Calls k) y.phase) x is_open k y
+answer_admitted x c is_open Turns y = turn_answer_admitted (rule x Turns y.phase) c
 
 -- a call that parks drains, or is woken as its nature says
 abbrev pub way_parked : Want → Bool → How
@@ -49,13 +63,15 @@ abbrev pub way_at : Place → How → How
 way_at place.Park way = way
 way_at place.Spin way = how.Spin
 
--- what an attempt meets: whether its own party runs the cell's generator, whether the call keeps a share or a drain,
--- what the cell holds, and what stands on it against a lock
+-- what an attempt meets: the number of its cell, whether its own party runs the cell's generator, whether the call keeps
+-- a share or a drain, what the cell holds, what stands on it against a lock, and whether the registry is open
 pub record Meeting : Type 0 where
+  pub cell : ℕ
   pub own_run : Bool
   pub kept : Bool
   pub content : Content
   pub holding : Holding
+  pub is_open : Bool
 
 -- the answer of an attempt that is barred. Where readers alone bar it, it drains by choice
 abbrev pub answer_barred : CellPlan → Want → Meeting → Bool → Answer
@@ -67,4 +83,4 @@ abbrev pub answer_of_attempt : CellPlan → Want → Meeting → Bool → Answer
 answer_of_attempt x w m chosen =
     if initializes w && m.own_run then answer.Cyclic
     else if not m.kept && is_barred (rule x w m.content.phase) m.holding then answer_barred x w m chosen
-    else answer_admitted x w m.content
+    else answer_admitted x m.cell m.is_open w m.content

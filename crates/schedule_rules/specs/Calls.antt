@@ -7,11 +7,10 @@ use Rattle.phase_locker.specs.declared.ways.How.TheVariants as how
 use Rattle.schedule_rules.specs.declared.plan.Call.{Call}
 use Rattle.schedule_rules.specs.declared.plan.Call.TheVariants as call
 use Rattle.schedule_rules.specs.declared.plan.CellPlan.{CellPlan}
+use Rattle.schedule_rules.specs.declared.step.Want.{Want}
+use Rattle.schedule_rules.specs.declared.step.Want.TheVariants.{Calls, Turns}
+use Rattle.phase_bits.specs.Flags.{has, initialized}
 use Rattle.schedule_rules.specs.Phases.{shall_init}
-
--- what a step attempts on a cell: a call
-pub data Want : Type 0 where
-  Calls : (k : Call) → Want
 
 -- the nature of a lock
 pub data Nature : Type 0 where
@@ -27,6 +26,7 @@ call_initializes call.Write = true
 -- the call asks for a run where one is wanted
 abbrev pub initializes : Want → Bool
 initializes (Calls k) = call_initializes k
+initializes Turns = false
 
 -- a run is asked at this phase
 abbrev pub asks : CellPlan → Want → ℕ → Bool
@@ -42,9 +42,10 @@ call_rule x call.Phase p = None
 call_rule x call.Read p = rule_to_init x p (Some Reads)
 call_rule x call.Write p = Some Writes
 
--- the lock that is wanted at this phase
+-- the lock that is wanted at this phase: a turn wants one where there is a value to finalize
 abbrev pub rule : CellPlan → Want → ℕ → Option Nature
 rule x (Calls k) p = call_rule x k p
+rule x Turns p = if has p initialized then Some Writes else None
 
 -- as what a parked call is woken
 abbrev pub call_waking_nature : Call → Nature
@@ -55,6 +56,7 @@ call_waking_nature call.Write = Writes
 -- the same for whatever is attempted
 abbrev pub waking_nature : Want → Nature
 waking_nature (Calls k) = call_waking_nature k
+waking_nature Turns = Writes
 
 -- a call parks to be woken so
 abbrev pub way_of_nature : Nature → How

@@ -1,9 +1,12 @@
 -- What a cell without locks holds, and what the sections given back do to it.
-use Rattle.std.specs.Prelude.{ℕ, List, [], ◌∷◌}
+use Rattle.std.specs.Prelude.{ℕ, Bool, not, List, [], ◌∷◌, ◌&&◌, if◌then◌else◌}
 use Rattle.std.specs.declared.option.Option.{Option}
 use Rattle.std.specs.declared.option.Option.TheVariants.{None, Some}
+use Rattle.schedule_rules.specs.declared.plan.Call.{Call}
 use Rattle.schedule_rules.specs.declared.plan.CellPlan.{CellPlan}
-use Rattle.schedule_rules.specs.Phases.{Success, Failure, phase_reached}
+use Rattle.schedule_rules.specs.declared.step.Want.TheVariants.{Calls}
+use Rattle.schedule_rules.specs.Phases.{Success, Failure, NoRun, runs_generator, phase_reached, phase_finalized}
+use Rattle.schedule_rules.specs.Calls.{asks}
 
 -- a phase and a value
 pub record Content : Type 0 where
@@ -14,20 +17,33 @@ pub record Content : Type 0 where
 abbrev pub opening_content : CellPlan → Content
 opening_content x = record { phase = 0; value = None }
 
--- what happens in a section
+-- what happens in a section. Of a run it is told whether the registry was open when it was asked
 pub data Change : Type 0 where
-  Ran : (made : Option ℕ) → Change  -- its generator ended, with a value or failing
+  Ran : (is_open : Bool) (made : Option ℕ) → Change  -- its generator ended, with a value or failing
+  Asked : (is_open : Bool) (k : Call) → Change  -- its call was admitted, and left nothing open
   Put : (value : ℕ) → Change  -- a value was set
+  Ended : (fine : Bool) → Change  -- its finalizer ended
 
 -- a successful run sets the value, a failed one leaves it
-abbrev pub content_of_run : CellPlan → Option ℕ → Content → Content
-content_of_run x (Some v) y = record { phase = phase_reached x y.phase Success; value = Some v }
-content_of_run x None y = record { phase = phase_reached x y.phase Failure; value = y.value }
+abbrev pub content_of_run : CellPlan → Bool → Option ℕ → Content → Content
+content_of_run x is_open (Some v) y = record { phase = phase_reached x is_open y.phase Success; value = Some v }
+content_of_run x is_open None y = record { phase = phase_reached x is_open y.phase Failure; value = y.value }
+
+-- a run is asked and no generator runs: its cell is not registered
+abbrev pub is_declined : CellPlan → Call → Bool → ℕ → Bool
+is_declined x k is_open p = asks x (Calls k) p && not (runs_generator x is_open p)
+
+-- a call that was admitted and left nothing open changes the phase where it was declined
+abbrev pub content_asked : CellPlan → Bool → Call → Content → Content
+content_asked x is_open k y =
+    if is_declined x k is_open y.phase then record { phase = phase_reached x is_open y.phase NoRun; value = y.value } else y
 
 -- what one change makes of a content
 abbrev pub content_after : CellPlan → Change → Content → Content
-content_after x (Ran made) y = content_of_run x made y
+content_after x (Ran is_open made) y = content_of_run x is_open made y
+content_after x (Asked is_open k) y = content_asked x is_open k y
 content_after x (Put v) y = record { phase = y.phase; value = Some v }
+content_after x (Ended fine) y = record { phase = phase_finalized y.phase fine; value = y.value }
 
 -- the effect of changes, the latest of which stands first
 abbrev pub effect : CellPlan → List Change → Content → Content

@@ -1,5 +1,5 @@
 -- The answer that is due for a step that is not refused.
-use Rattle.std.specs.Prelude.{ℕ, Bool, List, if◌then◌else◌}
+use Rattle.std.specs.Prelude.{ℕ, Bool, true, false, List, if◌then◌else◌}
 use Rattle.std.specs.declared.option.Option.{Option}
 use Rattle.std.specs.declared.option.Option.TheVariants.{None, Some}
 use Rattle.schedule_rules.specs.declared.plan.Call.{Call}
@@ -11,11 +11,19 @@ use Rattle.schedule_rules.specs.declared.line.Answer.TheVariants as answer
 use Rattle.schedule_rules.specs.declared.step.Step.{Step}
 use Rattle.schedule_rules.specs.declared.plan.CellPlan.{CellPlan}
 use Rattle.schedule_rules.specs.Kinds.{cell_at}
-use Rattle.schedule_rules.specs.Calls.{Want, Calls, Reads, rule}
-use Rattle.schedule_rules.specs.History.{Event}
+use Rattle.schedule_rules.specs.declared.step.Want.{Want}
+use Rattle.schedule_rules.specs.declared.step.Want.TheVariants.{Calls, Turns}
+use Rattle.exit_registry.specs.declared.registry.Look.{Look}
+use Rattle.exit_registry.specs.declared.registry.Look.TheVariants as look
+use Rattle.exit_registry.specs.Registry.{look_at}
+use Rattle.phase_bits.specs.Number.{phase_of}
+use Rattle.schedule_rules.specs.Phases.{phase_finalized}
+use Rattle.schedule_rules.specs.Calls.{Reads, rule}
+use Rattle.schedule_rules.specs.History.{Event, accepts}
 use Rattle.schedule_rules.specs.Sections.{Section, innermost, runs, sections}
 use Rattle.schedule_rules.specs.Guards.{Guard, numbered, guards}
 use Rattle.schedule_rules.specs.Replay.{replay, phase_at, inside}
+use Rattle.schedule_rules.specs.Exits.{registry}
 use Rattle.schedule_rules.specs.Waits.{Attempt, attempt, Wait, wait_of, waits}
 use Rattle.schedule_rules.specs.Holds.{is_barred, keeps, readers, holding_with}
 use Rattle.schedule_rules.specs.Answers.{answer_of_value, Meeting, answer_of_attempt}
@@ -29,6 +37,12 @@ call_answer_of_made call.Phase = answer.WriteGuard  -- does not occur: the call 
 -- the same for whatever was attempted
 abbrev pub answer_of_made : Want → Answer
 answer_of_made (Calls k) = call_answer_of_made k
+answer_of_made Turns = answer.WriteGuard  -- does not occur: a finalizer makes no value
+
+-- what a look for registered cells answers
+abbrev pub answer_of_look : Look → Answer
+answer_of_look (look.Round n) = answer.Round n
+answer_of_look look.Closed = answer.Closed
 
 module _ (cells : List CellPlan) where
   -- the party's waiting call keeps its share or drain
@@ -40,25 +54,34 @@ module _ (cells : List CellPlan) where
   abbrev pub meeting : List Event → ℕ → Attempt → List Wait → Meeting
   meeting h p a ws =
       record {
+        cell = a.cell;
         own_run = runs p a.cell h;
         kept = keeps_own h p a;
         content = replay cells a.cell h;
         holding = holding_with a.cell h ws;
+        is_open = accepts h;
       }
 
   -- the answer of an attempt, where these calls of others wait, and where it drains by choice
   abbrev pub due_attempt : List Event → ℕ → Attempt → List Wait → Bool → Answer
   due_attempt h p a ws chosen = answer_of_attempt (cell_at cells a.cell) a.want (meeting h p a ws) chosen
 
-  -- the answer of a step that attempts something. None does not occur where the step is not refused
+  -- the answer of a step that attempts something, or looks: where it is not refused and attempts nothing, it is an Exit
+  -- with no cell left
   abbrev pub due_tried : List Event → ℕ → Option Attempt → List Wait → Bool → Answer
-  due_tried h p None ws chosen = answer.Done
+  due_tried h p None ws chosen = answer_of_look (look_at (registry cells h).pending)
   due_tried h p (Some a) ws chosen = due_attempt h p a ws chosen
 
   -- the answer of a value made, by the section that it ends. None does not occur: without a section it is refused
   abbrev pub due_made : List Event → ℕ → Option Section → Answer
   due_made h v None = answer.Done
   due_made h v (Some s) = answer_of_made s.want
+
+  -- the answer of a finalizer that ends, by the section that it ends: the phase that is published. None does not occur, as
+  -- above
+  abbrev pub due_finished : List Event → Bool → Option Section → Answer
+  due_finished h fine None = answer.Done
+  due_finished h fine (Some s) = answer.Phase (phase_of (phase_finalized (phase_at cells s.cell h) fine))
 
   -- a write guard shows what its holder sees, a read guard what is published. None does not occur: without its guard a
   -- look is refused
@@ -77,6 +100,9 @@ module _ (cells : List CellPlan) where
   due_act h s ws chosen act.Again = due_tried h s.party (attempt cells h s) ws chosen
   due_act h s ws chosen (act.Made v) = due_made h v (innermost s.party (sections h))
   due_act h s ws chosen act.MadeFailed = answer.Failed
+  due_act h s ws chosen act.Finished = due_finished h true (innermost s.party (sections h))
+  due_act h s ws chosen act.FinishFailed = due_finished h false (innermost s.party (sections h))
+  due_act h s ws chosen act.Exit = due_tried h s.party (attempt cells h s) ws chosen
   due_act h s ws chosen (act.Look g) = due_look h (numbered g (guards h))
   due_act h s ws chosen (act.Set g v) = answer.Done
   due_act h s ws chosen (act.Release g) = answer.Done

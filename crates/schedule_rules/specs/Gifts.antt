@@ -11,9 +11,15 @@ use Rattle.schedule_rules.specs.declared.line.Answer.{Answer}
 use Rattle.schedule_rules.specs.declared.line.Answer.TheVariants as answer
 use Rattle.schedule_rules.specs.declared.step.Step.{Step}
 use Rattle.schedule_rules.specs.declared.plan.CellPlan.{CellPlan}
+use Rattle.schedule_rules.specs.declared.step.Want.{Want}
+use Rattle.schedule_rules.specs.declared.step.Want.TheVariants.{Calls, Turns}
+use Rattle.schedule_rules.specs.declared.plan.Call.{Call}
+use Rattle.schedule_rules.specs.declared.plan.Call.TheVariants as call
 use Rattle.schedule_rules.specs.Kinds.{cell_at, is_parking}
-use Rattle.schedule_rules.specs.History.{Event}
-use Rattle.schedule_rules.specs.Waits.{Attempt, Wait, wait_of, parks_to_read, parks_to_write, cell_concerned, waits, other_waits}
+use Rattle.schedule_rules.specs.Changes.{is_declined}
+use Rattle.schedule_rules.specs.History.{Event, accepts}
+use Rattle.schedule_rules.specs.Replay.{phase_at}
+use Rattle.schedule_rules.specs.Waits.{Attempt, attempt, Wait, wait_of, parks_to_read, parks_to_write, cell_concerned, waits, other_waits}
 use Rattle.schedule_rules.specs.Holds.{has_own, is_free, is_free_with}
 use Rattle.schedule_rules.specs.Due.{keeps_own}
 
@@ -23,10 +29,11 @@ turns_to_read (act.Made v) = true
 turns_to_read (act.Downgrade g) = true
 turns_to_read _ = false
 
--- the step with this answer downgrades a section
-abbrev pub downgrades : Step → Answer → Bool
-downgrades s answer.ReadGuard = turns_to_read s.act
-downgrades s _ = false
+-- a call that reads what a run that it asked has made
+abbrev pub reads_on : Call → Bool
+reads_on call.Phase = false
+reads_on call.Read = true
+reads_on call.Write = false
 
 -- the calls that a gift is for are parked on the cell
 abbrev pub reaches : ℕ → Given → List Wait → Bool
@@ -45,6 +52,22 @@ is_readers given.Readers = true
 is_readers _ = false
 
 module _ (cells : List CellPlan) where
+  -- a call that reads on, and is declined: its section is downgraded, and then the read lock is given back
+  abbrev pub is_declined_read : List Event → ℕ → Want → Bool
+  is_declined_read h c Turns = false
+  is_declined_read h c (Calls k) = reads_on k && is_declined (cell_at cells c) k (accepts h) (phase_at cells c h)
+
+  -- the attempt is such a call
+  abbrev pub declines_read : List Event → Option Attempt → Bool
+  declines_read h None = false
+  declines_read h (Some a) = is_declined_read h a.cell a.want
+
+  -- the step with this answer downgrades a section
+  abbrev pub downgrades : List Event → Step → Answer → Bool
+  downgrades h s answer.ReadGuard = turns_to_read s.act
+  downgrades h s (answer.Access p) = declines_read h (attempt cells h s)
+  downgrades h s _ = false
+
   -- the call that goes on has a share or a drain, and does not keep it
   abbrev pub is_taken_away : List Event → ℕ → Attempt → Bool
   is_taken_away h p a = has_own (wait_of p (waits cells h)) && not (keeps_own cells h p a)
@@ -68,7 +91,7 @@ module _ (cells : List CellPlan) where
   may_give_on h s None a g = false
   may_give_on h s (Some c) a g =
       is_parking (cell_at cells c).place
-      && (reaches c g (other_waits cells h s) && ((is_readers g && downgrades s a) || is_freed_last h s a c))
+      && (reaches c g (other_waits cells h s) && ((is_readers g && downgrades h s a) || is_freed_last h s a c))
 
   -- the same, on the cell that the step concerns
   abbrev pub may_give_last : List Event → Step → Answer → Given → Bool

@@ -64,7 +64,7 @@ reader_made n p (Some s) gs = reader n p s.cell ∷ gs
 abbrev pub writer_made : ℕ → ℕ → ℕ → Option Section → List Guard → List Guard
 writer_made n p v None gs = gs
 writer_made n p v (Some s) gs =
-    record { number = n; party = p; cell = s.cell; writes = true; start = s.start; changes = Ran (Some v) ∷ [] } ∷ gs
+    record { number = n; party = p; cell = s.cell; writes = true; start = s.start; changes = Ran s.is_open (Some v) ∷ [] } ∷ gs
 
 -- a read guard on the cell of another guard. None does not occur: without that guard the step is refused
 abbrev pub reader_beside : ℕ → ℕ → Option Guard → List Guard → List Guard
@@ -99,6 +99,10 @@ guards_after h s answer.Done gs = guards_done s.act gs
 guards_after h s (answer.Phase p) gs = gs
 guards_after h s (answer.Value v) gs = gs
 guards_after h s answer.Running gs = gs
+guards_after h s (answer.Finalizing c) gs = gs
+guards_after h s (answer.Skipped c) gs = gs
+guards_after h s (answer.Round n) gs = gs
+guards_after h s answer.Closed gs = gs
 guards_after h s (answer.Access p) gs = gs
 guards_after h s answer.Failed gs = gs
 guards_after h s answer.Cyclic gs = gs

@@ -1,5 +1,5 @@
 -- Histories of steps and their lines. The latest event stands first.
-use Rattle.std.specs.Prelude.{ℕ, Bool, true, false, List, [], ◌∷◌, ◌==◌, ◌+◌, length, nat_lt, if◌then◌else◌}
+use Rattle.std.specs.Prelude.{ℕ, Bool, true, false, not, List, [], ◌∷◌, ◌==◌, ◌+◌, length, nat_lt, if◌then◌else◌}
 use Rattle.schedule_rules.specs.declared.step.Act.{Act}
 use Rattle.schedule_rules.specs.declared.step.Act.TheVariants as act
 use Rattle.schedule_rules.specs.declared.line.Answer.{Answer}
@@ -46,3 +46,17 @@ act_by a p h = a
 -- what a step does: an Again goes on with what its party asked last
 abbrev pub act_of : List Event → Step → Act
 act_of h s = act_by s.act s.party h
+
+-- registration stays closed
+abbrev pub closed_after : Answer → Bool → Bool
+closed_after answer.Closed was = true
+closed_after _ was = was
+
+-- registration is closed: a look found no cell
+abbrev pub is_closed : List Event → Bool
+is_closed [] = false
+is_closed (e ∷ h) = closed_after e.line.answer (is_closed h)
+
+-- a cell may still be registered
+abbrev pub accepts : List Event → Bool
+accepts h = not (is_closed h)

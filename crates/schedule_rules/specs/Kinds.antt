@@ -1,13 +1,19 @@
 -- What the kinds of cells are, and the cells of a plan.
 use Rattle.std.specs.Prelude.{ℕ, Bool, true, false, List, slice_index_or}
+use Rattle.schedule_rules.specs.declared.plan.Kind.{Kind}
 use Rattle.schedule_rules.specs.declared.plan.Kind.TheVariants as kind
 use Rattle.schedule_rules.specs.declared.plan.CellPlan.{CellPlan}
 use Rattle.schedule_rules.specs.declared.plan.Place.{Place}
 use Rattle.schedule_rules.specs.declared.plan.Place.TheVariants as place
 
+-- a kind that is registered for the exit, which finalizes it
+abbrev pub is_finalizable : Kind → Bool
+is_finalizable kind.LockedLazy = false
+is_finalizable kind.LockedLazyFinalize = true
+
 -- a cell that no plan has
 abbrev pub no_cell : CellPlan
-no_cell = record { kind = kind.LockedLazy; retry = true; place = place.Spin }
+no_cell = record { kind = kind.LockedLazy; retry = true; leak = false; place = place.Spin }
 
 -- the cell with this number
 abbrev pub cell_at : List CellPlan → ℕ → CellPlan

@@ -1,5 +1,5 @@
 -- What laws about all histories say.
-use Rattle.std.specs.Prelude.{ℕ, Bool, true, false, not, List, [], ◌∷◌, ◌≡◌, ◌≢◌, ◌==◌, ◌+◌, ◌&&◌, All, is_none, if◌then◌else◌}
+use Rattle.std.specs.Prelude.{ℕ, Bool, true, false, not, List, [], ◌∷◌, ◌≡◌, ◌≢◌, ◌==◌, ◌+◌, ◌&&◌, ◌⊎◌, All, is_none, if◌then◌else◌}
 use Rattle.std.specs.declared.option.Option.{Option}
 use Rattle.std.specs.declared.option.Option.TheVariants.{None, Some}
 use Rattle.schedule_rules.specs.declared.line.Answer.{Answer}
@@ -12,13 +12,20 @@ use Rattle.phase_bits.specs.declared.phase.Phase.{Phase}
 use Rattle.phase_bits.specs.Number.{phase_of}
 use Rattle.phase_bits.specs.Flags.{has, initialized}
 use Rattle.phase_locker.specs.declared.ways.Given.{Given}
+use Rattle.exit_registry.specs.Registry.{occurs, due}
+use Rattle.exit_registry.specs.Exits.{cells_of_turns}
+use Rattle.phase_seq.specs.Phases.{registered, registration_refused, flags_refused}
+use Rattle.schedule_rules.specs.declared.plan.Call.{Call}
+use Rattle.schedule_rules.specs.declared.step.Want.TheVariants.{Calls, Turns}
 use Rattle.schedule_rules.specs.Kinds.{cell_at, is_parking}
-use Rattle.schedule_rules.specs.Phases.{Failure, phase_reached}
+use Rattle.schedule_rules.specs.Changes.{is_declined}
+use Rattle.schedule_rules.specs.Phases.{Failure, phase_reached, phase_finalized, runs_generator, tries_registration}
 use Rattle.schedule_rules.specs.Calls.{Reads, rule, asks, initializes}
-use Rattle.schedule_rules.specs.History.{Event}
-use Rattle.schedule_rules.specs.Sections.{Section, innermost, runs, sections}
+use Rattle.schedule_rules.specs.History.{Event, accepts, count}
+use Rattle.schedule_rules.specs.Sections.{Section, innermost, is_turn, runs, sections}
 use Rattle.schedule_rules.specs.Guards.{Guard, numbered, guards}
 use Rattle.schedule_rules.specs.Replay.{replay, phase_at}
+use Rattle.schedule_rules.specs.Exits.{registry, ended_turns}
 use Rattle.schedule_rules.specs.Waits.{Attempt, attempt, Wait, waits, waits_given, other_waits}
 use Rattle.schedule_rules.specs.Holds.{holding_with, is_barred}
 use Rattle.schedule_rules.specs.Refusals.{refusal}
@@ -38,18 +45,42 @@ pub record IsWithoutEffect (cells : List CellPlan) (h : List Event) (e : Event) 
   pub guards_stay : guards (e ∷ h) ≡ guards h
   pub published_stays : (c : ℕ) → replay cells c (e ∷ h) ≡ replay cells c h
 
--- this phase is shown, and the value of the cell may not be accessed: the cell has no retry, its phase lacks INITIALIZED,
--- and it is not empty
+-- this phase is shown, and it is published and the value of the cell may not be accessed: the cell has no retry, its phase
+-- lacks INITIALIZED, and it is not empty
 pub record IsDenied (cells : List CellPlan) (h : List Event) (c : ℕ) (shows : Phase) : Type 0 where
   pub shown : shows ≡ phase_of (phase_at cells c h)
   pub once : (cell_at cells c).retry ≡ false
   pub lacks : has (phase_at cells c h) initialized ≡ false
   pub ended : phase_at cells c h ≢ 0
 
--- the event leaves the value of the cell and gives it the phase of a failed run, and it leaves every other cell
+-- the event leaves what is open, and every published value
+pub record KeepsValues (cells : List CellPlan) (h : List Event) (e : Event) : Type 0 where
+  pub sections_stay : sections (e ∷ h) ≡ sections h
+  pub guards_stay : guards (e ∷ h) ≡ guards h
+  pub values_stay : (c : ℕ) → (replay cells c (e ∷ h)).value ≡ (replay cells c h).value
+
+-- this phase is shown and left at the cell: a call of the step asked for a run, and no generator ran
+pub record IsDeclined (cells : List CellPlan) (h : List Event) (e : Event) (c : ℕ) (shows : Phase) : Type 0 where
+  pub call : Call
+  pub tried : attempt cells h e.step ≡ Some (record { cell = c; want = Calls call })
+  pub declines : is_declined (cell_at cells c) call (accepts h) (phase_at cells c h) ≡ true
+  pub shown : shows ≡ phase_of flags_refused
+  pub left : phase_at cells c (e ∷ h) ≡ flags_refused
+
+-- this phase is shown, and it is published after the event, which leaves every other cell: the event leaves the cell too,
+-- whose value may not be accessed, or its call was declined
+pub record IsTurnedAway (cells : List CellPlan) (h : List Event) (e : Event) (c : ℕ) (shows : Phase) : Type 0 where
+  pub shown : shows ≡ phase_of (phase_at cells c (e ∷ h))
+  pub others_stay : (d : ℕ) → c ≢ d → replay cells d (e ∷ h) ≡ replay cells d h
+  pub reason : ((replay cells c (e ∷ h) ≡ replay cells c h) × IsDenied cells h c shows) ⊎ IsDeclined cells h e c shows
+
+-- the event leaves the value of the cell and gives it the phase of a run that failed, which is the innermost of its
+-- party, and it leaves every other cell
 pub record IsFailedRun (cells : List CellPlan) (h : List Event) (e : Event) (c : ℕ) : Type 0 where
+  pub section : Section
+  pub found : innermost e.step.party (sections h) ≡ Some section
   pub value_stays : (replay cells c (e ∷ h)).value ≡ (replay cells c h).value
-  pub fails : phase_at cells c (e ∷ h) ≡ phase_reached (cell_at cells c) (phase_at cells c h) Failure
+  pub fails : phase_at cells c (e ∷ h) ≡ phase_reached (cell_at cells c) section.is_open (phase_at cells c h) Failure
   pub others_stay : (d : ℕ) → c ≢ d → replay cells d (e ∷ h) ≡ replay cells d h
 
 -- the answer says that a call waits
@@ -97,13 +128,15 @@ module _ (cells : List CellPlan) where
   is_barred_step h s g m =
       is_none (refusal cells h s) && is_barred_attempt h s.party (attempt cells h s) (waits_judged m h s g)
 
-  -- the attempt is not cyclic, is not barred where these calls of others wait, and asks for a run at the cell's phase
+  -- the attempt is not cyclic, is not barred where these calls of others wait, and asks for a run at the cell's phase, which
+  -- runs the generator there
   abbrev pub is_asking_attempt : List Event → ℕ → Option Attempt → List Wait → Bool
   is_asking_attempt h p None ws = false
   is_asking_attempt h p (Some a) ws =
       not (initializes a.want && runs p a.cell h)
       && (not (is_barred_attempt h p (Some a) ws)
-      && asks (cell_at cells a.cell) a.want (phase_at cells a.cell h))
+      && (asks (cell_at cells a.cell) a.want (phase_at cells a.cell h)
+      && runs_generator (cell_at cells a.cell) (accepts h) (phase_at cells a.cell h)))
 
   -- the step is not refused, and what it attempts asks for a run, where its line gives this at this moment
   abbrev pub is_asking_step : List Event → Step → Given → Moment → Bool
@@ -139,3 +172,68 @@ abbrev pub successes : ℕ → List Event → ℕ
 successes c [] = 0
 successes c (e ∷ h) =
     if is_success c e.step.act e.line.answer (innermost e.step.party (sections h)) then successes c h + 1 else successes c h
+
+-- ---- registration
+
+module _ (cells : List CellPlan) where
+  -- the attempt asks for a run at this cell, which is of a kind that is registered, on the empty phase
+  abbrev pub asks_registration : ℕ → List Event → Option Attempt → Bool
+  asks_registration c h None = false
+  asks_registration c h (Some a) =
+      (a.cell == c)
+      && (asks (cell_at cells a.cell) a.want (phase_at cells a.cell h) && tries_registration (cell_at cells a.cell) (phase_at cells a.cell h))
+
+  -- the step with this answer tries to register the cell: it begins such a run, or its call is declined
+  abbrev pub tries_to_register : ℕ → List Event → Step → Answer → Bool
+  tries_to_register c h s answer.Running = asks_registration c h (attempt cells h s)
+  tries_to_register c h s (answer.Access p) = asks_registration c h (attempt cells h s)
+  tries_to_register c h s _ = false
+
+  -- how many steps tried to register the cell
+  abbrev pub registrations : ℕ → List Event → ℕ
+  registrations c [] = 0
+  registrations c (e ∷ h) =
+      if tries_to_register c h e.step e.line.answer then registrations c h + 1 else registrations c h
+
+-- ---- finalizers
+
+-- the step takes the turn of the cell, or goes on with it, and the value of the cell is there, or is not
+pub record TurnsWhere (cells : List CellPlan) (h : List Event) (s : Step) (c : ℕ) (ready : Bool) : Type 0 where
+  pub tried : attempt cells h s ≡ Some (record { cell = c; want = Turns })
+  pub value : has (phase_at cells c h) initialized ≡ ready
+
+-- the event ends the turn of the cell, whose value is there: it adds what a finalizer adds that ended so, shows that phase,
+-- and leaves the value and every other cell
+pub record IsEndedTurn (cells : List CellPlan) (h : List Event) (e : Event) (c : ℕ) (fine : Bool) : Type 0 where
+  pub section : Section
+  pub found : innermost e.step.party (sections h) ≡ Some section
+  pub here : section.cell ≡ c
+  pub turns : is_turn section.want ≡ true
+  pub ready : has (phase_at cells c h) initialized ≡ true
+  pub marks : phase_at cells c (e ∷ h) ≡ phase_finalized (phase_at cells c h) fine
+  pub shown : e.line.answer ≡ answer.Phase (phase_of (phase_at cells c (e ∷ h)))
+  pub value_stays : (replay cells c (e ∷ h)).value ≡ (replay cells c h).value
+  pub others_stay : (d : ℕ) → c ≢ d → replay cells d (e ∷ h) ≡ replay cells d h
+
+-- ---- turns
+
+-- what waits is the turn of the cell
+abbrev pub waits_to_turn : ℕ → Wait → Bool
+waits_to_turn c w = is_turn w.want && (w.cell == c)
+
+-- a finalizer of the cell runs in the section
+abbrev pub finalizes_in : ℕ → Section → Bool
+finalizes_in c s = is_turn s.want && (s.cell == c)
+
+-- the turns of the cell: those to come, those that wait, those that go on, and those that ended
+abbrev pub turns_of : List CellPlan → ℕ → List Event → ℕ
+turns_of cells c h =
+    occurs c (due (registry cells h)) + count (waits_to_turn c) (waits cells h) + count (finalizes_in c) (sections h)
+    + occurs c (cells_of_turns (ended_turns h))
+
+-- ---- what a phase tells
+
+-- the phase says that the cell is registered, or that it was refused to be
+pub record TellsRegistration (known : Bool) (p : ℕ) : Type 0 where
+  pub taken : has p registered ≡ known
+  pub refused : has p registration_refused ≡ not known

@@ -6,6 +6,7 @@ pub mod History
 pub mod Sections
 pub mod Guards
 pub mod Replay
+pub mod Exits
 pub mod Waits
 pub mod Holds
 pub mod Refusals

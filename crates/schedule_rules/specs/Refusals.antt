@@ -1,5 +1,5 @@
 -- The reasons to refuse a step: small tables by what is known of the step, and the first reason that holds.
-use Rattle.std.specs.Prelude.{ℕ, Bool, true, false, List, is_some}
+use Rattle.std.specs.Prelude.{ℕ, Bool, true, false, not, List, ◌==◌, ◌||◌, is_some}
 use Rattle.std.specs.declared.option.Option.{Option}
 use Rattle.std.specs.declared.option.Option.TheVariants.{None, Some}
 use Rattle.schedule_rules.specs.declared.step.Act.{Act}
@@ -8,9 +8,10 @@ use Rattle.schedule_rules.specs.declared.line.Refusal.{Refusal}
 use Rattle.schedule_rules.specs.declared.line.Refusal.TheVariants as refused
 use Rattle.schedule_rules.specs.declared.step.Step.{Step}
 use Rattle.schedule_rules.specs.declared.plan.CellPlan.{CellPlan}
-use Rattle.schedule_rules.specs.History.{Event}
-use Rattle.schedule_rules.specs.Sections.{Section, innermost, sections}
+use Rattle.schedule_rules.specs.History.{Event, is_closed}
+use Rattle.schedule_rules.specs.Sections.{Section, innermost, is_turn, sections}
 use Rattle.schedule_rules.specs.Guards.{Guard, guard_of, guards}
+use Rattle.schedule_rules.specs.Exits.{owner}
 use Rattle.schedule_rules.specs.Waits.{wait_of, waits}
 
 -- a party that waits may only go on
@@ -40,23 +41,48 @@ no_reader None = Some refused.NoGuard
 no_reader (Some false) = None
 no_reader (Some true) = Some refused.NoGuard
 
--- a section is needed that a generator's outcome ends
-abbrev pub no_section : Option Section → Option Refusal
-no_section None = Some refused.NoSection
-no_section (Some s) = None
+-- a section is needed that ends so, where it is known of it whether it does
+abbrev pub no_outcome : Option Bool → Option Refusal
+no_outcome None = Some refused.NoSection
+no_outcome (Some false) = Some refused.NoOutcome
+no_outcome (Some true) = None
+
+-- whether the outcome of a generator ends the section
+abbrev pub ends_run : Option Section → Option Bool
+ends_run None = None
+ends_run (Some s) = Some (not (is_turn s.want))
+
+-- whether the outcome of a finalizer ends the section
+abbrev pub ends_turn : Option Section → Option Bool
+ends_turn None = None
+ends_turn (Some s) = Some (is_turn s.want)
+
+-- the owner is another party
+abbrev pub is_other : Option ℕ → ℕ → Bool
+is_other None p = false
+is_other (Some q) p = not (q == p)
+
+-- the exit is another party's or has ended, and else the party may run no section
+abbrev pub no_exit : Bool → Bool → Option Refusal
+no_exit true inside = Some refused.ExitBegun
+no_exit false true = Some refused.Inside
+no_exit false false = None
 
 module _ (cells : List CellPlan) where
   -- the reason to refuse the act of a party that does not wait
   abbrev pub refusal_free : List Event → ℕ → Act → Option Refusal
   refusal_free h p (act.Call c k) = None
   refusal_free h p act.Again = Some refused.NotWaiting
-  refusal_free h p (act.Made v) = no_section (innermost p (sections h))
-  refusal_free h p act.MadeFailed = no_section (innermost p (sections h))
+  refusal_free h p (act.Made v) = no_outcome (ends_run (innermost p (sections h)))
+  refusal_free h p act.MadeFailed = no_outcome (ends_run (innermost p (sections h)))
+  refusal_free h p act.Finished = no_outcome (ends_turn (innermost p (sections h)))
+  refusal_free h p act.FinishFailed = no_outcome (ends_turn (innermost p (sections h)))
   refusal_free h p (act.Look g) = no_guard (writes_of (guard_of g p (guards h)))
   refusal_free h p (act.Set g v) = no_writer (writes_of (guard_of g p (guards h)))
   refusal_free h p (act.Release g) = no_guard (writes_of (guard_of g p (guards h)))
   refusal_free h p (act.Downgrade g) = no_writer (writes_of (guard_of g p (guards h)))
   refusal_free h p (act.Clone g) = no_reader (writes_of (guard_of g p (guards h)))
+  refusal_free h p act.Exit = no_exit (is_other (owner h) p || is_closed h) (is_some (innermost p (sections h)))
 
   -- the reason to refuse the act, by whether the party waits
   abbrev pub refusal_by : Bool → List Event → ℕ → Act → Option Refusal

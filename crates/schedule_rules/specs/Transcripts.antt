@@ -9,9 +9,11 @@ use Rattle.schedule_rules.specs.declared.line.Line.{Line}
 use Rattle.schedule_rules.specs.declared.plan.CellPlan.{CellPlan}
 use Rattle.schedule_rules.specs.declared.plan.Plan.{Plan}
 use Rattle.schedule_rules.specs.declared.transcript.Final.{Final}
+use Rattle.exit_registry.specs.declared.turns.Turned.{Turned}
 use Rattle.schedule_rules.specs.declared.transcript.Transcript.{Transcript}
 use Rattle.schedule_rules.specs.History.{Event}
 use Rattle.schedule_rules.specs.Replay.{replay, phase_at}
+use Rattle.schedule_rules.specs.Exits.{ended_turns}
 use Rattle.schedule_rules.specs.Legal.{IsLegal}
 
 -- a schedule: how many parties there are, the cells, and the steps
@@ -24,14 +26,15 @@ pub record Schedule : Type 0 where
 abbrev pub schedule_of : Plan → List Step → Schedule
 schedule_of plan steps = record { parties = plan.parties; cells = plan.cells.items; steps = steps }
 
--- what a transcript tells: the line of each step, and what each cell is left with
+-- what a transcript tells: the line of each step, what each cell is left with, and the turns of the exit that ended
 pub record Account : Type 0 where
   pub lines : List Line
   pub finals : List Final
+  pub exits : List Turned
 
 -- what the transcript tells
 abbrev pub account_of : Transcript → Account
-account_of t = record { lines = t.lines.items; finals = t.finals.items }
+account_of t = record { lines = t.lines.items; finals = t.finals.items; exits = t.exits.items }
 
 -- the cell that an act names is one of so many
 abbrev pub names_known_cell : ℕ → Act → Bool
@@ -44,6 +47,9 @@ names_known_cell cells (act.Set g v) = true
 names_known_cell cells (act.Release g) = true
 names_known_cell cells (act.Downgrade g) = true
 names_known_cell cells (act.Clone g) = true
+names_known_cell cells act.Finished = true
+names_known_cell cells act.FinishFailed = true
+names_known_cell cells act.Exit = true
 
 -- the party and the cell that a step names are among so many
 pub record IsKnown (parties cells : ℕ) (s : Step) : Type 0 where
@@ -76,8 +82,10 @@ pub record AreFinals (finals : List Final) (cells : List CellPlan) (h : List Eve
   pub count : length finals ≡ length cells
   pub each : (c : ℕ) → c < length cells → slice_get finals c ≡ Some (final_of cells c h)
 
--- there is one line for each step, the history that they tell is legal, and the finals are the replay at its end
+-- there is one line for each step, the history that they tell is legal, the finals are the replay at its end, and the
+-- exits are the turns that ended in it
 pub record IsLegalTranscript (x : Schedule) (t : Account) : Type 0 where
   pub lines : length t.lines ≡ length x.steps
   pub legal : IsLegal x.cells (told [] x.steps t.lines)
   pub finals : AreFinals t.finals x.cells (told [] x.steps t.lines)
+  pub exits : t.exits ≡ ended_turns (told [] x.steps t.lines)

@@ -14,10 +14,13 @@ use Rattle.schedule_rules.specs.declared.line.Answer.TheVariants as answer
 use Rattle.schedule_rules.specs.declared.line.Line.{Line}
 use Rattle.schedule_rules.specs.declared.step.Step.{Step}
 use Rattle.schedule_rules.specs.declared.plan.CellPlan.{CellPlan}
-use Rattle.schedule_rules.specs.Calls.{Want, Calls}
+use Rattle.exit_registry.specs.Registry.{first_of}
+use Rattle.schedule_rules.specs.declared.step.Want.{Want}
+use Rattle.schedule_rules.specs.declared.step.Want.TheVariants.{Calls, Turns}
 use Rattle.schedule_rules.specs.History.{Event}
 use Rattle.schedule_rules.specs.Sections.{Section, innermost, sections}
 use Rattle.schedule_rules.specs.Guards.{Guard, numbered, guards}
+use Rattle.schedule_rules.specs.Exits.{registry}
 
 -- a call that waits
 pub record Wait : Type 0 where
@@ -44,6 +47,16 @@ pub record Attempt : Type 0 where
 abbrev pub attempt_of_wait : Option Wait → Option Attempt
 attempt_of_wait None = None
 attempt_of_wait (Some w) = Some (record { cell = w.cell; want = w.want })
+
+-- the act that attempts this at the cell
+abbrev pub act_for : ℕ → Want → Act
+act_for c (Calls k) = act.Call c k
+act_for c Turns = act.Exit
+
+-- the turn of a cell is attempted
+abbrev pub attempt_of_turn : Option ℕ → Option Attempt
+attempt_of_turn None = None
+attempt_of_turn (Some c) = Some (record { cell = c; want = Turns })
 
 -- one wait more, for what was attempted
 abbrev pub with_wait : ℕ → How → Option Attempt → List Wait → List Wait
@@ -151,23 +164,27 @@ cell_of_attempt (Some a) = Some a.cell
 module _ (cells : List CellPlan) where
   -- ---- of a party's act, where these calls wait
 
-  -- a call is attempted
+  -- a call is attempted, or the turn of the first cell left. An Exit that looks attempts nothing
   abbrev pub attempt_with : List Wait → List Event → ℕ → Act → Option Attempt
   attempt_with ws h p (act.Call c k) = Some (record { cell = c; want = Calls k })
   attempt_with ws h p act.Again = attempt_of_wait (wait_of p ws)
+  attempt_with ws h p act.Exit = attempt_of_turn (first_of (registry cells h).left)
   attempt_with ws h p _ = None
 
-  -- the cell that is concerned
+  -- the cell that is concerned. An Exit that looks concerns none
   abbrev pub cell_concerned_with : List Wait → List Event → ℕ → Act → Option ℕ
   cell_concerned_with ws h p (act.Call c k) = Some c
   cell_concerned_with ws h p act.Again = cell_of_attempt (attempt_of_wait (wait_of p ws))
   cell_concerned_with ws h p (act.Made v) = cell_of_section (innermost p (sections h))
   cell_concerned_with ws h p act.MadeFailed = cell_of_section (innermost p (sections h))
+  cell_concerned_with ws h p act.Finished = cell_of_section (innermost p (sections h))
+  cell_concerned_with ws h p act.FinishFailed = cell_of_section (innermost p (sections h))
   cell_concerned_with ws h p (act.Look g) = cell_of_guard (numbered g (guards h))
   cell_concerned_with ws h p (act.Set g v) = cell_of_guard (numbered g (guards h))
   cell_concerned_with ws h p (act.Release g) = cell_of_guard (numbered g (guards h))
   cell_concerned_with ws h p (act.Downgrade g) = cell_of_guard (numbered g (guards h))
   cell_concerned_with ws h p (act.Clone g) = cell_of_guard (numbered g (guards h))
+  cell_concerned_with ws h p act.Exit = first_of (registry cells h).left
 
   -- these waits after what a step gave, where all those calls waited
   abbrev pub waits_given_with : List Wait → List Event → Step → Given → List Wait → List Wait

@@ -1,6 +1,6 @@
 //! Laws of the definitions, for every history. Each is the contract of a function that does nothing.
 
-ghost use Rattle.std.specs.Prelude.{ℕ, Bool, List, ◌∷◌, ◌≡◌, ◌≢◌, ◌≤◌, ◌<◌, ◌&&◌, is_none, true, false};
+ghost use Rattle.std.specs.Prelude.{ℕ, Bool, List, ◌∷◌, ◌≡◌, ◌≢◌, ◌≤◌, ◌<◌, ◌&&◌, ◌||◌, ◌⊎◌, is_none, true, false, if◌then◌else◌};
 ghost use Rattle.std.specs.declared.option.Option.TheVariants.{Some};
 ghost use Rattle.phase_bits.specs.declared.phase.Phase.{Phase};
 ghost use Rattle.phase_bits.specs.Records.{bars_read, bars_write};
@@ -12,10 +12,11 @@ ghost use Rattle.schedule_rules.specs.declared.line.Line.{Line};
 ghost use Rattle.schedule_rules.specs.declared.line.Refusal.{Refusal};
 ghost use Rattle.schedule_rules.specs.declared.line.Answer.TheVariants as answer;
 ghost use Rattle.schedule_rules.specs.declared.plan.Call.TheVariants as call;
-ghost use Rattle.schedule_rules.specs.Calls.{Calls, Reads, Writes};
+ghost use Rattle.schedule_rules.specs.Calls.{Reads, Writes};
+ghost use Rattle.schedule_rules.specs.declared.step.Want.TheVariants.{Calls};
 ghost use Rattle.schedule_rules.specs.Refusals.{refusal};
-ghost use Rattle.schedule_rules.specs.History.{Event};
-ghost use Rattle.schedule_rules.specs.Kinds.{cell_at};
+ghost use Rattle.schedule_rules.specs.History.{Event, accepts, is_closed};
+ghost use Rattle.schedule_rules.specs.Kinds.{cell_at, is_finalizable};
 ghost use Rattle.schedule_rules.specs.Sections.{runs};
 ghost use Rattle.schedule_rules.specs.Waits.{Attempt, attempt, Wait, cell_concerned};
 ghost use Rattle.schedule_rules.specs.Holds.{readers_with, writers_with, holding, holding_with, is_barred};
@@ -27,7 +28,8 @@ ghost use Rattle.phase_bits.specs.Flags.{has, initialized};
 ghost use Rattle.schedule_rules.specs.Laws.{
   ChangesNothing,
   IsWithoutEffect,
-  IsDenied,
+  KeepsValues,
+  IsTurnedAway,
   IsFailedRun,
   is_waiting,
   is_borrowed,
@@ -39,7 +41,18 @@ ghost use Rattle.schedule_rules.specs.Laws.{
   is_borrowing_step,
   NoneParks,
   successes,
+  tries_to_register,
+  registrations,
+  TellsRegistration,
+  TurnsWhere,
+  IsEndedTurn,
+  turns_of,
 };
+ghost use Rattle.schedule_rules.specs.Exits.{finishing};
+ghost use Rattle.exit_registry.specs.Registry.{is_known};
+ghost use Rattle.exit_registry.specs.Exits.{closed};
+ghost use Rattle.phase_seq.specs.Phases.{final_outcome};
+ghost use Rattle.schedule_rules.specs.Exits.{registry, NoneBusy};
 ghost use Rattle.schedule_rules.specs.Transcripts.{Schedule, Account, IsLegalTranscript};
 
 /// A refused step leaves all sections, guards and waiting calls with their shares and drains, and every published phase
@@ -51,8 +64,8 @@ pub fn refused_steps_change_nothing()
         IsLegalLine cells h s (record { answer = answer.Refused r; given = g }) → g ≡ given.Nobody }
 {}
 
-/// A step waits exactly where it is not refused, is not cyclic, its call keeps no share and no drain, and the lock that
-/// it wants is barred: by what stands on the cell without a share or a drain of its own, and with what its line gave at
+/// A step waits exactly where it is not refused, is not cyclic, its call or turn keeps no share and no drain, and the lock
+/// that it wants is barred: by what stands on the cell without a share or a drain of its own, and with what its line gave at
 /// the first moment. So a step that is neither refused nor barred is answered in that step. A clone never waits: where a
 /// read is barred, it is answered so.
 pub fn steps_wait_exactly_where_barred()
@@ -63,7 +76,8 @@ pub fn steps_wait_exactly_where_barred()
 {}
 
 /// A step begins a run exactly where it is not refused, is not cyclic, its call keeps its share or its drain or is not
-/// barred, and the call asks for a run at the published phase of the cell.
+/// barred, and the call asks for a run at the published phase of the cell, whose generator runs there: a cell of a kind
+/// that is registered is registered, or puts up with not being it.
 pub fn steps_run_exactly_where_asked()
     ensures { (cells : List CellPlan) (h : List Event) (s : Step) (l : Line) →
         (legal : IsLegalLine cells h s l) → is_running l.answer ≡ is_asking_step cells h s l.given legal.moment }
@@ -96,13 +110,15 @@ pub fn failed_runs_keep_the_value()
         IsFailedRun cells h (record { step = s; line = record { answer = answer.Failed; given = g } }) c }
 {}
 
-/// A schedule of cells that do not park has at most one legal transcript: the same lines, and the same finals. Where a
-/// cell parks its calls, a step may hand over to one call or to another, or to none.
+/// A schedule of cells that do not park has at most one legal transcript: the same lines, the same finals, and the same
+/// turns of the exit. Where a cell parks its calls, a step may hand over to one call or to another, or to none.
 pub fn one_transcript_is_legal()
     ensures lines { (x : Schedule) (t u : Account) → NoneParks x.cells →
         IsLegalTranscript x t → IsLegalTranscript x u → t.lines ≡ u.lines }
     ensures finals { (x : Schedule) (t u : Account) → NoneParks x.cells →
         IsLegalTranscript x t → IsLegalTranscript x u → t.finals ≡ u.finals }
+    ensures exits { (x : Schedule) (t u : Account) → NoneParks x.cells →
+        IsLegalTranscript x t → IsLegalTranscript x u → t.exits ≡ u.exits }
 {}
 
 /// At each moment of a legal history the holds of every cell exclude each other: at most one write hold or write share,
@@ -144,16 +160,90 @@ pub fn without_retry_one_run()
         (cell_at cells c).retry ≡ false → phase_at cells c h ≡ 0 }
 {}
 
-/// A call that answers Access leaves all sections and guards, and every published phase and value, as they were. Where
-/// its line is legal, it shows the published phase of a cell without retry, whose only run has failed.
-pub fn access_changes_nothing()
+/// A call that answers Access leaves all sections and guards, and every published value, as they were. Where its line is
+/// legal, it leaves every cell but its own, and shows the phase that is then published there. That is the phase as it was,
+/// of a cell without retry, whose only run has failed or was declined; or the call itself was declined, since its cell is
+/// not registered, and leaves the phase that says so.
+pub fn access_changes_no_value()
     ensures changes { (cells : List CellPlan) (h : List Event) (s : Step) (p : Phase) (g : Given) →
-        IsWithoutEffect cells h (record { step = s; line = record { answer = answer.Access p; given = g } }) }
+        KeepsValues cells h (record { step = s; line = record { answer = answer.Access p; given = g } }) }
     ensures denies { (cells : List CellPlan) (h : List Event) (s : Step) (l : Line) (c : ℕ) (p : Phase) →
-        IsLegalLine cells h s l → l.answer ≡ answer.Access p → cell_concerned cells h s ≡ Some c → IsDenied cells h c p }
+        IsLegalLine cells h s l → l.answer ≡ answer.Access p → cell_concerned cells h s ≡ Some c →
+        IsTurnedAway cells h (record { step = s; line = l }) c p }
 {}
 
 /// A generator of a cell succeeds at most once.
 pub fn generators_succeed_once()
     ensures { (cells : List CellPlan) (h : List Event) (c : ℕ) → IsLegal cells h → successes c h ≤ 1 }
+{}
+
+/// Registration for the exit is tried at most once at a cell, and then the cell was not registered before. A cell is
+/// registered exactly by the step that tries it, where cells may still be registered.
+pub fn registration_is_tried_once()
+    ensures unknown { (cells : List CellPlan) (h : List Event) (s : Step) (l : Line) (c : ℕ) → IsLegal cells h →
+        IsLegalLine cells h s l → tries_to_register cells c h s l.answer ≡ true → is_known (registry cells h) c ≡ false }
+    ensures once { (cells : List CellPlan) (h : List Event) (c : ℕ) → IsLegal cells h → registrations cells c h ≤ 1 }
+    ensures registers { (cells : List CellPlan) (h : List Event) (e : Event) (c : ℕ) → IsLegal cells (e ∷ h) →
+        is_known (registry cells (e ∷ h)) c ≡
+        (is_known (registry cells h) c || (tries_to_register cells c h e.step e.line.answer && accepts h)) }
+{}
+
+/// Of a cell of a kind that is registered, a phase that is not empty has REGISTERED where the cell is registered, and
+/// REGISTRATION_REFUSED where it is not, and never both.
+pub fn phases_tell_registration()
+    ensures { (cells : List CellPlan) (h : List Event) (c : ℕ) → IsLegal cells h →
+        is_finalizable (cell_at cells c).kind ≡ true → phase_at cells c h ≢ 0 →
+        TellsRegistration (is_known (registry cells h) c) (phase_at cells c h) }
+{}
+
+/// A turn that runs a finalizer is that of a cell whose value is there. A turn that is skipped is that of a cell whose
+/// value is not there, and leaves all sections and guards, and every published phase and value, as they were.
+pub fn turns_finalize_what_is_there()
+    ensures finalizes { (cells : List CellPlan) (h : List Event) (s : Step) (l : Line) (c : ℕ) → IsLegalLine cells h s l →
+        l.answer ≡ answer.Finalizing c → TurnsWhere cells h s c true }
+    ensures skips { (cells : List CellPlan) (h : List Event) (s : Step) (l : Line) (c : ℕ) → IsLegalLine cells h s l →
+        l.answer ≡ answer.Skipped c →
+        TurnsWhere cells h s c false × IsWithoutEffect cells h (record { step = s; line = l }) }
+{}
+
+/// A finalizer that ends adds FINALIZED or FINALIZATION_PANICKED to the phase of its cell, which has INITIALIZED, and
+/// leaves the value of the cell, and every other cell, as they were. Nothing else adds one of the two to a phase.
+pub fn finalizers_mark_initialized_cells()
+    ensures ends { (cells : List CellPlan) (h : List Event) (s : Step) (l : Line) (c : ℕ) (p : Phase) (fine : Bool) →
+        IsLegal cells h → IsLegalLine cells h s l → l.answer ≡ answer.Phase p → s.act ≡ finishing fine →
+        cell_concerned cells h s ≡ Some c → IsEndedTurn cells h (record { step = s; line = l }) c fine }
+    ensures marks { (cells : List CellPlan) (h : List Event) (e : Event) (c : ℕ) (fine : Bool) → IsLegal cells (e ∷ h) →
+        has (phase_at cells c h) (final_outcome fine) ≡ false → has (phase_at cells c (e ∷ h)) (final_outcome fine) ≡ true →
+        (e.step.act ≡ finishing fine) × IsEndedTurn cells h e c fine }
+{}
+
+/// A phase that has INITIALIZED changes only where a finalizer of its cell ends, which adds a flag. So no flag of it is
+/// ever cleared.
+pub fn initialized_phases_change_by_finalizers()
+    ensures { (cells : List CellPlan) (h : List Event) (e : Event) (c : ℕ) → IsLegal cells (e ∷ h) →
+        has (phase_at cells c h) initialized ≡ true → phase_at cells c (e ∷ h) ≢ phase_at cells c h →
+        IsEndedTurn cells h e c true ⊎ IsEndedTurn cells h e c false }
+{}
+
+/// The registry is open as long as no look found that there is no cell. Once one did, no cell has a turn to come and none
+/// can be registered, and the registry stays as it is.
+pub fn closed_registries_stay()
+    ensures open { (cells : List CellPlan) (h : List Event) → IsLegal cells h →
+        (registry cells h).is_open ≡ accepts h }
+    ensures closed { (cells : List CellPlan) (h : List Event) → IsLegal cells h → is_closed h ≡ true →
+        registry cells h ≡ closed (registry cells h) }
+    ensures stays { (cells : List CellPlan) (h : List Event) (e : Event) → IsLegal cells h → is_closed h ≡ true →
+        registry cells (e ∷ h) ≡ registry cells h }
+{}
+
+/// Each cell that was registered has one turn: it is to come, waits for the cell, goes on or has ended. No other cell has
+/// one. So the exit turns each registered cell at most once, and forgets none.
+pub fn registered_cells_have_one_turn()
+    ensures { (cells : List CellPlan) (h : List Event) (c : ℕ) → IsLegal cells h →
+        turns_of cells c h ≡ (if is_known (registry cells h) c then 1 else 0) }
+{}
+
+/// No turn of a legal transcript is Busy: each is done, skipped or failed, and has a text.
+pub fn no_turn_is_busy()
+    ensures { (x : Schedule) (t : Account) → IsLegalTranscript x t → NoneBusy t.exits }
 {}

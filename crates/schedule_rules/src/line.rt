@@ -15,14 +15,21 @@ pub enum Refusal {
     NoGuard,
     /// 6: a set or a downgrade on a read guard.
     NotWriter,
-    /// 7: an outcome of a generator, and the party runs no section.
+    /// 7: an outcome, and the party runs no section.
     NoSection,
+    /// 8: the party's innermost section does not end so: a generator's outcome does not end a finalizer, nor a
+    /// finalizer's a generator.
+    NoOutcome,
+    /// 10: an exit, and another party owns the exit, or registration is closed.
+    ExitBegun,
+    /// 11: an exit by a party that runs a section.
+    Inside,
 }
 
 /// What a step answers. This project's own, where a case does not say otherwise.
 #[derive(Clone, Copy, PartialEq, Eq, Debug)]
 pub enum Answer {
-    /// The published phase.
+    /// The published phase, of a call for it or of a finalizer that ended.
     Phase(Phase),
     /// The value that the holder of a guard sees.
     Value(u64),
@@ -32,9 +39,17 @@ pub enum Answer {
     WriteGuard,
     /// The party is now inside a section whose generator runs.
     Running,
+    /// The party is now inside a section of this cell, whose finalizer runs.
+    Finalizing(u32),
+    /// The turn of this cell ended without a finalizer: its published phase lacks INITIALIZED.
+    Skipped(u32),
+    /// A look took so many cells, which were registered since the last one.
+    Round(u32),
+    /// A look found no cell, and registration is closed for good.
+    Closed,
     /// A value was set, or a guard was given back.
     Done,
-    /// The call was not barred, and at this published phase the value may not be accessed: the
+    /// The call was not barred, and at this phase, which is published, the value may not be accessed: the
     /// `AccessError` of static_init. Nothing is left open.
     Access(Phase),
     /// The generator that this step ended failed.

@@ -5,6 +5,8 @@
 pub enum Kind {
     /// A value behind a lock, which a read or a write initializes.
     LockedLazy,
+    /// The same, for a value that the exit finalizes: the cell is registered for the exit before its generator runs.
+    LockedLazyFinalize,
 }
 
 /// Which lock a cell has, that is, how a call waits that its lock bars. This project's own, by the two families of
@@ -38,6 +40,10 @@ pub struct CellPlan {
     /// static_init, which its `try_init_once` takes away. Without it the generator runs once, and
     /// what reads or writes the cell after a failure is told that the value may not be accessed.
     pub retry: bool,
+    /// Whether the generator also runs where the cell could not be registered for the exit:
+    /// `GeneratorTolerance::FINAL_REGISTRATION_FAILURE` of static_init, its `tolerate_leak`. It has no effect on a kind
+    /// that is not registered.
+    pub leak: bool,
     /// How a barred call waits.
     pub place: Place,
 }

@@ -13,6 +13,10 @@ pub enum Act {
     Made { value: u64 },
     /// The generator of the party's innermost section failed.
     MadeFailed,
+    /// The finalizer of the party's innermost section succeeded.
+    Finished,
+    /// The finalizer of the party's innermost section failed.
+    FinishFailed,
     /// The value that the holder of the guard sees.
     Look { guard: u32 },
     /// The holder of a write guard sets the value.
@@ -23,6 +27,18 @@ pub enum Act {
     Downgrade { guard: u32 },
     /// One more read guard, beside this one.
     Clone { guard: u32 },
+    /// One step of the exit: the turn of the next cell of the round, or, where none is left, a look for the cells that
+    /// were registered since the last one.
+    Exit,
+}
+
+/// What a step attempts at a cell. This project's own.
+#[derive(Clone, Copy, PartialEq, Eq, Debug)]
+pub enum Want {
+    /// It calls so.
+    Calls(Call),
+    /// It is the turn of the cell in the exit: its finalizer runs, where the value is there.
+    Turns,
 }
 
 /// One step of one party. This project's own.

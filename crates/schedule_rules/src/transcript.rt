@@ -1,6 +1,7 @@
 //! What a run of a schedule tells.
 
 use crate::line::Line;
+use exit_registry::Turned;
 use phase_bits::Phase;
 
 /// What a cell is left with. This project's own.
@@ -19,4 +20,6 @@ pub struct Transcript {
     pub lines: Vec<Line>,
     /// What each cell is left with, in the order of the cells.
     pub finals: Vec<Final>,
+    /// The turns of the exit that ended, in their order. None is `Busy`.
+    pub exits: Vec<Turned>,
 }

@@ -19,6 +19,26 @@ failed_text : phase_text 6 ≡ codes "Phase (Initialization panicked | Initializ
 unfolding phase_text lower_text upper_text flag_text
 failed_text = refl
 
+-- after a run of a registered cell that succeeded
+registered_text : phase_text 9 ≡ codes "Phase (Initialized | Registered)"
+unfolding phase_text lower_text upper_text flag_text
+registered_text = refl
+
+-- after a run of a registered cell that failed
+registered_failed_text : phase_text 14 ≡ codes "Phase (Initialization panicked | Initialization skiped | Registered)"
+unfolding phase_text lower_text upper_text flag_text
+registered_failed_text = refl
+
+-- where registration was refused and no generator ran
+unregistered_text : phase_text 36 ≡ codes "Phase (Initialization skiped | Registration refused)"
+unfolding phase_text lower_text upper_text flag_text
+unregistered_text = refl
+
+-- after a finalizer that succeeded
+finalized_text : phase_text 73 ≡ codes "Phase (Initialized | Registered | Finalized)"
+unfolding phase_text lower_text upper_text flag_text
+finalized_text = refl
+
 -- the same of a number that is known to be one of these
 pub phase_text_at_empty : (n : ℕ) → n ≡ 0 → phase_text n ≡ codes "Phase (not initialized)"
 phase_text_at_empty n e = ap phase_text e ∙ empty_text
@@ -28,6 +48,18 @@ phase_text_at_initialized n e = ap phase_text e ∙ initialized_text
 
 pub phase_text_at_failed : (n : ℕ) → n ≡ 6 → phase_text n ≡ codes "Phase (Initialization panicked | Initialization skiped)"
 phase_text_at_failed n e = ap phase_text e ∙ failed_text
+
+pub phase_text_at_registered : (n : ℕ) → n ≡ 9 → phase_text n ≡ codes "Phase (Initialized | Registered)"
+phase_text_at_registered n e = ap phase_text e ∙ registered_text
+
+pub phase_text_at_registered_failed : (n : ℕ) → n ≡ 14 → phase_text n ≡ codes "Phase (Initialization panicked | Initialization skiped | Registered)"
+phase_text_at_registered_failed n e = ap phase_text e ∙ registered_failed_text
+
+pub phase_text_at_unregistered : (n : ℕ) → n ≡ 36 → phase_text n ≡ codes "Phase (Initialization skiped | Registration refused)"
+phase_text_at_unregistered n e = ap phase_text e ∙ unregistered_text
+
+pub phase_text_at_finalized : (n : ℕ) → n ≡ 73 → phase_text n ≡ codes "Phase (Initialized | Registered | Finalized)"
+phase_text_at_finalized n e = ap phase_text e ∙ finalized_text
 
 -- of two lists, that which a test chooses is no longer than both may be
 length-if : (b : Bool) (xs ys : List ℕ) (k : ℕ) → length xs ≤ k → length ys ≤ k → length (if b then xs else ys) ≤ k

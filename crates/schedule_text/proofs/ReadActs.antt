@@ -8,7 +8,7 @@ use Rattle.schedule_rules.specs.declared.step.Act.TheVariants as act
 use Rattle.schedule_text.specs.Lines.{Word}
 use Rattle.schedule_text.specs.ScheduleText.{ActFits}
 use Rattle.schedule_text.specs.ReadFields.{Field, ◌>>=◌, bytes_after, number_at, name_at}
-use Rattle.schedule_text.specs.ReadSteps.{act_text, last_number_at, last_name_at, call_at, release_at, read_else, made_failed_at, value_at, made_else, look_at, set_at, downgrade_at, clone_at, again_at, phase_at, write_at, read_or_release_at, made_at, act_at}
+use Rattle.schedule_text.specs.ReadSteps.{act_text, last_number_at, last_name_at, call_at, release_at, read_else, made_failed_at, value_at, made_else, look_at, set_at, downgrade_at, clone_at, again_at, phase_at, write_at, read_or_release_at, made_at, finish_failed_at, finished_else, finished_at, exit_at, act_at}
 use Rattle.schedule_text.proofs.ReadWords.{bind_some, carry, word_takes}
 use Rattle.schedule_text.proofs.ReadNumbers.{number_takes, number_again, name_takes, name_again}
 
@@ -105,17 +105,36 @@ read_takes bytes None a rest at e = release_takes bytes a rest e
 read_takes bytes (Some start) a rest at e =
     named (codes "read ") (λ c. act.Call c call.Read) bytes a rest (λ n rest lt e. record { spelling = e; fits = lt }) (rw at e)
 
+abbrev just : Act → List ℕ → Field Act
+just made rest = Some (made, rest)
+
+-- a word alone, which ends the line
+alone : (word : Word) (made : Act) (bytes : List ℕ) (a : Act) (rest : List ℕ)
+    → ((rest : List ℕ) → bytes ≡ word ++ rest → TakesAct bytes made rest)
+    → (bytes_after word bytes >>= just made) ≡ Some (a, rest) → TakesAct bytes a rest
+alone word made bytes a rest takes e =
+    let s = bind_some (bytes_after word bytes) (just made) (a, rest) e in
+    carry (TakesAct bytes) made a s.0 rest s.2 (takes s.0 (word_takes word bytes s.0 s.1))
+
 again_takes : (bytes : List ℕ) (a : Act) (rest : List ℕ) → again_at bytes ≡ Some (a, rest) → TakesAct bytes a rest
 unfolding again_at act_text
-again_takes bytes a rest e =
-    let s = bind_some (bytes_after (codes "again\n") bytes) (λ rest. Some (act.Again, rest)) (a, rest) e in
-    carry (TakesAct bytes) act.Again a s.0 rest s.2 (record { spelling = word_takes (codes "again\n") bytes s.0 s.1; fits = tt })
+again_takes bytes a rest e = alone (codes "again\n") act.Again bytes a rest (λ rest e. record { spelling = e; fits = tt }) e
+
+exit_takes : (bytes : List ℕ) (a : Act) (rest : List ℕ) → exit_at bytes ≡ Some (a, rest) → TakesAct bytes a rest
+unfolding exit_at act_text
+exit_takes bytes a rest e = alone (codes "exit\n") act.Exit bytes a rest (λ rest e. record { spelling = e; fits = tt }) e
+
+finished_takes : (bytes : List ℕ) (o : Option (List ℕ)) (a : Act) (rest : List ℕ) → bytes_after (codes "finished\n") bytes ≡ o → finished_else o bytes ≡ Some (a, rest) → TakesAct bytes a rest
+unfolding finish_failed_at act_text
+finished_takes bytes None a rest at e =
+    alone (codes "finish_failed\n") act.FinishFailed bytes a rest (λ rest e. record { spelling = e; fits = tt }) e
+finished_takes bytes (Some start) a rest at e =
+    carry (TakesAct bytes) act.Finished a start rest e (record { spelling = word_takes (codes "finished\n") bytes start at; fits = tt })
 
 made_takes : (bytes : List ℕ) (o : Option (List ℕ)) (a : Act) (rest : List ℕ) → bytes_after (codes "made ") bytes ≡ o → made_else o bytes ≡ Some (a, rest) → TakesAct bytes a rest
 unfolding value_at made_failed_at act_text
 made_takes bytes None a rest at e =
-    let s = bind_some (bytes_after (codes "made_failed\n") bytes) (λ rest. Some (act.MadeFailed, rest)) (a, rest) e in
-    carry (TakesAct bytes) act.MadeFailed a s.0 rest s.2 (record { spelling = word_takes (codes "made_failed\n") bytes s.0 s.1; fits = tt })
+    alone (codes "made_failed\n") act.MadeFailed bytes a rest (λ rest e. record { spelling = e; fits = tt }) e
 made_takes bytes (Some start) a rest at e =
     let v = bind_some (last_number_at start) (λ v. Some (act.Made v.0, v.1)) (a, rest) e in
     let w = word_takes (codes "made ") bytes start at in
@@ -148,7 +167,7 @@ pick true x y z P e f g = f e
 pick false x y z P e f g = g e
 
 pub act_takes : (bytes : List ℕ) (a : Act) (rest : List ℕ) → act_at bytes ≡ Some (a, rest) → TakesAct bytes a rest
-unfolding act_at read_or_release_at made_at
+unfolding act_at read_or_release_at made_at finished_at
 act_takes [] a rest e = absurd cc
 act_takes (b ∷ bs) a rest e =
     let bytes : List ℕ = b ∷ bs in
@@ -161,12 +180,14 @@ act_takes (b ∷ bs) a rest e =
     pick (eqb b 108) (look_at bytes) _ (a, rest) P e (look_takes bytes a rest) (λ e.
     pick (eqb b 115) (set_at bytes) _ (a, rest) P e (set_takes bytes a rest) (λ e.
     pick (eqb b 100) (downgrade_at bytes) _ (a, rest) P e (downgrade_takes bytes a rest) (λ e.
-    pick (eqb b 99) (clone_at bytes) _ (a, rest) P e (clone_takes bytes a rest) (λ e. absurd cc)))))))))
+    pick (eqb b 99) (clone_at bytes) _ (a, rest) P e (clone_takes bytes a rest) (λ e.
+    pick (eqb b 101) (exit_at bytes) _ (a, rest) P e (exit_takes bytes a rest) (λ e.
+    pick (eqb b 102) (finished_at bytes) _ (a, rest) P e (finished_takes bytes (bytes_after (codes "finished\n") bytes) a rest refl) (λ e. absurd cc)))))))))))
 
 -- ---- what is spelled is read
 
 pub act_again : (a : Act) (more : List ℕ) → ActFits a → act_at (act_text a ++ more) ≡ Some (a, more)
-unfolding act_at act_text bytes_after phase_at call_at write_at read_or_release_at release_at again_at made_at value_at made_failed_at look_at set_at downgrade_at clone_at
+unfolding act_at act_text bytes_after phase_at call_at write_at read_or_release_at release_at again_at made_at value_at made_failed_at look_at set_at downgrade_at clone_at finished_at finish_failed_at exit_at
 act_again (act.Call c call.Phase) more fits = rw (last_name_again c more fits) refl
 act_again (act.Call c call.Read) more fits = rw (last_name_again c more fits) refl
 act_again (act.Call c call.Write) more fits = rw (last_name_again c more fits) refl
@@ -181,3 +202,6 @@ act_again (act.Set g v) more fits =
 act_again (act.Release g) more fits = rw (last_name_again g more fits) refl
 act_again (act.Downgrade g) more fits = rw (last_name_again g more fits) refl
 act_again (act.Clone g) more fits = rw (last_name_again g more fits) refl
+act_again act.Finished more fits = refl
+act_again act.FinishFailed more fits = refl
+act_again act.Exit more fits = refl

@@ -13,6 +13,7 @@ Gives view None read = read ≡ None
 Gives view (Some x) read = read ≡ Some (view x)
 
 infixl 10 ◌>>=◌
+-- what is read behind a value that was found
 abbrev pub ◌>>=◌ : {A B : Type 0} → Option A → (A → Option B) → Option B
 None >>= f = None
 (Some x) >>= f = f x

@@ -1,5 +1,6 @@
 -- What a reader of a text's front answers: acts, steps and cells, each up to the end of its line.
 use Rattle.std.specs.Prelude.{ℕ, Bool, true, false, not, List, [], ◌∷◌, Option, Some, None, ◌==◌, if◌then◌else◌, codes}
+use Rattle.schedule_rules.specs.declared.plan.Kind.{Kind}
 use Rattle.schedule_rules.specs.declared.plan.Kind.TheVariants as kind
 use Rattle.schedule_rules.specs.declared.plan.Place.{Place}
 use Rattle.schedule_rules.specs.declared.plan.Place.TheVariants as place
@@ -45,18 +46,21 @@ call_at k bytes = do
   c ← last_name_at bytes
   Some (act.Call c.0 k, c.1)
 
+-- the release of a guard
 unfoldable pub release_at : List ℕ → Field Act
 release_at bytes = do
   rest ← bytes_after (codes "release ") bytes
   g ← last_name_at rest
   Some (act.Release g.0, g.1)
 
+-- the downgrade of a guard
 unfoldable pub downgrade_at : List ℕ → Field Act
 downgrade_at bytes = do
   rest ← bytes_after (codes "downgrade ") bytes
   g ← last_name_at rest
   Some (act.Downgrade g.0, g.1)
 
+-- the clone of a guard
 unfoldable pub clone_at : List ℕ → Field Act
 clone_at bytes = do
   rest ← bytes_after (codes "clone ") bytes
@@ -68,11 +72,13 @@ abbrev pub read_else : Option (List ℕ) → List ℕ → Field Act
 read_else (Some rest) bytes = call_at call.Read rest
 read_else None bytes = release_at bytes
 
+-- that the generator failed
 unfoldable pub made_failed_at : List ℕ → Field Act
 made_failed_at bytes = do
   rest ← bytes_after (codes "made_failed\n") bytes
   Some (act.MadeFailed, rest)
 
+-- the value that the generator made
 unfoldable pub value_at : List ℕ → Field Act
 value_at bytes = do
   v ← last_number_at bytes
@@ -83,12 +89,14 @@ abbrev pub made_else : Option (List ℕ) → List ℕ → Field Act
 made_else (Some rest) bytes = value_at rest
 made_else None bytes = made_failed_at bytes
 
+-- a look by a guard
 unfoldable pub look_at : List ℕ → Field Act
 look_at bytes = do
   rest ← bytes_after (codes "look ") bytes
   g ← last_name_at rest
   Some (act.Look g.0, g.1)
 
+-- a guard, and the value that its holder sets
 unfoldable pub set_at : List ℕ → Field Act
 set_at bytes = do
   start ← bytes_after (codes "set ") bytes
@@ -97,26 +105,52 @@ set_at bytes = do
   v ← last_number_at rest
   Some (act.Set g.0 v.0, v.1)
 
+-- one more attempt
 unfoldable pub again_at : List ℕ → Field Act
 again_at bytes = do
   rest ← bytes_after (codes "again\n") bytes
   Some (act.Again, rest)
 
+-- a call for the phase
 unfoldable pub phase_at : List ℕ → Field Act
 phase_at bytes = do
   rest ← bytes_after (codes "phase ") bytes
   call_at call.Phase rest
 
+-- a call to write
 unfoldable pub write_at : List ℕ → Field Act
 write_at bytes = do
   rest ← bytes_after (codes "write ") bytes
   call_at call.Write rest
 
+-- a call to read, or else the release of a guard, which begins with the same letter
 unfoldable pub read_or_release_at : List ℕ → Field Act
 read_or_release_at bytes = read_else (bytes_after (codes "read ") bytes) bytes
 
+-- the outcome of a generator
 unfoldable pub made_at : List ℕ → Field Act
 made_at bytes = made_else (bytes_after (codes "made ") bytes) bytes
+
+-- that the finalizer failed
+unfoldable pub finish_failed_at : List ℕ → Field Act
+finish_failed_at bytes = do
+  rest ← bytes_after (codes "finish_failed\n") bytes
+  Some (act.FinishFailed, rest)
+
+-- that the finalizer succeeded, or else that it failed
+abbrev pub finished_else : Option (List ℕ) → List ℕ → Field Act
+finished_else (Some rest) bytes = Some (act.Finished, rest)
+finished_else None bytes = finish_failed_at bytes
+
+-- the outcome of a finalizer
+unfoldable pub finished_at : List ℕ → Field Act
+finished_at bytes = finished_else (bytes_after (codes "finished\n") bytes) bytes
+
+-- a step of the exit
+unfoldable pub exit_at : List ℕ → Field Act
+exit_at bytes = do
+  rest ← bytes_after (codes "exit\n") bytes
+  Some (act.Exit, rest)
 
 -- an act is told by its first letter
 unfoldable pub act_at : List ℕ → Field Act
@@ -131,14 +165,32 @@ act_at (b ∷ bytes) =
     else (if b == 115 then set_at (b ∷ bytes)
     else (if b == 100 then downgrade_at (b ∷ bytes)
     else (if b == 99 then clone_at (b ∷ bytes)
-    else None))))))))
+    else (if b == 101 then exit_at (b ∷ bytes)
+    else (if b == 102 then finished_at (b ∷ bytes)
+    else None))))))))))
 
+-- a step: its party and its act
 unfoldable pub step_at : List ℕ → Field Step
 step_at bytes = do
   p ← name_at bytes
   rest ← bytes_after (codes " ") p.1
   a ← act_at rest
   Some (record { party = p.0; act = a.0 }, a.1)
+
+-- the kind of a cell that is not registered for the exit
+unfoldable pub lazy_at : List ℕ → Field Kind
+lazy_at bytes = do
+  rest ← bytes_after (codes "LockedLazy ") bytes
+  Some (kind.LockedLazy, rest)
+
+-- a kind that is registered for the exit, or else one that is not
+abbrev pub finalize_else : Option (List ℕ) → List ℕ → Field Kind
+finalize_else (Some rest) bytes = Some (kind.LockedLazyFinalize, rest)
+finalize_else None bytes = lazy_at bytes
+
+-- the kind of a cell, and the space behind it
+unfoldable pub kind_at : List ℕ → Field Kind
+kind_at bytes = finalize_else (bytes_after (codes "LockedLazyFinalize ") bytes) bytes
 
 -- the place of a cell that spins
 unfoldable pub spin_at : List ℕ → Field Place
@@ -151,6 +203,7 @@ abbrev pub park_else : Option (List ℕ) → List ℕ → Field Place
 park_else (Some rest) bytes = Some (place.Park, rest)
 park_else None bytes = spin_at bytes
 
+-- the place of a cell
 unfoldable pub place_at : List ℕ → Field Place
 place_at bytes = park_else (bytes_after (codes "park") bytes) bytes
 
@@ -163,12 +216,21 @@ option_else None bytes = (false, bytes)
 unfoldable pub option_at : Word → List ℕ → Bool × List ℕ
 option_at word bytes = option_else (bytes_after word bytes) bytes
 
+-- the options of a cell, once and leak, up to the end of its line
+unfoldable pub options_at : List ℕ → Field (Bool × Bool)
+options_at bytes =
+    let once = option_at (codes " once") bytes in
+    let leak = option_at (codes " leak") once.1 in
+    bytes_after (codes "\n") leak.1 >>= λ rest. Some ((once.0, leak.0), rest)
+
+-- a cell: its kind, its place and its options
 unfoldable pub cell_at : List ℕ → Field CellPlan
 cell_at bytes = do
-  start ← bytes_after (codes "cell LockedLazy ") bytes
-  p ← place_at start
-  rest ← bytes_after (codes "\n") (option_at (codes " once") p.1).1
-  Some (record { kind = kind.LockedLazy; retry = not (option_at (codes " once") p.1).0; place = p.0 }, rest)
+  start ← bytes_after (codes "cell ") bytes
+  k ← kind_at start
+  p ← place_at k.1
+  o ← options_at p.1
+  Some (record { kind = k.0; retry = not o.0.0; leak = o.0.1; place = p.0 }, o.1)
 
 -- how many parties there are, behind the version of the text
 unfoldable pub parties_at : List ℕ → Field ℕ

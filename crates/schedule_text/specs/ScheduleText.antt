@@ -18,6 +18,7 @@ use Rattle.schedule_text.specs.Lines.{Word, lines_text}
 -- the name of a kind
 abbrev pub kind_name : Kind → Word
 kind_name kind.LockedLazy = codes "LockedLazy"
+kind_name kind.LockedLazyFinalize = codes "LockedLazyFinalize"
 
 -- the words of a place
 abbrev pub place_words : Place → List Word
@@ -28,6 +29,11 @@ place_words place.Spin = codes "spin" ∷ []
 abbrev pub once_words : Bool → List Word
 once_words true = []
 once_words false = codes "once" ∷ []
+
+-- the option of a cell whose generator also runs where its registration for the exit is refused
+abbrev pub leak_words : Bool → List Word
+leak_words true = codes "leak" ∷ []
+leak_words false = []
 
 -- the name of a call
 abbrev pub call_name : Call → Word
@@ -46,10 +52,13 @@ act_words (act.Set g v) = codes "set" ∷ decimal g ∷ decimal v ∷ []
 act_words (act.Release g) = codes "release" ∷ decimal g ∷ []
 act_words (act.Downgrade g) = codes "downgrade" ∷ decimal g ∷ []
 act_words (act.Clone g) = codes "clone" ∷ decimal g ∷ []
+act_words act.Finished = codes "finished" ∷ []
+act_words act.FinishFailed = codes "finish_failed" ∷ []
+act_words act.Exit = codes "exit" ∷ []
 
 -- the line of a cell
 abbrev pub cell_words : CellPlan → List Word
-cell_words x = codes "cell" ∷ kind_name x.kind ∷ (place_words x.place ++ once_words x.retry)
+cell_words x = codes "cell" ∷ kind_name x.kind ∷ (place_words x.place ++ (once_words x.retry ++ leak_words x.leak))
 
 -- the line of a step
 abbrev pub step_words : Step → List Word
@@ -76,6 +85,9 @@ ActFits (act.Set g v) = (g < 2 ^ 32) × (v < 2 ^ 64)
 ActFits (act.Release g) = g < 2 ^ 32
 ActFits (act.Downgrade g) = g < 2 ^ 32
 ActFits (act.Clone g) = g < 2 ^ 32
+ActFits act.Finished = Unit {0}
+ActFits act.FinishFailed = Unit {0}
+ActFits act.Exit = Unit {0}
 
 -- the numbers of a step are below their limits
 pub record StepFits (s : Step) : Type 0 where

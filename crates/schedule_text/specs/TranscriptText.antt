@@ -1,5 +1,5 @@
 -- The text of a transcript.
-use Rattle.std.specs.Prelude.{ℕ, ◌+◌, List, [], ◌∷◌, ◌++◌, codes}
+use Rattle.std.specs.Prelude.{ℕ, ◌+◌, List, [], ◌∷◌, ◌++◌, map, codes}
 use Rattle.std.specs.declared.option.Option.{Option}
 use Rattle.std.specs.declared.option.Option.TheVariants.{None, Some}
 use Rattle.std.specs.Fmt.{decimal}
@@ -9,6 +9,9 @@ use Rattle.phase_locker.specs.declared.ways.How.{How}
 use Rattle.phase_locker.specs.declared.ways.How.TheVariants as how
 use Rattle.phase_locker.specs.declared.ways.Given.{Given}
 use Rattle.phase_locker.specs.declared.ways.Given.TheVariants as given
+use Rattle.exit_registry.specs.declared.turns.Turn.{Turn}
+use Rattle.exit_registry.specs.declared.turns.Turn.TheVariants as turn
+use Rattle.exit_registry.specs.declared.turns.Turned.{Turned}
 use Rattle.schedule_rules.specs.declared.line.Refusal.{Refusal}
 use Rattle.schedule_rules.specs.declared.line.Refusal.TheVariants as refused
 use Rattle.schedule_rules.specs.declared.line.Answer.{Answer}
@@ -32,6 +35,9 @@ refusal_words refused.NotWaiting = codes "2" ∷ codes "NotWaiting" ∷ []
 refusal_words refused.NoGuard = codes "5" ∷ codes "NoGuard" ∷ []
 refusal_words refused.NotWriter = codes "6" ∷ codes "NotWriter" ∷ []
 refusal_words refused.NoSection = codes "7" ∷ codes "NoSection" ∷ []
+refusal_words refused.NoOutcome = codes "8" ∷ codes "NoOutcome" ∷ []
+refusal_words refused.ExitBegun = codes "10" ∷ codes "ExitBegun" ∷ []
+refusal_words refused.Inside = codes "11" ∷ codes "Inside" ∷ []
 
 -- the words of an answer
 abbrev pub answer_words : Answer → List Word
@@ -40,6 +46,10 @@ answer_words (answer.Value v) = codes "value" ∷ decimal v ∷ []
 answer_words answer.ReadGuard = codes "read-guard" ∷ []
 answer_words answer.WriteGuard = codes "write-guard" ∷ []
 answer_words answer.Running = codes "running" ∷ []
+answer_words (answer.Finalizing c) = codes "finalizing" ∷ decimal c ∷ []
+answer_words (answer.Skipped c) = codes "skipped" ∷ decimal c ∷ []
+answer_words (answer.Round n) = codes "round" ∷ decimal n ∷ []
+answer_words answer.Closed = codes "closed" ∷ []
 answer_words answer.Done = codes "done" ∷ []
 answer_words (answer.Access p) = codes "access" ∷ phase_text (number p) ∷ []
 answer_words answer.Failed = codes "failed" ∷ []
@@ -70,10 +80,26 @@ final_lines c [] = []
 final_lines c (f ∷ fs) =
     (codes "cell" ∷ decimal c ∷ phase_text (number f.phase) ∷ value_word f.value ∷ []) ∷ final_lines (c + 1) fs
 
--- the lines of a transcript: its version, the steps, and what the cells are left with
+-- how a turn of the exit ended. Busy, of an object that is held, has no word
+abbrev pub turn_words : Turn → List Word
+turn_words turn.Done = codes "done" ∷ []
+turn_words turn.Skipped = codes "skipped" ∷ []
+turn_words turn.Failed = codes "failed" ∷ []
+turn_words turn.Busy = []
+
+-- the line of a turn of the exit that ended
+abbrev pub exit_words : Turned → List Word
+exit_words t = codes "exit" ∷ decimal t.cell ∷ turn_words t.turn
+
+-- the lines of the turns of the exit that ended, in order
+abbrev pub exit_lines : List Turned → List (List Word)
+exit_lines ts = map exit_words ts
+
+-- the lines of a transcript: its version, the steps, what the cells are left with, and the turns of the exit that ended
 abbrev pub transcript_lines : Account → List (List Word)
 transcript_lines t =
-    (codes "transcript" ∷ codes "1" ∷ []) ∷ (step_lines 0 t.lines ++ (final_lines 0 t.finals ++ ((codes "end" ∷ []) ∷ [])))
+    (codes "transcript" ∷ codes "1" ∷ [])
+    ∷ (step_lines 0 t.lines ++ (final_lines 0 t.finals ++ (exit_lines t.exits ++ ((codes "end" ∷ []) ∷ []))))
 
 -- the text of a transcript
 abbrev pub transcript_text : Account → List ℕ

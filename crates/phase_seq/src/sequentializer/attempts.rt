@@ -20,7 +20,8 @@ use phase_locker::{
 };
 
 impl<L: PhaseLocker, G> LazySequentializer<L, G> {
-    /// A call of a party that does not wait, on a cell that is not registered for the exit.
+    /// A call of a party that does not wait, before any registration: that is the whole call on a cell without a registry.
+    #[inline(always)]
     pub(crate) fn enter(&mut self, parks: &mut Parks, who: Who, ask: Ask) -> (Begun, Given)
         requires cell { who.cell < length parks.old.readers }
         requires party { who.party < length parks.old.rows }
@@ -60,7 +61,8 @@ impl<L: PhaseLocker, G> LazySequentializer<L, G> {
         (self.begun_by(who, ask, phase, attempt), given)
     }
 
-    /// A call of a party that waits, on a cell that is not registered for the exit.
+    /// A call of a party that waits, before any registration: that is the whole call on a cell without a registry.
+    #[inline(always)]
     pub(crate) fn resume(&mut self, parks: &mut Parks, who: Who, ask: Ask) -> (Begun, Given)
         requires cell { who.cell < length parks.old.readers }
         requires party { who.party < length parks.old.rows }
@@ -104,6 +106,7 @@ impl<L: PhaseLocker, G> LazySequentializer<L, G> {
     }
 
     /// What an attempt begins.
+    #[inline(always)]
     fn begun_by(&mut self, who: Who, ask: Ask, phase: Phase, attempt: Attempt) -> Begun
         ensures begun { result ≡ begun_by who ask phase attempt }
         ensures running { self.new.running ≡ running_after result self.old.running }
@@ -134,6 +137,7 @@ impl<L: PhaseLocker, G> LazySequentializer<L, G> {
     }
 
     /// What is begun with what the locker gave at this phase.
+    #[inline(always)]
     fn begun_of(
         &mut self,
         who: Who,

@@ -19,10 +19,14 @@ pub fn push_answer(alloc: Global, text: &mut Vec<u8>, answer: Answer) -> Result<
 {
     match answer {
         Answer::Phase(phase) => push_phase_answer(alloc, text, phase),
-        Answer::Value(value) => push_value_answer(text, value),
+        Answer::Value(value) => push_numbered(text, b"value ", value),
         Answer::ReadGuard => text.extend_from_slice(b"read-guard\n"),
         Answer::WriteGuard => text.extend_from_slice(b"write-guard\n"),
         Answer::Running => text.extend_from_slice(b"running\n"),
+        Answer::Finalizing(cell) => push_numbered(text, b"finalizing ", u64::from(cell)),
+        Answer::Skipped(cell) => push_numbered(text, b"skipped ", u64::from(cell)),
+        Answer::Round(cells) => push_numbered(text, b"round ", u64::from(cells)),
+        Answer::Closed => text.extend_from_slice(b"closed\n"),
         Answer::Done => text.extend_from_slice(b"done\n"),
         Answer::Access(phase) => push_access(alloc, text, phase),
         Answer::Failed => text.extend_from_slice(b"failed\n"),
@@ -53,13 +57,13 @@ fn push_access(alloc: Global, text: &mut Vec<u8>, phase: Phase) -> Result<(), Al
     text.extend_from_slice(b"\n")
 }
 
-/// Appends the answer of a value, and ends the line.
-fn push_value_answer(text: &mut Vec<u8>, value: u64) -> Result<(), AllocError>
+/// Appends a word with the space behind it, and a number, and ends the line.
+fn push_numbered(text: &mut Vec<u8>, word: &[u8], number: u64) -> Result<(), AllocError>
     ensures { OnOk result (text.new.items
-        ≡ text.old.items ++ line_text (codes "value" ∷ decimal value ∷ [])) }
+        ≡ text.old.items ++ (word.now ++ (decimal number ++ 10 ∷ []))) }
 {
-    text.extend_from_slice(b"value ")?;
-    push_decimal(text, value, b'\n')
+    text.extend_from_slice(word)?;
+    push_decimal(text, number, b'\n')
 }
 
 /// Appends that a call waits, and how, and ends the line.
@@ -86,5 +90,8 @@ fn push_refusal(text: &mut Vec<u8>, reason: Refusal) -> Result<(), AllocError>
         Refusal::NoGuard => text.extend_from_slice(b"refused 5 NoGuard\n"),
         Refusal::NotWriter => text.extend_from_slice(b"refused 6 NotWriter\n"),
         Refusal::NoSection => text.extend_from_slice(b"refused 7 NoSection\n"),
+        Refusal::NoOutcome => text.extend_from_slice(b"refused 8 NoOutcome\n"),
+        Refusal::ExitBegun => text.extend_from_slice(b"refused 10 ExitBegun\n"),
+        Refusal::Inside => text.extend_from_slice(b"refused 11 Inside\n"),
     }
 }

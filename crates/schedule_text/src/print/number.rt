@@ -10,6 +10,7 @@ use std::alloc::AllocError;
 const MOST_DIGITS: usize = 20;
 
 /// Appends a number in decimal, and a byte that ends it.
+#[inline(always)]
 pub fn push_decimal(text: &mut Vec<u8>, number: u64, end: u8) -> Result<(), AllocError>
     ensures { OnOk result (text.new.items ≡ text.old.items ++ (decimal number ++ end ∷ [])) }
 {

@@ -6,24 +6,28 @@ ghost use Rattle.phase_bits.specs.Number.{number};
 ghost use Rattle.phase_bits.specs.Text.{phase_text};
 ghost use Rattle.schedule_rules.specs.Transcripts.{account_of};
 ghost use Rattle.schedule_text.specs.Lines.{line_rest, line_text, lines_text};
-ghost use Rattle.schedule_text.specs.TranscriptText.{answer_words, given_words, step_lines, value_word, final_lines, transcript_text};
+ghost use Rattle.schedule_text.specs.TranscriptText.{answer_words, given_words, step_lines, value_word, final_lines, exit_words, exit_lines, transcript_text};
 
 use phase_bits::Phase;
-use schedule_rules::{Answer, Final, Given, Line, Transcript};
+use schedule_rules::{Answer, Final, Given, Line, Transcript, Turned};
 
 /// The bytes of the first line and the last.
 const FRAME_ROOM: usize = 17;
 
-/// At least as many bytes as the text of a transcript has, or nothing where no number
-/// holds the sum. A line takes at most 221.
+/// At least as many bytes as the text of a transcript has, or nothing where no number holds the sum. The line of a step or
+/// of a cell takes at most 221, that of a turn of the exit at most 24.
 pub fn transcript_room(t: &Transcript) -> Option<usize>
     ensures enough { IfSome result (λ room. length (transcript_text (account_of t.now)) ≤ room) }
-    ensures none { IfNone result (2 ^ 64 ≤ 221 * length t.now.lines.items + 221 * length t.now.finals.items + 17) }
-    ensures most { IfSome result (λ room. room ≤ 221 * length t.now.lines.items + 221 * length t.now.finals.items + 17) }
+    ensures none { IfNone result (2 ^ 64 ≤ 221 * length t.now.lines.items + 221 * length t.now.finals.items + 24 * length t.now.exits.items + 17) }
+    ensures most { IfSome result (λ room. room ≤ 221 * length t.now.lines.items + 221 * length t.now.finals.items + 24 * length t.now.exits.items + 17) }
 {
     let steps = steps_room(&t.lines)?;
     let finals = finals_room(&t.finals)?;
-    steps.checked_add(finals)?.checked_add(FRAME_ROOM)
+    let exits = exits_room(&t.exits)?;
+    steps
+        .checked_add(finals)?
+        .checked_add(exits)?
+        .checked_add(FRAME_ROOM)
 }
 
 /// At least as many bytes as the lines of steps have, at most 221 for each.
@@ -52,6 +56,27 @@ fn finals_room(finals: &[Final]) -> Option<usize>
         room = room.checked_add(digits + final_room(cell))?;
     }
     Some(room)
+}
+
+/// At least as many bytes as the lines of the turns of the exit have, at most 24 for each.
+fn exits_room(exits: &[Turned]) -> Option<usize>
+    ensures enough { IfSome result (λ room. length (lines_text (exit_lines exits.now)) ≤ room) }
+    ensures none { IfNone result (2 ^ 64 ≤ 24 * length exits.now) }
+    ensures most { IfSome result (λ room. room ≤ 24 * length exits.now) }
+{
+    let mut room = 0usize;
+    for turned in exits {
+        room = room.checked_add(exit_room(turned))?;
+    }
+    Some(room)
+}
+
+/// At least as many bytes as the line of a turn of the exit has.
+fn exit_room(turned: &Turned) -> usize
+    ensures enough { length (line_text (exit_words turned.now)) ≤ result }
+    ensures small { result ≤ 24 }
+{
+    name_digits(turned.cell) + 14
 }
 
 /// How many digits a number has.
@@ -83,16 +108,16 @@ fn given_room(given: Given) -> usize
     match given {
         Given::Nobody => 0,
         Given::Readers => 14,
-        Given::Writer(party) => party_digits(party) + 14,
+        Given::Writer(party) => name_digits(party) + 14,
     }
 }
 
-/// How many digits the number of a party has.
-fn party_digits(party: u32) -> usize
-    ensures enough { length (decimal party) ≤ result }
+/// How many digits the number of a party or a cell has.
+fn name_digits(number: u32) -> usize
+    ensures enough { length (decimal number) ≤ result }
     ensures few { result ≤ 10 }
 {
-    match party.checked_ilog10() {
+    match number.checked_ilog10() {
         None => 1,
         Some(power) => power as usize + 1,
     }
@@ -111,7 +136,10 @@ fn answer_room(answer: Answer) -> usize
         Answer::Refused(_) => 22,
         Answer::ReadGuard | Answer::WriteGuard => 13,
         Answer::Borrowed => 10,
-        Answer::Running | Answer::Done | Answer::Failed | Answer::Cyclic => 9,
+        Answer::Finalizing(number) | Answer::Skipped(number) | Answer::Round(number) => {
+            name_digits(number) + 13
+        }
+        Answer::Running | Answer::Closed | Answer::Done | Answer::Failed | Answer::Cyclic => 9,
     }
 }
 
@@ -143,6 +171,10 @@ fn phase_room(phase: Phase) -> usize
         0 => 23,
         1 => 19,
         6 => 55,
+        9 => 32,
+        14 => 68,
+        36 => 52,
+        73 => 44,
         _ => 168,
     }
 }

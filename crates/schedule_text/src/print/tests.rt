@@ -1,18 +1,28 @@
+ghost use Rattle.schedule_rules.specs.Exits.{NoneBusy};
+
 use super::print_transcript;
 use phase_bits::Phase;
-use schedule_rules::{Answer, Final, Given, How, Line, Refusal, Transcript};
+use schedule_rules::{Answer, Final, Given, How, Line, Refusal, Transcript, Turn, Turned};
 use std::alloc::{AllocError, Global};
 use std::test::Fail;
 
-/// The text of the transcript of these lines and finals.
+/// The text of the transcript of these lines and finals, without an exit.
 fn printed_lines(alloc: Global, lines: &[Line], finals: &[Final]) -> Result<Vec<u8>, AllocError> {
     let lines = Vec::from_slice(alloc, lines)?;
     let finals = Vec::from_slice(alloc, finals)?;
-    print_transcript(alloc, &Transcript { lines, finals })
+    let exits = Vec::new(alloc);
+    print_transcript(
+        alloc,
+        &Transcript {
+            lines,
+            finals,
+            exits,
+        },
+    )
 }
 
-/// The text of the transcript of these answers, where no step gave anything, and finals.
-fn printed(alloc: Global, answers: &[Answer], finals: &[Final]) -> Result<Vec<u8>, AllocError> {
+/// The lines of these answers, where no step gave anything.
+fn lines_of(alloc: Global, answers: &[Answer]) -> Result<Vec<Line>, AllocError> {
     let mut lines = Vec::with_capacity(alloc, answers.len())?;
     for answer in answers {
         lines.push(Line {
@@ -20,7 +30,35 @@ fn printed(alloc: Global, answers: &[Answer], finals: &[Final]) -> Result<Vec<u8
             given: Given::Nobody,
         })?;
     }
+    Ok(lines)
+}
+
+/// The text of the transcript of these answers, where no step gave anything, and finals, without an exit.
+fn printed(alloc: Global, answers: &[Answer], finals: &[Final]) -> Result<Vec<u8>, AllocError> {
+    let lines = lines_of(alloc, answers)?;
     printed_lines(alloc, &lines, finals)
+}
+
+/// The text of the transcript of these answers, where no step gave anything, and finals, with the turns of an exit.
+fn printed_exit(
+    alloc: Global,
+    answers: &[Answer],
+    finals: &[Final],
+    turns: &[Turned],
+) -> Result<Vec<u8>, AllocError>
+    requires { NoneBusy turns.now }
+{
+    let lines = lines_of(alloc, answers)?;
+    let finals = Vec::from_slice(alloc, finals)?;
+    let exits = Vec::from_slice(alloc, turns)?;
+    print_transcript(
+        alloc,
+        &Transcript {
+            lines,
+            finals,
+            exits,
+        },
+    )
 }
 
 const FIRST: &[u8] = b"transcript 1
@@ -79,6 +117,41 @@ cell 0 Phase (Initialized) 1
 end
 ";
 
+/// A cell that is registered while its turn is skipped.
+const SKIPPED: &[u8] = b"transcript 1
+0 running
+1 round 1
+2 skipped 0
+3 read-guard
+4 done
+5 closed
+6 phase Phase (Initialized | Registered)
+7 refused 10 ExitBegun
+cell 0 Phase (Initialized | Registered) 4
+exit 0 skipped
+end
+";
+
+/// Each way in which a turn ends, and the refusals of an exit.
+const TURNS: &[u8] = b"transcript 1
+0 round 4294967295
+1 finalizing 4294967295
+2 phase Phase (Initialized | Registered | Finalized)
+3 finalizing 10
+4 phase Phase (Initialized | Registered | Finalization panicked)
+5 refused 8 NoOutcome
+6 refused 11 Inside
+7 access Phase (Initialization skiped | Registration refused)
+8 skipped 4294967295
+9 phase Phase (Initialization panicked | Initialization skiped | Registered)
+cell 0 Phase (Initialized | Registered | Finalized) 5
+cell 1 Phase (Initialized | Registration refused) 6
+exit 4294967295 done
+exit 10 failed
+exit 4294967295 skipped
+end
+";
+
 #[test]
 fn transcripts_are_printed(rt: HostRuntime) -> Result<(), Fail> {
     let alloc = rt.alloc();
@@ -120,6 +193,69 @@ fn transcripts_are_printed(rt: HostRuntime) -> Result<(), Fail> {
     );
     assert_eq!(rt; printed(alloc, &first, &[set])?.as_slice(), FIRST);
     assert_eq!(rt; printed(alloc, &others, &unset)?.as_slice(), OTHERS);
+    Ok(())
+}
+
+#[test]
+fn a_skipped_turn_is_printed(rt: HostRuntime) -> Result<(), Fail> {
+    let registered = Phase::INITIALIZED_AND_REGISTERED;
+    let answers = [
+        Answer::Running,
+        Answer::Round(1),
+        Answer::Skipped(0),
+        Answer::ReadGuard,
+        Answer::Done,
+        Answer::Closed,
+        Answer::Phase(registered),
+        Answer::Refused(Refusal::ExitBegun),
+    ];
+    let left = Final {
+        phase: registered,
+        value: Some(4),
+    };
+    let turned = Turned {
+        cell: 0,
+        turn: Turn::Skipped,
+    };
+    assert_eq!(rt;
+        printed_exit(rt.alloc(), &answers, &[left], &[turned])?.as_slice(),
+        SKIPPED
+    );
+    Ok(())
+}
+
+#[test]
+fn turns_are_printed(rt: HostRuntime) -> Result<(), Fail> {
+    let registered = Phase::INITIALIZED_AND_REGISTERED;
+    let finalized = registered.union(Phase::FINALIZED);
+    let unfinalized = registered.union(Phase::FINALIZATION_PANICKED);
+    let skiped = Phase::INITIALIZATION_SKIPED;
+    let failed = skiped.union(Phase::INITIALIZATION_PANICKED);
+    let answers = [
+        Answer::Round(u32::MAX),
+        Answer::Finalizing(u32::MAX),
+        Answer::Phase(finalized),
+        Answer::Finalizing(10),
+        Answer::Phase(unfinalized),
+        Answer::Refused(Refusal::NoOutcome),
+        Answer::Refused(Refusal::Inside),
+        Answer::Access(skiped.union(Phase::REGISTRATION_REFUSED)),
+        Answer::Skipped(u32::MAX),
+        Answer::Phase(failed.union(Phase::REGISTERED)),
+    ];
+    let left = |phase, value| Final { phase, value };
+    let turned = |cell, turn| Turned { cell, turn };
+    let unregistered = Phase::INITIALIZED.union(Phase::REGISTRATION_REFUSED);
+    let finals = [left(finalized, Some(5)), left(unregistered, Some(6))];
+    let exits = [
+        turned(u32::MAX, Turn::Done),
+        turned(10, Turn::Failed),
+        turned(u32::MAX, Turn::Skipped),
+    ];
+    assert_eq!(rt;
+        printed_exit(rt.alloc(), &answers, &finals, &exits)?.as_slice(),
+        TURNS
+    );
     Ok(())
 }
 

@@ -2,7 +2,7 @@
 
 ghost use Rattle.std.specs.Prelude.{◌≡◌};
 ghost use Rattle.schedule_text.specs.ReadFields.{Gives};
-ghost use Rattle.schedule_text.specs.ReadSteps.{call_at, release_at, read_or_release_at, made_at, look_at, set_at, downgrade_at, clone_at, again_at, phase_at, write_at, act_at};
+ghost use Rattle.schedule_text.specs.ReadSteps.{call_at, release_at, read_or_release_at, made_at, look_at, set_at, downgrade_at, clone_at, again_at, phase_at, write_at, finished_at, exit_at, act_at};
 
 use super::field::{after_word, first_byte, last_u32, last_u64, number_u32};
 use schedule_rules::{Act, Call};
@@ -92,6 +92,25 @@ fn made(text: &[u8]) -> Option<(Act, &[u8])>
     }
 }
 
+/// `finished`, or else `finish_failed`.
+#[tactic(auto, unfolding(crate::specs::ReadSteps::finished_at, crate::specs::ReadSteps::finish_failed_at))]
+fn finished(text: &[u8]) -> Option<(Act, &[u8])>
+    ensures { Gives (λ found. (found.0, found.1.now)) result (finished_at text.now) }
+{
+    match after_word(text, b"finished\n") {
+        Some(rest) => Some((Act::Finished, rest)),
+        None => Some((Act::FinishFailed, after_word(text, b"finish_failed\n")?)),
+    }
+}
+
+/// `exit`.
+#[tactic(auto, unfolding(crate::specs::ReadSteps::exit_at))]
+fn exit(text: &[u8]) -> Option<(Act, &[u8])>
+    ensures { Gives (λ found. (found.0, found.1.now)) result (exit_at text.now) }
+{
+    Some((Act::Exit, after_word(text, b"exit\n")?))
+}
+
 /// `look g`.
 #[tactic(auto, unfolding(crate::specs::ReadSteps::look_at))]
 fn look(text: &[u8]) -> Option<(Act, &[u8])>
@@ -127,6 +146,8 @@ pub(super) fn act(text: &[u8]) -> Option<(Act, &[u8])>
         b's' => set(text),
         b'd' => downgrade(text),
         b'c' => clone(text),
+        b'e' => exit(text),
+        b'f' => finished(text),
         _ => None,
     }
 }

@@ -4,7 +4,7 @@ ghost use Rattle.std.specs.Prelude.{◌≡◌, ◌++◌, List, IfOk, IsTrue, ◌
 ghost use Rattle.std.specs.List.{flat_map, AllByRecursion};
 ghost use Rattle.schedule_text.specs.ScheduleText.{StepFits};
 ghost use Rattle.schedule_text.specs.ReadFields.{Gives};
-ghost use Rattle.schedule_text.specs.ReadSteps.{parties_at, cell_text, place_at, option_at, cell_at, step_text, step_at};
+ghost use Rattle.schedule_text.specs.ReadSteps.{parties_at, cell_text, kind_at, place_at, option_at, options_at, cell_at, step_text, step_at};
 
 use super::act::act;
 use super::field::{after_word, last_u32, number_u32};
@@ -17,6 +17,17 @@ pub(super) fn parties(text: &[u8]) -> Option<(u32, &[u8])>
     ensures { Gives (λ found. (found.0, found.1.now)) result (parties_at text.now) }
 {
     last_u32(after_word(text, b"schedule 1\nparties ")?)
+}
+
+/// The kind of a cell, `LockedLazyFinalize` or else `LockedLazy`, and the space behind it.
+#[tactic(auto, unfolding(crate::specs::ReadSteps::kind_at, crate::specs::ReadSteps::lazy_at))]
+fn kind(text: &[u8]) -> Option<(Kind, &[u8])>
+    ensures { Gives (λ found. (found.0, found.1.now)) result (kind_at text.now) }
+{
+    match after_word(text, b"LockedLazyFinalize ") {
+        Some(rest) => Some((Kind::LockedLazyFinalize, rest)),
+        None => Some((Kind::LockedLazy, after_word(text, b"LockedLazy ")?)),
+    }
 }
 
 /// The place of a cell, `park` or else `spin`.
@@ -41,17 +52,29 @@ fn option<'a>(text: &'a [u8], word: &[u8]) -> (bool, &'a [u8])
     }
 }
 
+/// The options of a cell, up to the end of its line: whether it runs its generator once, and whether it puts up with a
+/// leak.
+#[tactic(auto, unfolding(crate::specs::ReadSteps::options_at))]
+fn options(text: &[u8]) -> Option<((bool, bool), &[u8])>
+    ensures { Gives (λ found. (found.0, found.1.now)) result (options_at text.now) }
+{
+    let (once, rest) = option(text, b" once");
+    let (leak, rest) = option(rest, b" leak");
+    Some(((once, leak), after_word(rest, b"\n")?))
+}
+
 /// The line of a cell.
 #[tactic(auto, unfolding(crate::specs::ReadSteps::cell_at))]
 fn cell(text: &[u8]) -> Option<(CellPlan, &[u8])>
     ensures { Gives (λ found. (found.0, found.1.now)) result (cell_at text.now) }
 {
-    let (place, rest) = place(after_word(text, b"cell LockedLazy ")?)?;
-    let (once, rest) = option(rest, b" once");
-    let rest = after_word(rest, b"\n")?;
+    let (kind, rest) = kind(after_word(text, b"cell ")?)?;
+    let (place, rest) = place(rest)?;
+    let ((once, leak), rest) = options(rest)?;
     let cell = CellPlan {
-        kind: Kind::LockedLazy,
+        kind,
         retry: !once,
+        leak,
         place,
     };
     Some((cell, rest))

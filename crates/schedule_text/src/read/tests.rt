@@ -20,13 +20,18 @@ steps
 end
 ";
 
-/// Cells of both places, with and without retry, and guards that are cloned and downgraded.
+/// Cells of both kinds and both places, with each option, and guards that are cloned and downgraded.
 const EACH_CELL: &[u8] = b"schedule 1
 parties 2
 cell LockedLazy park
 cell LockedLazy spin
 cell LockedLazy park once
 cell LockedLazy spin once
+cell LockedLazy spin leak
+cell LockedLazyFinalize park
+cell LockedLazyFinalize spin once
+cell LockedLazyFinalize park leak
+cell LockedLazyFinalize spin once leak
 steps
 1 write 0
 1 made 5
@@ -48,7 +53,17 @@ steps
 end
 ";
 
-const BAD: [&[u8]; 53] = [
+/// The acts of an exit.
+const EXIT: &[u8] = b"schedule 1
+parties 2
+steps
+1 exit
+1 finished
+0 finish_failed
+end
+";
+
+const BAD: [&[u8]; 73] = [
     b"",
     b"schedule 2\nparties 0\nsteps\nend\n",
     b"schedule 01\nparties 0\nsteps\nend\n",
@@ -102,6 +117,26 @@ const BAD: [&[u8]; 53] = [
     b"schedule 1\nparties 1\nsteps\n0 clones 1\nend\n",
     b"schedule 1\nparties 1\nsteps\n0 set 4\nend\n",
     b"schedule 1\nparties 1\nsteps\n0 read 0 0\nend\n",
+    b"schedule 1\nparties 1\ncell LockedLazyFinalize\nsteps\nend\n",
+    b"schedule 1\nparties 1\ncell LockedLazyFinalizes spin\nsteps\nend\n",
+    b"schedule 1\nparties 1\ncell LockedLazy Finalize spin\nsteps\nend\n",
+    b"schedule 1\nparties 1\ncell LazyFinalize spin\nsteps\nend\n",
+    b"schedule 1\nparties 1\ncell LockedLazyFinalize spin leak once\nsteps\nend\n",
+    b"schedule 1\nparties 1\ncell LockedLazyFinalize spin leak leak\nsteps\nend\n",
+    b"schedule 1\nparties 1\ncell LockedLazyFinalize leak spin\nsteps\nend\n",
+    b"schedule 1\nparties 1\ncell LockedLazyFinalize park onceleak\nsteps\nend\n",
+    b"schedule 1\nparties 1\ncell LockedLazyFinalize park leak \nsteps\nend\n",
+    b"schedule 1\nparties 1\ncell LockedLazyFinalize park leaks\nsteps\nend\n",
+    b"schedule 1\nparties 1\nsteps\n0 exit 1\nend\n",
+    b"schedule 1\nparties 1\nsteps\n0 exit \nend\n",
+    b"schedule 1\nparties 1\nsteps\n0 exits\nend\n",
+    b"schedule 1\nparties 1\nsteps\nexit\nend\n",
+    b"schedule 1\nparties 1\nsteps\n0 finished 3\nend\n",
+    b"schedule 1\nparties 1\nsteps\n0 finished \nend\n",
+    b"schedule 1\nparties 1\nsteps\n0 finish\nend\n",
+    b"schedule 1\nparties 1\nsteps\n0 finish_failed \nend\n",
+    b"schedule 1\nparties 1\nsteps\n0 finish_failed 3\nend\n",
+    b"schedule 1\nparties 1\nsteps\n0 finished_failed\nend\n",
 ];
 
 /// What the text is read as, where it has at most a thousand bytes.
@@ -118,6 +153,7 @@ fn reads_nine_steps(rt: HostRuntime) -> Result<(), Fail> {
     let cell = CellPlan {
         kind: Kind::LockedLazy,
         retry: true,
+        leak: false,
         place: Place::Spin,
     };
     let call = |call| Act::Call { cell: 0, call };
@@ -148,16 +184,22 @@ fn reads_nine_steps(rt: HostRuntime) -> Result<(), Fail> {
 #[test]
 fn reads_cells_and_acts_on_guards(rt: HostRuntime) -> Result<(), Fail> {
     let (plan, steps) = read(rt.alloc(), EACH_CELL)?;
-    let cell = |place, retry| CellPlan {
-        kind: Kind::LockedLazy,
+    let cell = |kind, place, retry, leak| CellPlan {
+        kind,
         retry,
+        leak,
         place,
     };
     let cells = [
-        cell(Place::Park, true),
-        cell(Place::Spin, true),
-        cell(Place::Park, false),
-        cell(Place::Spin, false),
+        cell(Kind::LockedLazy, Place::Park, true, false),
+        cell(Kind::LockedLazy, Place::Spin, true, false),
+        cell(Kind::LockedLazy, Place::Park, false, false),
+        cell(Kind::LockedLazy, Place::Spin, false, false),
+        cell(Kind::LockedLazy, Place::Spin, true, true),
+        cell(Kind::LockedLazyFinalize, Place::Park, true, false),
+        cell(Kind::LockedLazyFinalize, Place::Spin, false, false),
+        cell(Kind::LockedLazyFinalize, Place::Park, true, true),
+        cell(Kind::LockedLazyFinalize, Place::Spin, false, true),
     ];
     let step = |party, act| Step { party, act };
     let write = Act::Call {
@@ -203,8 +245,22 @@ fn reads_the_largest_numbers(rt: HostRuntime) -> Result<(), Fail> {
 }
 
 #[test]
+fn reads_an_exit(rt: HostRuntime) -> Result<(), Fail> {
+    let (plan, steps) = read(rt.alloc(), EXIT)?;
+    let step = |party, act| Step { party, act };
+    let expected = [
+        step(1, Act::Exit),
+        step(1, Act::Finished),
+        step(0, Act::FinishFailed),
+    ];
+    assert_eq!(rt; plan.parties, 2);
+    assert_eq!(rt; steps.as_slice(), expected.as_slice());
+    Ok(())
+}
+
+#[test]
 fn refuses_each_part_of_a_text(rt: HostRuntime) -> Result<(), Fail> {
-    for text in [NOTHING, NINE_STEPS, EACH_CELL, LARGEST] {
+    for text in [NOTHING, NINE_STEPS, EACH_CELL, LARGEST, EXIT] {
         let _read = read(rt.alloc(), text)?;
         for end in 0..text.len() {
             let part = read(rt.alloc(), &text[..end]);

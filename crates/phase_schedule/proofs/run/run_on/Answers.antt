@@ -14,4 +14,4 @@ finish-requires g c = record { steps = take c.loop-i.i c.args.steps.now; made = 
 
 pub returns : goal.returns
 returns g c =
-    legal_transcript c.args.plan.now c.args.steps.now (seen g.L.PhaseLocker.held g.L.PhaseLocker.place c.loop-i.progress) c.loop-i.i c.loop-i.invariant.made c.loop-i.invariant.planned c.finish.result c.loop-i-test.false c.finish.ensures.lines c.finish.ensures.finals
+    legal_transcript c.args.plan.now c.args.steps.now (seen g.L.PhaseLocker.held g.L.PhaseLocker.place c.loop-i.progress) c.loop-i.i c.loop-i.invariant.made c.loop-i.invariant.planned c.finish.result c.loop-i-test.false c.finish.ensures.lines c.finish.ensures.finals c.finish.ensures.exits

@@ -5,4 +5,4 @@ use Rattle.schedule_examples.proofs.texts.the_schedule_of_one_run_is_spelled.Goa
 
 pub returns : goal.returns
 unfolding digits phase_text lower_text upper_text flag_text
-returns c = record { goes = record { lines = refl; gifts = refl; holds = refl; finals = refl }; schedule = refl; transcript = refl }
+returns c = record { goes = record { lines = refl; gifts = refl; holds = refl; finals = refl; exits = refl }; schedule = refl; transcript = refl }

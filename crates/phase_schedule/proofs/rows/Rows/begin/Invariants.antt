@@ -23,3 +23,9 @@ ghost-downgrade g a = g.h
 
 abbrev pub ghost-clone_guard : goal.ghost-clone_guard
 ghost-clone_guard g a = g.h
+
+abbrev pub ghost-finished : goal.ghost-finished
+ghost-finished g a = g.h
+
+abbrev pub ghost-exit : goal.ghost-exit
+ghost-exit g a = g.h

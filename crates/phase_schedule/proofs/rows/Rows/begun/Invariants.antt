@@ -11,3 +11,6 @@ ghost-write g a = g.h
 
 abbrev pub ghost-run : goal.ghost-run
 ghost-run g a = g.h
+
+abbrev pub ghost-skip : goal.ghost-skip
+ghost-skip g a = g.h

@@ -10,6 +10,7 @@ invariant-loop-guard g l =
       holds : HoldsLocks (view g.L.PhaseLocker.held g.L.PhaseLocker.place l.self);
       free : AreFreeBelow l.guard l.self.guards.items;
       count : length l.self.guards.items ≡ l.guard-end;
+      exit : l.self.exit ≡ l.fn.self.exit;
     }
 
 abbrev pub invariant-loop-cell : goal.invariant-loop-cell
@@ -19,4 +20,5 @@ invariant-loop-cell g l =
       free : AreFree l.self.guards.items;
       idle : AreIdleBelow l.cell l.self.cells.items;
       count : length l.self.cells.items ≡ l.cell-end;
+      exit : l.self.exit ≡ l.fn.self.exit;
     }

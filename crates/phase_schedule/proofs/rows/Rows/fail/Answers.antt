@@ -1,5 +1,6 @@
-use Rattle.std.proofs.Common.{◌<◌, length}
+use Rattle.std.proofs.Common.{◌<◌, length, sym, subst}
 use Rattle.phase_schedule.specs.View.{view}
+use Rattle.phase_schedule.specs.Meets.{IsFailed}
 use Rattle.phase_schedule.proofs.Called.{read_locker}
 use Rattle.phase_schedule.proofs.Places.{inside_plan}
 use Rattle.phase_schedule.proofs.MadeDone.{generates, section_is, finish_cell, finish_runs, finish_fits, finish_failed, finish_called, in_lockers, did_fail}
@@ -23,7 +24,7 @@ finish-finished-requires-clause-running g c =
     let t = c.requires.1.acting.ready.follows in
     let is = section_is g.h v t c.args.s.now.party c.args.run c.requires.1.ended c.index_mut.result.now c.end_run-section.result c.index_mut.ensures.value c.end_run-section.ensures.section in
     let lt : c.args.run.cell < length c.args.self.now.sequentializers.items = in_lockers (λ q. g.L.PhaseLocker.held q.locker) c.args.self.now.sequentializers.items _ c.args.run.cell t.locked.held_count (inside_plan v c.args.run.cell c.requires.1.ended.inside) in
-    finish_runs g.h v t c.args.s.now.party c.args.run c.requires.1.ended c.requires.1.acting.idle c.end_run-section.result is (g.L.PhaseLocker.held c.index_mut-cell.result.now.locker) c.index_mut-cell.result.now.running
+    finish_runs g.h v t c.args.s.now.party c.args.run c.requires.1.ended c.requires.1.acting.idle c.end_run-section.result is c.requires.1.runs (g.L.PhaseLocker.held c.index_mut-cell.result.now.locker) c.index_mut-cell.result.now.running
     (read_locker (λ q. g.L.PhaseLocker.held q.locker) c.args.self.now.sequentializers.items c.args.run.cell c.index_mut-cell.result.now c.index_mut-cell.ensures.value lt)
     (read_locker (λ q. q.running) c.args.self.now.sequentializers.items c.args.run.cell c.index_mut-cell.result.now c.index_mut-cell.ensures.value lt)
 
@@ -37,6 +38,15 @@ finish-finished-requires-clause-fits g c =
     (read_locker (λ q. g.L.PhaseLocker.held q.locker) c.args.self.now.sequentializers.items c.args.run.cell c.index_mut-cell.result.now c.index_mut-cell.ensures.value lt)
     (read_locker (λ q. g.L.PhaseLocker.place q.locker) c.args.self.now.sequentializers.items c.args.run.cell c.index_mut-cell.result.now c.index_mut-cell.ensures.value lt)
 
+pub no_lock-requires : goal.no_lock-requires
+no_lock-requires g c =
+    let v = view g.L.PhaseLocker.held g.L.PhaseLocker.place c.args.self.now in
+    let t = c.requires.1.acting.ready.follows in
+    let is = section_is g.h v t c.args.s.now.party c.args.run c.requires.1.ended c.index_mut.result.now c.end_run-section.result c.index_mut.ensures.value c.end_run-section.ensures.section in
+    let f = finish_failed g.h v t c.args.s.now.party c.args.run c.requires.1.ended c.requires.1.acting.idle c.end_run-section.result is c.requires.1.runs
+    (g.L.PhaseLocker.held c.index_mut-cell.result.now.locker) c.finish-finished.result (g.L.PhaseLocker.held c.finish-finished.new.self.locker) c.finish-finished.new.parks c.finish-finished.ensures.finishes in
+    subst IsFailed (sym f.finished) tt
+
 pub returns : goal.returns
 returns g c =
     let v = view g.L.PhaseLocker.held g.L.PhaseLocker.place c.args.self.now in
@@ -49,5 +59,5 @@ returns g c =
     (finish_called g.h v t c.args.s.now.party c.args.run c.requires.1.ended c.requires.1.acting.idle c.end_run-section.result is
     (λ q. g.L.PhaseLocker.held q.locker) (λ q. g.L.PhaseLocker.place q.locker) (λ q. q.running) c.args.self.now.sequentializers.items c.index_mut-cell.result.now c.finish-finished.new.self c.finish-finished.new.parks
     c.index_mut-cell.ensures.value lt c.finish-finished.ensures.others c.finish-finished.ensures.fits c.finish-finished.ensures.place c.finish-finished.ensures.running c.finish-finished.ensures.same)
-    (finish_failed g.h v t c.args.s.now.party c.args.run c.requires.1.ended c.requires.1.acting.idle c.end_run-section.result is
-    (g.L.PhaseLocker.held c.index_mut-cell.result.now.locker) c.finish-finished.result (g.L.PhaseLocker.held c.finish-finished.new.self.locker) c.finish-finished.new.parks c.finish-finished.ensures.finishes)
+    (finish_failed g.h v t c.args.s.now.party c.args.run c.requires.1.ended c.requires.1.acting.idle c.end_run-section.result is c.requires.1.runs
+    (g.L.PhaseLocker.held c.index_mut-cell.result.now.locker) c.finish-finished.result (g.L.PhaseLocker.held c.finish-finished.new.self.locker) c.finish-finished.new.parks c.finish-finished.ensures.finishes).hands

@@ -1,4 +1,5 @@
-use Rattle.std.proofs.Common.{◌<◌, length, sym, subst}
+use Rattle.std.proofs.Common.{◌<◌, length, ap, sym, subst}
+use Rattle.schedule_rules.specs.Sections.{is_turn}
 use Rattle.phase_schedule.specs.View.{view}
 use Rattle.phase_schedule.specs.Meets.{IsReadingOn}
 use Rattle.phase_schedule.proofs.Called.{read_locker}
@@ -24,7 +25,7 @@ finish-finished-requires-clause-running g c =
     let t = c.requires.1.made.acting.ready.follows in
     let is = section_is g.h v t c.args.s.now.party c.args.run c.requires.1.ended c.index_mut-row.result.now c.end_run-section.result c.index_mut-row.ensures.value c.end_run-section.ensures.section in
     let lt : c.args.run.cell < length c.args.self.now.sequentializers.items = in_lockers (λ q. g.L.PhaseLocker.held q.locker) c.args.self.now.sequentializers.items _ c.args.run.cell t.locked.held_count (inside_plan v c.args.run.cell c.requires.1.ended.inside) in
-    finish_runs g.h v t c.args.s.now.party c.args.run c.requires.1.ended c.requires.1.made.acting.idle c.end_run-section.result is (g.L.PhaseLocker.held c.index_mut-cell.result.now.locker) c.index_mut-cell.result.now.running
+    finish_runs g.h v t c.args.s.now.party c.args.run c.requires.1.ended c.requires.1.made.acting.idle c.end_run-section.result is (ap is_turn c.requires.1.reads) (g.L.PhaseLocker.held c.index_mut-cell.result.now.locker) c.index_mut-cell.result.now.running
     (read_locker (λ q. g.L.PhaseLocker.held q.locker) c.args.self.now.sequentializers.items c.args.run.cell c.index_mut-cell.result.now c.index_mut-cell.ensures.value lt)
     (read_locker (λ q. q.running) c.args.self.now.sequentializers.items c.args.run.cell c.index_mut-cell.result.now c.index_mut-cell.ensures.value lt)
 

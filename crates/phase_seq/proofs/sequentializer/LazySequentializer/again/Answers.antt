@@ -1,7 +1,22 @@
-use Rattle.std.proofs.Common.{◌≡◌, false, Some, ap}
+use Rattle.std.proofs.Common.{◌≡◌, false, Some, ap, subst}
+use Rattle.phase_seq.specs.Registers.{Settles}
 use Rattle.phase_seq.specs.Exactly.{is_run}
 use Rattle.phase_seq.proofs.Settled.{others_then}
 use Rattle.phase_seq.proofs.sequentializer.LazySequentializer.again.Goals as goal
+
+pub returns-in-Some-clause-resumes : goal.returns-in-Some-clause-resumes
+returns-in-Some-clause-resumes g c =
+    let e = c.resume-begun in
+    rw c.in-Some.is (record {
+      entered = e.result;
+      held = g.L.PhaseLocker.held e.new.self.locker;
+      rows = e.new.parks;
+      enters = e.ensures.resumes;
+      fits = rw e.ensures.place at e.ensures.fits;
+      others = e.ensures.others;
+      same = e.ensures.same;
+      settles = subst (λ p. Settles c.args.ask.tol.leak c.in-Some.registry.now p e.result (g.L.PhaseLocker.held e.new.self.locker) e.new.parks c.settle.result (g.L.PhaseLocker.held c.settle.new.self.locker) c.settle.new.parks) c.phase-phase.ensures.phase c.settle.ensures.settles;
+    })
 
 pub returns-in-Some-clause-registry : goal.returns-in-Some-clause-registry
 returns-in-Some-clause-registry g c = rw c.in-Some.is (ap (λ m. Some m) (rw (c.resume-begun.ensures.runs, ← c.settle.ensures.admitted, c.phase-phase.ensures.phase) at c.settle.ensures.registry))

@@ -1,0 +1,32 @@
+-- Small facts of truth values and numbers.
+use Rattle.std.proofs.Common.{◌≡◌, ◌≢◌, ◌≤◌, ◌+◌, ℕ, refl, arith, Bool, true, false, ◌&&◌, cond}
+use Rattle.std.specs.Prelude.{◌==◌}
+
+pub apart : true ≡ false → ⊥
+apart x = cc
+
+-- the first of two that both hold
+pub first : (x y : Bool) → (x && y) ≡ true → x ≡ true
+first true y e = refl
+first false y e = absurd (cc)
+
+-- and the second
+pub second : (x y : Bool) → (x && y) ≡ true → y ≡ true
+second true y e = e
+second false y e = absurd (cc)
+
+-- the same number
+pub same_number : (m n : ℕ) → m ≡ n → (m == n) ≡ true
+same_number m n e = grind arith
+
+-- a number that another is not
+pub other_number : (m n k : ℕ) → m ≡ n → n ≢ k → (m == k) ≡ false
+other_number m n k e ne = grind arith
+
+pub turned_number : (m n : ℕ) → (m == n) ≡ false → (n == m) ≡ false
+turned_number m n e = grind arith
+
+-- one more or the same
+pub at_least : (b : Bool) (n : ℕ) → n ≤ cond b (n + 1) n
+at_least true n = omega arith
+at_least false n = omega arith

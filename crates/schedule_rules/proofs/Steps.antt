@@ -1,0 +1,176 @@
+-- What holds in each case, holds of each legal step.
+use Rattle.std.proofs.Common.{◌≡◌, ℕ, List, refl, sym, ◌∙◌, ap, subst, Bool, true, false, not, None, Some}
+use Rattle.std.specs.Prelude.{◌==◌, if◌then◌else◌}
+use Rattle.std.specs.declared.option.Option.{Option}
+use Rattle.exit_registry.specs.Registry.{first_of}
+use Rattle.phase_bits.specs.Number.{phase_of}
+use Rattle.schedule_rules.specs.declared.plan.Call.TheVariants as call
+use Rattle.schedule_rules.specs.declared.plan.CellPlan.{CellPlan}
+use Rattle.schedule_rules.specs.declared.step.Act.{Act}
+use Rattle.schedule_rules.specs.declared.step.Act.TheVariants as act
+use Rattle.schedule_rules.specs.declared.step.Step.{Step}
+use Rattle.schedule_rules.specs.declared.step.Want.{Want}
+use Rattle.schedule_rules.specs.declared.step.Want.TheVariants.{Calls, Turns}
+use Rattle.schedule_rules.specs.declared.line.Line.{Line}
+use Rattle.schedule_rules.specs.declared.line.Answer.{Answer}
+use Rattle.schedule_rules.specs.declared.line.Answer.TheVariants as answer
+use Rattle.schedule_rules.specs.declared.line.Refusal.{Refusal}
+use Rattle.schedule_rules.specs.Phases.{phase_finalized}
+use Rattle.schedule_rules.specs.Calls.{Reads}
+use Rattle.schedule_rules.specs.History.{Event}
+use Rattle.schedule_rules.specs.Sections.{Section, innermost, is_turn, sections}
+use Rattle.schedule_rules.specs.Guards.{Guard, numbered, own, guards}
+use Rattle.schedule_rules.specs.Replay.{phase_at}
+use Rattle.schedule_rules.specs.Exits.{registry}
+use Rattle.schedule_rules.specs.Waits.{Wait, wait_of, waits}
+use Rattle.schedule_rules.specs.Holds.{is_barred, holding_with}
+use Rattle.schedule_rules.specs.Refusals.{refusal, no_guard, no_writer, no_reader, writes_of, no_outcome, ends_run, ends_turn}
+use Rattle.schedule_rules.specs.Due.{answer_of_made, due_made, due_finished, due_clone, due_answer}
+use Rattle.schedule_rules.specs.Legal.{IsLegalLine, answer_of, due_at}
+use Rattle.schedule_rules.specs.Laws.{waits_judged}
+use Rattle.schedule_rules.proofs.Cases.{step, Cases}
+use Rattle.schedule_rules.proofs.Attempts.{rests, mine_where_none, attempted, again, exits}
+use Rattle.schedule_rules.proofs.Judged.{due_at-judged}
+use Rattle.schedule_rules.proofs.Facts.{apart}
+
+-- an outcome of a generator that is not refused ends a generator's section
+run_ends : (o : Option Section) → no_outcome (ends_run o) ≡ None → (t : Section) × (o ≡ Some t) × (is_turn t.want ≡ false)
+run_ends None e = absurd (cc)
+run_ends (Some t) e = (t, refl, by (is_turn t.want) e)
+  where
+    by : (b : Bool) → no_outcome (Some (not b)) ≡ None → b ≡ false
+    by true f = absurd (cc)
+    by false f = refl
+
+-- and one of a finalizer ends a finalizer's
+turn_ends : (o : Option Section) → no_outcome (ends_turn o) ≡ None → (t : Section) × (o ≡ Some t) × (is_turn t.want ≡ true)
+turn_ends None e = absurd (cc)
+turn_ends (Some t) e = (t, refl, by (is_turn t.want) e)
+  where
+    by : (b : Bool) → no_outcome (Some b) ≡ None → b ≡ true
+    by true f = refl
+    by false f = absurd (cc)
+
+-- what is not refused for want of a guard names an open one
+is_opened : (f : Option Bool → Option Refusal) (p : ℕ) (o : Option Guard) → (f None ≡ None → ⊥) → f (writes_of (own p o)) ≡ None
+    → (x : Guard) × (o ≡ Some x) × (f (Some x.writes) ≡ None)
+is_opened f p None none e = absurd (none e)
+is_opened f p (Some x) none e = (x, refl, by (x.party == p) e)
+  where
+    by : (b : Bool) → f (writes_of (if b then Some x else None)) ≡ None → f (Some x.writes) ≡ None
+    by true g = g
+    by false g = absurd (none g)
+
+-- a guard that is needed to write, writes
+is_writer : (b : Bool) → no_writer (Some b) ≡ None → b ≡ true
+is_writer true e = refl
+is_writer false e = absurd (cc)
+
+-- one that is needed to read, does not
+is_reader : (b : Bool) → no_reader (Some b) ≡ None → b ≡ false
+is_reader true e = absurd (cc)
+is_reader false e = refl
+
+no_refusal : (r : Refusal) → Some r ≡ None → ⊥
+no_refusal r e = cc
+
+module _ (cells : List CellPlan) (h : List Event) (p : ℕ) (P : Act → Answer → Type 0) (k : Cases cells h p P) where
+  -- a value made
+  makes : (v : ℕ) (o : Option Section) → innermost p (sections h) ≡ o → no_outcome (ends_run o) ≡ None → P (act.Made v) (due_made cells h v o)
+  makes v o e f = by o e (run_ends o f)
+    where
+      reads : (t : Section) → innermost p (sections h) ≡ Some t → (u : Want) → t.want ≡ u → is_turn u ≡ false → P (act.Made v) (answer_of_made u)
+      reads t e (Calls call.Phase) d g = k.made_write v t e (ap is_turn d)
+      reads t e (Calls call.Read) d g = k.made_read v t e d
+      reads t e (Calls call.Write) d g = k.made_write v t e (ap is_turn d)
+      reads t e Turns d g = absurd (apart g)
+
+      by : (o : Option Section) → innermost p (sections h) ≡ o → (t : Section) × (o ≡ Some t) × (is_turn t.want ≡ false) → P (act.Made v) (due_made cells h v o)
+      by None e t = absurd (none t.1)
+        where
+          none : None ≡ Some t.0 → ⊥
+          none x = cc
+      by (Some s) e t = reads s e s.want refl (ap (λ u. is_turn u) (same t.1) ∙ t.2)
+        where
+          same : Some s ≡ Some t.0 → s.want ≡ t.0.want
+          same x = cc
+
+  -- a finalizer that ends
+  ends : (fine : Bool) (a : Act) (o : Option Section) → innermost p (sections h) ≡ o → no_outcome (ends_turn o) ≡ None
+      → ((t : Section) → innermost p (sections h) ≡ Some t → is_turn t.want ≡ true → P a (answer.Phase (phase_of (phase_finalized (phase_at cells t.cell h) fine))))
+      → P a (due_finished cells h fine o)
+  ends fine a None e f does = absurd (cc)
+  ends fine a (Some s) e f does = does s e (outcome (turn_ends (Some s) f))
+    where
+      outcome : (t : Section) × (Some s ≡ Some t) × (is_turn t.want ≡ true) → is_turn s.want ≡ true
+      outcome t = ap is_turn (same t.1) ∙ t.2
+        where
+          same : Some s ≡ Some t.0 → s.want ≡ t.0.want
+          same x = cc
+
+  -- a clone
+  clones : (g : ℕ) (ws : List Wait) (x : Guard) → numbered g (guards h) ≡ Some x → x.writes ≡ false → P (act.Clone g) (due_clone cells h ws (Some x))
+  clones g ws x e d = by (is_barred (Some Reads) (holding_with x.cell h ws))
+    where
+      by : (b : Bool) → P (act.Clone g) (if b then answer.Borrowed else answer.ReadGuard)
+      by true = k.borrowed g x e d
+      by false = k.cloned g x e d
+
+  -- a step that is not refused
+  pub allowed : (a : Act) (ws : List Wait) (chosen : Bool) → refusal cells h (step cells h p a) ≡ None → P a (due_answer cells h (step cells h p a) ws chosen)
+  allowed (act.Call c j) ws chosen f =
+      let r : _ = rests cells h p (act.Call c j) (no_refusal _) f in
+      attempted cells h p P k (act.Call c j) c (Calls j) ws chosen (record { tried = refl; does = refl; acts = tt }) (mine_where_none cells h p c r.0)
+  allowed act.Again ws chosen f = again cells h p P k (wait_of p (waits cells h)) refl f ws chosen
+  allowed (act.Made v) ws chosen f = makes v (innermost p (sections h)) refl (rests cells h p (act.Made v) (no_refusal _) f).1
+  allowed act.MadeFailed ws chosen f =
+      let t : _ = run_ends (innermost p (sections h)) (rests cells h p act.MadeFailed (no_refusal _) f).1 in k.failed t.0 t.1 t.2
+  allowed act.Finished ws chosen f =
+      ends true act.Finished (innermost p (sections h)) refl (rests cells h p act.Finished (no_refusal _) f).1 (λ t e d. k.finished t e d)
+  allowed act.FinishFailed ws chosen f =
+      ends false act.FinishFailed (innermost p (sections h)) refl (rests cells h p act.FinishFailed (no_refusal _) f).1 (λ t e d. k.finish_failed t e d)
+  allowed (act.Look g) ws chosen f =
+      let x : _ = is_opened no_guard p (numbered g (guards h)) (no_refusal _) (rests cells h p (act.Look g) (no_refusal _) f).1 in rw x.1 (k.looked g _ x.0 x.1)
+  allowed (act.Set g v) ws chosen f =
+      let x : _ = is_opened no_writer p (numbered g (guards h)) (no_refusal _) (rests cells h p (act.Set g v) (no_refusal _) f).1 in
+      k.set g v x.0 x.1 (is_writer x.0.writes x.2)
+  allowed (act.Release g) ws chosen f =
+      let x : _ = is_opened no_guard p (numbered g (guards h)) (no_refusal _) (rests cells h p (act.Release g) (no_refusal _) f).1 in k.released g x.0 x.1
+  allowed (act.Downgrade g) ws chosen f =
+      let x : _ = is_opened no_writer p (numbered g (guards h)) (no_refusal _) (rests cells h p (act.Downgrade g) (no_refusal _) f).1 in
+      k.downgraded g x.0 x.1 (is_writer x.0.writes x.2)
+  allowed (act.Clone g) ws chosen f =
+      let x : _ = is_opened no_reader p (numbered g (guards h)) (no_refusal _) (rests cells h p (act.Clone g) (no_refusal _) f).1 in
+      rw x.1 (clones g ws x.0 x.1 (is_reader x.0.writes x.2))
+  allowed act.Exit ws chosen f = exits cells h p P k (first_of (registry cells h).left) refl (rests cells h p act.Exit (no_refusal _) f).0 ws chosen
+
+-- what holds in each case of a step that is not refused, and of a refused step, holds of a legal line
+pub of_free : (cells : List CellPlan) (h : List Event) (s : Step) (l : Line) → IsLegalLine cells h s l → (P : Act → Answer → Type 0)
+    → ((a : Act) (r : Refusal) → P a (answer.Refused r)) → Cases cells h s.party (λ a r. refusal cells h (step cells h s.party a) ≡ None → P a r) → P s.act l.answer
+of_free cells h s l m P refused k = by (refusal cells h s) refl
+  where
+    ws : List Wait
+    ws = waits_judged cells m.moment h s l.given
+
+    due : (o : Option Refusal) → refusal cells h s ≡ o → l.answer ≡ answer_of o (due_answer cells h s ws m.chosen)
+    due o e =
+        m.answered ∙ ap (λ x. answer_of x (due_at cells m.moment h s l.given m.chosen)) e ∙ ap (answer_of o) (due_at-judged cells m.moment h s l.given m.chosen)
+
+    by : (o : Option Refusal) → refusal cells h s ≡ o → P s.act l.answer
+    by None e = subst (P s.act) (sym (due None e)) (allowed cells h s.party (λ a r. refusal cells h (step cells h s.party a) ≡ None → P a r) k s.act ws m.chosen e e)
+    by (Some r) e = subst (P s.act) (sym (due (Some r) e)) (refused s.act r)
+
+-- the same, where the cases do not ask for what is not refused
+pub of_legal : (cells : List CellPlan) (h : List Event) (s : Step) (l : Line) → IsLegalLine cells h s l → (P : Act → Answer → Type 0)
+    → ((a : Act) (r : Refusal) → P a (answer.Refused r)) → Cases cells h s.party P → P s.act l.answer
+of_legal cells h s l m P refused k = by (refusal cells h s) refl
+  where
+    ws : List Wait
+    ws = waits_judged cells m.moment h s l.given
+
+    due : (o : Option Refusal) → refusal cells h s ≡ o → l.answer ≡ answer_of o (due_answer cells h s ws m.chosen)
+    due o e = m.answered ∙ ap (λ x. answer_of x (due_at cells m.moment h s l.given m.chosen)) e ∙ ap (answer_of o) (due_at-judged cells m.moment h s l.given m.chosen)
+
+    by : (o : Option Refusal) → refusal cells h s ≡ o → P s.act l.answer
+    by None e = subst (P s.act) (sym (due None e)) (allowed cells h s.party P k s.act ws m.chosen e)
+    by (Some r) e = subst (P s.act) (sym (due (Some r) e)) (refused s.act r)
