@@ -17,14 +17,16 @@ abbrev pub is_write : Hold → Bool
 is_write Write = true
 is_write hold = false
 
--- how many of the views have a read hold, and how many a write hold
+-- how many of the views have a hold of a kind
+abbrev pub how_many : (Hold → Bool) → List View → ℕ
+how_many kind [] = 0
+how_many kind (v ∷ views) = (if kind v.hold then 1 else 0) + how_many kind views
+
 abbrev pub reads : List View → ℕ
-reads [] = 0
-reads (v ∷ views) = (if is_read v.hold then 1 else 0) + reads views
+reads views = how_many is_read views
 
 abbrev pub writes : List View → ℕ
-writes [] = 0
-writes (v ∷ views) = (if is_write v.hold then 1 else 0) + writes views
+writes views = how_many is_write views
 
 -- what one view says of the word is so: with a write hold the phase is the one that it entered with, and INITIALIZED stays once it was seen
 pub record Knows (word : ℕ) (v : View) : Type 0 where

@@ -26,9 +26,9 @@ pub record IsSameSeat (old new : CellSeat) : Type 0 where
   pub id : new.token.id ≡ old.token.id
 
 -- the length of trail that the seat has seen, and how many sections it recorded
-pub record Counts (trail recorded : ℕ) (seat : CellSeat) : Type 0 where
-  pub trail : seat.trail_seen ≡ trail
-  pub recorded : seat.recorded ≡ recorded
+pub record Counts (length sections : ℕ) (seat : CellSeat) : Type 0 where
+  pub trail : seat.trail_seen ≡ length
+  pub recorded : seat.recorded ≡ sections
 
 -- a count stays at the greatest u64
 abbrev pub added : ℕ → ℕ → ℕ

@@ -1,8 +1,6 @@
 //! The seats by which callers step.
 
 ghost use Rattle.std.specs.Prelude.{◌≡◌, [], max};
-ghost use Rattle.lazy_threads.specs.Calls.{phase_got};
-ghost use Rattle.lazy_threads.specs.Seats.{view_of, Counts, counted};
 ghost use Rattle.phase_bits.specs.Number.{phase_of};
 ghost use Rattle.phase_bits.specs.Word.{phase_in};
 
@@ -29,6 +27,9 @@ pub struct CellSeat {
 }
 
 impl CellSeat {
+    ghost use Rattle.lazy_threads.specs.Calls.{phase_got};
+    ghost use Rattle.lazy_threads.specs.Seats.{view_of, Counts, counted};
+
     /// The greatest length of trail that the seat was told of, by its leaving calls or by the seats that it came from.
     pub fn trail_seen(&self) -> u64
         ensures { result ≡ self.now.trail_seen }
@@ -49,9 +50,7 @@ impl CellSeat {
     {
         phase_of_word(self.last)
     }
-}
 
-impl CellSeat {
     /// The seat is told of a trail of this length.
     #[inline(always)]
     pub(crate) fn told(&mut self, seen: u64)

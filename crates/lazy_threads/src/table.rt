@@ -13,13 +13,6 @@
 //! seat does under its hold comes after the exchange that got it and before the step that gives it back.
 
 ghost use Rattle.std.specs.Prelude.{◌≡◌, ◌==◌, ◌+◌, ◌^◌, ◌<◌, IfOk, if◌then◌else◌, true, false, max};
-ghost use Rattle.phase_bits.specs.Word.{unpacked};
-ghost use Rattle.phase_locker.specs.Natures.{bars};
-ghost use Rattle.lazy_threads.specs.Calls.{LeavesRead, LeavesWrite, Downgrades, MayPublish};
-ghost use Rattle.lazy_threads.specs.Rule.{IsCellWord};
-ghost use Rattle.lazy_threads.specs.Seats.{IsSeatOf, IsSameSeat, Counts, view_of, counted, added};
-ghost use Rattle.lazy_threads.specs.Views.{HasInitialized, saw_initialized, fresh, loaded, entered_read, entered_write, split_off, joined};
-ghost use Rattle.lazy_threads.specs.declared.view.Hold.TheVariants as hold;
 
 use crate::rule::{
     Downgrade, EnterRead, EnterWrite, JoinSeats, LeaveRead, LeaveWrite, Load, SplitSeat, WordRule,
@@ -30,6 +23,11 @@ use atomic_table::Table;
 use phase_bits::{LOCKED_BIT, Phase, READER_UNITY};
 use phase_locker::LockNature;
 use std::alloc::{AllocError, Global};
+
+/// One reader, in a word of 64 bits.
+const ONE_READER: u64 = READER_UNITY as u64;
+/// The lock bit, in a word of 64 bits.
+const LOCKED: u64 = LOCKED_BIT as u64;
 
 /// The lock word of one cell, which threads share by reference. Each of them steps with a seat of its own.
 ///
@@ -42,6 +40,14 @@ pub struct SyncTable {
 }
 
 impl SyncTable {
+    ghost use Rattle.phase_bits.specs.Word.{unpacked};
+    ghost use Rattle.phase_locker.specs.Natures.{bars};
+    ghost use Rattle.lazy_threads.specs.Calls.{LeavesRead, LeavesWrite, Downgrades, MayPublish};
+    ghost use Rattle.lazy_threads.specs.Rule.{IsCellWord};
+    ghost use Rattle.lazy_threads.specs.Seats.{IsSeatOf, IsSameSeat, Counts, view_of, counted, added};
+    ghost use Rattle.lazy_threads.specs.Views.{HasInitialized, saw_initialized, fresh, loaded, entered_read, entered_write, split_off, joined};
+    ghost use Rattle.lazy_threads.specs.declared.view.Hold.TheVariants as hold;
+
     /// A word with the empty phase and no holder, and the first seat. The other seats are split off it.
     pub fn new(alloc: Global) -> Result<(SyncTable, CellSeat), AllocError>
         ensures table { IfOk result (λ made. IsSeatOf made.0 made.1) }
@@ -85,7 +91,7 @@ impl SyncTable {
         ensures view { view_of seat.new ≡ (if result == judged then entered_read result (view_of seat.old) else loaded result (view_of seat.old)) }
         ensures lasts { saw_initialized (view_of seat.old).seen ≡ true → HasInitialized result }
     {
-        let admitted = judged + u64::from(READER_UNITY);
+        let admitted = judged + ONE_READER;
         let found = self
             .words
             .shared
@@ -108,7 +114,7 @@ impl SyncTable {
         ensures view { view_of seat.new ≡ (if result == judged then entered_write result (view_of seat.old) else loaded result (view_of seat.old)) }
         ensures lasts { saw_initialized (view_of seat.old).seen ≡ true → HasInitialized result }
     {
-        let admitted = judged + u64::from(LOCKED_BIT);
+        let admitted = judged + LOCKED;
         let found = self
             .words
             .shared
@@ -130,7 +136,7 @@ impl SyncTable {
     {
         self.words
             .shared
-            .fetch_sub::<LeaveRead>(&mut seat.token, 0, u64::from(READER_UNITY));
+            .fetch_sub::<LeaveRead>(&mut seat.token, 0, ONE_READER);
         seat.told(seen);
     }
 
@@ -145,7 +151,7 @@ impl SyncTable {
         ensures leaves { LeavesWrite phase (view_of seat.old) (view_of seat.new) }
         ensures counts { Counts (max seat.old.trail_seen seen) (counted recorded seat.old.recorded) seat.new }
     {
-        let word = u64::from(phase.bits());
+        let word = phase.bits() as u64;
         self.words
             .shared
             .swap::<LeaveWrite>(&mut seat.token, 0, word);
@@ -163,7 +169,7 @@ impl SyncTable {
         ensures downgrades { Downgrades phase (view_of seat.old) (view_of seat.new) }
         ensures counts { Counts (max seat.old.trail_seen seen) (counted recorded seat.old.recorded) seat.new }
     {
-        let word = u64::from(phase.bits()) + u64::from(READER_UNITY);
+        let word = phase.bits() as u64 + ONE_READER;
         self.words
             .shared
             .swap::<Downgrade>(&mut seat.token, 0, word);
