@@ -13,7 +13,7 @@ ghost use Rattle.lazy_threads.specs.declared.view.Hold.TheVariants as hold;
 use crate::seat::{CellSeat, phase_of_word};
 use crate::spin_wait::SpinWait;
 use crate::table::SyncTable;
-use phase_bits::{Holders, MOST_READERS, Phase, unpack};
+use phase_bits::{Phase, READER_BITS, READER_UNITY};
 use phase_locker::{LockNature, LockResult};
 use std::sync::Wait;
 
@@ -49,13 +49,13 @@ impl SyncTable {
         ensures misses { IfNone result (Misses (F.post how.now) (view_of seat.old) (view_of seat.new)) }
     {
         let word = self.load(seat);
-        let holders = holders_of(word);
-        let nature = how(holders.phase);
-        if is_barred(&holders, nature) {
+        let phase = phase_of_word(word);
+        let nature = how(phase);
+        if is_barred(word, nature) {
             return None;
         }
         match nature {
-            LockNature::None => Some(LockResult::None(holders.phase)),
+            LockNature::None => Some(LockResult::None(phase)),
             LockNature::Read => {
                 if self.enter_read(seat, word) == word {
                     Some(LockResult::Read(()))
@@ -89,12 +89,34 @@ impl SyncTable {
         ensures enters { Enters (F.post how.now) (view_of seat.old) (view_of seat.new) (nature_got result) }
         ensures phase { TellsPhase result (view_of seat.new) }
     {
+        if let Some(got) = self.try_enter(seat, how) {
+            return got;
+        }
+        self.enter_later(rt, seat, how)
+    }
+
+    /// Further attempts until there is an answer. It stands apart, so that a first attempt that succeeds is short code.
+    #[inline(never)]
+    fn enter_later<R: Wait, F: Fn(Phase) -> LockNature>(
+        &self,
+        rt: &R,
+        seat: &mut CellSeat,
+        how: &F,
+    ) -> LockResult<(), ()>
+        requires table { IsSeatOf self.now seat.old }
+        requires hold { (view_of seat.old).hold ≡ hold.Free }
+        requires callable { F.IsAlwaysCallable how.now }
+        ensures seat { IsSameSeat seat.old seat.new }
+        ensures counts { Counts seat.old.trail_seen seat.old.recorded seat.new }
+        ensures enters { Enters (F.post how.now) (view_of seat.old) (view_of seat.new) (nature_got result) }
+        ensures phase { TellsPhase result (view_of seat.new) }
+    {
         let mut spin = SpinWait::new();
         for _ in rt.forever() {
+            spin.spin_or_yield();
             if let Some(got) = self.try_enter(seat, how) {
                 return got;
             }
-            spin.spin_or_yield();
         }
         unreachable!()
     }
@@ -113,32 +135,24 @@ impl SyncTable {
         ensures misses { OnFalse result (MissesClone (view_of seat.new) (view_of into.old) (view_of into.new)) }
     {
         let word = self.load(seat);
-        if is_barred(&holders_of(word), LockNature::Read) {
+        if is_barred(word, LockNature::Read) {
             return false;
         }
         self.enter_read(into, word) == word
     }
 }
 
-/// The record that the word of a cell says.
+/// Whether the record that the word says bars a call that wants this. One comparison tells, since the word of a cell that
+/// spins has the lock bit or readers, and nothing above: a word from READER_UNITY on has a holder, and one from READER_BITS
+/// on has the lock bit, or the greatest number of readers.
 #[inline(always)]
-fn holders_of(word: u64) -> Holders
+fn is_barred(word: u64, nature: LockNature) -> bool
     requires { IsCellWord word }
-    ensures { result ≡ unpacked word }
-{
-    unpack(word as u32)
-}
-
-/// Whether the record bars a call that wants this.
-#[inline(always)]
-fn is_barred(holders: &Holders, nature: LockNature) -> bool
-    ensures { result ≡ bars holders.now nature }
+    ensures { result ≡ bars (unpacked word) nature }
 {
     match nature {
-        LockNature::Read => {
-            holders.locked & (holders.readers == 0) | (holders.readers == MOST_READERS)
-        }
-        LockNature::Write => holders.locked | (holders.readers != 0),
+        LockNature::Read => word >= READER_BITS as u64,
+        LockNature::Write => word >= READER_UNITY as u64,
         LockNature::None => false,
     }
 }

@@ -1,6 +1,6 @@
 use Rattle.lazy_threads.specs.Seats.{view_of, IsSameSeat, Counts}
 use Rattle.lazy_threads.proofs.Entering.{Waits}
-use Rattle.lazy_threads.proofs.table.SyncTable.enter.Given as goal
+use Rattle.lazy_threads.proofs.table.SyncTable.enter_later.Given as goal
 
 abbrev pub invariant-loop : goal.invariant-loop
 invariant-loop g l =
