@@ -11,7 +11,7 @@ use Rattle.phase_bits.specs.Word.{phase_in, readers_in, lock_in}
 use Rattle.lazy_threads.specs.declared.view.View.{View}
 use Rattle.lazy_threads.specs.declared.view.Hold.TheVariants.{Free, Read, Write}
 use Rattle.lazy_threads.specs.Views.{HasInitialized, saw_initialized, fresh, loaded, entered_read, entered_write, left_read, left_write, downgraded, split_off, joined}
-use Rattle.lazy_threads.specs.Rule.{is_read, is_write, reads, writes, Knows, Keeps, rule, IsCellWord}
+use Rattle.lazy_threads.specs.Rule.{is_read, is_write, reads, writes, Knows, Keeps, rule, IsCellWord, Finds, FindsOwn}
 use Rattle.lazy_threads.proofs.Holds.{one_if, how_many-set, how_many-one, how_many-two, how_many-more}
 
 -- ---- what the rule says of a word and of a view
@@ -19,8 +19,8 @@ use Rattle.lazy_threads.proofs.Holds.{one_if, how_many-set, how_many-one, how_ma
 pub word_is : (word : ℕ) (vs : List View) → Keeps word vs → IsCellWord word
 word_is word vs k = record { below = k.below; spare = k.spare; alone = λ h. omega (arith, k.readers, k.alone (omega (arith, k.locked, h))) }
 
-pub seen_lasts : (word : ℕ) (vs : List View) (id : ℕ) (v : View) → Keeps word vs → get_elem? vs id ≡ some v → saw_initialized v.seen ≡ true → HasInitialized word
-seen_lasts word vs id v k at saw = (k.known id v at).seen saw
+pub finds : (word : ℕ) (vs : List View) (id : ℕ) (v : View) → Keeps word vs → get_elem? vs id ≡ some v → Finds word v
+finds word vs id v k at = record { allowed = word_is word vs k; lasts = λ saw. (k.known id v at).seen saw }
 
 -- one more phase was seen, which is the word's
 front_odd : (n : ℕ) → ((n % 256 % 2 == 1) || false) ≡ true → n % 2 ≡ 1
@@ -69,8 +69,8 @@ pub loaded-Keeps : (word : ℕ) (vs : List View) (id : ℕ) (v : View) → Keeps
 loaded-Keeps word vs id v k at =
     let was = k.known id v at in
     changed word word vs id v (loaded word v) k at refl refl (word_is word vs k)
-      (record { entered = λ h. was.entered h; seen = λ h. saw_front word v.seen h (λ i. was.seen i) })
-      (λ j u apart there. k.known j u there)
+    (record { entered = λ h. was.entered h; seen = λ h. saw_front word v.seen h (λ i. was.seen i) })
+    (λ j u apart there. k.known j u there)
 
 -- ---- read enter and write enter
 
@@ -78,17 +78,17 @@ pub entered_read-Keeps : (word : ℕ) (vs : List View) (id : ℕ) (v : View) →
 entered_read-Keeps word vs id v free unlocked few k at =
     let was = k.known id v at in
     changed word (word + 256) vs id v (entered_read word v) k at (rw free (omega (arith, few))) (rw free (omega (arith, few)))
-      (record { below = omega (arith, k.below, few, k.spare); spare = omega (arith, k.spare, few); alone = λ h. absurd (omega (arith, h, unlocked, few)) })
-      (record { entered = λ h. absurd (cc); seen = λ h. omega (arith, was.seen h) })
-      (same_phase word (word + 256) vs k (omega arith) id)
+    (record { below = omega (arith, k.below, few, k.spare); spare = omega (arith, k.spare, few); alone = λ h. absurd (omega (arith, h, unlocked, few)) })
+    (record { entered = λ h. absurd (cc); seen = λ h. omega (arith, was.seen h) })
+    (same_phase word (word + 256) vs k (omega arith) id)
 
 pub entered_write-Keeps : (word : ℕ) (vs : List View) (id : ℕ) (v : View) → v.hold ≡ Free → word / 2 ^ 29 % 2 ≡ 0 → word / 256 % 2 ^ 20 ≡ 0 → Keeps word vs → get_elem? vs id ≡ some v → Keeps (word + 2 ^ 29) (set vs id (entered_write word v))
 entered_write-Keeps word vs id v free unlocked none k at =
     let was = k.known id v at in
     changed word (word + 2 ^ 29) vs id v (entered_write word v) k at (rw free (omega (arith, unlocked, k.below))) (rw free (omega (arith, k.below)))
-      (record { below = omega (arith, k.below, unlocked); spare = omega (arith, k.spare); alone = λ h. omega (arith, none) })
-      (record { entered = λ h. omega arith; seen = λ h. omega (arith, was.seen h) })
-      (same_phase word (word + 2 ^ 29) vs k (omega arith) id)
+    (record { below = omega (arith, k.below, unlocked); spare = omega (arith, k.spare); alone = λ h. omega (arith, none) })
+    (record { entered = λ h. omega arith; seen = λ h. omega (arith, was.seen h) })
+    (same_phase word (word + 2 ^ 29) vs k (omega arith) id)
 
 -- ---- read leave
 
@@ -101,14 +101,14 @@ left_read-Keeps word next vs id v held less k at =
     let any = some_reader word vs id v held k at in
     let unlocked = (word_is word vs k).alone in
     changed word next vs id v (left_read word v) k at (rw held (omega (arith, less, any))) (rw held (omega (arith, less, any)))
-      (record { below = omega (arith, less, k.below); spare = omega (arith, less, k.spare, any); alone = λ h. absurd (omega (arith, any, unlocked (omega (arith, less, h, any)))) })
-      (record { entered = λ h. absurd (cc); seen = λ h. omega (arith, less, was.seen h) })
-      (same_phase word next vs k (omega (arith, less)) id)
+    (record { below = omega (arith, less, k.below); spare = omega (arith, less, k.spare, any); alone = λ h. absurd (omega (arith, any, unlocked (omega (arith, less, h, any)))) })
+    (record { entered = λ h. absurd (cc); seen = λ h. omega (arith, less, was.seen h) })
+    (same_phase word next vs k (omega (arith, less)) id)
 
 -- ---- write leave and downgrade
 
 -- the word beside a write hold is the one that the hold left
-pub write_word : (word : ℕ) (vs : List View) (id : ℕ) (v : View) → v.hold ≡ Write → Keeps word vs → get_elem? vs id ≡ some v → word ≡ v.entered + 2 ^ 29
+write_word : (word : ℕ) (vs : List View) (id : ℕ) (v : View) → v.hold ≡ Write → Keeps word vs → get_elem? vs id ≡ some v → word ≡ v.entered + 2 ^ 29
 write_word word vs id v held k at =
     let mine = how_many-one is_write vs id v at (ap is_write held) in
     let lock : word / 2 ^ 29 % 2 ≡ 1 = omega (arith, k.locked, mine) in
@@ -116,42 +116,41 @@ write_word word vs id v held k at =
     let entered = (k.known id v at).entered held in
     omega (arith, k.below, k.spare)
 
-pub write_phase : (word : ℕ) (vs : List View) (id : ℕ) (v : View) → v.hold ≡ Write → Keeps word vs → get_elem? vs id ≡ some v → v.entered < 256
-write_phase word vs id v held k at = let entered = (k.known id v at).entered held in omega arith
+pub finds_own : (word : ℕ) (vs : List View) (id : ℕ) (v : View) → v.hold ≡ Write → Keeps word vs → get_elem? vs id ≡ some v → FindsOwn word v
+finds_own word vs id v held k at =
+    let entered = (k.known id v at).entered held in
+    record { own = write_word word vs id v held k at; phase = omega arith }
 
 -- a word with a phase that a write hold may publish: the other views know it
 published : (word next : ℕ) (vs : List View) (id : ℕ) (v : View) → v.hold ≡ Write → (v.entered % 2 ≡ 1 → next % 2 ≡ 1) → Keeps word vs → get_elem? vs id ≡ some v
     → (saw_initialized v.seen ≡ true → next % 2 ≡ 1) × ((j : ℕ) (u : View) → j ≢ id → get_elem? vs j ≡ some u → Knows next u)
 published word next vs id v held odd k at =
     let entered = (k.known id v at).entered held in
-    let lasts : word % 2 ≡ 1 → next % 2 ≡ 1 = λ h. odd (omega (arith, entered, h)) in
-    (
+    let lasts : word % 2 ≡ 1 → next % 2 ≡ 1 = λ h. odd (omega (arith, entered, h)) in (
       (λ saw. lasts ((k.known id v at).seen saw)),
       (λ j u apart there. record {
-          entered = λ h. absurd (how_many-two is_write vs id j v u (λ e. apart (sym e)) at there (ap is_write held) (ap is_write h) (omega (arith, k.locked)));
-          seen = λ saw. lasts ((k.known j u there).seen saw);
-        }),
+        entered = λ h. absurd (how_many-two is_write vs id j v u (λ e. apart (sym e)) at there (ap is_write held) (ap is_write h) (omega (arith, k.locked)));
+        seen = λ saw. lasts ((k.known j u there).seen saw);
+      }),
     )
 
 pub left_write-Keeps : (word next : ℕ) (vs : List View) (id : ℕ) (v : View) → v.hold ≡ Write → next < 256 → (v.entered % 2 ≡ 1 → next % 2 ≡ 1) → Keeps word vs → get_elem? vs id ≡ some v → Keeps next (set vs id (left_write word next v))
 left_write-Keeps word next vs id v held below odd k at =
-    let is = write_word word vs id v held k at in
-    let small = write_phase word vs id v held k at in
+    let own = finds_own word vs id v held k at in
     let knows = published word next vs id v held odd k at in
-    changed word next vs id v (left_write word next v) k at (rw held (omega (arith, is, small, below))) (rw held (omega (arith, is, small, below)))
-      (record { below = omega (arith, below); spare = omega (arith, below); alone = λ h. absurd (omega (arith, below, h)) })
-      (record { entered = λ h. absurd (cc); seen = λ h. saw_front next v.seen h knows.0 })
-      knows.1
+    changed word next vs id v (left_write word next v) k at (rw held (omega (arith, own.own, own.phase, below))) (rw held (omega (arith, own.own, own.phase, below)))
+    (record { below = omega (arith, below); spare = omega (arith, below); alone = λ h. absurd (omega (arith, below, h)) })
+    (record { entered = λ h. absurd (cc); seen = λ h. saw_front next v.seen h knows.0 })
+    knows.1
 
 pub downgraded-Keeps : (word phase : ℕ) (vs : List View) (id : ℕ) (v : View) → v.hold ≡ Write → phase < 256 → (v.entered % 2 ≡ 1 → phase % 2 ≡ 1) → Keeps word vs → get_elem? vs id ≡ some v → Keeps (phase + 256) (set vs id (downgraded word (phase + 256) v))
 downgraded-Keeps word phase vs id v held below odd k at =
-    let is = write_word word vs id v held k at in
-    let small = write_phase word vs id v held k at in
+    let own = finds_own word vs id v held k at in
     let knows = published word (phase + 256) vs id v held (λ h. omega (arith, odd h)) k at in
-    changed word (phase + 256) vs id v (downgraded word (phase + 256) v) k at (rw held (omega (arith, is, small, below))) (rw held (omega (arith, is, small, below)))
-      (record { below = omega (arith, below); spare = omega (arith, below); alone = λ h. absurd (omega (arith, below, h)) })
-      (record { entered = λ h. absurd (cc); seen = λ h. saw_front (phase + 256) v.seen h knows.0 })
-      knows.1
+    changed word (phase + 256) vs id v (downgraded word (phase + 256) v) k at (rw held (omega (arith, own.own, own.phase, below))) (rw held (omega (arith, own.own, own.phase, below)))
+    (record { below = omega (arith, below); spare = omega (arith, below); alone = λ h. absurd (omega (arith, below, h)) })
+    (record { entered = λ h. absurd (cc); seen = λ h. saw_front (phase + 256) v.seen h knows.0 })
+    knows.1
 
 -- ---- seat split
 
@@ -186,14 +185,14 @@ joined-Keeps : (word : ℕ) (vs : List View) (id : ℕ) (v w : View) → (saw_in
 joined-Keeps word vs id v w seen k at =
     let was = k.known id v at in
     changed word word vs id v (joined v w) k at refl refl (word_is word vs k)
-      (record { entered = λ h. was.entered h; seen = λ h. saw_either word v.seen w.seen h (λ i. was.seen i) seen })
-      (λ j u apart there. k.known j u there)
+    (record { entered = λ h. was.entered h; seen = λ h. saw_either word v.seen w.seen h (λ i. was.seen i) seen })
+    (λ j u apart there. k.known j u there)
 
 spent-Keeps : (word : ℕ) (vs : List View) (id : ℕ) (v : View) → v.hold ≡ Free → Keeps word vs → get_elem? vs id ≡ some v → Keeps word (set vs id fresh)
 spent-Keeps word vs id v free k at =
     changed word word vs id v fresh k at (rw free refl) (rw free refl) (word_is word vs k)
-      (record { entered = λ h. absurd (cc); seen = λ h. absurd (cc) })
-      (λ j u apart there. k.known j u there)
+    (record { entered = λ h. absurd (cc); seen = λ h. absurd (cc) })
+    (λ j u apart there. k.known j u there)
 
 pub join-Keeps : (word : ℕ) (vs : List View) (id other : ℕ) (v w : View) → w.hold ≡ Free → Keeps word vs → get_elem? vs id ≡ some v → (other ≡ id → ⊥) → get_elem? (set vs id (joined v w)) other ≡ some w → Keeps word (set (set vs id (joined v w)) other fresh)
 join-Keeps word vs id other v w free k at apart there =

@@ -51,3 +51,13 @@ pub record IsCellWord (word : ℕ) : Type 0 where
   pub below : word < 2 ^ 30
   pub spare : spare_in word ≡ 0
   pub alone : lock_in word ≡ 1 → readers_in word ≡ 0
+
+-- what a step finds: a word that the rule allows, with INITIALIZED where the seat has seen it
+pub record Finds (word : ℕ) (v : View) : Type 0 where
+  pub allowed : IsCellWord word
+  pub lasts : saw_initialized v.seen ≡ true → HasInitialized word
+
+-- what a step of a write hold finds: the word that the hold left
+pub record FindsOwn (word : ℕ) (v : View) : Type 0 where
+  pub own : word ≡ v.entered + 2 ^ 29
+  pub phase : v.entered < 256

@@ -1,5 +1,5 @@
 -- What a seat knows, and how each kind of step changes it.
-use Rattle.std.specs.Prelude.{◌≡◌, ℕ, ◌+◌, ◌-◌, ◌%◌, ◌^◌, ◌==◌, Bool, false, ◌||◌, List, [], ◌∷◌, ◌++◌}
+use Rattle.std.specs.Prelude.{◌≡◌, ℕ, ◌+◌, ◌-◌, ◌%◌, ◌^◌, ◌==◌, Bool, false, ◌||◌, if◌then◌else◌, List, [], ◌∷◌, ◌++◌}
 use Rattle.lazy_threads.specs.declared.view.View.{View}
 use Rattle.lazy_threads.specs.declared.view.Hold.TheVariants.{Free, Read, Write}
 
@@ -26,6 +26,10 @@ entered_read word v = record v { hold = Read; before = word; after = word + 256 
 
 abbrev pub entered_write : ℕ → View → View
 entered_write word v = record v { hold = Write; entered = word % 256; before = word; after = word + 2 ^ 29 }
+
+-- after an exchange that expected the judged word and found this one: it enters where the two are one, and else it is a load
+abbrev pub exchanged : (ℕ → View → View) → ℕ → ℕ → View → View
+exchanged enter judged word v = if word == judged then enter word v else loaded word v
 
 -- after a read hold was given back, where the step found this word
 abbrev pub left_read : ℕ → View → View

@@ -12,7 +12,7 @@
 //! contract, that the steps have one order in which the rule holds between any two, is what the proofs rest on. So what a
 //! seat does under its hold comes after the exchange that got it and before the step that gives it back.
 
-ghost use Rattle.std.specs.Prelude.{◌≡◌, ◌==◌, ◌+◌, ◌^◌, ◌<◌, IfOk, if◌then◌else◌, true, false, max};
+ghost use Rattle.std.specs.Prelude.{◌≡◌, IfOk, false, max};
 
 use crate::rule::{
     Downgrade, EnterRead, EnterWrite, JoinSeats, LeaveRead, LeaveWrite, Load, SplitSeat, WordRule,
@@ -43,9 +43,9 @@ impl SyncTable {
     ghost use Rattle.phase_bits.specs.Word.{unpacked};
     ghost use Rattle.phase_locker.specs.Natures.{bars};
     ghost use Rattle.lazy_threads.specs.Calls.{LeavesRead, LeavesWrite, Downgrades, MayPublish};
-    ghost use Rattle.lazy_threads.specs.Rule.{IsCellWord};
+    ghost use Rattle.lazy_threads.specs.Rule.{IsCellWord, Finds};
     ghost use Rattle.lazy_threads.specs.Seats.{IsSeatOf, IsSameSeat, Counts, view_of, counted, added};
-    ghost use Rattle.lazy_threads.specs.Views.{HasInitialized, saw_initialized, fresh, loaded, entered_read, entered_write, split_off, joined};
+    ghost use Rattle.lazy_threads.specs.Views.{fresh, loaded, exchanged, entered_read, entered_write, split_off, joined};
     ghost use Rattle.lazy_threads.specs.declared.view.Hold.TheVariants as hold;
 
     /// A word with the empty phase and no holder, and the first seat. The other seats are split off it.
@@ -71,8 +71,7 @@ impl SyncTable {
         ensures seat { IsSameSeat seat.old seat.new }
         ensures counts { Counts seat.old.trail_seen seat.old.recorded seat.new }
         ensures view { view_of seat.new ≡ loaded result (view_of seat.old) }
-        ensures word { IsCellWord result }
-        ensures lasts { saw_initialized (view_of seat.old).seen ≡ true → HasInitialized result }
+        ensures finds { Finds result (view_of seat.old) }
     {
         let found = self.words.shared.load::<Load>(&mut seat.token, 0);
         seat.last = found;
@@ -88,8 +87,8 @@ impl SyncTable {
         requires word { IsCellWord judged }
         ensures seat { IsSameSeat seat.old seat.new }
         ensures counts { Counts seat.old.trail_seen seat.old.recorded seat.new }
-        ensures view { view_of seat.new ≡ (if result == judged then entered_read result (view_of seat.old) else loaded result (view_of seat.old)) }
-        ensures lasts { saw_initialized (view_of seat.old).seen ≡ true → HasInitialized result }
+        ensures view { view_of seat.new ≡ exchanged entered_read judged result (view_of seat.old) }
+        ensures finds { Finds result (view_of seat.old) }
     {
         let admitted = judged + ONE_READER;
         let found = self
@@ -111,8 +110,8 @@ impl SyncTable {
         requires word { IsCellWord judged }
         ensures seat { IsSameSeat seat.old seat.new }
         ensures counts { Counts seat.old.trail_seen seat.old.recorded seat.new }
-        ensures view { view_of seat.new ≡ (if result == judged then entered_write result (view_of seat.old) else loaded result (view_of seat.old)) }
-        ensures lasts { saw_initialized (view_of seat.old).seen ≡ true → HasInitialized result }
+        ensures view { view_of seat.new ≡ exchanged entered_write judged result (view_of seat.old) }
+        ensures finds { Finds result (view_of seat.old) }
     {
         let admitted = judged + LOCKED;
         let found = self
