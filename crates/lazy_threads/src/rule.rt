@@ -1,0 +1,81 @@
+//! The rule of the word, and what each kind of step tells the seat that makes it.
+//!
+//! The kit's table owes that the rule holds between any two steps, and asks of each step that it keeps it. A step is named by
+//! a marker: `then` says how the seat's view changes, by the word that the step found.
+
+ghost use Rattle.std.specs.Prelude.{◌≡◌, ◌<◌};
+ghost use Rattle.phase_bits.specs.Word.{readers_in};
+ghost use Rattle.lazy_threads.specs.Rule.{rule, Finds, FindsOwn};
+ghost use Rattle.lazy_threads.specs.Views.{fresh, loaded, exchanged, entered_read, entered_write, left_read, left_write, downgraded, split_off, joined};
+
+use crate::view::View;
+use atomic_table::{Join, Play, Split, TableRule};
+
+/// The rule of the word.
+pub struct WordRule;
+
+impl TableRule<(), View, ()> for WordRule {
+    ghost holds = { λ _ state. rule state };
+
+    ghost first = { λ _. fresh };
+}
+
+/// A look at the word. It finds INITIALIZED where its seat has seen it.
+pub(crate) struct Load;
+
+impl Play<(), View> for Load {
+    ghost then = { λ step old found new. (new ≡ (loaded found old.0, old.1)) × Finds found old.0 };
+}
+
+/// An exchange for a read hold. Where it finds another word than the expected one it is a look.
+pub(crate) struct EnterRead;
+
+impl Play<(), View> for EnterRead {
+    ghost then = { λ step old found new. (new ≡ (exchanged entered_read step.first found old.0, old.1)) × Finds found old.0 };
+}
+
+/// An exchange for a write hold. Where it finds another word than the expected one it is a look.
+pub(crate) struct EnterWrite;
+
+impl Play<(), View> for EnterWrite {
+    ghost then = { λ step old found new. (new ≡ (exchanged entered_write step.first found old.0, old.1)) × Finds found old.0 };
+}
+
+/// A read hold is given back. The word had a reader.
+pub(crate) struct LeaveRead;
+
+impl Play<(), View> for LeaveRead {
+    ghost then = { λ step old found new. (new ≡ (left_read found old.0, old.1)) × Finds found old.0 × (0 < readers_in found) };
+}
+
+/// A write hold is given back. The word was as the hold had left it.
+pub(crate) struct LeaveWrite;
+
+impl Play<(), View> for LeaveWrite {
+    ghost then = { λ step old found new. (new ≡ (left_write found step.first old.0, old.1)) × FindsOwn found old.0 };
+}
+
+/// A write hold becomes a read hold. The word was as the hold had left it.
+pub(crate) struct Downgrade;
+
+impl Play<(), View> for Downgrade {
+    ghost then = { λ step old found new. (new ≡ (downgraded found step.first old.0, old.1)) × FindsOwn found old.0 };
+}
+
+/// A seat is split: the new one has seen as much, and has no hold.
+pub(crate) struct SplitSeat;
+
+impl Split<View> for SplitSeat {
+    ghost left = { λ v. v };
+
+    ghost right = { λ v. split_off v };
+}
+
+/// Two seats are joined: the one that stays has seen what both had seen, and the other is spent.
+pub(crate) struct JoinSeats;
+
+impl Join<View> for JoinSeats {
+    ghost both = { λ v other. joined v other };
+
+    ghost spent = { fresh };
+}

@@ -1,0 +1,4 @@
+//! Callers.
+#![tactic(auto)]
+
+pub mod shared_counter;
