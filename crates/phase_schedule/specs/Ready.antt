@@ -34,7 +34,7 @@ use Rattle.schedule_rules.specs.Waits.{Wait as WaitingCall, act_for, attempt, wa
 use Rattle.schedule_rules.specs.Holds.{writes_cell}
 use Rattle.schedule_rules.specs.Refusals.{refusal}
 use Rattle.schedule_rules.specs.Legal.{IsLegal, IsLegalLine}
-use Rattle.schedule_rules.specs.Transcripts.{IsKnown}
+use Rattle.schedule_rules.specs.Transcripts.{NamesKnown}
 use Rattle.phase_schedule.specs.declared.rows.Draft.{Draft}
 use Rattle.phase_schedule.specs.declared.look_up.Run.{Run}
 use Rattle.phase_schedule.specs.declared.rows.Target.{Target}
@@ -53,7 +53,7 @@ pub record IsReady (h : List Event) (v : View) (s : Step) : Type 0 where
 pub record IsNext (h : List Event) (v : View) (s : Step) (n : ℕ) : Type 0 where
   pub ready : IsReady h v s
   pub number : n ≡ length h
-  pub known : IsKnown (length v.parties) (length v.cells) s
+  pub known : NamesKnown (length v.parties) (length v.cells) s
   pub exit : IsExiting (plans v) h (length v.guards) v.exit
 
 -- ---- attempts

@@ -25,7 +25,7 @@ use Rattle.schedule_rules.specs.Refusals.{refusal}
 use Rattle.schedule_rules.specs.Answers.{if_accessible}
 use Rattle.schedule_rules.specs.Due.{answer_of_made, due_finished, due_made, due_look, due_clone, due_answer}
 use Rattle.schedule_rules.specs.Legal.{IsLegalLine, answer_of}
-use Rattle.schedule_rules.specs.Laws.{waits_judged}
+use Rattle.schedule_rules.specs.Causes.{waits_judged}
 use Rattle.schedule_rules.proofs.Judged.{due_at-judged}
 
 module _ (P : Answer → Type 0) where

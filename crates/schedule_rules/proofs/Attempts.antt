@@ -1,5 +1,5 @@
 -- What an attempt at a cell is answered, case by case.
-use Rattle.std.proofs.Common.{◌≡◌, ◌<◌, ℕ, List, [], ◌∷◌, refl, sym, ◌∙◌, ap, subst, arith, Bool, true, false, not, ◌&&◌, ◌||◌, None, Some}
+use Rattle.std.proofs.Common.{◌≡◌, ◌<◌, ◌+◌, ℕ, List, [], ◌∷◌, refl, sym, ◌∙◌, ap, subst, arith, Bool, true, false, not, ◌&&◌, ◌||◌, None, Some}
 use Rattle.std.specs.Prelude.{◌==◌, nat_lt, is_some, if◌then◌else◌}
 use Rattle.std.specs.declared.option.Option.{Option}
 use Rattle.exit_registry.specs.Registry.{first_of, look_at}
@@ -26,7 +26,7 @@ use Rattle.schedule_rules.specs.Sections.{runs}
 use Rattle.schedule_rules.specs.Replay.{replay, phase_at}
 use Rattle.schedule_rules.specs.Exits.{registry}
 use Rattle.schedule_rules.specs.Waits.{act_for, Wait, wait_of, waits, attempt_of_wait, attempt_of_turn, shares_write, drains_on}
-use Rattle.schedule_rules.specs.Holds.{is_barred, holding_with, keeps, write_holds, readers, readers_with, writers_with, drains_with}
+use Rattle.schedule_rules.specs.Holds.{is_barred, holding_with, keeps, read_guards, write_holds, readers, readers_with, writers_with, drains_with}
 use Rattle.schedule_rules.specs.Refusals.{refusal, refusal_by, refusal_free, refusal_waiting}
 use Rattle.schedule_rules.specs.Answers.{answer_of_run, if_accessible, call_answer_admitted, turn_answer_admitted, answer_admitted}
 use Rattle.schedule_rules.specs.Due.{answer_of_look, due_attempt, due_tried}
@@ -126,6 +126,45 @@ module _ (cells : List CellPlan) (h : List Event) (p : ℕ) where
             kept how.ParkedRead b u v g = unbarred ws g
             kept how.Spin b u v g = unbarred ws g
 
+    -- nor a guard to read
+    unbarred_read : (ws : List Wait) → is_barred (Some Writes) (holding_with c h ws) ≡ false → read_guards c h ≡ 0
+    unbarred_read ws e = by (nat_lt 0 (writers_with c h ws)) (nat_lt 0 (drains_with c ws)) (nat_lt 0 (readers_with c h ws)) refl e
+      where
+        by : (b d o : Bool) → nat_lt 0 (readers_with c h ws) ≡ o → (b || (d || o)) ≡ false → read_guards c h ≡ 0
+        by false false false f g = grind arith
+        by true d o f g = absurd (apart g)
+        by false true o f g = absurd (apart g)
+        by false false true f g = absurd (apart g)
+
+    unread : (ws : List Wait) → ((w : Wait) → wait_of p (waits cells h) ≡ Some w → w.cell ≡ c)
+        → (not (keeps (wait_of p (waits cells h)) (Some Writes) (readers cells c h)) && is_barred (Some Writes) (holding_with c h ws)) ≡ false → read_guards c h ≡ 0
+    unread ws mine e = by (wait_of p (waits cells h)) refl e
+      where
+        none : (n : ℕ) → read_guards c h + n ≡ 0 → read_guards c h ≡ 0
+        none n f = omega (arith, f)
+
+        drained : (b : Bool) → (readers cells c h == 0) ≡ b → (not b && is_barred (Some Writes) (holding_with c h ws)) ≡ false → read_guards c h ≡ 0
+        drained true f g = let n : readers cells c h ≡ 0 = grind arith in none _ n
+        drained false f g = unbarred_read ws g
+
+        by : (o : Option Wait) → wait_of p (waits cells h) ≡ o → (not (keeps o (Some Writes) (readers cells c h)) && is_barred (Some Writes) (holding_with c h ws)) ≡ false → read_guards c h ≡ 0
+        by None f g = unbarred_read ws g
+        by (Some w) f g = kept w.way w.woken refl refl g
+          where
+            here : (w.cell == c) ≡ true
+            here = same_number w.cell c (mine w f)
+
+            kept : (y : How) (b : Bool) → w.way ≡ y → w.woken ≡ b
+                → (not (keeps (Some (record { party = w.party; cell = w.cell; want = w.want; way = y; woken = b })) (Some Writes) (readers cells c h)) && is_barred (Some Writes) (holding_with c h ws)) ≡ false
+                → read_guards c h ≡ 0
+            kept how.ParkedWrite true u v g =
+                let one : 0 < count (shares_write c) (waits cells h) = found_counts (λ z. z.party == p) (shares_write c) (waits cells h) w f (rw (u, v, here) refl) in
+                none _ (alone.no_reader (omega (arith, one)))
+            kept how.ParkedWrite false u v g = unbarred_read ws g
+            kept how.Drain b u v g = drained (readers cells c h == 0) refl g
+            kept how.ParkedRead b u v g = unbarred_read ws g
+            kept how.Spin b u v g = unbarred_read ws g
+
   -- whatever of the party waits, waits for the cell
   abbrev pub IsMine : ℕ → Type 0
   IsMine c = (w : Wait) → wait_of p (waits cells h) ≡ Some w → w.cell ≡ c
@@ -155,8 +194,8 @@ module _ (cells : List CellPlan) (h : List Event) (p : ℕ) where
         → shall_init (cell_at cells c).retry (phase_at cells c h) ≡ true → IsFree c ws (Some Writes) → P a (answer_of_run (cell_at cells c) (accepts h) (replay cells c h))
     asking a c j ws t mine asked wanted free =
         asked_run (P a) (cell_at cells c) c (accepts h) (replay cells c h)
-        (λ g. k.running a c j t (record { asked = asked; wanted = wanted; generates = g; unheld = λ alone. unheld c alone (readers cells c h) ws mine free }))
-        (λ g. k.declined a c j t (record { asked = asked; wanted = wanted; generates = g; unheld = λ alone. unheld c alone (readers cells c h) ws mine free }))
+        (λ g. k.running a c j t (record { asked = asked; wanted = wanted; generates = g; unheld = λ alone. unheld c alone (readers cells c h) ws mine free; unread = λ alone. unread c alone ws mine free }))
+        (λ g. k.declined a c j t (record { asked = asked; wanted = wanted; generates = g; unheld = λ alone. unheld c alone (readers cells c h) ws mine free; unread = λ alone. unread c alone ws mine free }))
 
     called : (a : Act) (c : ℕ) (j : Call) (ws : List Wait) → Calling cells h p a c j → IsMine c → IsFree c ws (rule (cell_at cells c) (Calls j) (phase_at cells c h))
         → P a (answer_admitted (cell_at cells c) c (accepts h) (Calls j) (replay cells c h))

@@ -24,7 +24,7 @@ use Rattle.schedule_rules.specs.Guards.{Guard, numbered, guards}
 use Rattle.schedule_rules.specs.Replay.{phase_at}
 use Rattle.schedule_rules.specs.Exits.{registry}
 use Rattle.schedule_rules.specs.Waits.{attempt}
-use Rattle.schedule_rules.specs.Holds.{write_holds}
+use Rattle.schedule_rules.specs.Holds.{read_guards, write_holds}
 use Rattle.schedule_rules.specs.Legal.{IsExclusive}
 
 -- the act is a call, or goes on with one
@@ -89,13 +89,14 @@ module _ (cells : List CellPlan) (h : List Event) (p : ℕ) where
   trying a c (Calls k) t = calling-tries a t.acts
   trying a c Turns t = turning-tries a t.acts
 
-  -- a generator is asked at the cell, and runs there or not, and nothing holds the cell to write where holds exclude each
-  -- other
+  -- a generator is asked at the cell, and runs there or not, and no guard and no section of the cell is open where holds
+  -- exclude each other
   pub record Asking (c : ℕ) (k : Call) (runs : Bool) : Type 0 where
     pub asked : asks (cell_at cells c) (Calls k) (phase_at cells c h) ≡ true
     pub wanted : shall_init (cell_at cells c).retry (phase_at cells c h) ≡ true
     pub generates : runs_generator (cell_at cells c) (accepts h) (phase_at cells c h) ≡ runs
     pub unheld : IsExclusive cells h c → write_holds c h ≡ 0
+    pub unread : IsExclusive cells h c → read_guards c h ≡ 0
 
   -- no generator is asked at the cell, and its value may be accessed or not
   pub record Resting (c : ℕ) (k : Call) (accessible : Bool) : Type 0 where

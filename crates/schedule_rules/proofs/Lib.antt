@@ -23,11 +23,17 @@ mod OneTranscript
 mod Waiting
 pub mod Access
 pub mod Answered
-mod Running
+pub mod Causes
+mod Tried
 mod TurnedBack
 mod Failing
+pub mod Trying
 pub mod Registrations
+mod Opening
 mod Beside
+mod Published
+mod Beyond
+mod Values
 pub mod Finishing
 pub mod Counts
 pub mod Turns

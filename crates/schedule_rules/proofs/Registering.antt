@@ -20,7 +20,7 @@ use Rattle.schedule_rules.specs.History.{Event, accepts}
 use Rattle.schedule_rules.specs.Replay.{phase_at}
 use Rattle.schedule_rules.specs.Exits.{registry_taken, registry_run, registry_of_run, registry_after, registry}
 use Rattle.schedule_rules.specs.Legal.{IsLegal}
-use Rattle.schedule_rules.specs.Laws.{asks_registration, tries_to_register}
+use Rattle.schedule_rules.proofs.Trying.{asks_so, shows_registration}
 use Rattle.schedule_rules.proofs.Facts.{first, second}
 use Rattle.schedule_rules.proofs.Cases.{Calling, Asking, Resting, Cases}
 use Rattle.schedule_rules.proofs.Steps.{of_legal}
@@ -57,7 +57,7 @@ module _ (cells : List CellPlan) (c : ℕ) (h : List Event) (p : ℕ) (legal : I
   abbrev IsRegistering : Act → Answer → Type 0
   IsRegistering a r =
       is_known (registry_after cells h (record { party = p; act = a }) r (registry cells h)) c
-      ≡ (is_known (registry cells h) c || (tries_to_register cells c h (record { party = p; act = a }) r && accepts h))
+      ≡ (is_known (registry cells h) c || (shows_registration cells c h (record { party = p; act = a }) r && accepts h))
 
   -- an answer that is none of a run
   rests : (a : Act) → is_known (registry_taken a (registry cells h)) c ≡ (is_known (registry cells h) c || (false && accepts h))
@@ -66,17 +66,17 @@ module _ (cells : List CellPlan) (c : ℕ) (h : List Event) (p : ℕ) (legal : I
   -- a call that is not declined
   unasked : (a : Act) (d : ℕ) (j : Call) (q : Phase) → Calling cells h p a d j → Resting cells h p d j false → IsRegistering a (answer.Access q)
   unasked a d j q t r =
-      rests a ∙ ap (λ b. is_known (registry cells h) c || (b && accepts h)) (sym (ap (asks_registration cells c h) t.tried ∙ none))
+      rests a ∙ ap (λ b. is_known (registry cells h) c || (b && accepts h)) (sym (ap (asks_so cells c h) t.tried ∙ none))
     where
-      none : asks_registration cells c h (Some (record { cell = d; want = Calls j })) ≡ false
+      none : asks_so cells c h (Some (record { cell = d; want = Calls j })) ≡ false
       none = ap (λ b. (d == c) && (b && tries_registration (cell_at cells d) (phase_at cells d h))) r.unasked ∙ and_none (d == c)
 
   -- one that is declined
   declined : (a : Act) (d : ℕ) (j : Call) (q : Phase) → Calling cells h p a d j → Asking cells h p d j false → IsRegistering a (answer.Access q)
   declined a d j q t r =
-      rests a ∙ ap (λ b. is_known (registry cells h) c || b) (sym (ap (λ o. asks_registration cells c h o && accepts h) t.tried ∙ none (asks_registration cells c h (Some (record { cell = d; want = Calls j }))) refl))
+      rests a ∙ ap (λ b. is_known (registry cells h) c || b) (sym (ap (λ o. asks_so cells c h o && accepts h) t.tried ∙ none (asks_so cells c h (Some (record { cell = d; want = Calls j }))) refl))
     where
-      none : (b : Bool) → asks_registration cells c h (Some (record { cell = d; want = Calls j })) ≡ b → (b && accepts h) ≡ false
+      none : (b : Bool) → asks_so cells c h (Some (record { cell = d; want = Calls j })) ≡ b → (b && accepts h) ≡ false
       none false e = refl
       none true e = declined-closed (cell_at cells d) (accepts h) (phase_at cells d h) (second _ _ (second _ _ e)) r.generates
 
@@ -85,7 +85,7 @@ module _ (cells : List CellPlan) (c : ℕ) (h : List Event) (p : ℕ) (legal : I
   run_registers a d j t q =
       ap (λ b. is_known (registry_run cells h b (registry cells h)) c) t.does
       ∙ by (tries_registration (cell_at cells d) (phase_at cells d h)) (d == c) (registry cells h).is_open refl refl refl
-      ∙ ap (λ b. is_known (registry cells h) c || (b && accepts h)) (sym (ap (asks_registration cells c h) t.tried ∙ ap (λ b. (d == c) && (b && tries_registration (cell_at cells d) (phase_at cells d h))) q.asked))
+      ∙ ap (λ b. is_known (registry cells h) c || (b && accepts h)) (sym (ap (asks_so cells c h) t.tried ∙ ap (λ b. (d == c) && (b && tries_registration (cell_at cells d) (phase_at cells d h))) q.asked))
     where
       -- what is known of the cell where this is so
       known_by : (b o : Bool) → tries_registration (cell_at cells d) (phase_at cells d h) ≡ b → (registry cells h).is_open ≡ o
@@ -159,6 +159,6 @@ module _ (cells : List CellPlan) (c : ℕ) (h : List Event) (p : ℕ) (legal : I
 -- the registry knows a cell after a step where it did before, or where the step tries to register it and cells may be
 -- registered
 pub known-by-trying : (cells : List CellPlan) (h : List Event) (e : Event) (c : ℕ) → IsLegal cells (e ∷ h)
-    → is_known (registry cells (e ∷ h)) c ≡ (is_known (registry cells h) c || (tries_to_register cells c h e.step e.line.answer && accepts h))
+    → is_known (registry cells (e ∷ h)) c ≡ (is_known (registry cells h) c || (shows_registration cells c h e.step e.line.answer && accepts h))
 known-by-trying cells h e c k =
     of_legal cells h e.step e.line k.0 (IsRegistering cells c h e.step.party k.2) (λ a r. sym (or_none (is_known (registry cells h) c))) (registering cells c h e.step.party k.2)

@@ -30,7 +30,8 @@ use Rattle.schedule_rules.proofs.Cases.{Calling, Asking, Resting, Cases}
 use Rattle.schedule_rules.proofs.Steps.{of_legal}
 use Rattle.schedule_rules.proofs.Grows.{HasRun, IsReady, lacks, wanted-lacks}
 use Rattle.schedule_rules.proofs.Initialized.{sound}
-use Rattle.schedule_rules.proofs.Beside.{IsOfRun, IsRunning, guards-run}
+use Rattle.schedule_rules.proofs.Opening.{IsOfRun}
+use Rattle.schedule_rules.proofs.Beside.{IsRunning, guards-run}
 use Rattle.schedule_rules.proofs.Finishing.{ends-turn}
 use Rattle.schedule_rules.proofs.Facts.{apart}
 

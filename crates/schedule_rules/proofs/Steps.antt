@@ -27,7 +27,7 @@ use Rattle.schedule_rules.specs.Holds.{is_barred, holding_with}
 use Rattle.schedule_rules.specs.Refusals.{refusal, no_guard, no_writer, no_reader, writes_of, no_outcome, ends_run, ends_turn}
 use Rattle.schedule_rules.specs.Due.{answer_of_made, due_made, due_finished, due_clone, due_answer}
 use Rattle.schedule_rules.specs.Legal.{IsLegalLine, answer_of, due_at}
-use Rattle.schedule_rules.specs.Laws.{waits_judged}
+use Rattle.schedule_rules.specs.Causes.{waits_judged}
 use Rattle.schedule_rules.proofs.Cases.{step, Cases}
 use Rattle.schedule_rules.proofs.Attempts.{rests, mine_where_none, attempted, again, exits}
 use Rattle.schedule_rules.proofs.Judged.{due_at-judged}

@@ -26,7 +26,8 @@ use Rattle.schedule_rules.specs.Replay.{Back, back_of_run, back_of_turn, back_of
 use Rattle.schedule_rules.specs.Exits.{registry_taken, registry}
 use Rattle.schedule_rules.specs.Holds.{writes_cell, write_holds}
 use Rattle.schedule_rules.specs.Legal.{IsLegal}
-use Rattle.schedule_rules.specs.Laws.{TellsRegistration, asks_registration, tries_to_register}
+use Rattle.schedule_rules.specs.Laws.{TellsRegistration}
+use Rattle.schedule_rules.proofs.Trying.{asks_so, shows_registration}
 use Rattle.schedule_rules.proofs.Alone.{alone}
 use Rattle.schedule_rules.proofs.Exclusion.{no_writer_beside, no_run_left, no_run_beside, no_writer_left}
 use Rattle.schedule_rules.proofs.Each.{each_none, each_found, each_ended, each_removed, each_put}
@@ -175,11 +176,11 @@ module _ (cells : List CellPlan) (c : ℕ) (kind : is_finalizable (cell_at cells
       abbrev Runs : (Bool → Section → Type 0) → Bool → Act → Type 0
       Runs P b m = AllByRecursion (P b) (with_run m p (length h) (accepts h) (sections h))
 
-      registers : knows (event a answer.Running ∷ h) ≡ (knows h || (tries_to_register cells c h (record { party = p; act = a }) answer.Running && accepts h))
+      registers : knows (event a answer.Running ∷ h) ≡ (knows h || (shows_registration cells c h (record { party = p; act = a }) answer.Running && accepts h))
       registers = run_registers cells c h p legal a d j t q
 
-      asks : tries_to_register cells c h (record { party = p; act = a }) answer.Running ≡ ((d == c) && (true && tries_registration (cell_at cells d) (phase_at cells d h)))
-      asks = ap (asks_registration cells c h) t.tried ∙ ap (λ b. (d == c) && (b && tries_registration (cell_at cells d) (phase_at cells d h))) q.asked
+      asks : shows_registration cells c h (record { party = p; act = a }) answer.Running ≡ ((d == c) && (true && tries_registration (cell_at cells d) (phase_at cells d h)))
+      asks = ap (asks_so cells c h) t.tried ∙ ap (λ b. (d == c) && (b && tries_registration (cell_at cells d) (phase_at cells d h))) q.asked
 
       -- in another cell
       elsewhere : (d == c) ≡ false → IsTold (event a answer.Running ∷ h)

@@ -39,7 +39,7 @@ use Rattle.schedule_rules.specs.Kinds.{cell_at}
 use Rattle.schedule_rules.specs.Legal.{Moment, IsLegalLine, answer_of, due_at, may_give}
 use Rattle.schedule_rules.specs.Gifts.{is_nobody}
 use Rattle.schedule_rules.proofs.Judged.{due_at-judged}
-use Rattle.schedule_rules.specs.Laws.{is_waiting, is_borrowed, waits_judged, is_barred_attempt, is_barred_step, is_barred_clone, is_borrowing_step}
+use Rattle.schedule_rules.specs.Causes.{is_waiting, is_borrowed, waits_judged, is_attempted, is_barred_attempt, is_barred_step, is_barred_clone, is_borrowing_step}
 
 -- the answer says that the step is refused
 abbrev is_refused : Answer → Bool
@@ -168,7 +168,7 @@ module _ (t : Answer → Bool) (waiting borrowed : Bool) (is : Tests t waiting b
 
   module _ (cells : List CellPlan) (h : List Event) (ws : List Wait) (chosen : Bool) where
     -- an attempt waits exactly where it is barred
-    tried : (p : ℕ) (o : Option Attempt) → t (due_tried cells h p o ws chosen) ≡ (is_barred_attempt cells h p o ws && waiting)
+    tried : (p : ℕ) (o : Option Attempt) → t (due_tried cells h p o ws chosen) ≡ (is_attempted (is_barred_attempt cells h p ws) o && waiting)
     tried p None = told (look_at (registry cells h).pending)
     tried p (Some a) =
         let m : Meeting = meeting cells h p a ws in let x : CellPlan = cell_at cells a.cell in
@@ -207,7 +207,7 @@ module _ (t : Answer → Bool) (waiting borrowed : Bool) (is : Tests t waiting b
 
     -- each act, where it attempts what is barred or is a clone that is barred
     due : (p : ℕ) (a : Act)
-        → t (due_answer cells h (record { party = p; act = a }) ws chosen) ≡ ((is_barred_attempt cells h p (attempt cells h (record { party = p; act = a })) ws && waiting) || (is_barred_clone cells h a ws && borrowed))
+        → t (due_answer cells h (record { party = p; act = a }) ws chosen) ≡ ((is_attempted (is_barred_attempt cells h p ws) (attempt cells h (record { party = p; act = a })) && waiting) || (is_barred_clone cells h a ws && borrowed))
     due p (act.Call c k) = tried p (Some (record { cell = c; want = Calls k })) ∙ sym (nothing_else _)
     due p act.Again = tried p (attempt_of_wait (wait_of p (waits cells h))) ∙ sym (nothing_else _)
     due p (act.Made v) = made v (innermost p (sections h))
