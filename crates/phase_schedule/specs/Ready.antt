@@ -26,7 +26,7 @@ use Rattle.schedule_rules.specs.Calls.{asks}
 use Rattle.schedule_rules.specs.declared.step.Want.{Want}
 use Rattle.schedule_rules.specs.declared.step.Want.TheVariants.{Calls, Turns}
 use Rattle.schedule_rules.specs.History.{Event, act_of, accepts}
-use Rattle.schedule_rules.specs.Sections.{Section, innermost, is_turn, without_innermost, runs, sections}
+use Rattle.schedule_rules.specs.Sections.{Section, innermost, is_turn, without_innermost, sections}
 use Rattle.schedule_rules.specs.Guards.{Guard, numbered, guards, reader, writer}
 use Rattle.schedule_rules.specs.Replay.{replay, phase_at, inside}
 use Rattle.schedule_rules.specs.Exits.{finishing, registry}

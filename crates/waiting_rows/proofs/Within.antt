@@ -8,9 +8,9 @@ use Rattle.phase_locker.specs.Rows.{no_rows}
 use Rattle.phase_locker.proofs.Handed.{at_free}
 use Rattle.schedule_rules.specs.Waits.{Wait, Attempt, wait_of, without_wait, with_wait, wake_reader, wake_writer}
 use Rattle.schedule_rules.proofs.Opened.{wait_removed, wait_kept}
-use Rattle.phase_schedule.specs.Shown.{Shows, AreWithin}
-use Rattle.phase_schedule.proofs.Each.{reader_party, reader_cell, writer_party, writer_cell}
-use Rattle.phase_schedule.proofs.Finding.{changed, wait_map, wait_added, wait_beside}
+use Rattle.waiting_rows.specs.Shown.{Shows, AreWithin}
+use Rattle.waiting_rows.proofs.Each.{reader_party, reader_cell, writer_party, writer_cell}
+use Rattle.waiting_rows.proofs.Finding.{changed, wait_map, wait_added, wait_beside}
 
 -- without a party's wait
 pub within_without : (n p : ℕ) (ws : List Wait) → AreWithin n ws → AreWithin n (without_wait p ws)

@@ -7,10 +7,10 @@ use Rattle.phase_locker.specs.declared.ways.Who.{Who}
 use Rattle.phase_locker.specs.Rows.{Rows, row_of, free_row, readers_of, writers_of}
 use Rattle.phase_locker.specs.Attempts.{rows_waiting}
 use Rattle.schedule_rules.specs.Waits.{Wait, Attempt, wait_of, with_wait, parked_readers, parked_writers}
-use Rattle.phase_schedule.specs.Shown.{Shows, wait_row, waiting_of}
-use Rattle.phase_schedule.proofs.Finding.{wait_added, wait_beside}
-use Rattle.phase_schedule.proofs.Added.{reader_parked, writer_parked, readers_added_none, writers_added_none, not_there}
-use Rattle.phase_schedule.proofs.Slots.{set_shows}
+use Rattle.waiting_rows.specs.Shown.{Shows, wait_row, waiting_of}
+use Rattle.waiting_rows.proofs.Finding.{wait_added, wait_beside}
+use Rattle.waiting_rows.proofs.Added.{reader_parked, writer_parked, readers_added_none, writers_added_none, not_there}
+use Rattle.waiting_rows.proofs.Slots.{set_shows}
 
 -- the row of the call that began to wait, and those of others
 pub row_added : (p : ℕ) (way : How) (a : Attempt) (ws : List Wait) (s : Rows) → Shows ws s → p < length s.rows → (q : ℕ) → row_of (record s { rows = slice_set s.rows p (record { waiting = waiting_of way false; cell = a.cell }) }) q ≡ wait_row (wait_of q (with_wait p way (Some a) ws))

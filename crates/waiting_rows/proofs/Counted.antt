@@ -4,9 +4,9 @@ use Rattle.std.specs.List.{list_any}
 use Rattle.std.specs.declared.option.Option.{Option}
 use Rattle.schedule_rules.specs.History.{count}
 use Rattle.schedule_rules.specs.Waits.{Wait, is_parked_writer, parks_to_read, shares_read, shares_write, drains_on, parked_readers, wait_of, without_wait, wait_woken, wake_reader, wake_writer}
-use Rattle.phase_schedule.specs.Shown.{IsSingle}
-use Rattle.phase_schedule.proofs.Each.{woken_to_read, writer_other}
-use Rattle.phase_schedule.proofs.Lists.{listed_readers, length_listed}
+use Rattle.waiting_rows.specs.Shown.{IsSingle}
+use Rattle.waiting_rows.proofs.Each.{woken_to_read, writer_other}
+use Rattle.waiting_rows.proofs.Lists.{listed_readers, length_listed}
 
 -- one, where there is such a call
 abbrev pub one_of : (Wait → Bool) → Option Wait → ℕ

@@ -10,8 +10,8 @@ use Rattle.phase_locker.proofs.Counts.{is_one-if}
 use Rattle.schedule_rules.specs.declared.step.Want.{Want}
 use Rattle.schedule_rules.specs.Waits.{Wait, wait_of, parks_to_read, parks_to_write, parked_writers}
 use Rattle.schedule_rules.specs.Gifts.{reaches}
-use Rattle.phase_schedule.specs.Shown.{Shows, wait_row}
-use Rattle.phase_schedule.proofs.Lists.{listed_writers, any_member, any_readers, any_writers}
+use Rattle.waiting_rows.specs.Shown.{Shows, wait_row}
+use Rattle.waiting_rows.proofs.Lists.{listed_writers, any_member, any_readers, any_writers}
 
 -- a waiting call, where it passes a test
 abbrev pub passes : (Wait → Bool) → Option Wait → Bool

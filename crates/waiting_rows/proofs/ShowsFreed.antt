@@ -10,9 +10,9 @@ use Rattle.phase_locker.specs.Rows.{Rows, row_of, free_row, readers_of, writers_
 use Rattle.phase_locker.proofs.Filters.{without_absent}
 use Rattle.schedule_rules.specs.Waits.{Wait, wait_of, without_wait}
 use Rattle.schedule_rules.proofs.Opened.{wait_removed, wait_kept}
-use Rattle.phase_schedule.specs.Shown.{Shows, wait_row}
-use Rattle.phase_schedule.proofs.Lists.{readers_without, writers_without}
-use Rattle.phase_schedule.proofs.Slots.{set_shows_past}
+use Rattle.waiting_rows.specs.Shown.{Shows, wait_row}
+use Rattle.waiting_rows.proofs.Lists.{readers_without, writers_without}
+use Rattle.waiting_rows.proofs.Slots.{set_shows_past}
 
 -- a party that is not parked to read at the cell is not in its list
 pub unlisted_reader : (d p : ℕ) (s : Rows) → IsSound s → reads_at d (row_of s p) ≡ false → without p (readers_of s d) ≡ readers_of s d

@@ -5,10 +5,10 @@ use Rattle.phase_locker.proofs.Filters.{occurs-append}
 use Rattle.schedule_rules.specs.History.{count}
 use Rattle.schedule_rules.specs.Waits.{Wait, party_if, parks_to_read, parks_to_write, shares_read, shares_write, drains_on, parked_readers, parked_writers, wait_of, wake_writer}
 use Rattle.schedule_rules.proofs.Found.{none_found}
-use Rattle.phase_schedule.specs.Shown.{IsSingle}
-use Rattle.phase_schedule.proofs.Each.{woken_to_write}
-use Rattle.phase_schedule.proofs.Lists.{listed, listed_readers, listed_writers}
-use Rattle.phase_schedule.proofs.Counted.{one_of, count_woken}
+use Rattle.waiting_rows.specs.Shown.{IsSingle}
+use Rattle.waiting_rows.proofs.Each.{woken_to_write}
+use Rattle.waiting_rows.proofs.Lists.{listed, listed_readers, listed_writers}
+use Rattle.waiting_rows.proofs.Counted.{one_of, count_woken}
 
 -- a party is in a list as often as it has a call that passes
 pub occurs_listed : (t : Wait → Bool) (q : ℕ) (ws : List Wait) → count (λ (w : Wait). w.party == q) ws ≤ 1 → occurs q (listed t ws) ≡ one_of t (wait_of q ws)

@@ -14,13 +14,13 @@ use Rattle.phase_locker.proofs.Handed.{row-shared_same}
 use Rattle.phase_locker.proofs.Holding.{all_read}
 use Rattle.schedule_rules.specs.declared.step.Want.{Want}
 use Rattle.schedule_rules.specs.Waits.{Wait, wait_of, parks_to_read, parks_to_write, parked_readers, parked_writers, wake_reader, wake_writer}
-use Rattle.phase_schedule.specs.Shown.{Shows, wait_row}
-use Rattle.phase_schedule.proofs.Each.{writer_other}
-use Rattle.phase_schedule.proofs.Finding.{changed, wait_readers, wait_writer, wait_party}
-use Rattle.phase_schedule.proofs.Lists.{readers_woken, readers_woken_other, writers_beside_readers, readers_beside_writer, writer_woken}
-use Rattle.phase_schedule.proofs.Reaching.{parked_writer, row_reads}
-use Rattle.phase_schedule.proofs.ShowsFreed.{unlisted_writer}
-use Rattle.phase_schedule.proofs.Slots.{set_shows}
+use Rattle.waiting_rows.specs.Shown.{Shows, wait_row}
+use Rattle.waiting_rows.proofs.Each.{writer_other}
+use Rattle.waiting_rows.proofs.Finding.{changed, wait_readers, wait_writer, wait_party}
+use Rattle.waiting_rows.proofs.Lists.{readers_woken, readers_woken_other, writers_beside_readers, readers_beside_writer, writer_woken}
+use Rattle.waiting_rows.proofs.Reaching.{parked_writer, row_reads}
+use Rattle.waiting_rows.proofs.ShowsFreed.{unlisted_writer}
+use Rattle.waiting_rows.proofs.Slots.{set_shows}
 
 -- the row of a reader with its share
 pub row_woken : (c : ℕ) (w : Wait) → parks_to_read c w ≡ true → wait_row (Some (wake_reader c w)) ≡ record { waiting = waiting.ShareRead; cell = c }

@@ -1,26 +1,21 @@
 -- How many rows have a share or a claim of a cell is how many waiting calls have it; and which holds are open then.
-use Rattle.std.proofs.Common.{◌≡◌, ◌≢◌, ◌==◌, ℕ, ◌+◌, ◌<◌, ◌≤◌, List, [], ◌∷◌, length, refl, arith, Bool, true, false, cond, None, Some, ◌∙◌, ap, sym, inl, inr, ◌-◌}
+use Rattle.std.proofs.Common.{◌≡◌, ◌≢◌, ◌==◌, ℕ, ◌+◌, ◌<◌, ◌≤◌, List, [], ◌∷◌, length, refl, arith, Bool, true, false, cond, None, Some, ◌∙◌, ap, sym, inl, inr}
 use Rattle.std.proofs.Math.ListN.{get_or, set}
 use Rattle.std.proofs.lemmas.List.{get_or_past}
 use Rattle.std.proofs.lemmas.Bool.{cases_lt}
 use Rattle.std.specs.Prelude.{count_by}
-use Rattle.phase_bits.specs.declared.holders.Holders.{Holders}
 use Rattle.phase_locker.specs.declared.ways.How.{How}
 use Rattle.phase_locker.specs.declared.ways.How.TheVariants as how
 use Rattle.phase_locker.specs.declared.ways.Waiting.TheVariants as waiting
 use Rattle.phase_locker.specs.declared.ways.Row.{Row}
 use Rattle.phase_locker.specs.Rows.{Rows, row_of, free_row, shares_at, claims_at, shares, claims, HasFree}
-use Rattle.phase_locker.specs.Fits.{open_reads, IsWriteOpen}
-use Rattle.schedule_rules.specs.declared.plan.CellPlan.{CellPlan}
 use Rattle.schedule_rules.specs.declared.step.Want.{Want}
-use Rattle.schedule_rules.specs.History.{Event, count}
+use Rattle.schedule_rules.specs.History.{count}
 use Rattle.schedule_rules.specs.Waits.{Wait, wait_of, shares_read, shares_write, drains_on}
-use Rattle.schedule_rules.specs.Holds.{read_guards, write_holds, writers_with, drains_with}
 use Rattle.schedule_rules.proofs.Found.{none_found}
-use Rattle.phase_schedule.specs.Shown.{Shows, IsSingle, Agrees, waiting_of, wait_row}
-use Rattle.phase_schedule.proofs.Slots.{set_shows}
-use Rattle.phase_schedule.proofs.Passing.{count_set, count_before, count_free, count_test}
-use Rattle.phase_schedule.proofs.Same.{locked_by_write}
+use Rattle.waiting_rows.specs.Shown.{Shows, IsSingle, waiting_of, wait_row}
+use Rattle.waiting_rows.proofs.Slots.{set_shows}
+use Rattle.waiting_rows.proofs.Passing.{count_set, count_before, count_free, count_test}
 
 -- ---- a party that does not wait has a free row, and no other
 
@@ -116,16 +111,3 @@ module _ (c : ℕ) (ws : List Wait) (s : Rows) (single : IsSingle ws) (shows : S
       both : (vs : List Wait) → count (λ (w : Wait). claims_at c (wait_row (Some w))) vs ≡ count (shares_write c) vs + count (drains_on c) vs
       both [] = refl
       both (w ∷ vs) = add (claims_at c (wait_row (Some w))) (shares_write c w) (drains_on c w) _ _ _ (row_claims c w) (both vs)
-
-  -- the open read holds of a record that agrees are the open read guards
-  pub open_reads_shown : (cells : List CellPlan) (h : List Event) (x : Holders) → Agrees cells c h ws x → open_reads x s c ≡ read_guards c h
-  open_reads_shown cells h x a = let r = a.readers in let e = shares_shown in omega (arith, r, e)
-
-  -- and a write hold that stands alone is open
-  pub write_open_shown : (cells : List CellPlan) (h : List Event) (x : Holders) → Agrees cells c h ws x → 0 < write_holds c h → writers_with c h ws + drains_with c ws ≤ 1 → IsWriteOpen x s c
-  write_open_shown cells h x a held one =
-      let e = claims_shown in
-      record {
-        locked = a.locked ∙ locked_by_write c h ws (write_holds c h - 1 + count (shares_write c) ws) (omega (arith, held));
-        unclaimed = omega (arith, e, held, one);
-      }

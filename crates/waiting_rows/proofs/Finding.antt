@@ -4,7 +4,7 @@ use Rattle.std.specs.Prelude.{◌==◌}
 use Rattle.std.specs.declared.option.Option.{Option}
 use Rattle.phase_locker.specs.declared.ways.How.{How}
 use Rattle.schedule_rules.specs.Waits.{Wait, Attempt, wait_of, with_wait, wake_reader, wake_writer}
-use Rattle.phase_schedule.proofs.Each.{reader_party, writer_party}
+use Rattle.waiting_rows.proofs.Each.{reader_party, writer_party}
 
 -- a call that waits, changed
 abbrev pub changed : (Wait → Wait) → Option Wait → Option Wait

@@ -9,9 +9,9 @@ use Rattle.schedule_rules.specs.declared.step.Step.{Step}
 use Rattle.schedule_rules.specs.declared.plan.CellPlan.{CellPlan}
 use Rattle.schedule_rules.specs.History.{Event, count}
 use Rattle.schedule_rules.specs.Waits.{Wait, Attempt, wait_of, without_wait, with_wait, wake_reader, wake_writer, wake_readers, waits_given_with, cell_concerned_with}
-use Rattle.phase_schedule.specs.Shown.{IsSingle}
-use Rattle.phase_schedule.proofs.Each.{reader_party, writer_party}
-use Rattle.phase_schedule.proofs.Finding.{changed, wait_readers, wait_writer}
+use Rattle.waiting_rows.specs.Shown.{IsSingle}
+use Rattle.waiting_rows.proofs.Each.{reader_party, writer_party}
+use Rattle.waiting_rows.proofs.Finding.{changed, wait_readers, wait_writer}
 
 -- a party without a call that waits is in no wait
 pub none_counted : (p : ℕ) (ws : List Wait) → wait_of p ws ≡ None → count (λ (w : Wait). w.party == p) ws ≡ 0

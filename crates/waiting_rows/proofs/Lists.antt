@@ -8,7 +8,7 @@ use Rattle.phase_locker.specs.Rows.{is_empty, occurs, without}
 use Rattle.phase_locker.proofs.Filters.{occurs-append}
 use Rattle.schedule_rules.specs.History.{count}
 use Rattle.schedule_rules.specs.Waits.{Wait, party_if, parks_to_read, parks_to_write, parked_readers, parked_writers, without_wait, wake_reader, wake_writer}
-use Rattle.phase_schedule.proofs.Each.{woken_to_read, reader_party, writer_party, writer_gone, writer_reads, writer_other}
+use Rattle.waiting_rows.proofs.Each.{woken_to_read, reader_party, writer_party, writer_gone, writer_reads, writer_other}
 
 -- ---- the parties of the calls that pass a test, in order of parking
 
