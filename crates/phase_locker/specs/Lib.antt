@@ -1,6 +1,6 @@
 pub mod Natures
 pub mod Rows
-pub mod Order
+pub mod Links
 pub mod Fits
 pub mod Gifts
 pub mod Attempts

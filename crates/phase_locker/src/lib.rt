@@ -5,6 +5,7 @@
 mod attempts;
 mod gifts;
 mod holder;
+mod links;
 mod locker;
 mod parks;
 mod store;
