@@ -51,6 +51,10 @@ pub record Enters (rule : Phase → LockNature → Type 0) (v w : View) (nature 
   pub before : w.before ≡ w.last
   pub event : unpacked w.after ≡ admitted (unpacked w.before) nature
 
+-- what a call answers is what it got
+abbrev pub Gets : {R W : Type 0} → (Phase → LockNature → Type 0) → View → View → LockResult R W → Type 0
+Gets rule v w result = Enters rule v w (nature_got result)
+
 -- where no lock was asked, the phase answered is the one found
 abbrev pub TellsPhase : {R W : Type 0} → LockResult R W → View → Type 0
 TellsPhase (got.Read r) w = Unit {0}

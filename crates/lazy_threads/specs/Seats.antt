@@ -30,6 +30,9 @@ pub record Counts (length sections : ℕ) (seat : CellSeat) : Type 0 where
   pub trail : seat.trail_seen ≡ length
   pub recorded : seat.recorded ≡ sections
 
+abbrev pub SameCounts : CellSeat → CellSeat → Type 0
+SameCounts old new = Counts old.trail_seen old.recorded new
+
 -- a count stays at the greatest u64
 abbrev pub added : ℕ → ℕ → ℕ
 added n m = min (n + m) (2 ^ 64 - 1)

@@ -4,9 +4,9 @@ ghost use Rattle.std.specs.Prelude.{◌≡◌, IfSome, IfNone, false};
 ghost use Rattle.std.specs.Bool.{OnTrue, OnFalse};
 ghost use Rattle.phase_bits.specs.Word.{unpacked};
 ghost use Rattle.phase_locker.specs.Natures.{bars};
-ghost use Rattle.lazy_threads.specs.Calls.{phase_got, Looks, Enters, Misses, MissesClone, TellsPhase, nature_got};
+ghost use Rattle.lazy_threads.specs.Calls.{phase_got, Looks, Gets, Misses, MissesClone, TellsPhase};
 ghost use Rattle.lazy_threads.specs.Rule.{IsCellWord};
-ghost use Rattle.lazy_threads.specs.Seats.{IsSeatOf, IsSameSeat, Counts, view_of};
+ghost use Rattle.lazy_threads.specs.Seats.{IsSeatOf, IsSameSeat, SameCounts, view_of};
 ghost use Rattle.lazy_threads.specs.Views.{loaded, entered_read};
 ghost use Rattle.lazy_threads.specs.declared.view.Hold.TheVariants as hold;
 
@@ -22,7 +22,7 @@ impl SyncTable {
     pub fn phase(&self, seat: &mut CellSeat) -> Phase
         requires { IsSeatOf self.now seat.old }
         ensures seat { IsSameSeat seat.old seat.new }
-        ensures counts { Counts seat.old.trail_seen seat.old.recorded seat.new }
+        ensures counts { SameCounts seat.old seat.new }
         ensures view { view_of seat.new ≡ loaded (view_of seat.new).last (view_of seat.old) }
         ensures looks { Looks (view_of seat.old) (view_of seat.new) }
         ensures phase { result ≡ phase_got (view_of seat.new) }
@@ -43,8 +43,8 @@ impl SyncTable {
         requires hold { (view_of seat.old).hold ≡ hold.Free }
         requires callable { F.IsAlwaysCallable how.now }
         ensures seat { IsSameSeat seat.old seat.new }
-        ensures counts { Counts seat.old.trail_seen seat.old.recorded seat.new }
-        ensures enters { IfSome result (λ got. Enters (F.post how.now) (view_of seat.old) (view_of seat.new) (nature_got got)) }
+        ensures counts { SameCounts seat.old seat.new }
+        ensures enters { IfSome result (Gets (F.post how.now) (view_of seat.old) (view_of seat.new)) }
         ensures phase { IfSome result (λ got. TellsPhase got (view_of seat.new)) }
         ensures misses { IfNone result (Misses (F.post how.now) (view_of seat.old) (view_of seat.new)) }
     {
@@ -85,8 +85,8 @@ impl SyncTable {
         requires hold { (view_of seat.old).hold ≡ hold.Free }
         requires callable { F.IsAlwaysCallable how.now }
         ensures seat { IsSameSeat seat.old seat.new }
-        ensures counts { Counts seat.old.trail_seen seat.old.recorded seat.new }
-        ensures enters { Enters (F.post how.now) (view_of seat.old) (view_of seat.new) (nature_got result) }
+        ensures counts { SameCounts seat.old seat.new }
+        ensures enters { Gets (F.post how.now) (view_of seat.old) (view_of seat.new) result }
         ensures phase { TellsPhase result (view_of seat.new) }
     {
         if let Some(got) = self.try_enter(seat, how) {
@@ -107,8 +107,8 @@ impl SyncTable {
         requires hold { (view_of seat.old).hold ≡ hold.Free }
         requires callable { F.IsAlwaysCallable how.now }
         ensures seat { IsSameSeat seat.old seat.new }
-        ensures counts { Counts seat.old.trail_seen seat.old.recorded seat.new }
-        ensures enters { Enters (F.post how.now) (view_of seat.old) (view_of seat.new) (nature_got result) }
+        ensures counts { SameCounts seat.old seat.new }
+        ensures enters { Gets (F.post how.now) (view_of seat.old) (view_of seat.new) result }
         ensures phase { TellsPhase result (view_of seat.new) }
     {
         let mut spin = SpinWait::new();
@@ -129,7 +129,7 @@ impl SyncTable {
         requires hold { (view_of seat.old).hold ≡ hold.Read }
         requires free { (view_of into.old).hold ≡ hold.Free }
         ensures seats { IsSameSeat seat.old seat.new × IsSameSeat into.old into.new }
-        ensures counts { Counts seat.old.trail_seen seat.old.recorded seat.new × Counts into.old.trail_seen into.old.recorded into.new }
+        ensures counts { SameCounts seat.old seat.new × SameCounts into.old into.new }
         ensures view { view_of seat.new ≡ loaded (view_of seat.new).last (view_of seat.old) }
         ensures clones { OnTrue result (view_of into.new ≡ entered_read (view_of seat.new).last (view_of into.old)) }
         ensures misses { OnFalse result (MissesClone (view_of seat.new) (view_of into.old) (view_of into.new)) }

@@ -24,42 +24,42 @@ impl TableRule<(), View, ()> for WordRule {
 pub(crate) struct Load;
 
 impl Play<(), View> for Load {
-    ghost then = { λ step old found new. (new ≡ (loaded found old.0, old.1)) × Finds found old.0 };
+    ghost then = { λ step v found w. (w ≡ (loaded found v.0, v.1)) × Finds found v.0 };
 }
 
 /// An exchange for a read hold. Where it finds another word than the expected one it is a look.
 pub(crate) struct EnterRead;
 
 impl Play<(), View> for EnterRead {
-    ghost then = { λ step old found new. (new ≡ (exchanged entered_read step.first found old.0, old.1)) × Finds found old.0 };
+    ghost then = { λ step v found w. (w ≡ (exchanged entered_read step.first found v.0, v.1)) × Finds found v.0 };
 }
 
 /// An exchange for a write hold. Where it finds another word than the expected one it is a look.
 pub(crate) struct EnterWrite;
 
 impl Play<(), View> for EnterWrite {
-    ghost then = { λ step old found new. (new ≡ (exchanged entered_write step.first found old.0, old.1)) × Finds found old.0 };
+    ghost then = { λ step v found w. (w ≡ (exchanged entered_write step.first found v.0, v.1)) × Finds found v.0 };
 }
 
 /// A read hold is given back. The word had a reader.
 pub(crate) struct LeaveRead;
 
 impl Play<(), View> for LeaveRead {
-    ghost then = { λ step old found new. (new ≡ (left_read found old.0, old.1)) × Finds found old.0 × (0 < readers_in found) };
+    ghost then = { λ step v found w. (w ≡ (left_read found v.0, v.1)) × Finds found v.0 × (0 < readers_in found) };
 }
 
 /// A write hold is given back. The word was as the hold had left it.
 pub(crate) struct LeaveWrite;
 
 impl Play<(), View> for LeaveWrite {
-    ghost then = { λ step old found new. (new ≡ (left_write found step.first old.0, old.1)) × FindsOwn found old.0 };
+    ghost then = { λ step v found w. (w ≡ (left_write found step.first v.0, v.1)) × FindsOwn found v.0 };
 }
 
 /// A write hold becomes a read hold. The word was as the hold had left it.
 pub(crate) struct Downgrade;
 
 impl Play<(), View> for Downgrade {
-    ghost then = { λ step old found new. (new ≡ (downgraded found step.first old.0, old.1)) × FindsOwn found old.0 };
+    ghost then = { λ step v found w. (w ≡ (downgraded found step.first v.0, v.1)) × FindsOwn found v.0 };
 }
 
 /// A seat is split: the new one has seen as much, and has no hold.

@@ -44,7 +44,7 @@ impl SyncTable {
     ghost use Rattle.phase_locker.specs.Natures.{bars};
     ghost use Rattle.lazy_threads.specs.Calls.{LeavesRead, LeavesWrite, Downgrades, MayPublish};
     ghost use Rattle.lazy_threads.specs.Rule.{IsCellWord, Finds};
-    ghost use Rattle.lazy_threads.specs.Seats.{IsSeatOf, IsSameSeat, Counts, view_of, counted, added};
+    ghost use Rattle.lazy_threads.specs.Seats.{IsSeatOf, IsSameSeat, Counts, SameCounts, view_of, counted, added};
     ghost use Rattle.lazy_threads.specs.Views.{fresh, loaded, exchanged, entered_read, entered_write, split_off, joined};
     ghost use Rattle.lazy_threads.specs.declared.view.Hold.TheVariants as hold;
 
@@ -69,7 +69,7 @@ impl SyncTable {
     pub(crate) fn load(&self, seat: &mut CellSeat) -> u64
         requires { IsSeatOf self.now seat.old }
         ensures seat { IsSameSeat seat.old seat.new }
-        ensures counts { Counts seat.old.trail_seen seat.old.recorded seat.new }
+        ensures counts { SameCounts seat.old seat.new }
         ensures view { view_of seat.new ≡ loaded result (view_of seat.old) }
         ensures finds { Finds result (view_of seat.old) }
     {
@@ -86,7 +86,7 @@ impl SyncTable {
         requires free { bars (unpacked judged) LockNature.Read ≡ false }
         requires word { IsCellWord judged }
         ensures seat { IsSameSeat seat.old seat.new }
-        ensures counts { Counts seat.old.trail_seen seat.old.recorded seat.new }
+        ensures counts { SameCounts seat.old seat.new }
         ensures view { view_of seat.new ≡ exchanged entered_read judged result (view_of seat.old) }
         ensures finds { Finds result (view_of seat.old) }
     {
@@ -109,7 +109,7 @@ impl SyncTable {
         requires free { bars (unpacked judged) LockNature.Write ≡ false }
         requires word { IsCellWord judged }
         ensures seat { IsSameSeat seat.old seat.new }
-        ensures counts { Counts seat.old.trail_seen seat.old.recorded seat.new }
+        ensures counts { SameCounts seat.old seat.new }
         ensures view { view_of seat.new ≡ exchanged entered_write judged result (view_of seat.old) }
         ensures finds { Finds result (view_of seat.old) }
     {
@@ -181,7 +181,7 @@ impl SyncTable {
         requires { IsSeatOf self.now seat.old }
         ensures seat { IsSameSeat seat.old seat.new }
         ensures view { view_of seat.new ≡ view_of seat.old }
-        ensures counts { Counts seat.old.trail_seen seat.old.recorded seat.new }
+        ensures counts { SameCounts seat.old seat.new }
         ensures table { IsSeatOf self.now result }
         ensures new_view { view_of result ≡ split_off (view_of seat.old) }
         ensures new_counts { Counts seat.old.trail_seen 0 result }
