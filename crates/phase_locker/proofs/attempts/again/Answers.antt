@@ -1,5 +1,5 @@
 use Rattle.std.proofs.Common.{◌∙◌, arith, sym}
-use Rattle.phase_locker.proofs.Keeping.{again_fits, freed_size}
+use Rattle.phase_locker.proofs.Keeping.{again_fits, freed_size, gives_up_freed}
 use Rattle.phase_locker.proofs.Others.{again_others, again_rows}
 use Rattle.phase_locker.proofs.Standing.{Between, keeps_stands, keeps_reads, keeps_writes, between, again_stands, again_reads, again_writes}
 use Rattle.phase_locker.proofs.attempts.again.Given as given
@@ -50,3 +50,13 @@ pub returns-then-keeps-clause-writes : goal.returns-then-keeps-clause-writes
 returns-then-keeps-clause-writes g c =
     keeps_writes c.args.who c.how-nature.result (g.S.Store.place c.args.store.now) (g.S.Store.kept c.args.store.now) c.args.parks.now (g.S.Store.kept c.keep.new.store) c.keep.new.parks
     c.requires.party c.requires.here c.requires.fits (rw c.waiting-waiting.ensures.waiting at (sym c.keeps.ensures ∙ c.if-keeps.true))
+
+pub hand_over-given-requires-clause-parked : goal.hand_over-given-requires-clause-parked
+hand_over-given-requires-clause-parked g c =
+    rw (c.give_up.ensures.place, c.give_up.ensures.rows) (λ e. ((gives_up_freed (g.S.Store.place c.args.store.now) (g.S.Store.kept c.args.store.now) c.args.parks.now c.args.who.cell c.args.who.party c.requires.cell c.waiting-waiting.ensures.sound.cells c.requires.party c.requires.here c.requires.fits).still e).0)
+
+pub judge-requires-clause-parked : goal.judge-requires-clause-parked
+judge-requires-clause-parked g c = λ e.
+    ((between (g.S.Store.place c.args.store.now) (g.S.Store.place c.hand_over-given.new.store) c.args.who (g.S.Store.kept c.args.store.now) (g.S.Store.kept c.give_up.new.store) c.args.parks.now c.give_up.new.parks c.hand_over-given.result (g.S.Store.kept c.hand_over-given.new.store) c.hand_over-given.new.parks
+    c.requires.cell c.requires.party c.requires.here c.waiting-waiting.ensures.sound c.requires.fits
+    (c.hand_over-given.ensures.place ∙ c.give_up.ensures.place) (rw (← c.waiting-waiting.ensures.waiting) c.give_up.ensures.kept) c.give_up.ensures.rows c.hand_over-given.ensures.sound c.hand_over-given.ensures.hands c.hand_over-given.ensures.free c.hand_over-given.ensures.same).fits.still e).0

@@ -21,3 +21,6 @@ returns-clause-reads g c = judged_reads (g.S.Store.place c.args.store.now) true 
 
 pub returns-clause-writes : goal.returns-clause-writes
 returns-clause-writes g c = judged_writes (g.S.Store.place c.args.store.now) true c.args.who c.args.wake c.how-nature.result (g.S.Store.kept c.args.store.now) c.args.parks.now c.judge.result (g.S.Store.kept c.judge.new.store) c.judge.new.parks c.requires.party c.requires.free c.requires.fits c.judge.ensures.judged
+
+pub judge-requires-clause-parked : goal.judge-requires-clause-parked
+judge-requires-clause-parked g c = λ e. (c.requires.fits.still e).0

@@ -18,3 +18,6 @@ returns-clause-rows g c = hands_rows _ _ _ _ _ _ c.requires.cell c.hand_over.ens
 
 pub returns-clause-reads : goal.returns-clause-reads
 returns-clause-reads g c = released_reads _ _ _ _ _ _ _ c.drop_reader.ensures.kept c.requires.cell c.hand_over.ensures.sound c.requires.open c.hand_over.ensures.hands
+
+pub hand_over-requires-clause-parked : goal.hand_over-requires-clause-parked
+hand_over-requires-clause-parked g c = rw c.drop_reader.ensures.place (λ e. (c.requires.fits.still e).0)
