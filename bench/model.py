@@ -4,7 +4,7 @@ It shares nothing with the proved code. bench/compare runs both on random schedu
 """
 
 import random
-from collections import namedtuple
+from collections import OrderedDict, namedtuple
 
 FLAGS = (
     "Initialized",
@@ -42,31 +42,46 @@ class Cell:
         self.finalizer = None  # the party whose finalizer runs
         self.writer = None  # the open write guard
         self.shares = {}  # party -> "read" or "write": locks given to parked calls that made no step since
-        self.parked = []  # parties with the nature to which they are woken, in order of parking
+        self.shared = {"read": 0, "write": 0}  # how many shares there are of each nature
+        self.parked = {"read": OrderedDict(), "write": OrderedDict()}  # by the nature they are woken to, in order of parking
 
     def wants_run(self):
         return self.phase == EMPTY if self.plan.once else not self.phase & INITIALIZED
 
     def readers(self):
-        return self.guards + sum(nature == "read" for nature in self.shares.values())
+        return self.guards + self.shared["read"]
 
     def is_held_to_write(self):
         holders = (self.runner, self.finalizer, self.writer)
-        return any(holder is not None for holder in holders) or "write" in self.shares.values()
+        return any(holder is not None for holder in holders) or self.shared["write"] > 0
+
+    def share(self, party, nature):
+        self.shares[party] = nature
+        self.shared[nature] += 1
+
+    def leave(self, party):
+        """The party is parked no longer, and has no share. Answers the share that it had."""
+        share = self.shares.pop(party, None)
+        if share is not None:
+            self.shared[share] -= 1
+        for parked in self.parked.values():
+            parked.pop(party, None)
+        return share
 
     def hand_over(self):
         """Gives the cell to parked calls where nothing holds it: to all readers where there is one, else to the first writer."""
         if self.readers() or self.is_held_to_write():
             return ""
-        readers = [party for party, nature in self.parked if nature == "read"]
+        readers, writers = self.parked["read"], self.parked["write"]
         if readers:
-            self.shares.update((party, "read") for party in readers)
-            self.parked = [(party, nature) for party, nature in self.parked if nature != "read"]
+            for party in readers:
+                self.share(party, "read")
+            readers.clear()
             return " gives readers"
-        if not self.parked:
+        if not writers:
             return ""
-        party, _ = self.parked.pop(0)
-        self.shares[party] = "write"
+        party, _ = writers.popitem(last=False)
+        self.share(party, "write")
         return f" gives writer {party}"
 
 
@@ -176,8 +191,7 @@ class Model:
         cell = self.cells[number]
         nature = self.nature(cell, call)
         self.waiting[party] = None
-        share = cell.shares.pop(party, None)
-        cell.parked = [(other, woken) for other, woken in cell.parked if other != party]
+        share = cell.leave(party)
         given = ""
         if share is None or share != nature:
             given = cell.hand_over() if share is not None else ""
@@ -200,7 +214,7 @@ class Model:
         if not cell.plan.parks:
             return "waiting spin"
         woken = "read" if call == "read" else "write"
-        cell.parked.append((party, woken))
+        cell.parked[woken][party] = None
         return f"waiting {woken}"
 
     def admit(self, party, call, number, nature):
@@ -363,4 +377,14 @@ def schedule(parties, cells, steps, seed, greatest=10**6, parking=0.0, once=0.0,
         lines.append(f"{n} {answer}")
     text.append("end")
     lines += list(player.model.ends()) + ["end"]
+    return "\n".join(text) + "\n", "\n".join(lines) + "\n"
+
+
+def crowd(parties):
+    """The text of a schedule in which these parties park as readers beside a run, and then each step once, and the text of
+    its transcript: each waits, leaves its place in the list, and waits again."""
+    calls = [f"{party} {act}" for act in ("read 0", "again") for party in range(1, parties + 1)]
+    text = ["schedule 1", f"parties {parties + 1}", "cell LockedLazy park", "steps", "0 write 0"] + calls + ["end"]
+    waits = [f"{n} waiting read" for n in range(1, 2 * parties + 1)]
+    lines = ["transcript 1", "0 running"] + waits + [f"cell 0 {PHASES[EMPTY]} none", "end"]
     return "\n".join(text) + "\n", "\n".join(lines) + "\n"

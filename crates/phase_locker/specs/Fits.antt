@@ -21,6 +21,10 @@ is_shared Own = false
 abbrev pub NobodyParked : Rows → ℕ → Type 0
 NobodyParked s c = (is_empty (readers_of s c) ≡ true) × (is_empty (writers_of s c) ≡ true)
 
+-- calls are parked only on a kind that parks
+abbrev pub ParkedOnPark : LockerKind → Rows → ℕ → Type 0
+ParkedOnPark k s c = is_park k ≡ false → NobodyParked s c
+
 -- the record of a cell and the rows go together:
 -- the waiter flags say that the lists are not empty;
 -- read shares are among the readers;

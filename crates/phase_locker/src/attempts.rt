@@ -6,7 +6,7 @@ ghost use Rattle.phase_locker.specs.declared.ways.Waiting.TheVariants.{Free};
 ghost use Rattle.phase_locker.specs.declared.ways.Given.TheVariants.{Nobody};
 ghost use Rattle.phase_locker.specs.Natures.{MayJudge, bars, admitted, got, Tries};
 ghost use Rattle.phase_locker.specs.Rows.{row_of, freed, SameSize};
-ghost use Rattle.phase_locker.specs.Fits.{Fits, KeepsFit};
+ghost use Rattle.phase_locker.specs.Fits.{Fits, KeepsFit, ParkedOnPark};
 ghost use Rattle.phase_locker.specs.Attempts.{ParksBy, rows_waiting, Judged, Locks, keeps, given_up, Keeps, Again};
 ghost use Rattle.phase_locker.specs.Others.{RowsStayBeside};
 ghost use Rattle.phase_locker.specs.Stands.{MayCall, MayCallAgain, Stands, Opens, reads_opened, opens_write};
@@ -117,6 +117,7 @@ fn judge<S: Store>(
 ) -> Attempt
     requires calls { MayCall who parks.old }
     requires wake { wake ≢ LockNature.None }
+    requires parked { ParkedOnPark (S.place store.old) parks.old who.cell }
     ensures judged { Judged (S.place store.old) fresh who wake nature (S.kept store.old) parks.old result (S.kept store.new) parks.new }
     ensures place { S.place store.new ≡ S.place store.old }
     ensures same { SameSize parks.old parks.new }

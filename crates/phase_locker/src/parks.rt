@@ -87,6 +87,13 @@ impl Parks {
         &self.rows
     }
 
+    /// Says that the lists go with the rows, and does nothing.
+    pub(crate) fn be_sound(&self)
+        ensures { IsSound self.now }
+    {
+        let _rows = &self.rows;
+    }
+
     /// Whether a reader is parked at this cell.
     pub(crate) fn has_readers(&self, cell: u32) -> bool
         requires { cell < length self.now.readers }

@@ -1,5 +1,5 @@
 use Rattle.std.proofs.Common.{◌∙◌, arith, sym}
-use Rattle.phase_locker.proofs.Keeping.{again_fits, freed_size}
+use Rattle.phase_locker.proofs.Keeping.{again_fits, freed_size, gives_up_freed}
 use Rattle.phase_locker.proofs.Others.{again_others, again_rows}
 use Rattle.phase_locker.proofs.Standing.{Between, keeps_stands, between, again_stands}
 use Rattle.phase_locker.proofs.Opening.{keeps_opens, again_opens, between_only}
@@ -52,3 +52,13 @@ pub returns-then-keeps-clause-opens : goal.returns-then-keeps-clause-opens
 returns-then-keeps-clause-opens g c =
     keeps_opens c.args.who c.how-nature.result (g.S.Store.place c.args.store.now) (g.S.Store.kept c.args.store.now) c.args.parks.now c.keep.result (g.S.Store.kept c.keep.new.store) c.keep.new.parks
     c.requires.calls.party c.requires.calls.here c.requires.fits (rw c.waiting-waiting.ensures.waiting at (sym c.keeps.ensures ∙ c.if-keeps.true)) c.keep.ensures.keeps.answer c.keep.ensures.keeps.rows c.keep.ensures.keeps.held
+
+pub hand_over-given-requires-clause-parked : goal.hand_over-given-requires-clause-parked
+hand_over-given-requires-clause-parked g c =
+    rw (c.give_up.ensures.place, c.give_up.ensures.rows) (λ e. ((gives_up_freed (g.S.Store.place c.args.store.now) (g.S.Store.kept c.args.store.now) c.args.parks.now c.args.who.cell c.args.who.party c.requires.calls.cell c.waiting-waiting.ensures.sound.cells c.requires.calls.party c.requires.calls.here c.requires.fits).still e).0)
+
+pub judge-requires-clause-parked : goal.judge-requires-clause-parked
+judge-requires-clause-parked g c = λ e.
+    ((between (g.S.Store.place c.args.store.now) (g.S.Store.place c.hand_over-given.new.store) c.args.who (g.S.Store.kept c.args.store.now) (g.S.Store.kept c.give_up.new.store) c.args.parks.now c.give_up.new.parks c.hand_over-given.result (g.S.Store.kept c.hand_over-given.new.store) c.hand_over-given.new.parks
+    c.requires.calls.cell c.requires.calls.party c.requires.calls.here c.waiting-waiting.ensures.sound c.requires.fits
+    (c.hand_over-given.ensures.place ∙ c.give_up.ensures.place) (rw (← c.waiting-waiting.ensures.waiting) c.give_up.ensures.kept) c.give_up.ensures.rows c.hand_over-given.ensures.sound c.hand_over-given.ensures.hands c.hand_over-given.ensures.free c.hand_over-given.ensures.same).fits.still e).0

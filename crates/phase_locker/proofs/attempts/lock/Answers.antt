@@ -21,3 +21,6 @@ returns-clause-stands g c = judged_stands (g.S.Store.place c.args.store.now) tru
 
 pub returns-clause-opens : goal.returns-clause-opens
 returns-clause-opens g c = judged_opens (g.S.Store.place c.args.store.now) true c.args.who c.args.wake c.how-nature.result (g.S.Store.kept c.args.store.now) c.args.parks.now c.judge.result (g.S.Store.kept c.judge.new.store) c.judge.new.parks c.requires.calls.party c.requires.calls.free c.requires.fits c.judge.ensures.judged
+
+pub judge-requires-clause-parked : goal.judge-requires-clause-parked
+judge-requires-clause-parked g c = λ e. (c.requires.fits.still e).0

@@ -24,3 +24,6 @@ pub returns-clause-reads : goal.returns-clause-reads
 returns-clause-reads g c =
     rw (c.flag.ensures.kept, c.add_readers.ensures.kept, c.set_locked.ensures.kept, c.store_phase.ensures.kept)
     (downgraded_reads (g.S.Store.place c.args.store.now) c.args.phase (g.S.Store.kept c.args.store.now) _ c.args.parks.now c.args.cell c.requires.fits c.requires.open refl)
+
+pub flag-requires-clause-parked : goal.flag-requires-clause-parked
+flag-requires-clause-parked g c = rw (c.add_readers.ensures.place, c.set_locked.ensures.place, c.store_phase.ensures.place) (λ e. (c.requires.fits.still e).0)

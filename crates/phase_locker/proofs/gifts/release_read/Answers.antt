@@ -24,3 +24,6 @@ returns-clause-reads g c = released_reads _ _ _ _ _ _ _ c.drop_reader.ensures.ke
 
 pub returns-clause-closed : goal.returns-clause-closed
 returns-clause-closed g c = released_none _ _ _ _ _ _ _ _ c.drop_reader.ensures.kept c.requires.cell c.hand_over.ensures.sound c.requires.fits c.requires.open c.hand_over.ensures.hands
+
+pub hand_over-requires-clause-parked : goal.hand_over-requires-clause-parked
+hand_over-requires-clause-parked g c = rw c.drop_reader.ensures.place (λ e. (c.requires.fits.still e).0)

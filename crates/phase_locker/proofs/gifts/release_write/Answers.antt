@@ -26,3 +26,6 @@ returns-clause-reads g c =
 pub returns-clause-closed : goal.returns-clause-closed
 returns-clause-closed g c =
     released_closed c.hand_over.result c.args.cell c.args.phase (g.S.Store.kept c.args.store.now) _ c.args.parks.now _ _ (c.set_locked.ensures.kept ∙ ap (λ (h : Holders). record h { locked = false }) c.store_phase.ensures.kept) c.requires.cell c.hand_over.ensures.sound c.hand_over.ensures.hands
+
+pub hand_over-requires-clause-parked : goal.hand_over-requires-clause-parked
+hand_over-requires-clause-parked g c = rw (c.set_locked.ensures.place ∙ c.store_phase.ensures.place) (λ e. (c.requires.fits.still e).0)
