@@ -1,6 +1,7 @@
 -- How a party stands after its call, and which holds are open then.
 use Rattle.std.specs.Prelude.{◌≡◌, ◌≢◌, ℕ, ◌+◌, ◌<◌, Bool, true, false, length}
 use Rattle.phase_bits.specs.declared.holders.Holders.{Holders}
+use Rattle.phase_bits.specs.Number.{IsKnown}
 use Rattle.phase_locker.specs.declared.tickets.LockResult.{LockResult}
 use Rattle.phase_locker.specs.declared.tickets.LockResult.TheVariants.{Read, Write, None}
 use Rattle.phase_locker.specs.declared.tickets.ReadTicket.{ReadTicket}
@@ -32,11 +33,11 @@ pub record MayCallAgain (w : Who) (s : Rows) : Type 0 where
 
 -- ---- after the call
 
--- the lock that was got is open
+-- the lock that was got is open; a phase that was got has no bit above the eight flags
 abbrev pub IsOpen : LockResult ReadTicket WriteTicket → Holders → Rows → ℕ → Type 0
 IsOpen (Read t) h s c = 0 < open_reads h s c
 IsOpen (Write t) h s c = IsWriteOpen h s c
-IsOpen (None p) h s c = Unit {0}
+IsOpen (None p) h s c = IsKnown p
 
 -- how the row of a party that waits so says it
 abbrev pub way_of : How → Waiting

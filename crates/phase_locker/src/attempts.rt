@@ -1,13 +1,15 @@
 //! The calls that ask for a lock.
 
 ghost use Rattle.std.specs.Prelude.{◌≡◌, ◌≢◌, ◌==◌, ◌+◌, ◌-◌, ◌<◌, ◌↔◌, IsNone, OnSome, true, false, length};
+ghost use Rattle.phase_bits.specs.Number.{IsKnown};
 ghost use Rattle.phase_bits.specs.Records.{IsValid, admit_read, most_readers};
 ghost use Rattle.phase_locker.specs.declared.ways.Waiting.TheVariants.{Free};
 ghost use Rattle.phase_locker.specs.declared.ways.Given.TheVariants.{Nobody};
 ghost use Rattle.phase_locker.specs.Natures.{MayJudge, bars, admitted, got, Tries};
 ghost use Rattle.phase_locker.specs.Rows.{row_of, freed, SameSize};
 ghost use Rattle.phase_locker.specs.Fits.{Fits, KeepsFit, ParkedOnPark};
-ghost use Rattle.phase_locker.specs.Attempts.{ParksBy, rows_waiting, Judged, Locks, keeps, given_up, Keeps, Again};
+ghost use Rattle.phase_locker.specs.Gifts.{ReadersFirst};
+ghost use Rattle.phase_locker.specs.Attempts.{ParksBy, rows_waiting, Judged, Locks, keeps, given_up, Keeps, Again, NeverDrains, WaitsBy};
 ghost use Rattle.phase_locker.specs.Others.{RowsStayBeside};
 ghost use Rattle.phase_locker.specs.Stands.{MayCall, MayCallAgain, Stands, Opens, reads_opened, opens_write};
 ghost use Rattle.phase_locker.specs.Left.{Left};
@@ -37,6 +39,7 @@ pub(crate) fn lock<S: Store, F: Fn(Phase) -> LockNature>(
     ensures stands { Stands who result.0 (S.kept store.new) parks.new }
     ensures opens { Opens who.cell (reads_opened result.0) (opens_write result.0) (S.kept store.old) parks.old (S.kept store.new) parks.new }
     ensures left { Left S.kept S.place who.cell store.old store.new parks.old parks.new }
+    ensures waits { WaitsBy NeverDrains result.0 }
 {
     let nature = how(store.stored_phase());
     (judge(store, parks, who, wake, nature, true), Given::Nobody)
@@ -60,6 +63,8 @@ pub(crate) fn again<S: Store, F: Fn(Phase) -> LockNature>(
     ensures stands { Stands who result.0 (S.kept store.new) parks.new }
     ensures opens { Opens who.cell (reads_opened result.0) (opens_write result.0) (S.kept store.old) parks.old (S.kept store.new) parks.new }
     ensures left { Left S.kept S.place who.cell store.old store.new parks.old parks.new }
+    ensures waits { WaitsBy NeverDrains result.0 }
+    ensures gives { ReadersFirst who.cell (freed who.party parks.old) result.1 }
 {
     let nature = how(store.stored_phase());
     let waiting = parks.waiting(who.party);
@@ -119,6 +124,8 @@ fn judge<S: Store>(
     requires wake { wake ≢ LockNature.None }
     requires parked { ParkedOnPark (S.place store.old) parks.old who.cell }
     ensures judged { Judged (S.place store.old) fresh who wake nature (S.kept store.old) parks.old result (S.kept store.new) parks.new }
+    ensures waits { WaitsBy NeverDrains result }
+    ensures known { IsKnown (S.kept store.old).phase }
     ensures place { S.place store.new ≡ S.place store.old }
     ensures same { SameSize parks.old parks.new }
 {

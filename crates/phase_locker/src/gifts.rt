@@ -6,7 +6,7 @@ ghost use Rattle.phase_bits.specs.Records.{leave_read, leave_write};
 ghost use Rattle.phase_locker.specs.Rows.{SameSize, IsSound};
 ghost use Rattle.phase_locker.specs.Fits.{Fits, IsIdle, IsWriteOpen, ParkedOnPark, is_park, open_reads, flagged};
 ghost use Rattle.phase_locker.specs.declared.ways.Given.TheVariants.{Nobody};
-ghost use Rattle.phase_locker.specs.Gifts.{Hands, MayHand, MustHand, rows_handed, held_handed, Downgrades, StayFree};
+ghost use Rattle.phase_locker.specs.Gifts.{Hands, MayHand, MustHand, rows_handed, held_handed, Downgrades, StayFree, ReadersFirst};
 ghost use Rattle.phase_locker.specs.Others.{RowsStay};
 ghost use Rattle.phase_locker.specs.Left.{Left};
 
@@ -44,6 +44,7 @@ pub(crate) fn hand_over<S: Store>(store: &mut S, parks: &mut Parks, cell: u32) -
     requires cell { cell < length parks.old.readers }
     requires parked { ParkedOnPark (S.place store.old) parks.old cell }
     ensures hands { Hands cell (S.kept store.old) parks.old result (S.kept store.new) parks.new }
+    ensures gives { ReadersFirst cell parks.old result }
     ensures place { S.place store.new ≡ S.place store.old }
     ensures free { StayFree parks.old parks.new }
     ensures sound { IsSound parks.old }
@@ -69,6 +70,7 @@ fn give<S: Store>(store: &mut S, parks: &mut Parks, cell: u32) -> Given
     requires idle { IsIdle (S.kept store.old) }
     ensures may { MayHand cell (S.kept store.old) parks.old result }
     ensures must { MustHand cell (S.kept store.old) parks.old result }
+    ensures gives { ReadersFirst cell parks.old result }
     ensures rows { parks.new ≡ rows_handed cell result parks.old }
     ensures kept { S.kept store.new ≡ held_handed cell result parks.old (S.kept store.old) }
     ensures place { S.place store.new ≡ S.place store.old }
@@ -106,6 +108,7 @@ pub(crate) fn release_read<S: Store>(
     ensures reads { open_reads (S.kept store.new) parks.new cell + 1 ≡ open_reads (S.kept store.old) parks.old cell }
     ensures closed { ¬ IsWriteOpen (S.kept store.new) parks.new cell }
     ensures left { Left S.kept S.place cell store.old store.new parks.old parks.new }
+    ensures gives { ReadersFirst cell parks.old result }
 {
     t.close();
     store.drop_reader();
@@ -129,6 +132,7 @@ pub(crate) fn release_write<S: Store>(
     ensures reads { open_reads (S.kept store.new) parks.new cell ≡ 0 }
     ensures closed { ¬ IsWriteOpen (S.kept store.new) parks.new cell }
     ensures left { Left S.kept S.place cell store.old store.new parks.old parks.new }
+    ensures gives { ReadersFirst cell parks.old result }
 {
     t.close();
     store.store_phase(phase);

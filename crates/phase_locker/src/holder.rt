@@ -1,13 +1,10 @@
 //! A locker that keeps the plain record.
 
-ghost use Rattle.std.specs.Prelude.{◌≡◌, ◌<◌, true, false, length};
-ghost use Rattle.phase_bits.specs.Number.{IsKnown};
+ghost use Rattle.std.specs.Prelude.{◌≡◌, true, false};
 ghost use Rattle.phase_bits.specs.Records.{IsValid};
-ghost use Rattle.phase_locker.specs.Rows.{HasFree};
-ghost use Rattle.phase_locker.specs.Fits.{Fits, IsWriteOpen, is_shared, open_reads};
-ghost use Rattle.phase_locker.specs.Gifts.{Downgrades};
-ghost use Rattle.phase_locker.specs.Others.{RowsStay};
-ghost use Rattle.phase_locker.specs.Left.{Left};
+ghost use Rattle.phase_locker.specs.Fits.{is_shared};
+ghost use Rattle.phase_locker.specs.Gifts.{ReadersFirst, GivesNothing};
+ghost use Rattle.phase_locker.specs.Attempts.{NeverDrains};
 
 use crate::locker::PhaseLocker;
 use crate::parks::Parks;
@@ -92,6 +89,12 @@ impl PhaseLocker for HolderLocker {
 
     ghost takes = { is_shared };
 
+    ghost waits = { NeverDrains };
+
+    ghost gives = { ReadersFirst };
+
+    ghost shares = { GivesNothing };
+
     fn takes(kind: LockerKind) -> bool {
         kind != LockerKind::Own
     }
@@ -162,19 +165,7 @@ impl PhaseLocker for HolderLocker {
         cell: u32,
         t: WriteTicket,
         phase: Phase,
-    ) -> (ReadTicket, Given)
-        requires cell { cell < length parks.old.readers }
-        requires room { HasFree parks.old }
-        requires known { IsKnown phase }
-        requires fits { Fits self.old.kind self.old.holders parks.old cell }
-        requires open { IsWriteOpen self.old.holders parks.old cell }
-        ensures nobody { result.1 ≡ Given.Nobody }
-        ensures downgrades { Downgrades cell phase self.old.holders parks.old result.1 self.new.holders parks.new }
-        ensures rows { RowsStay cell parks.old parks.new }
-        ensures reads { open_reads self.new.holders parks.new cell ≡ 1 }
-        ensures closed { ¬ IsWriteOpen self.new.holders parks.new cell }
-        ensures left { Left (λ l. l.holders) (λ l. l.kind) cell self.old self.new parks.old parks.new }
-    {
+    ) -> (ReadTicket, Given) {
         (gifts::downgrade(self, parks, cell, t, phase), Given::Nobody)
     }
 

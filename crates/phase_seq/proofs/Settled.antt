@@ -41,10 +41,10 @@ at_once_reads (finished.Write t p) = refl
 at_once_reads (finished.Failed p) = refl
 
 pub at_once_closed : (f : Finished) (c : ℕ) (h : Holders) (s : Rows) → FinishedStands c f h s → opens_write (begun_at_once f) ≡ false → ¬ IsWriteOpen h s c
-at_once_closed (finished.Phase p) c h s stands none = stands
-at_once_closed (finished.Read t p) c h s stands none = stands
+at_once_closed (finished.Phase p) c h s stands none = stands.0
+at_once_closed (finished.Read t p) c h s stands none = stands.0
 at_once_closed (finished.Write t p) c h s stands none = cc
-at_once_closed (finished.Failed p) c h s stands none = stands
+at_once_closed (finished.Failed p) c h s stands none = stands.0
 
 -- what is open after an answer has become another one
 pub settled_opens : (run : Bool) (b b' : Begun) (c : ℕ) (h : Holders) (s : Rows) (h₁ : Holders) (s₁ : Rows) (h₂ : Holders) (s₂ : Rows) → is_run b ≡ run → Opens c (reads_begun b) (opens_write b) h s h₁ s₁ → (IsWriteOpen h s c → is_run b ≡ false) →

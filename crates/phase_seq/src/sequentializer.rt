@@ -3,6 +3,7 @@
 ghost use Rattle.std.specs.Prelude.{◌≡◌, ◌<◌, ◌&&◌, true, false, length};
 ghost use Rattle.std.specs.Option.{ForSome, option_map, option_copied_mut};
 ghost use Rattle.std.specs.Borrow.{sem};
+ghost use Rattle.phase_bits.specs.Number.{IsKnown};
 ghost use Rattle.phase_locker.specs.Rows.{HasFree};
 ghost use Rattle.phase_locker.specs.Fits.{Fits, IsWriteOpen, open_reads};
 ghost use Rattle.phase_locker.specs.Others.{RowsStay, RowsStayBeside};
@@ -126,7 +127,7 @@ impl<L: PhaseLocker, G> LazySequentializer<L, G> {
         requires registry { ForSome reg (λ m. MayRegister who.cell (L.held self.old.locker) parks.old m.now) }
         ensures resumes { On (option_copied_mut reg.entry) (Resumes (L.place self.old.locker) who ask self.old.running (L.held self.old.locker) parks.old) (L.place self.old.locker) who.cell parks.old ask.tol.leak (L.held self.old.locker).phase result (L.held self.new.locker) parks.new }
         ensures registry { left_behind reg.exit ≡ option_map (after_asking (is_admitted result.0 && asks_run ask (L.held self.old.locker).phase) who.cell (L.held self.old.locker).phase) (option_copied_mut reg.entry) }
-        ensures exactly { ResumesExactly who ask self.old.running (L.held self.old.locker) (is_refused ask.tol.leak (option_copied_mut reg.entry) (L.held self.old.locker).phase) result.0 }
+        ensures exactly { ResumesExactly who ask self.old.running (L.held self.old.locker) parks.old (is_refused ask.tol.leak (option_copied_mut reg.entry) (L.held self.old.locker).phase) result.0 }
         ensures running { RunsAfter who.cell result.0 self.old.running (L.held self.old.locker) parks.old self.new.running (L.held self.new.locker) parks.new }
         ensures rows { RowsStayBeside who.party who.cell parks.old parks.new }
         ensures stands { BegunStands who result.0 self.new.running (L.held self.new.locker) parks.new }
@@ -189,6 +190,7 @@ impl<L: PhaseLocker, G> LazySequentializer<L, G> {
         ensures finishes { FinishesFinal section fine (L.held self.old.locker) parks.old result (L.held self.new.locker) parks.new }
         ensures running { self.new.running ≡ self.old.running }
         ensures rows { RowsStay section.who.cell parks.old parks.new }
+        ensures known { IsKnown result.0 }
         ensures closed { ¬ IsWriteOpen (L.held self.new.locker) parks.new section.who.cell }
         ensures reads { open_reads (L.held self.new.locker) parks.new section.who.cell ≡ 0 }
         ensures left { Left L.held L.place section.who.cell self.old.locker self.new.locker parks.old parks.new }

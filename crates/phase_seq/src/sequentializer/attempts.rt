@@ -56,7 +56,7 @@ impl<L: PhaseLocker, G> LazySequentializer<L, G> {
         requires slow { ask.fast ≡ false }
         requires fits { Fits (L.place self.old.locker) (L.held self.old.locker) parks.old who.cell }
         ensures resumes { Resumes (L.place self.old.locker) who ask self.old.running (L.held self.old.locker) parks.old result (L.held self.new.locker) parks.new }
-        ensures exactly { ResumesExactly who ask self.old.running (L.held self.old.locker) false result.0 }
+        ensures exactly { ResumesExactly who ask self.old.running (L.held self.old.locker) parks.old false result.0 }
         ensures running { RunsAfter who.cell result.0 self.old.running (L.held self.old.locker) parks.old self.new.running (L.held self.new.locker) parks.new }
         ensures rows { RowsStayBeside who.party who.cell parks.old parks.new }
         ensures stands { BegunStands who result.0 self.new.running (L.held self.new.locker) parks.new }

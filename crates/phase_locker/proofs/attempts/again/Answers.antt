@@ -34,7 +34,7 @@ stays_between g c =
     (c.hand_over-given.ensures.place ∙ c.give_up.ensures.place) (rw (← c.waiting-waiting.ensures.waiting) c.give_up.ensures.kept) c.give_up.ensures.rows c.hand_over-given.ensures.sound c.hand_over-given.ensures.hands c.hand_over-given.ensures.free c.hand_over-given.ensures.same
 
 pub returns-clause-stands : goal.returns-clause-stands
-returns-clause-stands g c = again_stands (g.S.Store.place c.hand_over-given.new.store) c.ne-fresh.result c.args.who c.args.wake c.how-nature.result (g.S.Store.kept c.args.store.now) c.args.parks.now (g.S.Store.kept c.hand_over-given.new.store) c.hand_over-given.new.parks c.judge.result (g.S.Store.kept c.judge.new.store) c.judge.new.parks (stays_between g c) c.judge.ensures.judged
+returns-clause-stands g c = again_stands (g.S.Store.place c.hand_over-given.new.store) c.ne-fresh.result c.args.who c.args.wake c.how-nature.result (g.S.Store.kept c.args.store.now) c.args.parks.now (g.S.Store.kept c.hand_over-given.new.store) c.hand_over-given.new.parks c.judge.result (g.S.Store.kept c.judge.new.store) c.judge.new.parks (stays_between g c) c.judge.ensures.known c.judge.ensures.judged
 
 pub returns-then-keeps-clause-stands : goal.returns-then-keeps-clause-stands
 returns-then-keeps-clause-stands g c =

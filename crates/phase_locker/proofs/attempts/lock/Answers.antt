@@ -17,7 +17,7 @@ pub returns-clause-rows : goal.returns-clause-rows
 returns-clause-rows g c = judged_rows (g.S.Store.place c.args.store.now) true c.args.who c.args.wake c.how-nature.result (g.S.Store.kept c.args.store.now) c.args.parks.now c.judge.result (g.S.Store.kept c.judge.new.store) c.judge.new.parks c.judge.ensures.judged
 
 pub returns-clause-stands : goal.returns-clause-stands
-returns-clause-stands g c = judged_stands (g.S.Store.place c.args.store.now) true c.args.who c.args.wake c.how-nature.result (g.S.Store.kept c.args.store.now) c.args.parks.now c.judge.result (g.S.Store.kept c.judge.new.store) c.judge.new.parks c.requires.calls.party c.requires.calls.free c.requires.fits c.judge.ensures.judged
+returns-clause-stands g c = judged_stands (g.S.Store.place c.args.store.now) true c.args.who c.args.wake c.how-nature.result (g.S.Store.kept c.args.store.now) c.args.parks.now c.judge.result (g.S.Store.kept c.judge.new.store) c.judge.new.parks c.requires.calls.party c.requires.calls.free c.requires.fits c.judge.ensures.known c.judge.ensures.judged
 
 pub returns-clause-opens : goal.returns-clause-opens
 returns-clause-opens g c = judged_opens (g.S.Store.place c.args.store.now) true c.args.who c.args.wake c.how-nature.result (g.S.Store.kept c.args.store.now) c.args.parks.now c.judge.result (g.S.Store.kept c.judge.new.store) c.judge.new.parks c.requires.calls.party c.requires.calls.free c.requires.fits c.judge.ensures.judged

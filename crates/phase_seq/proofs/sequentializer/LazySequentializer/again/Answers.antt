@@ -1,6 +1,7 @@
 use Rattle.std.proofs.Common.{◌≡◌, ◌∙◌, false, Some, ap, subst, refl}
 use Rattle.phase_seq.specs.Registers.{Settles}
 use Rattle.phase_seq.specs.Exactly.{is_run}
+use Rattle.phase_seq.proofs.Exactness.{settled_again}
 use Rattle.phase_seq.proofs.Settled.{others_then, settled_opens}
 use Rattle.phase_seq.proofs.sequentializer.LazySequentializer.again.Goals as goal
 
@@ -45,3 +46,7 @@ returns-in-Some-clause-opens g c =
     let e = c.resume-begun in
     settled_opens (is_run e.result.0) e.result.0 c.settle.result.0 c.args.who.cell (g.L.PhaseLocker.held c.args.self.now.locker) c.args.parks.now (g.L.PhaseLocker.held e.new.self.locker) e.new.parks (g.L.PhaseLocker.held c.settle.new.self.locker) c.settle.new.parks refl e.ensures.opens e.ensures.fresh
     (λ none. let still = c.settle.ensures.still none in (ap (λ r. r.0) still.0, still.1, still.2)) c.settle.ensures.reads c.settle.ensures.closes
+
+pub returns-in-Some-clause-exactly : goal.returns-in-Some-clause-exactly
+returns-in-Some-clause-exactly g c =
+    rw c.in-Some.is (settled_again c.args.who c.args.ask c.args.self.now.running (g.L.PhaseLocker.held c.args.self.now.locker) c.args.parks.now _ c.resume-begun.result.0 c.settle.result.0 c.resume-begun.ensures.exactly (rw c.phase-phase.ensures.phase at c.settle.ensures.exactly))

@@ -14,7 +14,7 @@ returns-then-ask-clause-stands g c =
 pub returns-clause-stands : goal.returns-clause-stands
 returns-clause-stands g c =
     rw (c.begun_by.ensures.running, c.begun_by.ensures.locker, c.begun_by.ensures.begun)
-    (begun_by_stands c.args.who c.args.ask c.phase-phase.result c.lock-attempt.result.0 c.args.self.now.running _ _ c.lock-attempt.ensures.stands)
+    (begun_by_stands c.args.who c.args.ask c.phase-phase.result c.lock-attempt.result.0 c.args.self.now.running _ _ c.phase-phase.ensures.known c.lock-attempt.ensures.stands)
 
 pub returns-then-is_cyclic-clause-exactly : goal.returns-then-is_cyclic-clause-exactly
 returns-then-is_cyclic-clause-exactly g c = cyclic_exactly c.args.who c.args.ask c.args.self.now.running _ (sym c.is_cyclic.ensures ∙ c.if-is_cyclic.true)

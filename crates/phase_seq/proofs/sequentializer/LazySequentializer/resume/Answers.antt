@@ -1,9 +1,9 @@
-use Rattle.std.proofs.Common.{◌≡◌, false, rules, ◌∙◌, sym, refl}
+use Rattle.std.proofs.Common.{◌≡◌, false, rules, ◌∙◌, sym}
 use Rattle.phase_seq.specs.Begins.{is_cyclic}
 use Rattle.phase_seq.proofs.Sections.{section_stays, again_apart}
 use Rattle.phase_seq.proofs.Answered.{begun_by_stands, begun_by_opens}
 use Rattle.phase_seq.specs.Exactly.{is_run}
-use Rattle.phase_seq.proofs.Exactness.{again_exactly, cyclic_exactly, both_false}
+use Rattle.phase_seq.proofs.Exactness.{again_exactly, cyclic_again}
 use Rattle.phase_seq.proofs.Resumed.{resumed}
 use Rattle.phase_seq.proofs.Settled.{again_quiet}
 use Rattle.phase_seq.proofs.sequentializer.LazySequentializer.resume.Goals as goal
@@ -16,7 +16,7 @@ returns-clause-resumes g c =
 pub returns-clause-stands : goal.returns-clause-stands
 returns-clause-stands g c =
     rw (c.begun_by.ensures.running, c.begun_by.ensures.locker, c.begun_by.ensures.begun)
-    (begun_by_stands c.args.who c.args.ask c.phase-phase.result c.again-attempt.result.0 c.args.self.now.running _ _ c.again-attempt.ensures.stands)
+    (begun_by_stands c.args.who c.args.ask c.phase-phase.result c.again-attempt.result.0 c.args.self.now.running _ _ c.phase-phase.ensures.known c.again-attempt.ensures.stands)
 
 pub returns-clause-fresh : goal.returns-clause-fresh
 returns-clause-fresh g c = λ held.
@@ -35,9 +35,7 @@ returns-clause-exactly g c =
     (again_exactly c.args.who c.args.ask c.args.self.now.running _ (g.L.PhaseLocker.place c.args.self.now.locker) _ _ c.args.parks.now c.again-attempt.result _ _ apart (λ n e. search rules) c.again-attempt.ensures.again)
 
 pub returns-then-is_cyclic-clause-exactly : goal.returns-then-is_cyclic-clause-exactly
-returns-then-is_cyclic-clause-exactly g c =
-    let exactly = cyclic_exactly c.args.who c.args.ask c.args.self.now.running (g.L.PhaseLocker.held c.args.self.now.locker) (sym c.is_cyclic.ensures ∙ c.if-is_cyclic.true) in
-    record { cyclic = exactly.cyclic; runs = refl; finalizes = sym (both_false _) }
+returns-then-is_cyclic-clause-exactly g c = cyclic_again c.args.who c.args.ask c.args.self.now.running _ c.args.parks.now (sym c.is_cyclic.ensures ∙ c.if-is_cyclic.true)
 
 pub returns-clause-opens : goal.returns-clause-opens
 returns-clause-opens g c =
