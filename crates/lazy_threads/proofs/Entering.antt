@@ -1,6 +1,6 @@
 -- What an attempt got of the word, and a call that attempts again.
 use Rattle.std.proofs.Common.{◌++◌, ◌||◌, ◌≡◌, ◌≢◌, inl, inr, ℕ, ◌%◌, ◌≤◌, ◌==◌, Bool, true, false, List, [], ◌∷◌, refl, arith, ◌∙◌, sym, cond, append_assoc}
-use Rattle.std.specs.Bool.{OnTrue}
+use Rattle.std.specs.Bool.{OnTrue, OnFalse}
 use Rattle.phase_bits.specs.Number.{phase_of}
 use Rattle.phase_bits.specs.Word.{unpacked}
 use Rattle.phase_bits.specs.declared.phase.Phase.{Phase}
@@ -11,7 +11,7 @@ use Rattle.lazy_threads.specs.declared.view.View.{View}
 use Rattle.lazy_threads.specs.declared.view.Hold.TheVariants.{Free}
 use Rattle.lazy_threads.specs.Views.{HasInitialized, saw_initialized, loaded, exchanged, entered_read, entered_write}
 use Rattle.lazy_threads.specs.Rule.{IsCellWord}
-use Rattle.lazy_threads.specs.Calls.{Looks, Enters, Misses, Clones}
+use Rattle.lazy_threads.specs.Calls.{Looks, Enters, Misses, Clones, MissesClone}
 use Rattle.lazy_threads.proofs.Moves.{free_read, free_write, admits_read, admits_write}
 
 -- ---- one look
@@ -109,6 +109,17 @@ cloned word found v seat old new is free look exchange =
     let same : found ≡ word = grind (arith, e) in
     let end : new ≡ entered_read word old = exchange ∙ (rw e (rw same refl)) in
     rw (look, end) (record { free = free; view = refl; event = admits_read word (free_read word is free).1 }))
+
+on_false : (b : Bool) (A : Type 0) → (b ≡ false → A) → OnFalse b A
+on_false true A h = tt
+on_false false A h = h refl
+
+pub overtaken : (word found : ℕ) (v seat old new : View) → (saw_initialized old.seen ≡ true → HasInitialized found) → seat ≡ loaded word v → new ≡ exchanged entered_read word found old → OnFalse (found == word) (MissesClone seat old new)
+overtaken word found v seat old new lasts look exchange =
+    on_false (found == word) (MissesClone seat old new) (λ e.
+    let differ : found ≢ word = grind (arith, e) in
+    let end : new ≡ loaded found old = exchange ∙ (rw e refl) in
+    rw (look, end) (inr (record { looks = looks found old lasts; hold = refl; differ = differ })))
 
 -- ---- a call that attempts again
 

@@ -84,10 +84,20 @@ pub record Clones (seat old new : View) : Type 0 where
   pub view : new ≡ entered_read seat.last old
   pub event : unpacked new.after ≡ admitted (unpacked new.before) nature.Read
 
--- a clone got nothing: the readers are at the limit, or the exchange found another word than the load
-pub record MissesClone (seat old new : View) : Type 0 where
+-- the readers are at the limit, and the other seat did nothing
+pub record IsFull (seat old new : View) : Type 0 where
+  pub readers : readers_in seat.last ≡ most_readers
+  pub same : new ≡ old
+
+-- a step of another seat came between: the other seat's exchange found another word than the first seat's load
+pub record IsOvertaken (seat old new : View) : Type 0 where
+  pub looks : Looks old new
   pub hold : new.hold ≡ old.hold
-  pub why : (readers_in seat.last ≡ most_readers) ⊎ ((new ≡ loaded new.last old) × (new.last ≢ seat.last))
+  pub differ : new.last ≢ seat.last
+
+-- a clone got nothing, for one of two reasons
+abbrev pub MissesClone : View → View → View → Type 0
+MissesClone seat old new = IsFull seat old new ⊎ IsOvertaken seat old new
 
 -- ---- leaving
 

@@ -132,6 +132,7 @@ impl SyncTable {
         ensures seats { IsSameSeat seat.old seat.new × IsSameSeat into.old into.new }
         ensures counts { SameCounts seat.old seat.new × SameCounts into.old into.new }
         ensures view { view_of seat.new ≡ loaded (view_of seat.new).last (view_of seat.old) }
+        ensures looks { Looks (view_of seat.old) (view_of seat.new) }
         ensures clones { OnTrue result (Clones (view_of seat.new) (view_of into.old) (view_of into.new)) }
         ensures misses { OnFalse result (MissesClone (view_of seat.new) (view_of into.old) (view_of into.new)) }
     {
