@@ -1,5 +1,6 @@
 -- What an attempt got of the word, and a call that attempts again.
-use Rattle.std.proofs.Common.{◌++◌, ◌||◌, ◌≡◌, ◌≢◌, inl, inr, ℕ, ◌+◌, ◌%◌, ◌<◌, ◌≤◌, ◌==◌, Bool, true, false, List, [], ◌∷◌, refl, arith, ◌∙◌, sym, cond, append_assoc}
+use Rattle.std.proofs.Common.{◌++◌, ◌||◌, ◌≡◌, ◌≢◌, inl, inr, ℕ, ◌%◌, ◌≤◌, ◌==◌, Bool, true, false, List, [], ◌∷◌, refl, arith, ◌∙◌, sym, cond, append_assoc}
+use Rattle.std.specs.Bool.{OnTrue, OnFalse}
 use Rattle.phase_bits.specs.Number.{phase_of}
 use Rattle.phase_bits.specs.Word.{unpacked}
 use Rattle.phase_bits.specs.declared.phase.Phase.{Phase}
@@ -8,9 +9,9 @@ use Rattle.phase_locker.specs.declared.tickets.LockNature.{LockNature}
 use Rattle.phase_locker.specs.declared.tickets.LockNature.TheVariants as nature
 use Rattle.lazy_threads.specs.declared.view.View.{View}
 use Rattle.lazy_threads.specs.declared.view.Hold.TheVariants.{Free}
-use Rattle.lazy_threads.specs.Views.{HasInitialized, saw_initialized, loaded, entered_read, entered_write}
+use Rattle.lazy_threads.specs.Views.{HasInitialized, saw_initialized, loaded, exchanged, entered_read, entered_write}
 use Rattle.lazy_threads.specs.Rule.{IsCellWord}
-use Rattle.lazy_threads.specs.Calls.{Looks, Enters, Misses}
+use Rattle.lazy_threads.specs.Calls.{Looks, Enters, Misses, Clones, MissesClone}
 use Rattle.lazy_threads.proofs.Moves.{free_read, free_write, admits_read, admits_write}
 
 -- ---- one look
@@ -97,6 +98,28 @@ was_beaten rule word found v u w x lasts later look exchange differ =
       hold = refl;
       why = inr (record { loads = omega arith; differ = differ });
     })
+
+on_true : (b : Bool) (A : Type 0) → (b ≡ true → A) → OnTrue b A
+on_true true A h = h refl
+on_true false A h = tt
+
+pub cloned : (word found : ℕ) (v seat old new : View) → IsCellWord word → bars (unpacked word) nature.Read ≡ false → seat ≡ loaded word v → new ≡ exchanged entered_read word found old → OnTrue (found == word) (Clones seat old new)
+cloned word found v seat old new is free look exchange =
+    on_true (found == word) (Clones seat old new) (λ e.
+    let same : found ≡ word = grind (arith, e) in
+    let end : new ≡ entered_read word old = exchange ∙ (rw e (rw same refl)) in
+    rw (look, end) (record { free = free; view = refl; event = admits_read word (free_read word is free).1 }))
+
+on_false : (b : Bool) (A : Type 0) → (b ≡ false → A) → OnFalse b A
+on_false true A h = tt
+on_false false A h = h refl
+
+pub overtaken : (word found : ℕ) (v seat old new : View) → (saw_initialized old.seen ≡ true → HasInitialized found) → seat ≡ loaded word v → new ≡ exchanged entered_read word found old → OnFalse (found == word) (MissesClone seat old new)
+overtaken word found v seat old new lasts look exchange =
+    on_false (found == word) (MissesClone seat old new) (λ e.
+    let differ : found ≢ word = grind (arith, e) in
+    let end : new ≡ loaded found old = exchange ∙ (rw e refl) in
+    rw (look, end) (inr (record { looks = looks found old lasts; hold = refl; differ = differ })))
 
 -- ---- a call that attempts again
 

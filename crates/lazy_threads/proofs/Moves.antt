@@ -1,5 +1,5 @@
 -- What each step does to the record that the word says.
-use Rattle.std.proofs.Common.{◌||◌, ◌≡◌, ℕ, ◌+◌, ◌-◌, ◌/◌, ◌%◌, ◌^◌, ◌<◌, ◌==◌, Bool, true, false, refl, arith, ◌&&◌, not}
+use Rattle.std.proofs.Common.{◌||◌, ◌≡◌, ℕ, ◌+◌, ◌-◌, ◌/◌, ◌%◌, ◌^◌, ◌<◌, ◌==◌, false, refl, arith, ◌&&◌, not}
 use Rattle.phase_bits.specs.Records.{admit_read, admit_write, leave_read, leave_write, downgrade}
 use Rattle.phase_bits.specs.Word.{unpacked}
 use Rattle.phase_bits.specs.declared.phase.Phase.{Phase}

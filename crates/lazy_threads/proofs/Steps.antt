@@ -11,7 +11,7 @@ use Rattle.phase_bits.specs.Word.{phase_in, readers_in, lock_in}
 use Rattle.lazy_threads.specs.declared.view.View.{View}
 use Rattle.lazy_threads.specs.declared.view.Hold.TheVariants.{Free, Read, Write}
 use Rattle.lazy_threads.specs.Views.{HasInitialized, saw_initialized, fresh, loaded, entered_read, entered_write, left_read, left_write, downgraded, split_off, joined}
-use Rattle.lazy_threads.specs.Rule.{is_read, is_write, reads, writes, Knows, Keeps, rule, IsCellWord, Finds, FindsOwn}
+use Rattle.lazy_threads.specs.Rule.{is_read, is_write, Knows, Keeps, rule, IsCellWord, Finds, FindsOwn}
 use Rattle.lazy_threads.proofs.Holds.{one_if, how_many-set, how_many-one, how_many-two, how_many-more}
 
 -- ---- what the rule says of a word and of a view
@@ -19,8 +19,11 @@ use Rattle.lazy_threads.proofs.Holds.{one_if, how_many-set, how_many-one, how_ma
 pub word_is : (word : ℕ) (vs : List View) → Keeps word vs → IsCellWord word
 word_is word vs k = record { below = k.below; spare = k.spare; alone = λ h. omega (arith, k.readers, k.alone (omega (arith, k.locked, h))) }
 
+pub some_reader : (word : ℕ) (vs : List View) (id : ℕ) (v : View) → v.hold ≡ Read → Keeps word vs → get_elem? vs id ≡ some v → 0 < readers_in word
+some_reader word vs id v held k at = omega (arith, k.readers, how_many-one is_read vs id v at (ap is_read held))
+
 pub finds : (word : ℕ) (vs : List View) (id : ℕ) (v : View) → Keeps word vs → get_elem? vs id ≡ some v → Finds word v
-finds word vs id v k at = record { allowed = word_is word vs k; lasts = λ saw. (k.known id v at).seen saw }
+finds word vs id v k at = record { allowed = word_is word vs k; lasts = λ saw. (k.known id v at).seen saw; reader = λ held. some_reader word vs id v held k at }
 
 -- one more phase was seen, which is the word's
 front_odd : (n : ℕ) → ((n % 256 % 2 == 1) || false) ≡ true → n % 2 ≡ 1
@@ -91,9 +94,6 @@ entered_write-Keeps word vs id v free unlocked none k at =
     (same_phase word (word + 2 ^ 29) vs k (omega arith) id)
 
 -- ---- read leave
-
-pub some_reader : (word : ℕ) (vs : List View) (id : ℕ) (v : View) → v.hold ≡ Read → Keeps word vs → get_elem? vs id ≡ some v → 0 < readers_in word
-some_reader word vs id v held k at = omega (arith, k.readers, how_many-one is_read vs id v at (ap is_read held))
 
 pub left_read-Keeps : (word next : ℕ) (vs : List View) (id : ℕ) (v : View) → v.hold ≡ Read → next + 256 ≡ word → Keeps word vs → get_elem? vs id ≡ some v → Keeps next (set vs id (left_read word v))
 left_read-Keeps word next vs id v held less k at =

@@ -1,7 +1,7 @@
 -- What each call does to the view of its seat, and which move of the record its step is.
-use Rattle.std.specs.Prelude.{◌≡◌, ◌≢◌, ℕ, ◌+◌, ◌%◌, ◌^◌, ◌<◌, ◌≤◌, true, false, List, ◌++◌, ◌⊎◌}
+use Rattle.std.specs.Prelude.{◌≡◌, ◌≢◌, ℕ, ◌+◌, ◌^◌, ◌<◌, ◌≤◌, true, false, List, ◌++◌, ◌⊎◌}
 use Rattle.phase_bits.specs.Number.{number, phase_of, IsKnown}
-use Rattle.phase_bits.specs.Records.{leave_read, leave_write, downgrade}
+use Rattle.phase_bits.specs.Records.{most_readers, leave_read, leave_write, downgrade}
 use Rattle.phase_bits.specs.Word.{unpacked, readers_in, phase_in}
 use Rattle.phase_bits.specs.declared.phase.Phase.{Phase}
 use Rattle.phase_locker.specs.Natures.{bars, admitted}
@@ -13,7 +13,7 @@ use Rattle.lazy_threads.specs.declared.view.View.{View}
 use Rattle.lazy_threads.specs.declared.view.Hold.{Hold}
 use Rattle.lazy_threads.specs.declared.view.Hold.TheVariants.{Free, Read, Write}
 use Rattle.lazy_threads.specs.Rule.{IsCellWord}
-use Rattle.lazy_threads.specs.Views.{HasInitialized, saw_initialized, loaded, left_read, left_write, downgraded}
+use Rattle.lazy_threads.specs.Views.{HasInitialized, saw_initialized, loaded, entered_read, left_read, left_write, downgraded}
 
 -- ---- looking
 
@@ -78,10 +78,26 @@ pub record Misses (rule : Phase → LockNature → Type 0) (v w : View) : Type 0
   pub hold : w.hold ≡ v.hold
   pub why : IsBarred rule w ⊎ IsBeaten v w
 
--- a clone got nothing: the record bars a reader, or the exchange found another word than the load
-pub record MissesClone (seat old new : View) : Type 0 where
+-- a clone got a read hold for the other seat: the record that the first seat found did not bar a reader, and the other's step was the move that admits one
+pub record Clones (seat old new : View) : Type 0 where
+  pub free : bars (unpacked seat.last) nature.Read ≡ false
+  pub view : new ≡ entered_read seat.last old
+  pub event : unpacked new.after ≡ admitted (unpacked new.before) nature.Read
+
+-- the readers are at the limit, and the other seat did nothing
+pub record IsFull (seat old new : View) : Type 0 where
+  pub readers : readers_in seat.last ≡ most_readers
+  pub same : new ≡ old
+
+-- a step of another seat came between: the other seat's exchange found another word than the first seat's load
+pub record IsOvertaken (seat old new : View) : Type 0 where
+  pub looks : Looks old new
   pub hold : new.hold ≡ old.hold
-  pub why : (bars (unpacked seat.last) nature.Read ≡ true) ⊎ ((new ≡ loaded new.last old) × (new.last ≢ seat.last))
+  pub differ : new.last ≢ seat.last
+
+-- a clone got nothing, for one of two reasons
+abbrev pub MissesClone : View → View → View → Type 0
+MissesClone seat old new = IsFull seat old new ⊎ IsOvertaken seat old new
 
 -- ---- leaving
 

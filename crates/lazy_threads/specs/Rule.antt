@@ -52,10 +52,11 @@ pub record IsCellWord (word : ℕ) : Type 0 where
   pub spare : spare_in word ≡ 0
   pub alone : lock_in word ≡ 1 → readers_in word ≡ 0
 
--- what a step finds: a word that the rule allows, with INITIALIZED where the seat has seen it
+-- what a step finds: a word that the rule allows, with INITIALIZED where the seat has seen it, and with a reader where the seat is one
 pub record Finds (word : ℕ) (v : View) : Type 0 where
   pub allowed : IsCellWord word
   pub lasts : saw_initialized v.seen ≡ true → HasInitialized word
+  pub reader : v.hold ≡ Read → 0 < readers_in word
 
 -- what a step of a write hold finds: the word that the hold left
 pub record FindsOwn (word : ℕ) (v : View) : Type 0 where

@@ -4,10 +4,10 @@ ghost use Rattle.std.specs.Prelude.{◌≡◌, IfSome, IfNone, false};
 ghost use Rattle.std.specs.Bool.{OnTrue, OnFalse};
 ghost use Rattle.phase_bits.specs.Word.{unpacked};
 ghost use Rattle.phase_locker.specs.Natures.{bars};
-ghost use Rattle.lazy_threads.specs.Calls.{phase_got, Looks, Gets, Misses, MissesClone, TellsPhase};
+ghost use Rattle.lazy_threads.specs.Calls.{phase_got, Looks, Gets, Misses, Clones, MissesClone, TellsPhase};
 ghost use Rattle.lazy_threads.specs.Rule.{IsCellWord};
 ghost use Rattle.lazy_threads.specs.Seats.{IsSeatOf, IsSameSeat, SameCounts, view_of};
-ghost use Rattle.lazy_threads.specs.Views.{loaded, entered_read};
+ghost use Rattle.lazy_threads.specs.Views.{loaded};
 ghost use Rattle.lazy_threads.specs.declared.view.Hold.TheVariants as hold;
 
 use crate::seat::{CellSeat, phase_of_word};
@@ -118,6 +118,7 @@ impl SyncTable {
                 return got;
             }
         }
+        // The loop has no end of its own.
         unreachable!()
     }
 
@@ -131,7 +132,8 @@ impl SyncTable {
         ensures seats { IsSameSeat seat.old seat.new × IsSameSeat into.old into.new }
         ensures counts { SameCounts seat.old seat.new × SameCounts into.old into.new }
         ensures view { view_of seat.new ≡ loaded (view_of seat.new).last (view_of seat.old) }
-        ensures clones { OnTrue result (view_of into.new ≡ entered_read (view_of seat.new).last (view_of into.old)) }
+        ensures looks { Looks (view_of seat.old) (view_of seat.new) }
+        ensures clones { OnTrue result (Clones (view_of seat.new) (view_of into.old) (view_of into.new)) }
         ensures misses { OnFalse result (MissesClone (view_of seat.new) (view_of into.old) (view_of into.new)) }
     {
         let word = self.load(seat);

@@ -3,8 +3,7 @@
 //! The kit's table owes that the rule holds between any two steps, and asks of each step that it keeps it. A step is named by
 //! a marker: `then` says how the seat's view changes, by the word that the step found.
 
-ghost use Rattle.std.specs.Prelude.{◌≡◌, ◌<◌};
-ghost use Rattle.phase_bits.specs.Word.{readers_in};
+ghost use Rattle.std.specs.Prelude.{◌≡◌};
 ghost use Rattle.lazy_threads.specs.Rule.{rule, Finds, FindsOwn};
 ghost use Rattle.lazy_threads.specs.Views.{fresh, loaded, exchanged, entered_read, entered_write, left_read, left_write, downgraded, split_off, joined};
 
@@ -41,11 +40,11 @@ impl Play<(), View> for EnterWrite {
     ghost then = { λ step v found w. (w ≡ (exchanged entered_write step.first found v.0, v.1)) × Finds found v.0 };
 }
 
-/// A read hold is given back. The word had a reader.
+/// A read hold is given back.
 pub(crate) struct LeaveRead;
 
 impl Play<(), View> for LeaveRead {
-    ghost then = { λ step v found w. (w ≡ (left_read found v.0, v.1)) × Finds found v.0 × (0 < readers_in found) };
+    ghost then = { λ step v found w. (w ≡ (left_read found v.0, v.1)) × Finds found v.0 };
 }
 
 /// A write hold is given back. The word was as the hold had left it.

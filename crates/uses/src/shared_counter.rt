@@ -1,8 +1,8 @@
 //! Two workers share one counter behind the lock word of a cell.
 //!
-//! Each worker has a seat of its own, which it got by splitting the first one. It enters to write, adds one to the counter by
-//! a plain load and a plain store, and leaves. If two were ever inside at once, additions would be lost. What is proved is
-//! what the seats know: how many sections the two recorded, and that nobody holds the cell at the end.
+//! Each worker steps with a seat of its own. It enters to write, adds one to the counter by a load and a store, and leaves.
+//! If two were ever inside at once, additions would be lost. What the seats know is proved: how many sections the workers
+//! recorded. That the counter, which the word knows nothing of, is the same number is tested.
 
 ghost use Rattle.std.specs.Prelude.{◌≡◌, ◌+◌, ◌*◌, ◌<◌, ◌^◌, IfOk};
 ghost use Rattle.lazy_threads.specs.Seats.{IsSeatOf, view_of};

@@ -13,5 +13,5 @@ fetch_sub-requires c = (
       let word = get_or s.words 0 0 in let v = c.args.seat.now.token.me.0 in
       let any = some_reader word s.views _ v c.requires.hold rule.0 at in
       let next = (word + (2 ^ 64 - 256)) % 2 ^ 64 in
-      (left_read word v, keeps, tt, steps s _ next _ rule.1 (left_read-Keeps word next s.views _ v c.requires.hold (one_less word rule.0.below any) rule.0 at), (refl, finds _ _ _ _ rule.0 at, any)),
+      (left_read word v, keeps, tt, steps s _ next _ rule.1 (left_read-Keeps word next s.views _ v c.requires.hold (one_less word rule.0.below any) rule.0 at), (refl, finds _ _ _ _ rule.0 at)),
 )

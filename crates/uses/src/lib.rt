@@ -1,4 +1,0 @@
-//! Callers.
-#![tactic(auto)]
-
-pub mod shared_counter;
