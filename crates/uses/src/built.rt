@@ -47,7 +47,8 @@ pub fn a_reader_waits() -> [Step; 3] {
 pub fn run_and_print(alloc: Global, plan: &Plan, steps: &[Step]) -> Result<Vec<u8>, RunError>
     requires cells { length plan.now.cells.items < 2 ^ 32 }
     requires steps { length steps.now < 2 ^ 32 }
-    ensures { IfOk result (λ text. (t : Account) × IsLegalTranscript (schedule_of plan.now steps.now) t × (text.items ≡ transcript_text t)) }
+    ensures { IfOk result (λ text.
+        (t : Account) × IsLegalTranscript (schedule_of plan.now steps.now) t × (text.items ≡ transcript_text t)) }
 {
     let transcript = run_schedule(alloc, plan, steps)?;
     // A law: no turn of a legal transcript is busy, so each has a text. `proofs/` applies it in one line.

@@ -26,7 +26,8 @@ pub enum TextError {
 
 /// Runs the schedule that a text spells. What is answered is the text of a legal transcript of it.
 pub fn run_text(alloc: Global, text: &[u8]) -> Result<Vec<u8>, TextError>
-    ensures { IfOk result (λ told. (x : Schedule) × Spells text.now x × (t : Account) × IsLegalTranscript x t × (told.items ≡ transcript_text t)) }
+    ensures { IfOk result (λ told. (x : Schedule) × Spells text.now x
+        × (t : Account) × IsLegalTranscript x t × (told.items ≡ transcript_text t)) }
 {
     if text.len() > MOST_BYTES {
         return Err(TextError::Long);

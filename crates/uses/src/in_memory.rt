@@ -18,7 +18,8 @@ pub struct Ended {
 /// Runs the program on a text, with room for so many bytes of the transcript. Where it is done, what was written is the
 /// text of a legal transcript.
 pub fn run_in_memory(alloc: Global, text: Vec<u8>, room: usize) -> Result<Ended, AllocError>
-    ensures { IfOk result (λ ended. OnDone ended.status ((rest : Option (List ℕ)) × Answered (Some text.items) rest (Some []) (Some ended.written.items))) }
+    ensures { IfOk result (λ ended. OnDone ended.status
+        ((rest : Option (List ℕ)) × Answered (Some text.items) rest (Some []) (Some ended.written.items))) }
 {
     // No call of the source or of the sink is listed as one that fails.
     let mut source = MemSource::new(text, Vec::new(alloc));

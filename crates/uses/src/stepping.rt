@@ -24,7 +24,8 @@ pub fn step_and_look<L: PhaseLocker>(engine: &mut Engine<L>, step: &Step) -> Loo
     ensures steps { engine.new.steps ≡ engine.old.steps ++ step.now ∷ [] }
     ensures lines { engine.new.lines ≡ engine.old.lines ++ result.line ∷ [] }
     ensures legal { IsLegal engine.new.cells (history engine.new) }
-    ensures waits { result.waiting ≡ (wait_row (wait_of step.now.party (waits engine.new.cells (history engine.new)))).waiting }
+    ensures waits { result.waiting ≡
+        (wait_row (wait_of step.now.party (waits engine.new.cells (history engine.new)))).waiting }
 {
     let line = engine.step(step);
     let waiting = engine.parks().waiting(step.party);
