@@ -6,6 +6,7 @@ Writes a page for a browser, or with --svg the picture alone. Ends with 1 at oth
 written, and with 8 where there are more steps than a picture shows.
 """
 
+import os
 import sys
 
 import drawing
@@ -31,6 +32,8 @@ def main(words: list[str]) -> int:
         sys.stdout.write(picture.svg(0, len(run.steps)) if is_svg else page.page(run, picture))
         sys.stdout.flush()
     except OSError:
+        # What is left of the page goes nowhere, so that the end of the program does not fail by it again.
+        os.dup2(os.open(os.devnull, os.O_WRONLY), sys.stdout.fileno())
         return 6
     return 0
 

@@ -73,11 +73,11 @@ class Drawing:
             for lane in self.lanes.values()
         )
 
-    def body(self, first: int, last: int) -> str:
-        """The steps from `first` to before `last`, from x = 0 on."""
+    def body(self, first: int, last: int, patterns: str) -> str:
+        """The steps from `first` to before `last`, from x = 0 on, with the patterns of this name."""
         parts = [self.grid(first, last)]
         parts += [self.wait(span, first, last) for span in self.story.waits if self.meets(span, first, last)]
-        parts += [self.bar(hold, first, last) for hold in self.story.holds if self.meets(hold, first, last)]
+        parts += [self.bar(hold, first, last, patterns) for hold in self.story.holds if self.meets(hold, first, last)]
         parts += [self.gift(gift, first) for gift in self.story.gifts if first <= gift.step < last and gift.party in self.lanes]
         parts += [self.mark(step, first) for step in self.run.steps[first:last]]
         parts += [self.column(step, first) for step in self.run.steps[first:last]]
@@ -112,7 +112,7 @@ class Drawing:
         end = self.end_of(span)
         return x, self.x(end, first) if end < last else self.width(first, last)
 
-    def bar(self, hold: Span, first: int, last: int) -> str:
+    def bar(self, hold: Span, first: int, last: int, patterns: str) -> str:
         """The bar of a hold. What it holds is told by its words, its edge and its pattern, its cell by number and colour."""
         x, right = self.ends(hold, first, last)
         y = self.lanes[hold.party].top + MARKS + self.row[id(hold)] * (BAR + GAP)
@@ -121,7 +121,7 @@ class Drawing:
         box = f'x="{x + 1}" y="{y}" width="{max(width - 2, 3)}" height="{BAR}" rx="3"'
         shape = f'<rect {box} fill="{FILLS[hold.cell % len(FILLS)]}" stroke="{edge}" stroke-width="{thick}"/>'
         if hold.kind in ("running", "finalizing"):
-            shape += f'<rect {box} fill="url(#{hold.kind})"/>'
+            shape += f'<rect {box} fill="url(#{hold.kind}-{patterns})"/>'
         words = f"{hold.cell} {WORDS[hold.kind]}"
         if len(words) * 5.8 + 8 > width:
             words = f"{hold.cell} {SHORT[hold.kind]}"
@@ -168,10 +168,12 @@ class Drawing:
         left = LABELS if labelled else 0
         width = left + self.width(first, last)
         labels = self.labels() if labelled else ""
+        # A page has several pictures, and each its own patterns: those of one that is not shown are not there.
+        name = f"{first}-{last}" if labelled else "strip"
         return (
             f'<svg xmlns="http://www.w3.org/2000/svg" viewBox="0 0 {width} {self.height}" width="{width}" height="{self.height}" role="img" '
-            f'aria-label="{escape(self.summary(first, last), quote=True)}">\n<style>{STYLE}</style>\n{PATTERNS}\n'
-            f'<rect width="{width}" height="{self.height}" fill="#fff"/>\n{labels}\n<g transform="translate({left} 0)">\n{self.body(first, last)}\n</g>\n</svg>\n'
+            f'aria-label="{escape(self.summary(first, last), quote=True)}">\n<style>{STYLE}</style>\n{patterns_named(name)}\n'
+            f'<rect width="{width}" height="{self.height}" fill="#fff"/>\n{labels}\n<g transform="translate({left} 0)">\n{self.body(first, last, name)}\n</g>\n</svg>\n'
         )
 
     def label_svg(self) -> str:
@@ -189,14 +191,16 @@ class Drawing:
         )
 
 
-PATTERNS = (
-    "<defs>"
-    '<pattern id="running" width="6" height="6" patternUnits="userSpaceOnUse" patternTransform="rotate(45)">'
-    '<line x1="0" y1="0" x2="0" y2="6" stroke="#000" stroke-opacity="0.22" stroke-width="2"/></pattern>'
-    '<pattern id="finalizing" width="5" height="5" patternUnits="userSpaceOnUse">'
-    '<circle cx="2.5" cy="2.5" r="1.1" fill="#000" fill-opacity="0.3"/></pattern>'
-    "</defs>"
-)
+def patterns_named(name: str) -> str:
+    """The stripes of a generator and the dots of a finalizer."""
+    return (
+        "<defs>"
+        f'<pattern id="running-{name}" width="6" height="6" patternUnits="userSpaceOnUse" patternTransform="rotate(45)">'
+        '<line x1="0" y1="0" x2="0" y2="6" stroke="#000" stroke-opacity="0.22" stroke-width="2"/></pattern>'
+        f'<pattern id="finalizing-{name}" width="5" height="5" patternUnits="userSpaceOnUse">'
+        '<circle cx="2.5" cy="2.5" r="1.1" fill="#000" fill-opacity="0.3"/></pattern>'
+        "</defs>"
+    )
 
 
 def word_of(step: Step) -> str:

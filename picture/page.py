@@ -24,7 +24,7 @@ summary { cursor: pointer; font-weight: 600; }
   @page { size: landscape; margin: 10mm; }
   body { margin: 0; } .strip { display: none; } .bands { display: block; }
   .bands svg { max-width: 100%; height: auto; margin-bottom: 6mm; break-inside: avoid; }
-  * { print-color-adjust: exact; -webkit-print-color-adjust: exact; } tr { break-inside: avoid; }
+  * { print-color-adjust: exact; -webkit-print-color-adjust: exact; } tr, li { break-inside: avoid; } h2 { break-after: avoid; }
 }
 """.strip()
 
