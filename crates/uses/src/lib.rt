@@ -7,6 +7,7 @@ mod from_text;
 mod in_memory;
 mod parked;
 mod plugins;
+mod shared_counter;
 mod shared_value;
 mod stepping;
 #[cfg(test)]
@@ -18,5 +19,6 @@ pub use from_text::{TextError, run_text};
 pub use in_memory::{Ended, run_in_memory};
 pub use parked::{Barred, read_behind_a_writer};
 pub use plugins::{Plugin, run_host};
+pub use shared_counter::count_together;
 pub use shared_value::{Seen, read_by_two};
 pub use stepping::{Look, step_and_look};
