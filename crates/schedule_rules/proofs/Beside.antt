@@ -4,7 +4,6 @@ use Rattle.std.specs.Prelude.{◌==◌, ◌^◌, ◌-◌, if◌then◌else◌}
 use Rattle.std.specs.List.{AllByRecursion}
 use Rattle.std.specs.Int.RustNames.{bit_and}
 use Rattle.std.proofs.lemmas.Nat.{and_assoc, and_or_apart}
-use Rattle.std.specs.declared.option.Option.{Option}
 use Rattle.phase_bits.specs.Flags.{has}
 use Rattle.phase_seq.specs.Phases.{final_outcome, registration}
 use Rattle.schedule_rules.specs.declared.plan.CellPlan.{CellPlan}

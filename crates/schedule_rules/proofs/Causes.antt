@@ -1,5 +1,5 @@
 -- Which answer a legal line has, by its cause.
-use Rattle.std.proofs.Common.{◌≡◌, ◌≢◌, ℕ, List, [], ◌∷◌, length, Bool, true, false, not, ◌&&◌, None, Some, refl, sym, ◌∙◌, ap, arith}
+use Rattle.std.proofs.Common.{◌≡◌, ◌≢◌, ℕ, List, [], ◌∷◌, length, Bool, true, false, not, ◌&&◌, None, Some, refl, sym, ◌∙◌, ap}
 use Rattle.std.specs.Prelude.{◌==◌, is_none, is_some, if◌then◌else◌}
 use Rattle.std.specs.declared.option.Option.{Option}
 use Rattle.exit_registry.specs.declared.registry.Look.TheVariants as look
@@ -34,7 +34,7 @@ use Rattle.schedule_rules.specs.Refusals.{refusal, refusal_by}
 use Rattle.schedule_rules.specs.Answers.{Meeting, answer_of_run, if_accessible, call_answer_admitted, turn_answer_admitted, answer_admitted}
 use Rattle.schedule_rules.specs.Due.{answer_of_look, due_attempt, due_tried, due_answer, meeting}
 use Rattle.schedule_rules.specs.Legal.{IsLegalLine}
-use Rattle.schedule_rules.specs.Causes.{is_running, is_access, is_cyclic, is_finalizing, is_skipped, is_round, is_closing, is_exit, is_attempted, waits_judged, is_step_of, is_of_own_run, is_admitted, is_run, is_turned_away, is_turn_where, is_running_step, is_access_step, is_turn_step, is_cyclic_step, looks, is_round_step, is_closing_step}
+use Rattle.schedule_rules.specs.Causes.{is_running, is_access, is_cyclic, is_finalizing, is_skipped, is_round, is_closing, is_exit, is_attempted, waits_judged, is_step_of, is_of_own_run, is_admitted, is_running_step, is_access_step, is_turn_step, is_cyclic_step, looks, is_round_step, is_closing_step}
 use Rattle.schedule_rules.proofs.Answered.{either, accessed, made, finished, looked, cloned, legal_by}
 
 -- a test that no answer passes of a step that is refused or attempts nothing

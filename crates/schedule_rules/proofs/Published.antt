@@ -1,7 +1,6 @@
 -- A phase changes only where a section of its cell is given back, and while no guard reads the cell.
-use Rattle.std.proofs.Common.{◌≡◌, ◌≢◌, ◌<◌, ℕ, List, [], ◌∷◌, length, refl, ◌∙◌, ap, subst, arith, Bool, true, false, not, ◌&&◌, None, Some, ◌⊎◌, inl, inr}
+use Rattle.std.proofs.Common.{◌≡◌, ◌≢◌, ◌<◌, ℕ, List, [], ◌∷◌, length, refl, ◌∙◌, ap, subst, arith, Bool, true, false, not, None, Some, inl, inr}
 use Rattle.std.specs.Prelude.{◌==◌, if◌then◌else◌}
-use Rattle.std.specs.declared.option.Option.{Option}
 use Rattle.phase_bits.specs.declared.phase.Phase.{Phase}
 use Rattle.phase_bits.specs.Number.{phase_of}
 use Rattle.phase_locker.specs.declared.ways.Given.{Given}
@@ -20,7 +19,6 @@ use Rattle.schedule_rules.specs.History.{Event, accepts, count}
 use Rattle.schedule_rules.specs.Sections.{Section, innermost, without_innermost, runs_in, sections}
 use Rattle.schedule_rules.specs.Guards.{Guard, numbered, without_guard, guards}
 use Rattle.schedule_rules.specs.Replay.{Back, back_of_run, back_of_turn, back_of_guard, back_at_once, back_of_step, content_after_back, replay, phase_at}
-use Rattle.schedule_rules.specs.Waits.{attempt}
 use Rattle.schedule_rules.specs.Holds.{writes_cell, read_guards, write_holds}
 use Rattle.schedule_rules.specs.Legal.{IsLegal}
 use Rattle.schedule_rules.specs.Laws.{GivesBack}
@@ -28,7 +26,7 @@ use Rattle.schedule_rules.proofs.Alone.{alone}
 use Rattle.schedule_rules.proofs.Found.{found_counts}
 use Rattle.schedule_rules.proofs.Exclusion.{no_writer_beside, no_run_left, no_run_beside, no_writer_left}
 use Rattle.schedule_rules.proofs.Backs.{back_elsewhere, no_phase_back, no_read_back}
-use Rattle.schedule_rules.proofs.Cases.{Calling, Asking, Resting, Cases}
+use Rattle.schedule_rules.proofs.Cases.{Calling, Asking, Cases}
 use Rattle.schedule_rules.proofs.Steps.{of_legal}
 use Rattle.schedule_rules.proofs.Grows.{denied_stays}
 use Rattle.schedule_rules.proofs.Initialized.{sound}

@@ -1,8 +1,8 @@
 -- A value that a guard shows is there.
-use Rattle.std.proofs.Common.{◌≡◌, ◌<◌, ◌≤◌, ◌+◌, ℕ, List, [], ◌∷◌, length, refl, sym, ◌∙◌, ap, subst, arith, Bool, true, false, None, Some, ◌⊎◌, inl, inr}
+use Rattle.std.proofs.Common.{◌≡◌, ◌≤◌, ℕ, List, [], ◌∷◌, length, refl, sym, ◌∙◌, ap, subst, arith, Bool, true, false, None, Some, ◌⊎◌, inl, inr}
 use Rattle.std.specs.Prelude.{◌==◌, ◌^◌, ◌-◌, is_some, if◌then◌else◌}
 use Rattle.std.specs.List.{AllByRecursion}
-use Rattle.std.specs.Int.RustNames.{bit_and, bit_or}
+use Rattle.std.specs.Int.RustNames.{bit_and}
 use Rattle.std.proofs.lemmas.Nat.{and_assoc, and_le_r}
 use Rattle.std.specs.declared.option.Option.{Option}
 use Rattle.phase_bits.specs.Flags.{has, initialized}
@@ -22,9 +22,8 @@ use Rattle.schedule_rules.specs.History.{Event, before}
 use Rattle.schedule_rules.specs.Sections.{Section, innermost}
 use Rattle.schedule_rules.specs.Sections.{sections}
 use Rattle.schedule_rules.specs.Guards.{Guard, numbered, with_reader, with_writer, guards}
-use Rattle.schedule_rules.specs.Replay.{Back, back_of_run, back_of_guard, back_of_step, content_after_back, replay, phase_at, inside}
+use Rattle.schedule_rules.specs.Replay.{Back, back_of_run, back_of_guard, back_of_step, content_after_back, replay, inside}
 use Rattle.schedule_rules.specs.Legal.{IsLegal}
-use Rattle.schedule_rules.proofs.Alone.{alone}
 use Rattle.schedule_rules.proofs.Earlier.{before_more, before_now}
 use Rattle.schedule_rules.proofs.Each.{each_mapped, each_found, each_removed, each_put}
 use Rattle.schedule_rules.proofs.Backs.{back_here}
