@@ -11,8 +11,8 @@ use Rattle.phase_locker.specs.declared.ways.Waiting.TheVariants as way
 use Rattle.phase_locker.specs.declared.links.Link.{Link}
 use Rattle.phase_locker.specs.declared.links.Queue.{Queue}
 use Rattle.phase_locker.specs.declared.links.Queues.{Queues}
-use Rattle.phase_locker.specs.Rows.{Rows, no_rows, free_row, row_of, readers_of, writers_of, occurs, without, is_parked, is_empty, is_parked_read, is_parked_write, reads_at, writes_at, park_reader, park_writer, rows_to_readers, shared, freed, left, IsSound}
-use Rattle.phase_locker.specs.Links.{link_of, queues_of, listed, first_of, seen, writer_left, IsQueue, IsRoster, IsShown, LinksStay}
+use Rattle.phase_locker.specs.Rows.{Rows, no_rows, free_row, row_of, readers_of, writers_of, first_of, occurs, without, is_parked, is_empty, is_parked_read, is_parked_write, reads_at, writes_at, park_reader, park_writer, rows_to_readers, shared, freed, left, IsSound}
+use Rattle.phase_locker.specs.Links.{link_of, queues_of, listed, seen, writer_left, IsQueue, IsRoster, IsShown, LinksStay}
 use Rattle.phase_locker.proofs.Filters.{eq_self, occurs-append, ne_zero, first_in}
 use Rattle.phase_locker.proofs.Linked.{listed_is, queue_same, apart_from}
 use Rattle.phase_locker.proofs.Handed.{at_free}

@@ -6,8 +6,7 @@ use Rattle.phase_bits.specs.Records.{downgrade, give_writer, give_readers}
 use Rattle.phase_locker.specs.declared.ways.Given.{Given}
 use Rattle.phase_locker.specs.declared.ways.Given.TheVariants.{Nobody, Writer, Readers}
 use Rattle.phase_locker.specs.declared.ways.Waiting.TheVariants.{Free}
-use Rattle.phase_locker.specs.Rows.{Rows, row_of, readers_of, writers_of, is_empty, occurs, rows_to_readers, rows_to_writer}
-use Rattle.phase_locker.specs.Order.{first_of}
+use Rattle.phase_locker.specs.Rows.{Rows, row_of, readers_of, writers_of, is_empty, first_of, occurs, rows_to_readers, rows_to_writer}
 use Rattle.phase_locker.specs.Fits.{flagged, IsIdle, NobodyParked}
 
 -- this may be given: the lock to a parked writer, or to the parked readers, where no hold, share or claim is left

@@ -1,5 +1,5 @@
 -- Lists of parties that are linked by number, and the rows that are seen of them.
-use Rattle.std.specs.Prelude.{◌≡◌, ℕ, zero, suc, ◌<◌, ◌≤◌, Bool, true, List, [], ◌∷◌, length, map, slice_index_or, slice_set, Option, Some, None}
+use Rattle.std.specs.Prelude.{◌≡◌, ℕ, zero, suc, ◌<◌, ◌≤◌, Bool, true, List, [], ◌∷◌, length, map, slice_index_or, slice_set}
 use Rattle.phase_locker.specs.declared.ways.Row.{Row}
 use Rattle.phase_locker.specs.declared.links.Link.{Link}
 use Rattle.phase_locker.specs.declared.links.Queue.{Queue}
@@ -25,11 +25,6 @@ listed links q = walk q.count links q.first
 abbrev pub last_of : ℕ → List ℕ → ℕ
 last_of b [] = b
 last_of b (p ∷ ps) = last_of p ps
-
--- the first of a list
-abbrev pub first_of : List ℕ → Option ℕ
-first_of [] = None
-first_of (p ∷ ps) = Some p
 
 -- these parties are linked both ways, from h on; b stands before them, and e behind them
 abbrev pub IsLinked : List Link → ℕ → ℕ → List ℕ → ℕ → Type 0

@@ -3,8 +3,8 @@
 ghost use Rattle.std.specs.Prelude.{◌≡◌, ◌≢◌, ◌^◌, ◌<◌, ◌↔◌, IfOk, IfSome, IsNone, not, true, false, length};
 ghost use Rattle.phase_locker.specs.declared.ways.Waiting.{Waiting};
 ghost use Rattle.phase_locker.specs.declared.ways.Waiting.TheVariants.{Free, ParkedRead};
-ghost use Rattle.phase_locker.specs.Rows.{Rows, IsSound, no_rows, row_of, readers_of, writers_of, is_empty, is_parked, occurs, put, park_reader, park_writer, freed, left, rows_to_readers, rows_to_writer};
-ghost use Rattle.phase_locker.specs.Links.{first_of, writer_left};
+ghost use Rattle.phase_locker.specs.Rows.{Rows, IsSound, no_rows, row_of, readers_of, writers_of, is_empty, is_parked, first_of, occurs, put, park_reader, park_writer, freed, left, rows_to_readers, rows_to_writer};
+ghost use Rattle.phase_locker.specs.Links.{writer_left};
 
 use crate::links::{EMPTY, Link, Queues, UNLINKED, append, share, unlink};
 use crate::ways::{FREE, Row, Waiting};

@@ -1,6 +1,6 @@
 use Rattle.std.proofs.Common.{◌≡◌, ◌∙◌, refl}
 use Rattle.phase_locker.specs.Rows.{writers_of}
-use Rattle.phase_locker.specs.Links.{first_of}
+use Rattle.phase_locker.specs.Rows.{first_of}
 use Rattle.phase_locker.proofs.Shown.{shown_value, lent_writers, first_is, first_once, first_none}
 use Rattle.phase_locker.proofs.Sound.{writers_roster}
 use Rattle.phase_locker.proofs.parks.Parks.first_writer.Goals as goal
