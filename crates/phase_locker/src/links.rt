@@ -8,7 +8,7 @@ use crate::ways::{Row, Waiting};
 
 /// The neighbours of a party in its list. They say nothing where the party is in no list, and neither does the one
 /// before the first party of a list, or the one behind its last.
-#[derive(Clone, Copy, PartialEq, Eq, Debug)]
+#[derive(Clone, Copy)]
 pub(crate) struct Link {
     /// The party behind it.
     pub next: u32,
@@ -17,7 +17,7 @@ pub(crate) struct Link {
 }
 
 /// A list of parties: how many they are, and its ends, which say nothing where it is empty.
-#[derive(Clone, Copy, PartialEq, Eq, Debug)]
+#[derive(Clone, Copy)]
 pub(crate) struct Queue {
     /// How many parties are in it.
     pub count: u32,
@@ -28,7 +28,7 @@ pub(crate) struct Queue {
 }
 
 /// The parked calls of a cell.
-#[derive(Clone, Copy, PartialEq, Eq, Debug)]
+#[derive(Clone, Copy)]
 pub(crate) struct Queues {
     /// Those that are parked as readers.
     pub readers: Queue,
