@@ -4,7 +4,7 @@
 //! If two were ever inside at once, additions would be lost. What the seats know is proved: how many sections the workers
 //! recorded. That the counter, which the word knows nothing of, is the same number is tested.
 
-ghost use Rattle.std.specs.Prelude.{◌≡◌, ◌+◌, ◌*◌, ◌<◌, ◌^◌, IfOk};
+ghost use Rattle.std.specs.Prelude.{◌≡◌, ◌*◌, IfOk};
 ghost use Rattle.lazy_threads.specs.Seats.{IsSeatOf, view_of};
 ghost use Rattle.lazy_threads.specs.declared.view.Hold.TheVariants as hold;
 

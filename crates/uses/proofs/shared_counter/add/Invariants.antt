@@ -1,4 +1,4 @@
-use Rattle.std.proofs.Common.{◌≡◌, ◌<◌, ◌^◌, ◌≤◌}
+use Rattle.std.proofs.Common.{◌≡◌}
 use Rattle.lazy_threads.specs.Seats.{IsSeatOf, view_of}
 use Rattle.lazy_threads.specs.declared.view.Hold.TheVariants as hold
 use Rattle.uses.proofs.shared_counter.add.Given as goal
