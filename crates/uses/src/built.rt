@@ -20,7 +20,8 @@ const CELL: CellPlan = CellPlan {
 
 /// A plan of two parties and one cell.
 pub fn two_parties(alloc: Global) -> Result<Plan, AllocError>
-    ensures { IfOk result (λ plan. length plan.cells.items ≡ 1) }
+    ensures parties { IfOk result (λ plan. plan.parties ≡ 2) }
+    ensures cells { IfOk result (λ plan. length plan.cells.items ≡ 1) }
 {
     let cells = vec![in alloc; CELL]?;
     Ok(Plan { parties: 2, cells })

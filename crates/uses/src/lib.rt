@@ -1,4 +1,13 @@
-//! Callers of the crates below, as a user writes them. Each file is one story; `plugins` is the one to read first.
+//! Callers of the crates below, as a user writes them. Each file is one story:
+//!
+//! - `plugins`: a host shuts two plugins down in the opposite order of their start. It is the one to read first.
+//! - `shared_value`: a value is made once, and read by two.
+//! - `stepping`: a harness makes the steps of an engine one by one, over lockers of its own, and looks at who waits.
+//! - `built`: a schedule is built in code, run and printed.
+//! - `from_text`: a schedule is read from text, and its errors are told.
+//! - `parked`: a reader waits behind a writer.
+//! - `access`: a phase says whether a value may be read.
+//! - `in_memory`: the whole program runs over memory.
 #![tactic(auto)]
 
 mod access;
@@ -21,4 +30,4 @@ pub use parked::{Barred, read_behind_a_writer};
 pub use plugins::{Plugin, run_host};
 pub use shared_counter::count_together;
 pub use shared_value::{Seen, read_by_two};
-pub use stepping::{Look, step_and_look};
+pub use stepping::{step_and_look, watch_a_reader};
