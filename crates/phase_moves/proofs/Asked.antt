@@ -1,24 +1,21 @@
 -- What is asked of a cell is what the rules ask for it, and so is what a call that is declined leaves.
-use Rattle.std.proofs.Common.{◌≡◌, ◌≢◌, ◌∙◌, ℕ, [], ◌∷◌, refl, ap, sym, Bool, true, false, not, ◌&&◌, None, Some, length-set}
+use Rattle.std.proofs.Common.{◌≡◌, ◌≢◌, ℕ, [], ◌∷◌, refl, ap, Bool, true, false, not, ◌&&◌, None, Some, length-set}
 use Rattle.std.specs.Prelude.{if◌then◌else◌, ◌==◌}
-use Rattle.std.specs.declared.option.Option.{Option}
 use Rattle.phase_bits.specs.Number.{number, phase_of}
 use Rattle.phase_bits.specs.declared.phase.Phase.{Phase}
 use Rattle.exit_registry.specs.Registry.{Registry, after_register, registered, cells_of}
-use Rattle.phase_seq.specs.declared.ask.Ask.{Ask}
 use Rattle.phase_seq.specs.declared.section.Begun.{Begun}
-use Rattle.phase_seq.specs.Asks.{asks_run as seq_asks_run, shall_init as seq_shall_init, initializes as seq_initializes, finalizes}
+use Rattle.phase_seq.specs.Asks.{asks_run as seq_asks_run, shall_init as seq_shall_init, finalizes}
 use Rattle.phase_seq.specs.Exactly.{is_run}
-use Rattle.phase_seq.specs.Phases.{flags_generate, flags_refused, flags_staying, may_generate, refused, staying, unregistered}
+use Rattle.phase_seq.specs.Phases.{flags_generate, flags_refused, flags_staying}
 use Rattle.phase_seq.specs.Registers.{after_asking, is_refused}
-use Rattle.schedule_rules.specs.declared.plan.Call.{Call}
 use Rattle.schedule_rules.specs.declared.plan.Call.TheVariants as call
 use Rattle.schedule_rules.specs.declared.plan.CellPlan.{CellPlan}
 use Rattle.schedule_rules.specs.declared.plan.Kind.{Kind}
 use Rattle.schedule_rules.specs.declared.step.Want.{Want}
 use Rattle.schedule_rules.specs.declared.step.Want.TheVariants.{Calls, Turns}
 use Rattle.schedule_rules.specs.Kinds.{is_finalizable}
-use Rattle.schedule_rules.specs.Phases.{NoRun, flags_kept, phase_reached, runs_generator, shall_init, tries_registration}
+use Rattle.schedule_rules.specs.Phases.{NoRun, phase_reached, runs_generator, shall_init, tries_registration}
 use Rattle.schedule_rules.specs.Calls.{asks}
 use Rattle.schedule_rules.specs.Changes.{Content, Asked, effect, is_declined}
 use Rattle.schedule_rules.specs.Sections.{is_turn}

@@ -1,5 +1,5 @@
 -- What an attempt does to the record of its cell and to the rows, by what it began.
-use Rattle.std.proofs.Common.{◌≡◌, ◌≢◌, ◌<◌, ◌+◌, ◌∙◌, ℕ, List, length, set, ap, sym, subst, refl, arith, Bool, true, false, None, Some, inl, inr}
+use Rattle.std.proofs.Common.{◌≡◌, ◌≢◌, ◌<◌, ◌∙◌, ℕ, length, set, ap, sym, subst, refl, arith, Bool, true, false, None, Some, inl, inr}
 use Rattle.std.specs.Prelude.{◌⊎◌, MatchBool, if◌then◌else◌, ◌||◌, ◌&&◌, ◌==◌, not}
 use Rattle.std.proofs.lemmas.List.{set-get_or}
 use Rattle.std.specs.declared.option.Option.{Option}
@@ -21,7 +21,7 @@ use Rattle.phase_locker.specs.declared.tickets.Attempt.{Attempt}
 use Rattle.phase_locker.specs.declared.tickets.Attempt.TheVariants as attempt
 use Rattle.phase_locker.specs.Natures.{bars, admitted, got, write_ticket}
 use Rattle.phase_locker.specs.Rows.{Rows as Parking, row_of, free_row, freed, left, is_drain}
-use Rattle.phase_locker.specs.Fits.{Fits, IsWriteOpen, flagged}
+use Rattle.phase_locker.specs.Fits.{Fits, IsWriteOpen}
 use Rattle.phase_locker.specs.Gifts.{Hands, Downgrades, rows_handed}
 use Rattle.phase_locker.specs.Attempts.{Judged, Waits, Gets, Keeps, GivesUp, rows_waiting, held_waiting, given_up, keeps}
 use Rattle.phase_locker.proofs.Standing.{kept_writes, left_writes, hands_writes}
@@ -40,7 +40,7 @@ use Rattle.phase_seq.specs.Phases.{unregistered, refused, staying}
 use Rattle.phase_bits.specs.Flags.{has, initialized}
 use Rattle.phase_bits.specs.Number.{number}
 use Rattle.exit_registry.specs.Registry.{Registry}
-use Rattle.phase_seq.specs.Begins.{Begins, Resumes, TurnsBack, MakesAttempt, MakesAnother, TriesLock, is_cyclic, section_by, begun_by, begun_of}
+use Rattle.phase_seq.specs.Begins.{Begins, Resumes, TurnsBack, MakesAttempt, MakesAnother, TriesLock, is_cyclic, section_by, begun_by}
 use Rattle.waiting_rows.specs.Given.{IsListed}
 use Rattle.waiting_rows.proofs.GivenOn.{listed_hand, listed_share}
 use Rattle.phase_moves.specs.Calls.{Calls, Enters}

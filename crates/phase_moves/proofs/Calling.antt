@@ -1,6 +1,6 @@
 -- A call at one cell, which changes who waits alone.
-use Rattle.std.proofs.Common.{◌≡◌, ◌≢◌, ◌==◌, ◌<◌, ◌≤◌, ◌+◌, ◌∙◌, ℕ, List, [], ◌∷◌, length, set, get_or, ap, sym, subst, refl, arith, Bool, true, false, cond, None, Some}
-use Rattle.std.specs.Prelude.{slice_get, ◌-◌, IsNone, OnSome, ◌↔◌}
+use Rattle.std.proofs.Common.{◌≡◌, ◌≢◌, ◌==◌, ◌<◌, ◌+◌, ◌∙◌, ℕ, List, length, set, get_or, ap, sym, subst, refl, arith, true, None, Some}
+use Rattle.std.specs.Prelude.{IsNone, OnSome, ◌↔◌}
 use Rattle.std.specs.declared.option.Option.{Option}
 use Rattle.phase_bits.specs.declared.holders.Holders.{Holders}
 use Rattle.exit_registry.specs.Registry.{Registry}
@@ -8,26 +8,25 @@ use Rattle.phase_bits.specs.Records.{admit_read, most_readers}
 use Rattle.phase_locker.specs.declared.ways.LockerKind.{LockerKind}
 use Rattle.phase_locker.specs.declared.tickets.ReadTicket.{ReadTicket}
 use Rattle.phase_locker.specs.Rows.{Rows as Parking, SameSize, claims}
-use Rattle.phase_locker.specs.Fits.{Fits, IsWriteOpen, KeepsFit, open_reads}
+use Rattle.phase_locker.specs.Fits.{Fits, KeepsFit, open_reads}
 use Rattle.phase_locker.specs.Others.{OthersStay}
 use Rattle.phase_locker.proofs.Others.{others_refl}
 use Rattle.schedule_rules.specs.Changes.{Content}
 use Rattle.schedule_rules.specs.Kinds.{cell_at}
-use Rattle.schedule_rules.specs.History.{count}
 use Rattle.schedule_rules.specs.Guards.{Guard, numbered, reader}
 use Rattle.schedule_rules.specs.Holds.{reads_cell}
-use Rattle.schedule_rules.specs.Waits.{Wait, shares_read}
+use Rattle.schedule_rules.specs.Waits.{Wait}
 use Rattle.schedule_rules.proofs.Found.{found_counts}
 use Rattle.waiting_rows.proofs.RowCounts.{shares_shown}
 use Rattle.phase_moves.specs.declared.rows.CellRow.{CellRow}
 use Rattle.phase_moves.specs.declared.rows.Rows.{Rows}
 use Rattle.phase_moves.specs.Standing.{Standing, cloned, reads_in, writes_in, run_in}
 use Rattle.phase_moves.specs.Stands.{Seen, seen_at, IsCell, IsExit, IsLocked, AreShown, Stands}
-use Rattle.phase_moves.specs.Moves.{Rests, IsOpenReader, IsFull, ClonesAs}
+use Rattle.phase_moves.specs.Moves.{IsOpenReader, IsFull, ClonesAs}
 use Rattle.phase_moves.proofs.Guards.{found_itself, reads_here, slots_same}
 use Rattle.phase_moves.proofs.Lockers.{reading_alone}
 use Rattle.phase_moves.proofs.Opening.{guard_opened, seen_reader}
-use Rattle.phase_moves.proofs.Moved.{IsMoved, HasParties, exit_kept, parties_same, moved}
+use Rattle.phase_moves.proofs.Moved.{IsMoved, exit_kept, parties_same, moved}
 use Rattle.phase_moves.proofs.Places.{read_at}
 
 module _ {L : Type 0} (held : L → Holders) (place : L → LockerKind) where

@@ -1,5 +1,5 @@
 -- A run ends, and its call goes on.
-use Rattle.std.proofs.Common.{◌≡◌, ◌≢◌, ◌==◌, ◌<◌, ◌≤◌, ◌+◌, ◌∙◌, ℕ, List, [], ◌∷◌, length, set, get_or, ap, sym, subst, refl, arith, Bool, true, false, None, Some}
+use Rattle.std.proofs.Common.{◌≡◌, ◌==◌, ◌<◌, ◌+◌, ◌∙◌, ℕ, [], ◌∷◌, length, set, get_or, ap, sym, subst, refl, arith, Bool, true, false, None, Some}
 use Rattle.std.specs.declared.option.Option.{Option}
 use Rattle.std.specs.Option.{is_some}
 use Rattle.phase_bits.specs.declared.phase.Phase.{Phase}
@@ -10,7 +10,7 @@ use Rattle.phase_locker.specs.declared.ways.Given.{Given}
 use Rattle.phase_locker.specs.declared.ways.Given.TheVariants as given
 use Rattle.phase_locker.specs.declared.ways.LockerKind.{LockerKind}
 use Rattle.phase_locker.specs.Rows.{Rows as Parking, HasFree}
-use Rattle.phase_locker.specs.Fits.{IsWriteOpen, open_reads}
+use Rattle.phase_locker.specs.Fits.{open_reads}
 use Rattle.phase_locker.specs.Gifts.{Hands, Downgrades}
 use Rattle.phase_locker.specs.Left.{Left}
 use Rattle.phase_locker.specs.declared.tickets.ReadTicket.{ReadTicket}
@@ -41,9 +41,9 @@ use Rattle.phase_moves.specs.declared.rows.CellRow.{CellRow}
 use Rattle.phase_moves.specs.declared.rows.OpenRun.{OpenRun}
 use Rattle.phase_moves.specs.declared.rows.PartyRow.{PartyRow}
 use Rattle.phase_moves.specs.declared.rows.Rows.{Rows}
-use Rattle.phase_moves.specs.Standing.{Standing, run_in, reads_in, writes_in, runner_of, run_closed, ended, guarded, writer_of}
+use Rattle.phase_moves.specs.Standing.{Standing, run_in, reads_in, writes_in, runner_of, run_closed, guarded, writer_of}
 use Rattle.phase_moves.specs.Stands.{Seen, seen_at, IsCell, IsLocked, Stands, section_of, stays_in, target_of, want_of}
-use Rattle.phase_moves.specs.Ends.{IsEnding, IsEnded, EndsAs, GoesAs}
+use Rattle.phase_moves.specs.Ends.{IsEnding, EndsAs, GoesAs}
 use Rattle.phase_moves.proofs.Known.{change_known, stays_known}
 use Rattle.phase_moves.proofs.Lockers.{locked_write, locked_down, hands_writers, downgrades_writers}
 use Rattle.phase_moves.proofs.Guards.{target_given}

@@ -6,11 +6,11 @@ use Rattle.phase_bits.specs.declared.holders.Holders.{Holders}
 use Rattle.exit_registry.specs.declared.registry.Look.{Look}
 use Rattle.exit_registry.specs.declared.turns.Turned.{Turned}
 use Rattle.exit_registry.specs.declared.turns.Turn.TheVariants as turn
-use Rattle.exit_registry.specs.Registry.{Registry, IsSound, cells_of, due, first_of, look_at, looked, after_turn}
+use Rattle.exit_registry.specs.Registry.{Registry, IsSound, cells_of, first_of, look_at, looked, after_turn}
 use Rattle.phase_locker.specs.declared.ways.LockerKind.{LockerKind}
 use Rattle.phase_moves.specs.declared.rows.Exit.{Exit}
 use Rattle.phase_moves.specs.declared.rows.Rows.{Rows}
-use Rattle.phase_moves.specs.Standing.{Standing, owned, turn_taken, round_looked, turn_ended}
+use Rattle.phase_moves.specs.Standing.{Standing, owned, round_looked, turn_ended}
 use Rattle.phase_moves.specs.Stands.{Stands, IsExit}
 use Rattle.phase_moves.specs.Exits.{IsTurn}
 

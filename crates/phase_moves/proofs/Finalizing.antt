@@ -1,14 +1,11 @@
 -- A finalizer ends, and its turn with it.
-use Rattle.std.proofs.Common.{◌≡◌, ◌<◌, ◌+◌, ◌∙◌, ℕ, List, [], ◌∷◌, ◌++◌, length, set, get_or, ap, sym, subst, refl, arith, Bool, true, false, None, Some}
-use Rattle.std.specs.declared.option.Option.{Option}
+use Rattle.std.proofs.Common.{◌≡◌, ◌∙◌, ℕ, [], ◌∷◌, ◌++◌, length, set, get_or, ap, sym, subst, refl, Bool, true, None, Some}
 use Rattle.phase_bits.specs.declared.phase.Phase.{Phase}
 use Rattle.phase_bits.specs.declared.holders.Holders.{Holders}
 use Rattle.phase_bits.specs.Number.{phase_of}
 use Rattle.phase_bits.specs.Records.{leave_write}
-use Rattle.exit_registry.specs.declared.turns.Turned.{Turned}
 use Rattle.phase_locker.specs.declared.ways.Given.{Given}
 use Rattle.phase_locker.specs.declared.ways.LockerKind.{LockerKind}
-use Rattle.phase_locker.specs.Rows.{Rows as Parking}
 use Rattle.phase_locker.specs.Fits.{IsWriteOpen, open_reads}
 use Rattle.phase_locker.specs.Gifts.{Hands}
 use Rattle.phase_locker.specs.Left.{Left}
@@ -16,7 +13,6 @@ use Rattle.phase_seq.specs.Asks.{finalizes}
 use Rattle.phase_seq.specs.Finishes.{FinishesFinal}
 use Rattle.phase_seq.specs.Phases.{finalized as finalized_phase}
 use Rattle.phase_seq.specs.Stands.{IsFinalizing as IsFinalSection}
-use Rattle.schedule_rules.specs.declared.plan.Call.TheVariants as call
 use Rattle.schedule_rules.specs.declared.step.Want.{Want}
 use Rattle.schedule_rules.specs.declared.step.Want.TheVariants.{Calls, Turns}
 use Rattle.schedule_rules.specs.Kinds.{cell_at}
@@ -25,12 +21,11 @@ use Rattle.schedule_rules.specs.Phases.{phase_finalized}
 use Rattle.schedule_rules.specs.Sections.{Section, is_turn}
 use Rattle.waiting_rows.proofs.GivenOn.{listed_hand}
 use Rattle.phase_moves.specs.declared.rows.CellRow.{CellRow}
-use Rattle.phase_moves.specs.declared.rows.Exit.{Exit}
 use Rattle.phase_moves.specs.declared.rows.OpenRun.{OpenRun}
 use Rattle.phase_moves.specs.declared.rows.PartyRow.{PartyRow}
 use Rattle.phase_moves.specs.declared.rows.Rows.{Rows}
 use Rattle.phase_moves.specs.Standing.{Standing, runner_of, finalized, turn_of}
-use Rattle.phase_moves.specs.Stands.{Seen, seen_at, IsCell, IsExit, Stands, want_of}
+use Rattle.phase_moves.specs.Stands.{Seen, seen_at, IsCell, IsExit, want_of}
 use Rattle.phase_moves.specs.Ends.{IsFinalizing, FinalizesAs}
 use Rattle.phase_moves.proofs.Known.{change_known}
 use Rattle.phase_moves.proofs.Lockers.{locked_write, hands_writers}

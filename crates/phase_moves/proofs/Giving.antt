@@ -1,5 +1,5 @@
 -- What is given as a guard is given back may be given.
-use Rattle.std.proofs.Common.{◌≡◌, ◌≢◌, ◌==◌, ◌<◌, ◌≤◌, ◌+◌, ◌-◌, ◌∙◌, ℕ, List, [], ◌∷◌, length, ap, sym, subst, refl, arith, Bool, true, false, cond, None, Some}
+use Rattle.std.proofs.Common.{◌≡◌, ◌≢◌, ◌∙◌, ℕ, ap, sym, subst, refl, arith, true, false, Some}
 use Rattle.std.specs.Prelude.{slice_get}
 use Rattle.phase_bits.specs.declared.phase.Phase.{Phase}
 use Rattle.phase_bits.specs.declared.holders.Holders.{Holders}
@@ -7,28 +7,24 @@ use Rattle.phase_bits.specs.Records.{leave_read, leave_write}
 use Rattle.phase_locker.specs.declared.ways.Given.{Given}
 use Rattle.phase_locker.specs.declared.ways.Given.TheVariants as given
 use Rattle.phase_locker.specs.declared.ways.LockerKind.{LockerKind}
-use Rattle.phase_locker.specs.Rows.{Rows as Parking, occurs, is_empty, readers_of, writers_of}
-use Rattle.phase_locker.specs.Fits.{Fits, IsIdle, is_park, NobodyParked}
+use Rattle.phase_locker.specs.Rows.{Rows as Parking, writers_of}
+use Rattle.phase_locker.specs.Fits.{Fits, IsIdle, is_park}
 use Rattle.phase_locker.specs.Gifts.{Hands, Downgrades, MayHand, MayShare}
 use Rattle.phase_locker.proofs.Holding.{listed_in}
 use Rattle.schedule_rules.specs.declared.plan.Place.{Place}
 use Rattle.schedule_rules.specs.declared.plan.Place.TheVariants as place_of
 use Rattle.schedule_rules.specs.Kinds.{cell_at, is_parking}
-use Rattle.schedule_rules.specs.History.{count}
-use Rattle.schedule_rules.specs.Sections.{runs_in}
-use Rattle.schedule_rules.specs.Guards.{Guard, numbered, without_guard}
+use Rattle.schedule_rules.specs.Guards.{Guard, numbered}
 use Rattle.schedule_rules.specs.Holds.{reads_cell, writes_cell}
-use Rattle.schedule_rules.specs.Gifts.{reaches}
-use Rattle.schedule_rules.specs.Waits.{shares_read, shares_write, drains_on}
 use Rattle.waiting_rows.specs.Given.{IsListed}
 use Rattle.waiting_rows.proofs.GivenOn.{listed_hand, reaches_given}
 use Rattle.waiting_rows.proofs.RowCounts.{shares_shown, claims_shown}
 use Rattle.phase_moves.specs.declared.rows.CellRow.{CellRow}
 use Rattle.phase_moves.specs.declared.rows.Rows.{Rows}
-use Rattle.phase_moves.specs.Standing.{Standing, left, reads_in, writes_in}
+use Rattle.phase_moves.specs.Standing.{Standing, left}
 use Rattle.phase_moves.specs.Stands.{Stands, seen_at, IsCell, kind_at}
-use Rattle.phase_moves.specs.Gifts.{stand_on, IsGift, MayGive, IsShare, MayGiveDown}
-use Rattle.phase_moves.proofs.Guards.{found_itself, count_same, count_less, reads_here, writes_here, never_reads, never_writes}
+use Rattle.phase_moves.specs.Gifts.{stand_on, IsGift, MayGive, MayGiveDown}
+use Rattle.phase_moves.proofs.Guards.{found_itself, count_same, count_less, reads_here, never_writes}
 use Rattle.phase_moves.proofs.Lockers.{reading_alone}
 use Rattle.phase_moves.proofs.Leaving.{read_open, write_open, no_reads, no_writes}
 

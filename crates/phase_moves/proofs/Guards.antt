@@ -1,21 +1,19 @@
 -- The rows of guards, after one is taken off or opened.
-use Rattle.std.proofs.Common.{◌≡◌, ◌≢◌, ◌==◌, ◌<◌, ◌≤◌, ◌+◌, ◌∙◌, ℕ, List, [], ◌∷◌, length, ap, sym, subst, refl, arith, Bool, true, false, cond, None, Some, inl, inr}
+use Rattle.std.proofs.Common.{◌≡◌, ◌≢◌, ◌==◌, ◌≤◌, ◌+◌, ◌∙◌, ℕ, List, ◌∷◌, ap, sym, refl, arith, Bool, true, false, cond, None, Some, inl, inr}
 use Rattle.std.proofs.lemmas.Bool.{cases_eq}
 use Rattle.std.specs.declared.option.Option.{Option}
-use Rattle.schedule_rules.specs.Changes.{Content, effect}
+use Rattle.schedule_rules.specs.Changes.{effect}
 use Rattle.schedule_rules.specs.Kinds.{cell_at}
 use Rattle.schedule_rules.specs.History.{count}
 use Rattle.schedule_rules.specs.Guards.{Guard, numbered, without_guard}
 use Rattle.schedule_rules.specs.Holds.{reads_cell, writes_cell}
 use Rattle.schedule_rules.specs.Waits.{Wait, wait_of, wake_reader, wake_writer, wait_woken}
-use Rattle.schedule_rules.proofs.Found.{found_passes, found_counts, none_found, none_counted}
+use Rattle.schedule_rules.proofs.Found.{found_passes, none_found, none_counted}
 use Rattle.schedule_rules.proofs.Opened.{count_removed, guard_kept}
 use Rattle.phase_locker.specs.declared.ways.Given.{Given}
 use Rattle.phase_locker.specs.declared.ways.Given.TheVariants as given
 use Rattle.waiting_rows.specs.Given.{given_on}
 use Rattle.waiting_rows.proofs.Finding.{changed, wait_readers, wait_writer}
-use Rattle.phase_moves.specs.declared.rows.GuardRow.{GuardRow}
-use Rattle.phase_moves.specs.declared.rows.GuardRow.TheVariants as guard
 use Rattle.phase_moves.specs.Standing.{Standing, seen_by}
 use Rattle.phase_moves.specs.Stands.{guard_row, slot_row, target_of}
 

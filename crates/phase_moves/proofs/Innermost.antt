@@ -1,6 +1,5 @@
 -- The innermost section of a party, and what is left when it is given back.
-use Rattle.std.proofs.Common.{◌≡◌, ◌≢◌, ◌==◌, ◌<◌, ◌≤◌, ◌+◌, ◌∙◌, ℕ, List, [], ◌∷◌, length, set, get_or, ap, sym, subst, refl, arith, Bool, true, false, cond, None, Some}
-use Rattle.std.specs.Prelude.{slice_get}
+use Rattle.std.proofs.Common.{◌≡◌, ◌≢◌, ◌==◌, ◌<◌, ◌≤◌, ◌+◌, ◌∙◌, ℕ, List, length, set, get_or, ap, sym, subst, refl, arith, true, false, cond, None, Some}
 use Rattle.std.specs.declared.option.Option.{Option}
 use Rattle.phase_bits.specs.declared.holders.Holders.{Holders}
 use Rattle.phase_bits.specs.Number.{phase_of, IsKnown}
@@ -17,8 +16,8 @@ use Rattle.schedule_rules.specs.Replay.{Back}
 use Rattle.schedule_rules.specs.History.{count}
 use Rattle.schedule_rules.specs.Sections.{Section, innermost, without_innermost, runs_in}
 use Rattle.schedule_rules.specs.Guards.{Guard, numbered}
-use Rattle.schedule_rules.specs.Holds.{reads_cell, writes_cell}
-use Rattle.schedule_rules.specs.Waits.{Wait, wait_of, cell_of_section}
+use Rattle.schedule_rules.specs.Holds.{writes_cell}
+use Rattle.schedule_rules.specs.Waits.{wait_of, cell_of_section}
 use Rattle.schedule_rules.proofs.Found.{found_counts, found_passes}
 use Rattle.schedule_rules.proofs.Opened.{count_ended, innermost_kept}
 use Rattle.waiting_rows.specs.Shown.{Shows}
@@ -28,8 +27,8 @@ use Rattle.phase_moves.specs.declared.rows.CellRow.{CellRow}
 use Rattle.phase_moves.specs.declared.rows.OpenRun.{OpenRun}
 use Rattle.phase_moves.specs.declared.rows.PartyRow.{PartyRow}
 use Rattle.phase_moves.specs.declared.rows.Rows.{Rows}
-use Rattle.phase_moves.specs.Standing.{Standing, Run, run_in, runner_of, reads_in, writes_in, closed}
-use Rattle.phase_moves.specs.Stands.{Seen, seen_at, IsCell, IsLocked, IsExit, AreShown, Stands, party_row, open_run, section_of, target_of}
+use Rattle.phase_moves.specs.Standing.{Standing, Run, run_in, reads_in, closed}
+use Rattle.phase_moves.specs.Stands.{seen_at, IsCell, IsLocked, IsExit, AreShown, party_row, open_run, section_of, target_of}
 use Rattle.phase_moves.specs.Ends.{IsInnermost}
 use Rattle.phase_moves.proofs.Lockers.{writing_alone}
 use Rattle.phase_moves.proofs.Guards.{slots_same, writes_here}

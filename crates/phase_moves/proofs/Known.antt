@@ -3,7 +3,6 @@ use Rattle.std.proofs.Common.{ℕ, ◌<◌, List, [], ◌∷◌, arith, Bool, tr
 use Rattle.schedule_rules.specs.Kinds.{is_finalizable}
 use Rattle.std.proofs.lemmas.Nat.{and_le_l, or_of_8}
 use Rattle.std.specs.Prelude.{◌==◌, ◌^◌, ◌-◌, if◌then◌else◌}
-use Rattle.std.specs.declared.option.Option.{Option}
 use Rattle.phase_bits.specs.Flags.{without_flags}
 use Rattle.phase_bits.specs.Number.{IsKnown, phase_of}
 use Rattle.phase_seq.specs.Phases.{final_outcome, flags_finalized, flags_reached, flags_staying, initialization_flags, outcome, registration}

@@ -26,3 +26,5 @@ pub mod Took
 -- The exit, and the end
 pub mod Exiting
 pub mod Closing
+-- Histories
+pub mod Histories

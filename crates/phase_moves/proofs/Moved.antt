@@ -1,15 +1,12 @@
 -- Rows stand for what is open after one cell was called: the one lemma that every move ends in.
-use Rattle.std.proofs.Common.{◌≡◌, ◌≢◌, ◌==◌, ◌<◌, ◌≤◌, ◌+◌, ◌^◌, ◌∙◌, ℕ, List, [], ◌∷◌, length, set, ap, sym, subst, refl, arith, Bool, true, false, None, Some, inl, inr, length-set}
+use Rattle.std.proofs.Common.{◌≡◌, ◌≢◌, ◌<◌, ◌^◌, ◌∙◌, ℕ, List, length, set, ap, sym, subst, Some, inl, inr, length-set}
 use Rattle.std.proofs.lemmas.Bool.{cases_eq}
 use Rattle.std.specs.Prelude.{slice_get, ◌⊎◌}
-use Rattle.std.specs.declared.option.Option.{Option}
 use Rattle.phase_bits.specs.declared.holders.Holders.{Holders}
 use Rattle.exit_registry.specs.Registry.{cells_of}
 use Rattle.phase_locker.specs.declared.ways.LockerKind.{LockerKind}
 use Rattle.phase_locker.specs.Rows.{Rows as Parking, SameSize}
 use Rattle.phase_locker.specs.Others.{SameAt, OthersStay}
-use Rattle.schedule_rules.specs.History.{count}
-use Rattle.schedule_rules.specs.Guards.{Guard, numbered}
 use Rattle.phase_moves.specs.declared.rows.CellRow.{CellRow}
 use Rattle.phase_moves.specs.declared.rows.Exit.{Exit}
 use Rattle.phase_moves.specs.declared.rows.PartyRow.{PartyRow}

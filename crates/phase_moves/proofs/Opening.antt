@@ -1,5 +1,5 @@
 -- A guard is opened, put into its row, and taken out of it.
-use Rattle.std.proofs.Common.{◌≡◌, ◌≢◌, ◌==◌, ◌<◌, ◌≤◌, ◌+◌, ◌^◌, ◌∙◌, ℕ, suc, List, [], ◌∷◌, ◌++◌, length, set, get_or, ap, sym, subst, refl, arith, Bool, true, false, cond, None, Some, inl, inr, length-set}
+use Rattle.std.proofs.Common.{◌≡◌, ◌≢◌, ◌==◌, ◌<◌, ◌≤◌, ◌+◌, ◌∙◌, ℕ, List, [], ◌∷◌, ◌++◌, length, set, ap, sym, subst, refl, arith, Bool, true, false, cond, None, Some, inl, inr, length-set}
 use Rattle.std.proofs.lemmas.Bool.{cases_eq, cases_lt}
 use Rattle.std.proofs.lemmas.Grind.{common_steps}
 use Rattle.std.proofs.lemmas.Option.{gets}
@@ -12,12 +12,12 @@ use Rattle.schedule_rules.specs.Sections.{runs_in}
 use Rattle.schedule_rules.specs.Guards.{Guard, numbered, reader}
 use Rattle.schedule_rules.specs.Changes.{Change}
 use Rattle.schedule_rules.specs.Kinds.{cell_at}
-use Rattle.schedule_rules.specs.Holds.{reads_cell, writes_cell}
+use Rattle.schedule_rules.specs.Holds.{writes_cell}
 use Rattle.phase_moves.specs.declared.rows.GuardRow.{GuardRow}
 use Rattle.phase_moves.specs.declared.rows.GuardRow.TheVariants as guard
 use Rattle.phase_moves.specs.declared.rows.Rows.{Rows}
 use Rattle.phase_moves.specs.Standing.{Standing, guarded, run_in, reads_in, writes_in, writer_asked}
-use Rattle.phase_moves.specs.Stands.{Stands, IsCell, IsExit, AreShown, AreNumbered, AreSized, AreInside, seen_at, slot_row, guard_row}
+use Rattle.phase_moves.specs.Stands.{Stands, IsCell, IsExit, AreShown, AreSized, AreInside, seen_at, slot_row, guard_row}
 use Rattle.phase_locker.specs.Rows.{Rows as Parking}
 use Rattle.phase_moves.specs.Moves.{Rests}
 use Rattle.phase_moves.proofs.Guards.{once_with, reads_elsewhere, writes_elsewhere}

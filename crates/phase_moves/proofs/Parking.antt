@@ -1,5 +1,5 @@
 -- The rows show who waits after a call.
-use Rattle.std.proofs.Common.{◌≡◌, ◌≢◌, ◌<◌, ◌^◌, ◌∙◌, ℕ, List, [], ◌∷◌, length, set, ap, sym, subst, refl, arith, Bool, true, false, None, Some, length-set}
+use Rattle.std.proofs.Common.{◌≡◌, ◌<◌, ◌^◌, ◌∙◌, ℕ, List, [], ◌∷◌, length, set, sym, subst, refl, arith, Some, length-set}
 use Rattle.phase_locker.specs.declared.ways.Given.{Given}
 use Rattle.phase_locker.specs.declared.ways.Given.TheVariants as given
 use Rattle.phase_locker.specs.declared.ways.How.{How}
@@ -8,7 +8,7 @@ use Rattle.phase_locker.specs.declared.ways.Who.{Who}
 use Rattle.phase_locker.specs.declared.ways.Waiting.{Waiting}
 use Rattle.phase_locker.specs.declared.ways.Waiting.TheVariants as waiting
 use Rattle.phase_locker.specs.declared.ways.Row.{Row}
-use Rattle.phase_locker.specs.Rows.{Rows as Parking, row_of, freed, left, shared, IsSound}
+use Rattle.phase_locker.specs.Rows.{Rows as Parking, row_of, freed, left, shared}
 use Rattle.phase_locker.specs.Gifts.{rows_handed}
 use Rattle.phase_locker.specs.Attempts.{rows_waiting}
 use Rattle.phase_locker.proofs.Keeping.{freed_size}

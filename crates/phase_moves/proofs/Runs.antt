@@ -1,12 +1,11 @@
 -- The sections that run.
-use Rattle.std.proofs.Common.{◌≡◌, ◌≢◌, ◌==◌, ◌<◌, ◌≤◌, ◌+◌, ◌∙◌, ℕ, List, [], ◌∷◌, refl, sym, ap, subst, arith, Bool, true, false, cond, None, Some}
-use Rattle.std.specs.declared.option.Option.{Option}
+use Rattle.std.proofs.Common.{◌≡◌, ◌≢◌, ◌==◌, ◌<◌, ◌≤◌, ℕ, List, [], ◌∷◌, refl, subst, arith, Bool, true, false, cond, None, Some}
 use Rattle.schedule_rules.specs.History.{count}
 use Rattle.schedule_rules.specs.Sections.{Section, innermost, without_innermost, runs_in}
 use Rattle.schedule_rules.specs.Waits.{cell_of_section}
 use Rattle.schedule_rules.proofs.Found.{found_counts}
 use Rattle.schedule_rules.proofs.Opened.{innermost_kept}
-use Rattle.phase_moves.specs.Standing.{Run, run_in}
+use Rattle.phase_moves.specs.Standing.{run_in}
 use Rattle.phase_moves.specs.Stands.{AreInside}
 
 -- where no section is counted none runs

@@ -1,6 +1,6 @@
 -- The rows stand for what is open after an attempt.
-use Rattle.std.proofs.Common.{◌≡◌, ◌≢◌, ◌==◌, ◌<◌, ◌≤◌, ◌+◌, ◌^◌, ◌∙◌, ℕ, List, [], ◌∷◌, length, set, get_or, ap, sym, subst, refl, arith, Bool, true, false, None, Some, inl, inr}
-use Rattle.std.specs.Prelude.{slice_get, ◌⊎◌, MatchBool, if◌then◌else◌}
+use Rattle.std.proofs.Common.{◌≡◌, ◌≢◌, ◌==◌, ◌<◌, ◌+◌, ◌∙◌, ℕ, List, ◌∷◌, length, set, get_or, ap, sym, subst, refl, arith, Bool, true, false, None, Some, inl, inr}
+use Rattle.std.specs.Prelude.{◌⊎◌, MatchBool, if◌then◌else◌}
 use Rattle.std.proofs.lemmas.Bool.{cases_eq, cases_lt}
 use Rattle.std.specs.declared.option.Option.{Option}
 use Rattle.phase_bits.specs.declared.phase.Phase.{Phase}
@@ -28,8 +28,8 @@ use Rattle.phase_seq.specs.declared.section.Begun.{Begun}
 use Rattle.phase_seq.specs.declared.section.Begun.TheVariants as begun
 use Rattle.phase_seq.specs.Asks.{asks_run as seq_asks_run}
 use Rattle.phase_seq.specs.Registers.{MayRegister}
-use Rattle.phase_seq.specs.Begins.{section_by, running_after}
-use Rattle.phase_seq.specs.Exactly.{is_run}
+use Rattle.phase_seq.specs.Begins.{is_cyclic, section_by, running_after}
+use Rattle.phase_seq.specs.Exactly.{is_turned_back, is_run}
 use Rattle.phase_seq.specs.Phases.{flags_refused}
 use Rattle.phase_seq.specs.Stands.{BegunStands, opens_write, reads_begun}
 use Rattle.schedule_rules.specs.declared.plan.CellPlan.{CellPlan}
@@ -53,11 +53,10 @@ use Rattle.phase_moves.specs.declared.rows.CellRow.{CellRow}
 use Rattle.phase_moves.specs.declared.rows.PartyRow.{PartyRow}
 use Rattle.phase_moves.specs.declared.rows.Target.{Target}
 use Rattle.phase_moves.specs.declared.rows.Rows.{Rows}
-use Rattle.phase_moves.specs.declared.rows.Taken.{Taken}
 use Rattle.phase_moves.specs.declared.rows.Taken.TheVariants as taken
 use Rattle.phase_moves.specs.Calls.{Calling, Calls as CallOf, registry_for, registry_begun}
 use Rattle.phase_moves.specs.Standing.{Standing, Run, run_in, runner_of, reads_in, writes_in, changes_at, called, answered, waiting, guarded, opened, section_asked, writer_asked, registry_asked}
-use Rattle.phase_moves.specs.Stands.{Seen, seen_at, IsCell, IsExit, IsLocked, AreShown, Stands, party_row, open_run, stays_in, target_of}
+use Rattle.phase_moves.specs.Stands.{Seen, seen_at, IsCell, IsExit, IsLocked, AreShown, party_row, open_run, stays_in, target_of, want_of}
 use Rattle.phase_moves.specs.Tries.{IsAttempting, IsTook, WaitsAt, ask_of, phase_asked}
 use Rattle.phase_moves.proofs.Asked.{declined, declines_same, asked_left, told_same, stays_same, run_calls, final_turns, registry_still, registry_run, cells_stay}
 use Rattle.phase_moves.proofs.Attempts.{IsBegun, IsTurned, Tells, declines, phase_left, phase_told, rows_begun, stays_asked, writes_begun, wrote, answered as begun_as}
@@ -126,7 +125,7 @@ module _ {L : Type 0} (held : L → Holders) (place : L → LockerKind) where
   module _ (m : Standing) (v v' : Rows L) (p : ℕ) (t : Target) (waits : Bool) (is : IsAttempting held place m v p t waits) (row row' : CellRow L) (row_is : row ≡ get_or v.cells.items t.cell row) (of of' : PartyRow) (of_is : of ≡ get_or v.parties.items p of)
       (cells : v'.cells.items ≡ set v.cells.items t.cell row') (guards : v'.guards ≡ v.guards) (parties : v'.parties.items ≡ set v.parties.items p of') (plan : row'.plan ≡ row.plan) (value : row'.value ≡ row.value) (owner : v'.exit.owner ≡ v.exit.owner) (turns : v'.exit.turns ≡ v.exit.turns)
       (b : Begun) (g : Given) (registry : v'.exit.registry ≡ registry_begun row.plan.kind t.cell (held row.seq.locker).phase b v.exit.registry) (running : row'.seq.running ≡ running_after b row.seq.running) (stands : BegunStands (record { cell = t.cell; party = p }) b row'.seq.running (held row'.seq.locker) v'.parks)
-      (op : Opens t.cell (reads_begun b) (opens_write b) (held row.seq.locker) v.parks (held row'.seq.locker) v'.parks) (k : Left held place t.cell row.seq.locker row'.seq.locker v.parks v'.parks) where
+      (op : Opens t.cell (reads_begun b) (opens_write b) (held row.seq.locker) v.parks (held row'.seq.locker) v'.parks) (k : Left held place t.cell row.seq.locker row'.seq.locker v.parks v'.parks) (cyc : is_turned_back b ≡ is_cyclic (want_of t.want) p row.seq.running) where
     abbrev who : Who
     who = record { cell = t.cell; party = p }
 
@@ -150,6 +149,9 @@ module _ {L : Type 0} (held : L → Holders) (place : L → LockerKind) where
 
     pub cell_here : IsCell held place (seen_at t.cell m) v.parks t.cell row
     cell_here = is.rests.stands.cell t.cell row (read_at v.cells.items t.cell row is.cell row_is)
+
+    cyclic_as : (b₁ : Begun) → b ≡ b₁ → is_turned_back b₁ ≡ is_cyclic (want_of t.want) p (runner_of (run_in t.cell m.sections))
+    cyclic_as b₁ e = ap is_turned_back (sym e) ∙ cyc ∙ ap (is_cyclic (want_of t.want) p) cell_here.runner
 
     of_here : of ≡ party_row m p
     of_here = let e : Some of ≡ Some (party_row m p) = sym (read_at v.parties.items p of is.party of_is) ∙ is.rests.stands.party p is.party in cc
@@ -354,6 +356,7 @@ module _ {L : Type 0} (held : L → Holders) (place : L → LockerKind) where
                 (cell_as (answered p t.cell g chs m) (effect x chs y) (run_in t.cell m.sections) (seen_now ∙ with_holds (effect x chs y) 0 0 (run_in t.cell m.sections) (ap reads_begun e) (ap writes_begun e)) (phase_as (begun.Nothing q) e ∙ told_phase) value_now known_now (kept_runner (ap (λ x. running_after x row.seq.running) e)) (runs_now had run))
                 (publishes had (ap (wrote false) e) (exit_still (ap is_run e)) (rows_as (begun.Nothing q) e)) (called_parties (answered p t.cell g chs m) refl refl o);
             told = told_as (begun.Nothing q) e ∙ told_phase;
+            cyclic = cyclic_as (begun.Nothing q) e;
           }
 
       took_read : (l : ReadTicket) (q : Phase) → b ≡ begun.Read l q → of' ≡ record { waiting = None; innermost = of.innermost } → row'.run ≡ row.run → IsTook held place m v p t (taken.Read l q) g v'
@@ -365,6 +368,7 @@ module _ {L : Type 0} (held : L → Holders) (place : L → LockerKind) where
                 (guard_opened held place t.cell n n n m (answered p t.cell g chs m) v v' (reader n p t.cell) (publishes had (ap (wrote false) e) (exit_still (ap is_run e)) (rows_as (begun.Read l q) e)) refl refl (omega arith) is.rests.empty is.rests.empty is.cell)
                 (called_parties (guarded (reader n p t.cell) (answered p t.cell g chs m)) refl refl o);
             told = told_as (begun.Read l q) e ∙ told_phase;
+            cyclic = cyclic_as (begun.Read l q) e;
           }
         where
           seen : seen_at t.cell (guarded (reader n p t.cell) (answered p t.cell g chs m)) ≡ seen_as (effect x chs y) 1 0 (run_in t.cell m.sections)
@@ -380,6 +384,7 @@ module _ {L : Type 0} (held : L → Holders) (place : L → LockerKind) where
                 (guard_opened held place t.cell n n n m (called p t.cell g m) v v' (writer_asked n p t.cell chs) (called_moved m.registry (exit_still (ap is_run e)) (rows_as (begun.Write l q) e)) refl refl (omega arith) is.rests.empty is.rests.empty is.cell)
                 (called_parties (guarded (writer_asked n p t.cell chs) (called p t.cell g m)) refl refl o);
             told = told_as (begun.Write l q) e ∙ told_phase;
+            cyclic = cyclic_as (begun.Write l q) e;
           }
         where
           seen : seen_at t.cell (guarded (writer_asked n p t.cell chs) (called p t.cell g m)) ≡ seen_as y 0 1 (run_in t.cell m.sections)
@@ -399,6 +404,7 @@ module _ {L : Type 0} (held : L → Holders) (place : L → LockerKind) where
                 (parties_set held place n m (waiting_m way) v v' p of' is.rests.stands parties (o ∙ (λ i. record { waiting = Some (record { cell = t.cell; want = t.want }); innermost = (of_here i).innermost }) ∙ ap (λ w. record { waiting = target_of w; innermost = (party_row m p).innermost }) (sym itself))
                 (λ q ne. (λ i. record { waiting = target_of (beside q ne i); innermost = (party_row m q).innermost }) ∙ (λ i. record { waiting = others_wait q ne i; innermost = (party_row m q).innermost })));
             told = tt;
+            cyclic = cyclic_as (begun.Wait way) e;
           }
         where
           itself : wait_of p (waiting_m way).waits ≡ Some (record { party = p; cell = t.cell; want = t.want; way = way; woken = false })
@@ -415,8 +421,8 @@ module _ {L : Type 0} (held : L → Holders) (place : L → LockerKind) where
       run_r = record { section = section_asked n p t.cell t.want m; outer = cell_of_section (innermost p m.sections) }
 
       took_run : (s : SeqSection) → reads_begun b ≡ 0 → writes_begun b ≡ 1 → (held row'.seq.locker).phase ≡ (held row.seq.locker).phase → v'.parks ≡ rows_handed t.cell g (freed p v.parks) → IsExit (length v.cells.items) (record m { registry = registry_asked t.cell t.want m }) v'.exit → row'.seq.running ≡ runner_of (Some run_r)
-          → s ≡ section_by who (ask_of x t.want).want (stays_in x t.want m.registry.is_open y.phase) write_ticket → of' ≡ record { waiting = None; innermost = Some t.cell } → row'.run ≡ Some (record { run = record { party = p; want = t.want; outer = of.innermost }; section = s }) → IsTook held place m v p t taken.Runs g v'
-      took_run s none one phase rows exit runner section o run =
+          → s ≡ section_by who (ask_of x t.want).want (stays_in x t.want m.registry.is_open y.phase) write_ticket → false ≡ is_cyclic (want_of t.want) p (runner_of (run_in t.cell m.sections)) → of' ≡ record { waiting = None; innermost = Some t.cell } → row'.run ≡ Some (record { run = record { party = p; want = t.want; outer = of.innermost }; section = s }) → IsTook held place m v p t taken.Runs g v'
+      took_run s none one phase rows exit runner section turned o run =
           record {
             stands = moved held place t.cell n n m run_m v v' row' is.rests.stands is.cell cells
                 (cell_as run_m y (Some run_r) (seen ∙ with_holds y 0 1 (Some run_r) none one) (kept_phase phase) refl cell_here.known runner (run ∙ (λ i. Some (record { run = record { party = p; want = t.want; outer = (of_here i).innermost }; section = section i }))))
@@ -424,6 +430,7 @@ module _ {L : Type 0} (held : L → Holders) (place : L → LockerKind) where
                 (parties_set held place n m run_m v v' p of' is.rests.stands parties (o ∙ (λ i. record { waiting = target_of (sym gone i); innermost = Some t.cell }) ∙ ap (λ w. record { waiting = target_of (wait_of p (called p t.cell g m).waits); innermost = cell_of_section w }) (sym itself))
                 (λ q ne. (λ i. record { waiting = target_of (wait_of q (called p t.cell g m).waits); innermost = cell_of_section (beside q ne i) }) ∙ (λ i. record { waiting = others_wait q ne i; innermost = (party_row m q).innermost })));
             told = tt;
+            cyclic = turned;
           }
         where
           run_m : Standing
@@ -460,6 +467,7 @@ module _ {L : Type 0} (held : L → Holders) (place : L → LockerKind) where
               (answered_moved held place t.cell n m v v' m.waits m.content m.registry is.rests.stands k.others k.same (ap (λ (s : Parking). length s.writers) d.rows) guards (exit_still (ap is_run d.cyclic)) (subst (λ (s : Parking). AreShown (length v.cells.items) m.waits s) (sym d.rows) is.rests.stands.waits) (λ d ne. refl) (λ g x e w. refl))
               (parties_set held place n m m v v' p of' is.rests.stands parties (o ∙ of_here) (λ q ne. refl));
           told = tt;
+          cyclic = cyclic_as begun.Cyclic d.cyclic;
         }
 
     -- ---- what the locker requires
@@ -536,7 +544,7 @@ module _ {L : Type 0} (held : L → Holders) (place : L → LockerKind) where
           let here = cell_here in
           took_run d s (ap reads_begun e) (ap writes_begun e) (phase_as d (begun.Run s) e) (rows_as d (begun.Run s) e) (exit_run e call)
           (running ∙ ap (λ x. running_after x row.seq.running) e ∙ ap (λ (z : SeqSection). Some z.who.party) tells.0 ∙ (rw call refl))
-          (tells.0 ∙ (λ i. section_by who (ask_of (here.planned i) t.want).want (stays_asked (registry_for (here.planned i).kind (is.rests.stands.exit.registry_is i)) (here.locked.phase_is i)) write_ticket) ∙ ap (λ q. section_by who (ask_of x t.want).want q write_ticket) (stays_same x t.want m.registry y.phase call)) o run
+          (tells.0 ∙ (λ i. section_by who (ask_of (here.planned i) t.want).want (stays_asked (registry_for (here.planned i).kind (is.rests.stands.exit.registry_is i)) (here.locked.phase_is i)) write_ticket) ∙ ap (λ q. section_by who (ask_of x t.want).want q write_ticket) (stays_same x t.want m.registry y.phase call)) (cyclic_as (begun.Run s) e) o run
         where
           exit_run : b ≡ begun.Run s → is_turn t.want ≡ false → IsExit (length v.cells.items) (record m { registry = registry_asked t.cell t.want m }) v'.exit
           exit_run e call = by t.want refl call
@@ -560,7 +568,7 @@ module _ {L : Type 0} (held : L → Holders) (place : L → LockerKind) where
           took_run d s (ap reads_begun e) (ap writes_begun e) (phase_as d (begun.Final s) e) (rows_as d (begun.Final s) e)
           (subst (λ w. IsExit (length v.cells.items) (record m { registry = registry_asked t.cell w m }) v'.exit) (sym turn) (exit_still (ap is_run e)))
           (running ∙ ap (λ x. running_after x row.seq.running) e ∙ here.runner ∙ ap runner_of (none_runs t.cell m.sections (let z = was_none d (ap (wrote _) e) in omega (arith, z))) ∙ sym (ap (λ w. if is_turn w then None else Some p) turn))
-          (tells.0 ∙ (λ i. section_by who (ask_of (here.planned i) t.want).want (here.locked.phase_is i) write_ticket) ∙ ap (λ w. section_by who (ask_of x t.want).want (stays_in x w m.registry.is_open y.phase) write_ticket) (sym turn)) o run
+          (tells.0 ∙ (λ i. section_by who (ask_of (here.planned i) t.want).want (here.locked.phase_is i) write_ticket) ∙ ap (λ w. section_by who (ask_of x t.want).want (stays_in x w m.registry.is_open y.phase) write_ticket) (sym turn)) (cyclic_as (begun.Final s) e) o run
 
 -- what the code reads of the cell
 module _ {L : Type 0} (held : L → Holders) (place : L → LockerKind) (m : Standing) (v : Rows L) (p : ℕ) (t : Target) (waits : Bool) (is : IsAttempting held place m v p t waits) (row : CellRow L) (row_is : row ≡ get_or v.cells.items t.cell row) where

@@ -18,9 +18,8 @@ use Rattle.schedule_rules.specs.Phases.{phase_finalized}
 use Rattle.schedule_rules.specs.Sections.{Section, innermost, is_turn}
 use Rattle.schedule_rules.specs.Waits.{wait_of}
 use Rattle.phase_moves.specs.declared.rows.Rows.{Rows}
-use Rattle.phase_moves.specs.Gifts.{MayGive, MayGiveDown}
 use Rattle.phase_moves.specs.Moves.{Rests}
-use Rattle.phase_moves.specs.Standing.{Standing, ended, finalized, run_closed}
+use Rattle.phase_moves.specs.Standing.{Standing, ended, finalized}
 use Rattle.phase_moves.specs.Stands.{Stands, want_of}
 
 -- a run that made a value for this want goes on so, and one that failed fails; the phase is told, and a write keeps its

@@ -1,5 +1,5 @@
 -- What the moves of the exit require and do.
-use Rattle.std.specs.Prelude.{ℕ, List, [], ◌≡◌, ◌<◌, length}
+use Rattle.std.specs.Prelude.{ℕ, [], ◌≡◌, ◌<◌, length}
 use Rattle.std.specs.declared.option.Option.{Option}
 use Rattle.std.specs.declared.option.Option.TheVariants.{Some}
 use Rattle.phase_bits.specs.declared.holders.Holders.{Holders}

@@ -1,5 +1,5 @@
 -- When a gift may be given.
-use Rattle.std.specs.Prelude.{ℕ, Bool, true, ◌≡◌, ◌+◌}
+use Rattle.std.specs.Prelude.{ℕ, true, ◌≡◌, ◌+◌}
 use Rattle.phase_bits.specs.declared.holders.Holders.{Holders}
 use Rattle.phase_locker.specs.declared.ways.LockerKind.{LockerKind}
 use Rattle.phase_locker.specs.declared.ways.Given.{Given}

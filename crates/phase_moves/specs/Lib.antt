@@ -8,3 +8,4 @@ pub mod Ends
 pub mod Tries
 pub mod Exits
 pub mod Closing
+pub mod Histories

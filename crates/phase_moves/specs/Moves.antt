@@ -1,6 +1,6 @@
 -- What each move on guards requires and does. A move says what it does of everything that may have stood open: so a
 -- caller chooses that where it is proved, and not where it calls.
-use Rattle.std.specs.Prelude.{ℕ, Bool, true, false, List, ◌≡◌, ◌≤◌, ◌<◌, ◌+◌, length, vec_capacity}
+use Rattle.std.specs.Prelude.{ℕ, true, false, ◌≡◌, ◌≤◌, ◌+◌, length, vec_capacity}
 use Rattle.std.specs.declared.option.Option.{Option}
 use Rattle.std.specs.declared.option.Option.TheVariants.{None, Some}
 use Rattle.phase_bits.specs.declared.phase.Phase.{Phase}

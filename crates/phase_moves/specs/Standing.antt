@@ -1,6 +1,5 @@
 -- What stands open, and the moves on it.
 use Rattle.std.specs.Prelude.{ℕ, Bool, true, false, List, [], ◌∷◌, ◌++◌, ◌==◌, ◌+◌, if◌then◌else◌}
-use Rattle.std.specs.List.{find}
 use Rattle.std.specs.declared.option.Option.{Option}
 use Rattle.std.specs.declared.option.Option.TheVariants.{None, Some}
 use Rattle.exit_registry.specs.declared.turns.Turn.{Turn}
@@ -15,7 +14,7 @@ use Rattle.schedule_rules.specs.declared.plan.CellPlan.{CellPlan}
 use Rattle.schedule_rules.specs.declared.step.Want.{Want}
 use Rattle.schedule_rules.specs.declared.step.Want.TheVariants.{Calls, Turns}
 use Rattle.schedule_rules.specs.Kinds.{cell_at}
-use Rattle.schedule_rules.specs.Changes.{Content, Change, Ran, Asked, Ended, effect, is_declined}
+use Rattle.schedule_rules.specs.Changes.{Content, Change, Ran, Asked, effect, is_declined}
 use Rattle.schedule_rules.specs.Exits.{registry_of_run}
 use Rattle.schedule_rules.specs.History.{count}
 use Rattle.schedule_rules.specs.Sections.{Section, innermost, without_innermost, runs_in, is_turn}

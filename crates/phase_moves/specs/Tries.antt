@@ -9,6 +9,7 @@ use Rattle.exit_registry.specs.Registry.{is_known}
 use Rattle.phase_locker.specs.declared.ways.LockerKind.{LockerKind}
 use Rattle.phase_locker.specs.declared.ways.Given.{Given}
 use Rattle.phase_seq.specs.declared.ask.Ask.{Ask}
+use Rattle.phase_seq.specs.Begins.{is_cyclic}
 use Rattle.schedule_rules.specs.declared.plan.Call.TheVariants as call
 use Rattle.schedule_rules.specs.declared.plan.CellPlan.{CellPlan}
 use Rattle.schedule_rules.specs.declared.step.Want.{Want}
@@ -21,7 +22,7 @@ use Rattle.phase_moves.specs.declared.rows.Taken.{Taken}
 use Rattle.phase_moves.specs.declared.rows.Taken.TheVariants as taken
 use Rattle.phase_moves.specs.declared.rows.Target.{Target}
 use Rattle.phase_moves.specs.Moves.{Rests}
-use Rattle.phase_moves.specs.Standing.{Standing, changes_at, took, writes_in}
+use Rattle.phase_moves.specs.Standing.{Standing, changes_at, run_in, runner_of, took, writes_in}
 use Rattle.phase_moves.specs.Stands.{Stands, want_of}
 
 -- what an attempt asks of its cell
@@ -32,6 +33,15 @@ ask_of x w = record { want = want_of w; fast = false; tol = record { retry = x.r
 abbrev pub WaitsAt : ℕ → Option Wait → Type 0
 WaitsAt c None = ⊥
 WaitsAt c (Some w) = w.cell ≡ c
+
+-- the attempt is turned back
+abbrev pub is_turned : Taken → Bool
+is_turned (taken.Wait how) = false
+is_turned taken.Cyclic = true
+is_turned (taken.Nothing q) = false
+is_turned (taken.Read t q) = false
+is_turned (taken.Write t q) = false
+is_turned taken.Runs = false
 
 -- an answer tells the phase that the attempt leaves
 abbrev pub TellsPhase : Phase → Taken → Type 0
@@ -64,10 +74,12 @@ module _ {L : Type 0} (held : L → Holders) (place : L → LockerKind) where
     pub m : Standing
     pub is : IsAttempting m v p t waits
 
-  -- what an attempt that was answered so tells
+  -- what an attempt that was answered so tells: it is turned back exactly where it asks for a run of the generator that
+  -- its own party is running
   pub record IsTook (m : Standing) (v : Rows L) (p : ℕ) (t : Target) (b : Taken) (g : Given) (new : Rows L) : Type 0 where
     pub stands : Stands held place (length v.guards.items) (took (length v.guards.items) p t.cell t.want g b m) new
     pub told : TellsPhase (phase_asked t.cell t.want m) b
+    pub cyclic : is_turned b ≡ is_cyclic (want_of t.want) p (runner_of (run_in t.cell m.sections))
 
   abbrev pub Attempts : Rows L → ℕ → Target → Bool → Taken × Given → Rows L → Type 0
   Attempts old p t waits r new = (m : Standing) → IsAttempting m old p t waits → IsTook m old p t r.0 r.1 new

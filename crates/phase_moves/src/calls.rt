@@ -8,7 +8,8 @@ ghost use Rattle.phase_locker.specs.Fits.{Fits, IsWriteOpen, KeepsFit, open_read
 ghost use Rattle.phase_locker.specs.Gifts.{Downgrades, Hands};
 ghost use Rattle.phase_locker.specs.Left.{Left};
 ghost use Rattle.phase_locker.specs.Stands.{Opens};
-ghost use Rattle.phase_seq.specs.Begins.{running_after};
+ghost use Rattle.phase_seq.specs.Begins.{is_cyclic, running_after};
+ghost use Rattle.phase_seq.specs.Exactly.{is_turned_back};
 ghost use Rattle.phase_seq.specs.Finishes.{Finishes, FinishesFinal};
 ghost use Rattle.phase_seq.specs.Registers.{MayRegister};
 ghost use Rattle.phase_seq.specs.Stands.{BegunStands, FinishedStands, IsFinalizing, IsRunning, opens_write, reads_begun, reads_finished};
@@ -114,6 +115,7 @@ pub fn call<L: PhaseLocker>(
     requires fits { Fits (L.place cell.old.locker) (L.held cell.old.locker) parks.old who.cell }
     requires registry { is_finalizable kind ≡ true → MayRegister who.cell (L.held cell.old.locker) parks.old registry.old }
     ensures calls { Calls waits (registry_for kind registry.old) (L.place cell.old.locker) who ask cell.old.running (L.held cell.old.locker) parks.old result (L.held cell.new.locker) parks.new }
+    ensures cyclic { is_turned_back result.0 ≡ is_cyclic ask.want who.party cell.old.running }
     ensures registry { registry.new ≡ registry_begun kind who.cell (L.held cell.old.locker).phase result.0 registry.old }
     ensures running { cell.new.running ≡ running_after result.0 cell.old.running }
     ensures stands { BegunStands who result.0 cell.new.running (L.held cell.new.locker) parks.new }

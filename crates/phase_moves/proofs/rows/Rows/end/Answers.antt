@@ -1,4 +1,4 @@
-use Rattle.std.proofs.Common.{◌≡◌, ◌∙◌, ◌<◌, length, refl, sym, ap, arith}
+use Rattle.std.proofs.Common.{◌∙◌, ◌<◌, length, refl, sym, ap, arith}
 use Rattle.phase_moves.specs.declared.rows.CellRow.{CellRow}
 use Rattle.phase_moves.proofs.Innermost.{end_inside, end_cell, end_fits, has_run}
 use Rattle.phase_moves.proofs.Ending.{end_running, end_room, is_made, ends_failed, ends_read, ends_write, ends_phase}

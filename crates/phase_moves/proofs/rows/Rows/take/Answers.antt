@@ -1,4 +1,4 @@
-use Rattle.std.proofs.Common.{refl, ◌≡◌, ◌∙◌, sym, ap, subst, arith, ◌<◌, length, set, get_or, true, Some}
+use Rattle.std.proofs.Common.{refl, ◌≡◌, ◌∙◌, sym, ap, arith, ◌<◌, length, set, get_or, Some}
 use Rattle.std.specs.Prelude.{slice_get}
 use Rattle.phase_moves.specs.Reading.{is_row_of}
 use Rattle.phase_moves.proofs.Places.{read_at, read_once}
