@@ -13,7 +13,7 @@ use Rattle.lazy_threads.specs.declared.view.View.{View}
 use Rattle.lazy_threads.specs.declared.view.Hold.{Hold}
 use Rattle.lazy_threads.specs.declared.view.Hold.TheVariants.{Free, Read, Write}
 use Rattle.lazy_threads.specs.Rule.{IsCellWord}
-use Rattle.lazy_threads.specs.Views.{HasInitialized, saw_initialized, loaded, entered_read, left_read, left_write, downgraded}
+use Rattle.lazy_threads.specs.Views.{HasInitialized, saw_initialized, entered_read, left_read, left_write, downgraded}
 
 -- ---- looking
 
