@@ -6,3 +6,4 @@ pub mod Gifts
 pub mod Attempts
 pub mod Others
 pub mod Stands
+pub mod Owned

@@ -4,7 +4,7 @@ ghost use Rattle.std.specs.Prelude.{◌≡◌, ◌<◌, true, false, length};
 ghost use Rattle.phase_bits.specs.Number.{IsKnown};
 ghost use Rattle.phase_bits.specs.Records.{IsValid};
 ghost use Rattle.phase_locker.specs.Rows.{HasFree, SameSize};
-ghost use Rattle.phase_locker.specs.Fits.{Fits, IsWriteOpen, is_shared, open_reads};
+ghost use Rattle.phase_locker.specs.Fits.{Fits, IsWriteOpen, open_reads};
 ghost use Rattle.phase_locker.specs.Gifts.{Downgrades};
 ghost use Rattle.phase_locker.specs.Others.{OthersStay, RowsStay};
 
@@ -19,7 +19,7 @@ use phase_bits::{Holders, MOST_READERS, Phase};
 #[cfg(test)]
 mod tests;
 
-/// A locker that keeps the plain record, for cells that park and for cells that spin. This project's own.
+/// A locker that keeps the plain record, for cells of each kind. This project's own.
 ///
 /// Where calls park, each barred call parks. A lock that nobody holds any more goes to all parked readers where there
 /// is one, else to the writer that has been parked for longest. A downgrade gives nothing.
@@ -89,10 +89,10 @@ impl PhaseLocker for HolderLocker {
 
     ghost place = { λ l. l.kind };
 
-    ghost takes = { is_shared };
+    ghost takes = { λ k. true };
 
-    fn takes(kind: LockerKind) -> bool {
-        kind != LockerKind::Own
+    fn takes(_kind: LockerKind) -> bool {
+        true
     }
 
     fn new(kind: LockerKind, phase: Phase) -> HolderLocker {
