@@ -1,9 +1,9 @@
 //! The locker of a cell that belongs to one party.
 
-ghost use Rattle.std.specs.Prelude.{◌≡◌, ◌<◌};
+ghost use Rattle.std.specs.Prelude.{◌≡◌, ◌<◌, Some, None, if◌then◌else◌};
 ghost use Rattle.phase_bits.specs.Number.{IsKnown};
-ghost use Rattle.phase_bits.specs.Records.{IsValid, unheld, leave_read, leave_write, downgrade};
-ghost use Rattle.phase_locker.specs.Natures.{MayJudge, IsRule, Tries};
+ghost use Rattle.phase_bits.specs.Records.{IsValid, unheld, admit_read, admit_write, leave_read, leave_write, downgrade};
+ghost use Rattle.phase_locker.specs.Natures.{MayJudge, IsRule, Tries, bars, read_ticket, write_ticket};
 ghost use Rattle.phase_locker.specs.Owned.{IsHeldToWrite};
 
 use crate::attempts;
@@ -76,6 +76,38 @@ impl UnSyncPhaseLocker {
         ensures valid { IsValid self.new }
     {
         attempts::try_lock(&mut self.record, how)
+    }
+
+    /// Whether a lock is open, which bars a writer.
+    pub fn is_held(&self) -> bool
+        ensures held { result ≡ bars self.now LockNature.Write }
+        ensures valid { IsValid self.now }
+    {
+        self.record.bars(LockNature::Write)
+    }
+
+    /// Takes a read lock; `None` exactly where it is barred.
+    pub fn try_read(&mut self) -> Option<ReadTicket>
+        ensures ticket { result ≡ (if bars self.old LockNature.Read then None else Some read_ticket) }
+        ensures held { self.new ≡ (if bars self.old LockNature.Read then self.old else admit_read self.old) }
+    {
+        if self.record.bars(LockNature::Read) {
+            return None;
+        }
+        self.record.add_readers(1);
+        Some(ReadTicket::open())
+    }
+
+    /// Takes a write lock; `None` exactly where it is barred.
+    pub fn try_write(&mut self) -> Option<WriteTicket>
+        ensures ticket { result ≡ (if bars self.old LockNature.Write then None else Some write_ticket) }
+        ensures held { self.new ≡ (if bars self.old LockNature.Write then self.old else admit_write self.old) }
+    {
+        if self.record.bars(LockNature::Write) {
+            return None;
+        }
+        self.record.set_locked(true);
+        Some(WriteTicket::open())
     }
 
     /// Gives a read lock back.

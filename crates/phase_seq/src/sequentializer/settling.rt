@@ -23,7 +23,7 @@ use phase_bits::Phase;
 use phase_locker::{Given, Parks, PhaseLocker, Who, WriteTicket};
 
 /// Tries the registration of a cell whose phase is empty. Answers the flags that stay.
-fn staying(registry: &mut ExitRegistry, cell: u32, phase: Phase) -> Phase
+pub(super) fn staying(registry: &mut ExitRegistry, cell: u32, phase: Phase) -> Phase
     requires known { IsKnown phase }
     requires inside { cell < cells_of registry.old }
     requires unknown { number phase ≡ 0 → is_known registry.old cell ≡ false }
