@@ -4,22 +4,27 @@ use Rattle.std.proofs.Common.{inl, inr}
 use Rattle.std.specs.Borrow.{MutBor}
 use Rattle.phase_bits.specs.declared.phase.Phase.{Phase}
 use Rattle.phase_bits.specs.declared.holders.Holders.{Holders}
+use Rattle.phase_bits.specs.Flags.{has, initialized}
 use Rattle.phase_bits.specs.Number.{number}
 use Rattle.phase_bits.specs.Records.{admit_write, leave_write, downgrade}
 use Rattle.exit_registry.specs.Registry.{Registry, cells_of, is_known}
+use Rattle.exit_registry.specs.declared.turns.Turn.{Turn}
+use Rattle.exit_registry.specs.declared.turns.Turn.TheVariants as turn
+use Rattle.phase_locker.specs.declared.tickets.LockNature.TheVariants as nature
 use Rattle.phase_locker.specs.declared.tickets.ReadTicket.{ReadTicket}
 use Rattle.phase_locker.specs.declared.tickets.WriteTicket.{WriteTicket}
 use Rattle.phase_locker.specs.Natures.{bars, admitted, read_ticket, write_ticket}
 use Rattle.phase_locker.specs.Owned.{IsHeldToWrite}
 use Rattle.phase_seq.specs.declared.generator.InitFault.{InitFault}
+use Rattle.phase_seq.specs.declared.finalizer.FinalFault.{FinalFault}
 use Rattle.phase_seq.specs.declared.init_error.InitError.{InitError}
-use Rattle.phase_seq.specs.declared.init_error.InitError.TheVariants.{Failed, Borrowed}
+use Rattle.phase_seq.specs.declared.init_error.InitError.TheVariants.{Access, Failed, Cyclic, Borrowed}
 use Rattle.phase_seq.specs.declared.tolerance.Tolerance.{Tolerance}
 use Rattle.phase_seq.specs.declared.ask.Want.{Want}
 use Rattle.phase_seq.specs.declared.ask.Want.TheVariants.{Init, Read, Write, ReadOnly, WriteOnly, Finalize}
 use Rattle.phase_seq.specs.declared.ask.Ask.{Ask}
 use Rattle.phase_seq.specs.Asks.{asks_run, nature_of}
-use Rattle.phase_seq.specs.Phases.{unregistered, staying, refused, reached}
+use Rattle.phase_seq.specs.Phases.{unregistered, staying, refused, reached, finalized}
 use Rattle.phase_seq.specs.Registers.{after_asking, is_refused}
 
 -- ---- the registry
@@ -148,3 +153,54 @@ told_read p v = (read_ticket, p, v)
 
 abbrev pub told_write : {V : Type 0} → Phase → Option V → WriteTicket × Phase × Option V
 told_write p v = (write_ticket, p, v)
+
+-- ---- calls that take a closure
+
+-- a closure gave what it promises
+abbrev pub by_call : {V F : Type 0} → (F → Result V InitFault → Type 0) → F → Result V InitFault → F → Type 0
+by_call post f r left = post f r
+
+-- the answer of a call that answers nothing where it is barred
+abbrev pub unless_borrowed : {A : Type 0} → Result A InitError → Option (Result A InitError)
+unless_borrowed (Ok a) = Some (Ok a)
+unless_borrowed (Err Borrowed) = None
+unless_borrowed (Err Failed) = Some (Err Failed)
+unless_borrowed (Err Cyclic) = Some (Err Cyclic)
+unless_borrowed (Err (Access e)) = Some (Err (Access e))
+
+-- a call that answers nothing where it is barred
+pub record TriesCall {V F A : Type 0} (post : F → Result V InitFault → Type 0) (say : Phase → Option V → A) (w : Want) (t : Tolerance) (stays : Option Phase) (h : Holders) (f : F) (r : Option (Result A InitError)) (h' : Holders) : Type 0 where
+  pub answer : Result A InitError
+  pub calls : Calls (by_call post) say w t stays h f answer h' f
+  pub said : r ≡ unless_borrowed answer
+
+-- the phase and the value made, where nobody holds the cell: none was made where the run failed
+abbrev pub unique_of : {V : Type 0} → Holders → Result (Phase × Option V) InitError → Phase × Option V
+unique_of h (Ok a) = a
+unique_of h (Err e) = (h.phase, None)
+
+-- a call on a cell that nobody holds
+pub record CallsUnique {V F : Type 0} (post : F → Result V InitFault → Type 0) (t : Tolerance) (h : Holders) (f : F) (r : Phase × Option V) (h' : Holders) : Type 0 where
+  pub answer : Result (Phase × Option V) InitError
+  pub calls : Calls (by_call post) told Init t (Some unregistered) h f answer h' f
+  pub said : r ≡ unique_of h' answer
+
+-- ---- the finalizer
+
+-- the record after a finalizer that succeeded or failed
+abbrev pub held_final : Bool → Holders → Holders
+held_final fine h = leave_write (finalized h.phase fine) (admit_write h)
+
+-- the finalizer ran, and the turn says what it gave
+abbrev pub HasFinalized : {F : Type 0} → (F → Result (Unit {0}) FinalFault → Type 0) → Holders → F → Turn → Holders → Type 0
+HasFinalized post h f turn.Done h' = post f (Ok tt) × (h' ≡ held_final true h)
+HasFinalized post h f turn.Failed h' = post f (Err (record {})) × (h' ≡ held_final false h)
+HasFinalized post h f turn.Skipped h' = ⊥
+HasFinalized post h f turn.Busy h' = ⊥
+
+-- the turn of a cell: it is skipped exactly where the value is not there, and busy exactly where it is there and held
+abbrev pub Finalizes : {F : Type 0} → (F → Result (Unit {0}) FinalFault → Type 0) → Holders → F → Turn → Holders → Type 0
+Finalizes post h f t h' =
+    MatchBool (has (number h.phase) initialized)
+    (MatchBool (bars h nature.Write) ((t ≡ turn.Busy) × (h' ≡ h)) (HasFinalized post h f t h'))
+    ((t ≡ turn.Skipped) × (h' ≡ h))

@@ -21,7 +21,7 @@ use phase_locker::{PhaseLocker, ReadTicket, UnSyncPhaseLocker, WriteTicket};
 
 /// Tries the registration of a cell whose phase is empty. Answers the flags that stay where the generator runs, or
 /// `None` where the cell can't be registered, and does not put up with it.
-fn enlist(registry: &mut ExitRegistry, cell: u32, leak: bool, phase: Phase) -> Option<Phase>
+fn enlist(cell: u32, registry: &mut ExitRegistry, leak: bool, phase: Phase) -> Option<Phase>
     requires known { IsKnown phase }
     requires inside { cell < cells_of registry.old }
     requires unknown { number phase ≡ 0 → is_known registry.old cell ≡ false }
@@ -62,7 +62,7 @@ fn run<V, R: Generator<V>>(
 impl<G: GeneratorTolerance> LazySequentializer<UnSyncPhaseLocker, G> {
     /// Tries the registration of the cell, where a call with this want is admitted and asks for a run. Answers the flags
     /// that stay where the generator runs, or `None`.
-    pub(crate) fn enlist(&self, want: Want, registry: &mut ExitRegistry, cell: u32) -> Option<Phase>
+    pub(crate) fn enlist(&self, want: Want, cell: u32, registry: &mut ExitRegistry) -> Option<Phase>
         requires { MayEnlist cell self.now.locker registry.old }
         ensures stays { is_due_at want (tolerance G.INIT_FAILURE G.FINAL_REGISTRATION_FAILURE) self.now.locker ≡ true → result ≡ enlisted G.FINAL_REGISTRATION_FAILURE (Some registry.old) self.now.locker.phase }
         ensures known { ForSome result IsKnown }
@@ -77,7 +77,47 @@ impl<G: GeneratorTolerance> LazySequentializer<UnSyncPhaseLocker, G> {
         if !ask.asks_run(phase) || self.locker.is_held() {
             return None;
         }
-        enlist(registry, cell, ask.tol.leak, phase)
+        enlist(cell, registry, ask.tol.leak, phase)
+    }
+
+    /// Initializes a cell that is not registered for the exit: where a run is due, the generator runs. It is `init` for
+    /// the one that owns the generator.
+    ///
+    /// # Errors
+    ///
+    /// As `init`.
+    pub fn generate<V, R: Generator<V>>(
+        &mut self,
+        by: &mut R,
+    ) -> Result<(Phase, Option<V>), InitError>
+        requires { R.may_call by.old }
+        ensures calls { Calls R.attempts told Want.Init (tolerance G.INIT_FAILURE G.FINAL_REGISTRATION_FAILURE) (Some unregistered) self.old.locker by.old result self.new.locker by.new }
+        ensures again { R.may_call by.new }
+        ensures running { self.new.running ≡ self.old.running }
+    {
+        self.init_beside(Some(Phase::empty()), by)
+    }
+
+    /// Initializes a cell that is registered for the exit. It is `init` for the one that owns the generator.
+    ///
+    /// # Errors
+    ///
+    /// As `init`.
+    pub fn generate_registered<V, R: Generator<V>>(
+        &mut self,
+        cell: u32,
+        registry: &mut ExitRegistry,
+        by: &mut R,
+    ) -> Result<(Phase, Option<V>), InitError>
+        requires callable { R.may_call by.old }
+        requires exit { MayEnlist cell self.old.locker registry.old }
+        ensures calls { Calls R.attempts told Want.Init (tolerance G.INIT_FAILURE G.FINAL_REGISTRATION_FAILURE) (enlisted G.FINAL_REGISTRATION_FAILURE (Some registry.old) self.old.locker.phase) self.old.locker by.old result self.new.locker by.new }
+        ensures registry { registry.new ≡ after_asking (is_due_at Want.Init (tolerance G.INIT_FAILURE G.FINAL_REGISTRATION_FAILURE) self.old.locker) cell self.old.locker.phase registry.old }
+        ensures again { R.may_call by.new }
+        ensures running { self.new.running ≡ self.old.running }
+    {
+        let stays = self.enlist(Want::Init, cell, registry);
+        self.init_beside(stays, by)
     }
 
     /// Initializes the cell, whose generator runs beside these flags.
