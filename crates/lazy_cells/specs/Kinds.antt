@@ -51,6 +51,10 @@ is_hard PrimedLockedLazyDroped = true
 abbrev pub is_finalized : Phase → Bool
 is_finalized p = has (number p) finalized_flag || has (number p) finalization_panicked
 
--- the value may be reached at this phase
+-- the value is in reach at this phase, where a finalizer takes it out of reach or not
+abbrev pub is_within_reach : Bool → Phase → Bool
+is_within_reach hard p = has (number p) initialized && not (hard && is_finalized p)
+
+-- the value of a cell of this kind may be reached at this phase
 abbrev pub is_accessible : Kind → Phase → Bool
-is_accessible k p = has (number p) initialized && not (is_hard k && is_finalized p)
+is_accessible k p = is_within_reach (is_hard k) p

@@ -75,7 +75,14 @@ pub fn ask_of(k: Kind, c: Call, t: Tolerance) -> Option<Ask>
     let (want, fast) = match c {
         Call::Phase | Call::TryGet => return None,
         Call::Get => (Want::Init, false),
-        Call::Init => (if k.is_plain() { Want::Init } else { Want::Write }, false),
+        Call::Init => (
+            if k.is_plain() {
+                Want::Init
+            } else {
+                Want::Write
+            },
+            false,
+        ),
         Call::Read | Call::PrimedRead => (Want::Read, false),
         Call::Write | Call::PrimedWrite => (Want::Write, false),
         Call::FastRead => (Want::Read, true),

@@ -1,7 +1,7 @@
 //! The kinds of cells.
 
 ghost use Rattle.std.specs.Prelude.{◌≡◌};
-ghost use Rattle.lazy_cells.specs.Kinds.{is_plain, is_primed, is_hard, is_finalizable, is_accessible};
+ghost use Rattle.lazy_cells.specs.Kinds.{is_plain, is_primed, is_hard, is_finalizable, is_within_reach, is_accessible};
 
 use phase_bits::Phase;
 
@@ -88,8 +88,15 @@ pub fn primed(k: Kind) -> bool
 pub fn accessible(k: Kind, p: Phase) -> bool
     ensures { result ≡ is_accessible k p }
 {
+    within_reach(k.is_hard(), p)
+}
+
+/// Whether a value is in reach at this phase, which a finalizer takes out of reach where `hard` says so.
+pub(crate) fn within_reach(hard: bool, p: Phase) -> bool
+    ensures { result ≡ is_within_reach hard p }
+{
     if !p.contains(Phase::INITIALIZED) {
         return false;
     }
-    !k.is_hard() || !(p.contains(Phase::FINALIZED) || p.contains(Phase::FINALIZATION_PANICKED))
+    !hard || !(p.contains(Phase::FINALIZED) || p.contains(Phase::FINALIZATION_PANICKED))
 }
