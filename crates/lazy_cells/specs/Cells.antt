@@ -94,8 +94,13 @@ pub record HasNone {T G P A : Type 0} (say : Result (Option T) InitFault → Cel
 abbrev pub Asks : {T G P A : Type 0} → (G → Result T InitFault → G → Type 0) → (Result (Option T) InitFault → Cell T G P → A) → Tolerance → Option Phase → Cell T G P → A → Cell T G P → Type 0
 Asks attempts say t stays old r new = MatchBool (shall_init t old.phase) (HasRun attempts say stays old r new) (HasNone say old r new)
 
--- a cell whose value was lent ends as the call left it, with what was then written
+-- the value that was shown
+abbrev pub value_shown : {T E : Type 0} → Result T E → Option T
+value_shown (Ok v) = Some v
+value_shown (Err e) = None
+
+-- a cell whose value was lent ends with what was then written, and besides as the call left it, with the value that it
+-- showed
 pub record EndsWith {T G P : Type 0} (attempts : G → Result T InitFault → G → Type 0) (t : Tolerance) (stays : Option Phase) (old : Cell T G P) (r : Result T InitError) (w : T) (n : Cell T G P) : Type 0 where
-  pub left : Cell T G P
-  pub asks : Asks attempts say_value t stays old r left
-  pub written : n ≡ record left { value = Some w }
+  pub asks : Asks attempts say_value t stays old r (record n { value = value_shown r })
+  pub written : n.value ≡ Some w
