@@ -1,7 +1,7 @@
 -- Where the phase of a cell has INITIALIZED.
 use Rattle.std.proofs.Common.{◌≡◌, ℕ, Bool, true, false, Option, Some, None, refl, ap, ◌∙◌, subst, sym, arith}
 use Rattle.std.specs.Prelude.{◌==◌, ◌^◌, ◌-◌, not, if◌then◌else◌}
-use Rattle.std.specs.Int.RustNames.{bit_and, bit_or}
+use Rattle.std.specs.Int.RustNames.{bit_or}
 use Rattle.std.specs.Int.Bits.{and_zero_r}
 use Rattle.std.proofs.lemmas.Nat.{and_assoc, and_or_self, and_or_apart}
 use Rattle.phase_bits.specs.Flags.{has, without_flags, initialized}
@@ -10,7 +10,7 @@ use Rattle.phase_bits.specs.declared.phase.Phase.{Phase}
 use Rattle.exit_registry.specs.Registry.{Registry}
 use Rattle.phase_seq.specs.declared.tolerance.Tolerance.{Tolerance}
 use Rattle.phase_seq.specs.Asks.{shall_init}
-use Rattle.phase_seq.specs.Phases.{registration, staying, initialization_flags}
+use Rattle.phase_seq.specs.Phases.{registration, initialization_flags}
 use Rattle.phase_seq.specs.Registers.{is_refused}
 use Rattle.phase_seq.specs.Direct.{enlisted, stays_at}
 
