@@ -13,3 +13,4 @@ pub mod Keeping
 pub mod Others
 pub mod Fresh
 pub mod Standing
+pub mod Opening

@@ -7,3 +7,4 @@ pub mod Attempts
 pub mod Others
 pub mod Stands
 pub mod Owned
+pub mod Left

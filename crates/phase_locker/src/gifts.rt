@@ -7,7 +7,8 @@ ghost use Rattle.phase_locker.specs.Rows.{SameSize, IsSound};
 ghost use Rattle.phase_locker.specs.Fits.{Fits, IsIdle, IsWriteOpen, open_reads, flagged};
 ghost use Rattle.phase_locker.specs.declared.ways.Given.TheVariants.{Nobody};
 ghost use Rattle.phase_locker.specs.Gifts.{Hands, MayHand, MustHand, rows_handed, held_handed, Downgrades, StayFree};
-ghost use Rattle.phase_locker.specs.Others.{OthersStay, RowsStay};
+ghost use Rattle.phase_locker.specs.Others.{RowsStay};
+ghost use Rattle.phase_locker.specs.Left.{Left};
 
 use crate::parks::Parks;
 use crate::store::Store;
@@ -82,13 +83,11 @@ pub(crate) fn release_read<S: Store>(
     requires cell { cell < length parks.old.readers }
     requires fits { Fits (S.place store.old) (S.kept store.old) parks.old cell }
     requires open { 0 < open_reads (S.kept store.old) parks.old cell }
-    ensures fits { Fits (S.place store.new) (S.kept store.new) parks.new cell }
     ensures hands { Hands cell (leave_read (S.kept store.old)) parks.old result (S.kept store.new) parks.new }
-    ensures others { OthersStay cell parks.old parks.new }
     ensures rows { RowsStay cell parks.old parks.new }
     ensures reads { open_reads (S.kept store.new) parks.new cell + 1 ≡ open_reads (S.kept store.old) parks.old cell }
-    ensures place { S.place store.new ≡ S.place store.old }
-    ensures same { SameSize parks.old parks.new }
+    ensures closed { ¬ IsWriteOpen (S.kept store.new) parks.new cell }
+    ensures left { Left S.kept S.place cell store.old store.new parks.old parks.new }
 {
     t.close();
     store.drop_reader();
@@ -107,14 +106,11 @@ pub(crate) fn release_write<S: Store>(
     requires known { IsKnown phase }
     requires fits { Fits (S.place store.old) (S.kept store.old) parks.old cell }
     requires open { IsWriteOpen (S.kept store.old) parks.old cell }
-    ensures fits { Fits (S.place store.new) (S.kept store.new) parks.new cell }
     ensures hands { Hands cell (leave_write phase (S.kept store.old)) parks.old result (S.kept store.new) parks.new }
-    ensures others { OthersStay cell parks.old parks.new }
     ensures rows { RowsStay cell parks.old parks.new }
     ensures reads { open_reads (S.kept store.new) parks.new cell ≡ 0 }
     ensures closed { ¬ IsWriteOpen (S.kept store.new) parks.new cell }
-    ensures place { S.place store.new ≡ S.place store.old }
-    ensures same { SameSize parks.old parks.new }
+    ensures left { Left S.kept S.place cell store.old store.new parks.old parks.new }
 {
     t.close();
     store.store_phase(phase);
@@ -134,10 +130,10 @@ pub(crate) fn downgrade<S: Store>(
     requires known { IsKnown phase }
     requires fits { Fits (S.place store.old) (S.kept store.old) parks.now cell }
     requires open { IsWriteOpen (S.kept store.old) parks.now cell }
-    ensures fits { Fits (S.place store.new) (S.kept store.new) parks.now cell }
     ensures downgrades { Downgrades cell phase (S.kept store.old) parks.now Nobody (S.kept store.new) parks.now }
     ensures reads { open_reads (S.kept store.new) parks.now cell ≡ 1 }
-    ensures place { S.place store.new ≡ S.place store.old }
+    ensures closed { ¬ IsWriteOpen (S.kept store.new) parks.now cell }
+    ensures left { Left S.kept S.place cell store.old store.new parks.now parks.now }
 {
     t.close();
     store.store_phase(phase);

@@ -3,10 +3,11 @@
 ghost use Rattle.std.specs.Prelude.{◌≡◌, ◌<◌, true, false, length};
 ghost use Rattle.phase_bits.specs.Number.{IsKnown};
 ghost use Rattle.phase_bits.specs.Records.{IsValid};
-ghost use Rattle.phase_locker.specs.Rows.{HasFree, SameSize};
+ghost use Rattle.phase_locker.specs.Rows.{HasFree};
 ghost use Rattle.phase_locker.specs.Fits.{Fits, IsWriteOpen, open_reads};
 ghost use Rattle.phase_locker.specs.Gifts.{Downgrades};
-ghost use Rattle.phase_locker.specs.Others.{OthersStay, RowsStay};
+ghost use Rattle.phase_locker.specs.Others.{RowsStay};
+ghost use Rattle.phase_locker.specs.Left.{Left};
 
 use crate::locker::PhaseLocker;
 use crate::parks::Parks;
@@ -169,12 +170,10 @@ impl PhaseLocker for HolderLocker {
         requires open { IsWriteOpen self.old.holders parks.old cell }
         ensures nobody { result.1 ≡ Given.Nobody }
         ensures downgrades { Downgrades cell phase self.old.holders parks.old result.1 self.new.holders parks.new }
-        ensures others { OthersStay cell parks.old parks.new }
         ensures rows { RowsStay cell parks.old parks.new }
         ensures reads { open_reads self.new.holders parks.new cell ≡ 1 }
-        ensures fits { Fits self.new.kind self.new.holders parks.new cell }
-        ensures place { self.new.kind ≡ self.old.kind }
-        ensures same { SameSize parks.old parks.new }
+        ensures closed { ¬ IsWriteOpen self.new.holders parks.new cell }
+        ensures left { Left (λ l. l.holders) (λ l. l.kind) cell self.old self.new parks.old parks.new }
     {
         (gifts::downgrade(self, parks, cell, t, phase), Given::Nobody)
     }

@@ -6,14 +6,14 @@ ghost use Rattle.phase_bits.specs.declared.holders.Holders.{Holders};
 ghost use Rattle.phase_bits.specs.Number.{IsKnown};
 ghost use Rattle.phase_bits.specs.Records.{IsValid, most_readers, unheld, admit_read, admit_write, leave_read, leave_write};
 ghost use Rattle.phase_locker.specs.declared.ways.LockerKind.{LockerKind};
-ghost use Rattle.phase_locker.specs.declared.ways.Waiting.TheVariants.{Free};
 ghost use Rattle.phase_locker.specs.Natures.{MayJudge, IsRule, Tries};
-ghost use Rattle.phase_locker.specs.Rows.{row_of, SameSize, HasFree};
+ghost use Rattle.phase_locker.specs.Rows.{HasFree};
 ghost use Rattle.phase_locker.specs.Fits.{Fits, FitsNew, KeepsFit, IsWriteOpen, open_reads, IsIdle};
 ghost use Rattle.phase_locker.specs.Gifts.{Hands, Downgrades};
 ghost use Rattle.phase_locker.specs.Attempts.{Locks, Again};
-ghost use Rattle.phase_locker.specs.Others.{OthersStay, RowsStay, RowsStayBeside};
-ghost use Rattle.phase_locker.specs.Stands.{Stands, reads_opened};
+ghost use Rattle.phase_locker.specs.Others.{RowsStay, RowsStayBeside};
+ghost use Rattle.phase_locker.specs.Left.{Left};
+ghost use Rattle.phase_locker.specs.Stands.{MayCall, MayCallAgain, Stands, Opens, reads_opened, opens_write};
 
 use crate::parks::Parks;
 use crate::tickets::{Attempt, LockNature, LockResult, ReadTicket, WriteTicket};
@@ -67,22 +67,16 @@ pub trait PhaseLocker: Drop {
         wake: LockNature,
         how: &F,
     ) -> (Attempt, Given)
-        requires cell { who.cell < length parks.old.readers }
-        requires party { who.party < length parks.old.rows }
-        requires free { (row_of parks.old who.party).waiting ≡ Free }
+        requires calls { MayCall who parks.old }
         requires wake { wake ≢ LockNature.None }
         requires callable { MayJudge (F.pre how.now) }
         requires rule { IsRule (F.post how.now) }
         requires fits { Fits (place self.old) (held self.old) parks.old who.cell }
         ensures locks { Locks (F.post how.now) (place self.old) who wake (held self.old) parks.old result (held self.new) parks.new }
-        ensures others { OthersStay who.cell parks.old parks.new }
         ensures rows { RowsStayBeside who.party who.cell parks.old parks.new }
         ensures stands { Stands who result.0 (held self.new) parks.new }
-        ensures reads { open_reads (held self.new) parks.new who.cell ≡ open_reads (held self.old) parks.old who.cell + reads_opened result.0 }
-        ensures writes { IsWriteOpen (held self.old) parks.old who.cell → IsWriteOpen (held self.new) parks.new who.cell }
-        ensures fits { Fits (place self.new) (held self.new) parks.new who.cell }
-        ensures place { place self.new ≡ place self.old }
-        ensures same { SameSize parks.old parks.new };
+        ensures opens { Opens who.cell (reads_opened result.0) (opens_write result.0) (held self.old) parks.old (held self.new) parks.new }
+        ensures left { Left held place who.cell self.old self.new parks.old parks.new };
 
     /// A call of a party that waits at this cell. It keeps a share of the nature that the rule gives, and a drain that
     /// wants to write and has no reader beside it. Else it gives up what it has and leaves its list, which may cause a
@@ -94,23 +88,16 @@ pub trait PhaseLocker: Drop {
         wake: LockNature,
         how: &F,
     ) -> (Attempt, Given)
-        requires cell { who.cell < length parks.old.readers }
-        requires party { who.party < length parks.old.rows }
-        requires waits { (row_of parks.old who.party).waiting ≢ Free }
-        requires here { (row_of parks.old who.party).cell ≡ who.cell }
+        requires calls { MayCallAgain who parks.old }
         requires wake { wake ≢ LockNature.None }
         requires callable { MayJudge (F.pre how.now) }
         requires rule { IsRule (F.post how.now) }
         requires fits { Fits (place self.old) (held self.old) parks.old who.cell }
         ensures again { Again (F.post how.now) (place self.old) who wake (held self.old) parks.old result (held self.new) parks.new }
-        ensures others { OthersStay who.cell parks.old parks.new }
         ensures rows { RowsStayBeside who.party who.cell parks.old parks.new }
         ensures stands { Stands who result.0 (held self.new) parks.new }
-        ensures reads { open_reads (held self.new) parks.new who.cell ≡ open_reads (held self.old) parks.old who.cell + reads_opened result.0 }
-        ensures writes { IsWriteOpen (held self.old) parks.old who.cell → IsWriteOpen (held self.new) parks.new who.cell }
-        ensures fits { Fits (place self.new) (held self.new) parks.new who.cell }
-        ensures place { place self.new ≡ place self.old }
-        ensures same { SameSize parks.old parks.new };
+        ensures opens { Opens who.cell (reads_opened result.0) (opens_write result.0) (held self.old) parks.old (held self.new) parks.new }
+        ensures left { Left held place who.cell self.old self.new parks.old parks.new };
 
     /// Takes a lock; `None` exactly where the nature that the rule gives is barred.
     fn try_lock<F: Fn(Phase) -> LockNature>(
@@ -129,12 +116,10 @@ pub trait PhaseLocker: Drop {
         requires fits { Fits (place self.old) (held self.old) parks.old cell }
         requires open { 0 < open_reads (held self.old) parks.old cell }
         ensures hands { Hands cell (leave_read (held self.old)) parks.old result (held self.new) parks.new }
-        ensures others { OthersStay cell parks.old parks.new }
         ensures rows { RowsStay cell parks.old parks.new }
         ensures reads { open_reads (held self.new) parks.new cell + 1 ≡ open_reads (held self.old) parks.old cell }
-        ensures fits { Fits (place self.new) (held self.new) parks.new cell }
-        ensures place { place self.new ≡ place self.old }
-        ensures same { SameSize parks.old parks.new };
+        ensures closed { ¬ IsWriteOpen (held self.new) parks.new cell }
+        ensures left { Left held place cell self.old self.new parks.old parks.new };
 
     /// Gives a write lock back with the phase that the cell has now, and hands the lock to parked calls.
     fn release_write(&mut self, parks: &mut Parks, cell: u32, t: WriteTicket, phase: Phase) -> Given
@@ -143,13 +128,10 @@ pub trait PhaseLocker: Drop {
         requires fits { Fits (place self.old) (held self.old) parks.old cell }
         requires open { IsWriteOpen (held self.old) parks.old cell }
         ensures hands { Hands cell (leave_write phase (held self.old)) parks.old result (held self.new) parks.new }
-        ensures others { OthersStay cell parks.old parks.new }
         ensures rows { RowsStay cell parks.old parks.new }
         ensures reads { open_reads (held self.new) parks.new cell ≡ 0 }
         ensures closed { ¬ IsWriteOpen (held self.new) parks.new cell }
-        ensures fits { Fits (place self.new) (held self.new) parks.new cell }
-        ensures place { place self.new ≡ place self.old }
-        ensures same { SameSize parks.old parks.new };
+        ensures left { Left held place cell self.old self.new parks.old parks.new };
 
     /// Makes a write lock a read lock, with the phase that the cell has now. It may give the lock to parked readers,
     /// for which some party must not wait, so that the readers stay within the limit.
@@ -166,12 +148,10 @@ pub trait PhaseLocker: Drop {
         requires fits { Fits (place self.old) (held self.old) parks.old cell }
         requires open { IsWriteOpen (held self.old) parks.old cell }
         ensures downgrades { Downgrades cell phase (held self.old) parks.old result.1 (held self.new) parks.new }
-        ensures others { OthersStay cell parks.old parks.new }
         ensures rows { RowsStay cell parks.old parks.new }
         ensures reads { open_reads (held self.new) parks.new cell ≡ 1 }
-        ensures fits { Fits (place self.new) (held self.new) parks.new cell }
-        ensures place { place self.new ≡ place self.old }
-        ensures same { SameSize parks.old parks.new };
+        ensures closed { ¬ IsWriteOpen (held self.new) parks.new cell }
+        ensures left { Left held place cell self.old self.new parks.old parks.new };
 
     /// Another read lock beside this one; `None` exactly where the readers are at the limit, 2^20 - 1.
     fn clone_read(&mut self, t: &ReadTicket) -> Option<ReadTicket>

@@ -1,5 +1,5 @@
 -- When a call gets which answer.
-use Rattle.std.specs.Prelude.{ℕ, Bool, true, false, ◌&&◌, not, Option}
+use Rattle.std.specs.Prelude.{◌≡◌, ℕ, Bool, true, false, ◌&&◌, not, if◌then◌else◌, Option}
 use Rattle.phase_bits.specs.declared.holders.Holders.{Holders}
 use Rattle.phase_locker.specs.declared.ways.Who.{Who}
 use Rattle.phase_locker.specs.Natures.{bars}
@@ -98,3 +98,29 @@ shall_run who ask running h = not (is_cyclic ask.want who.party running) && (not
 -- the call is to run the finalizer: it asks for it, and is admitted
 abbrev pub shall_finalize : Ask → Holders → Bool
 shall_finalize ask h = asks_final ask h.phase && not (is_barred ask h)
+
+-- ---- exactly when
+
+-- a call of a party that does not wait gets each of these answers exactly where it is due; no generator runs where it is
+-- refused
+pub record BeginsExactly (who : Who) (ask : Ask) (running : Option ℕ) (h : Holders) (refused : Bool) (b : Begun) : Type 0 where
+  pub waits : is_wait b ≡ shall_wait who ask running h
+  pub missed : is_missed b ≡ shall_miss who ask running h
+  pub cyclic : is_turned_back b ≡ is_cyclic ask.want who.party running
+  pub runs : is_run b ≡ (if refused then false else shall_run who ask running h)
+  pub finalizes : is_final b ≡ shall_finalize ask h
+
+-- the same, of a call of a party that waits
+pub record ResumesExactly (who : Who) (ask : Ask) (running : Option ℕ) (h : Holders) (refused : Bool) (b : Begun) : Type 0 where
+  pub cyclic : is_turned_back b ≡ is_cyclic ask.want who.party running
+  pub runs : is_run b ≡ (if refused then false else (is_admitted b && asks_run ask h.phase))
+  pub finalizes : is_final b ≡ (asks_final ask h.phase && is_admitted b)
+
+-- an answer becomes this one on a cell with a registry: it stays of its sort, but for a run that is refused
+pub record SettlesExactly (refused : Bool) (entered b : Begun) : Type 0 where
+  pub waits : is_wait b ≡ is_wait entered
+  pub missed : is_missed b ≡ is_missed entered
+  pub cyclic : is_turned_back b ≡ is_turned_back entered
+  pub admitted : is_admitted b ≡ is_admitted entered
+  pub runs : is_run b ≡ (if refused then false else is_run entered)
+  pub finalizes : is_final b ≡ is_final entered

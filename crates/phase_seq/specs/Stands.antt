@@ -1,5 +1,5 @@
 -- How a party stands after its call, and which locks are open then.
-use Rattle.std.specs.Prelude.{◌≡◌, ℕ, ◌<◌, true, Option, Some}
+use Rattle.std.specs.Prelude.{◌≡◌, ℕ, ◌<◌, Bool, true, false, length, Option, Some}
 use Rattle.phase_bits.specs.declared.holders.Holders.{Holders}
 use Rattle.phase_bits.specs.Number.{IsKnown}
 use Rattle.phase_locker.specs.declared.ways.Who.{Who}
@@ -13,6 +13,7 @@ use Rattle.phase_seq.specs.declared.section.Begun.TheVariants as begun
 use Rattle.phase_seq.specs.declared.section.Finished.{Finished}
 use Rattle.phase_seq.specs.declared.section.Finished.TheVariants as finished
 use Rattle.phase_seq.specs.Asks.{initializes, finalizes}
+use Rattle.phase_seq.specs.Begins.{running_after}
 
 -- the section is the open one of the cell: its party runs the generator that its call asked for, and its lock is open
 pub record IsRunning (section : Section) (running : Option ℕ) (h : Holders) (s : Rows) : Type 0 where
@@ -51,6 +52,22 @@ reads_begun (begun.Read t p) = 1
 reads_begun (begun.Write t p) = 0
 reads_begun (begun.Run section) = 0
 reads_begun (begun.Final section) = 0
+
+-- an answer opens a write lock
+abbrev pub opens_write : Begun → Bool
+opens_write (begun.Wait how) = false
+opens_write begun.Missed = false
+opens_write begun.Cyclic = false
+opens_write (begun.Nothing p) = false
+opens_write (begun.Read t p) = false
+opens_write (begun.Write t p) = true
+opens_write (begun.Run section) = true
+opens_write (begun.Final section) = true
+
+-- who runs after a call: the party of a run that it began, and else the party that ran; a section that was open still is
+pub record RunsAfter (c : ℕ) (b : Begun) (was : Option ℕ) (h : Holders) (s : Rows) (now : Option ℕ) (h' : Holders) (s' : Rows) : Type 0 where
+  pub running : now ≡ running_after b was
+  pub sections : (o : Section) → o.who.cell ≡ c → IsRunning o was h s → IsRunning o now h' s'
 
 -- what is left open when a run has ended
 abbrev pub FinishedStands : ℕ → Finished → Holders → Rows → Type 0
