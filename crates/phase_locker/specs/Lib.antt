@@ -6,4 +6,5 @@ pub mod Gifts
 pub mod Attempts
 pub mod Others
 pub mod Stands
+pub mod Owned
 pub mod Left

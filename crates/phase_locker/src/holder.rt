@@ -2,7 +2,6 @@
 
 ghost use Rattle.std.specs.Prelude.{◌≡◌, true, false};
 ghost use Rattle.phase_bits.specs.Records.{IsValid};
-ghost use Rattle.phase_locker.specs.Fits.{is_shared};
 ghost use Rattle.phase_locker.specs.Gifts.{ReadersFirst, GivesNothing};
 ghost use Rattle.phase_locker.specs.Attempts.{NeverDrains};
 
@@ -17,7 +16,7 @@ use phase_bits::{Holders, MOST_READERS, Phase};
 #[cfg(test)]
 mod tests;
 
-/// A locker that keeps the plain record, for cells that park and for cells that spin. This project's own.
+/// A locker that keeps the plain record, for cells of each kind. This project's own.
 ///
 /// Where calls park, each barred call parks. A lock that nobody holds any more goes to all parked readers where there
 /// is one, else to the writer that has been parked for longest. A downgrade gives nothing.
@@ -87,7 +86,7 @@ impl PhaseLocker for HolderLocker {
 
     ghost place = { λ l. l.kind };
 
-    ghost takes = { is_shared };
+    ghost takes = { λ k. true };
 
     ghost waits = { NeverDrains };
 
@@ -95,8 +94,8 @@ impl PhaseLocker for HolderLocker {
 
     ghost shares = { GivesNothing };
 
-    fn takes(kind: LockerKind) -> bool {
-        kind != LockerKind::Own
+    fn takes(_kind: LockerKind) -> bool {
+        true
     }
 
     fn new(kind: LockerKind, phase: Phase) -> HolderLocker {

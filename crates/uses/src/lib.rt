@@ -12,6 +12,7 @@
 
 mod access;
 mod built;
+mod configuration;
 mod from_text;
 mod in_memory;
 mod parked;
@@ -24,6 +25,7 @@ mod tests;
 
 pub use access::read_at;
 pub use built::{a_reader_waits, run_and_print, two_parties};
+pub use configuration::port;
 pub use from_text::{TextError, run_text};
 pub use in_memory::{Ended, run_in_memory};
 pub use parked::{Barred, read_behind_a_writer};

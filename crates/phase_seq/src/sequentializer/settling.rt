@@ -23,7 +23,7 @@ use phase_bits::Phase;
 use phase_locker::{Given, Parks, PhaseLocker, Who, WriteTicket};
 
 /// Tries the registration of a cell whose phase is empty. Answers the flags that stay.
-fn staying(registry: &mut ExitRegistry, cell: u32, phase: Phase) -> Phase
+pub(super) fn staying(registry: &mut ExitRegistry, cell: u32, phase: Phase) -> Phase
     requires { MayTry cell phase registry.old }
     ensures phase { result ≡ staying registry.old.is_open phase }
     ensures known { IsKnown result }
