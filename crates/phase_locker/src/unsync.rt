@@ -156,12 +156,20 @@ impl Phased for UnSyncPhaseLocker {
 impl PhaseLocker for UnSyncPhaseLocker {
     ghost use Rattle.phase_locker.specs.declared.ways.LockerKind.TheVariants.{Own};
     ghost use Rattle.phase_locker.specs.Owned.{is_own};
+    ghost use Rattle.phase_locker.specs.Attempts.{NeverDrains};
+    ghost use Rattle.phase_locker.specs.Gifts.{ReadersFirst, GivesNothing};
 
     ghost held = { λ l. l };
 
     ghost place = { λ l. Own };
 
     ghost takes = { is_own };
+
+    ghost waits = { NeverDrains };
+
+    ghost gives = { ReadersFirst };
+
+    ghost shares = { GivesNothing };
 
     fn takes(kind: LockerKind) -> bool {
         kind == LockerKind::Own
