@@ -196,7 +196,7 @@ module _ {L : Type 0} (held : L → Holders) (place : L → LockerKind) (m : Sta
         record {
           stands = moved held place c n n m (run_closed s made r.1 m) v v' row' ok inside cells
               (subst (λ (z : Seen). IsCell held place z v'.parks c row') (sym (seen_closed held place m v p c s is.inner row row_is (Ran s.is_open made ∷ []) r.1))
-              (cell_now made_as 0 0 (value ∙ here.valued ∙ kept_value d.0) known_made (locked_write (place row.seq.locker) (place row'.seq.locker) (held row.seq.locker) (held row'.seq.locker) v.parks v'.parks c made_as.phase (reached its.stays false) r.1 d.2 (reads_here (finished.Failed q) e) (stands_here (finished.Failed q) e) left_here.fits (phase_is false d.0))))
+              (cell_now made_as 0 0 (value ∙ here.valued ∙ kept_value d.0) known_made (locked_write (place row.seq.locker) (place row'.seq.locker) (held row.seq.locker) (held row'.seq.locker) v.parks v'.parks c made_as.phase (reached its.stays false) r.1 d.2 (reads_here (finished.Failed q) e) (stands_here (finished.Failed q) e).0 left_here.fits (phase_is false d.0))))
               (closed_moved held place m v p c s is.inner row row_is (Ran s.is_open made ∷ []) r.1 m.turns v' left_here guards (exit_kept (length v.cells.items) m m v.exit v'.exit exit refl refl refl ok.exit) (hands_writers c _ v.parks r.1 _ v'.parks d.2) (listed_hand c _ v.parks r.1 d.2.may) d.2.rows)
               (parties_now (run_closed s made r.1 m) refl (λ x. target_given s.cell r.1 m.waits x));
           told = failing made (subst (IsMadeAs made) d.0 made_is) (told_as q (d.1 ∙ phase_is false d.0));
@@ -213,7 +213,7 @@ module _ {L : Type 0} (held : L → Holders) (place : L → LockerKind) (m : Sta
         record {
           stands = moved held place c n n m (guarded (reader n s.party s.cell) (run_closed s made r.1 m)) v v' row' ok inside cells
               (subst (λ (z : Seen). IsCell held place z v'.parks c row') (sym seen)
-              (cell_now made_as 1 0 (value ∙ made_value d.0) known_made (locked_down (place row'.seq.locker) (held row.seq.locker) (held row'.seq.locker) v.parks v'.parks c made_as.phase (reached its.stays true) r.1 d.3 (reads_here (finished.Read l q) e) (stands_here (finished.Read l q) e) left_here.fits (phase_is true d.0))))
+              (cell_now made_as 1 0 (value ∙ made_value d.0) known_made (locked_down (place row'.seq.locker) (held row.seq.locker) (held row'.seq.locker) v.parks v'.parks c made_as.phase (reached its.stays true) r.1 d.3 (reads_here (finished.Read l q) e) (stands_here (finished.Read l q) e).0 left_here.fits (phase_is true d.0))))
               (guard_opened held place c n n n m (run_closed s made r.1 m) v v' (reader n s.party s.cell)
               (closed_moved held place m v p c s is.inner row row_is (Ran s.is_open made ∷ []) r.1 m.turns v' left_here guards (exit_kept (length v.cells.items) m m v.exit v'.exit exit refl refl refl ok.exit) (downgrades_writers c _ _ v.parks r.1 _ v'.parks d.3) (listed_share c v.parks r.1 d.3.may) d.3.rows)
               refl is.inner.at (omega arith) is.inner.rests.empty is.inner.rests.empty inside)
@@ -243,7 +243,7 @@ module _ {L : Type 0} (held : L → Holders) (place : L → LockerKind) (m : Sta
                 fits = left_here.fits;
                 phase_is = ap (λ (h : Holders). h.phase) d.3 ∙ here.locked.phase_is;
                 reads_are = reads_here (finished.Write l q) e;
-                write_is = λ lt. stands_here (finished.Write l q) e;
+                write_is = λ lt. (stands_here (finished.Write l q) e).0;
                 write_was = λ o. omega arith;
                 one = omega arith;
               })))

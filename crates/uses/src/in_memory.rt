@@ -2,7 +2,7 @@
 
 ghost use Rattle.std.specs.Prelude.{ℕ, ◌≡◌, List, [], IfOk, Some};
 ghost use Rattle.std.specs.declared.option.Option.{Option};
-ghost use Rattle.phase_run.specs.Runs.{Answered};
+ghost use Rattle.phase_run.specs.Runs.{IsWritten};
 ghost use Rattle.phase_run.specs.Statuses.{OnDone};
 
 use phase_run::{MemSink, MemSource, Status, run_program};
@@ -19,7 +19,7 @@ pub struct Ended {
 /// text of a legal transcript.
 pub fn run_in_memory(alloc: Global, text: Vec<u8>, room: usize) -> Result<Ended, AllocError>
     ensures { IfOk result (λ ended. OnDone ended.status
-        ((rest : Option (List ℕ)) × Answered (Some text.items) rest (Some []) (Some ended.written.items))) }
+        ((rest : Option (List ℕ)) × IsWritten [] (Some text.items) rest Status.Done (Some []) (Some ended.written.items))) }
 {
     // No call of the source or of the sink is listed as one that fails.
     let mut source = MemSource::new(text, Vec::new(alloc));

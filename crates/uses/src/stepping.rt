@@ -2,7 +2,7 @@
 
 ghost use Rattle.std.specs.Prelude.{◌≡◌, ◌<◌, ◌^◌, ◌∷◌, ◌++◌, [], IfOk, length};
 ghost use Rattle.schedule_rules.specs.Legal.{IsLegal};
-ghost use Rattle.schedule_rules.specs.Transcripts.{IsKnown};
+ghost use Rattle.schedule_rules.specs.Transcripts.{NamesKnown};
 ghost use Rattle.schedule_rules.specs.Waits.{wait_of, waits};
 ghost use Rattle.phase_schedule.specs.Progress.{TakesPlaces};
 ghost use Rattle.phase_schedule.specs.Shown.{wait_row};
@@ -21,7 +21,7 @@ fn by(party: u32, act: Act) -> Step
 /// Makes a step, and looks how its party waits. Whatever lockers the engine is made over, the lines stay legal, and
 /// its rows show the wait that the lines tell.
 pub fn step_and_look<L: PhaseLocker>(engine: &mut Engine<L>, step: &Step) -> Waiting
-    requires known { IsKnown engine.old.parties (length engine.old.cells) step.now }
+    requires known { NamesKnown engine.old.parties (length engine.old.cells) step.now }
     requires room { length engine.old.steps < engine.old.count }
     ensures steps { engine.new.steps ≡ engine.old.steps ++ step.now ∷ [] }
     ensures legal { IsLegal engine.new.cells (history engine.new) }
