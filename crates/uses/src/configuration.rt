@@ -11,9 +11,7 @@ use phase_seq::{Generator, InitError};
 /// # Errors
 ///
 /// `Failed` where the source failed both times, `Access` where it failed before and is asked only once.
-pub fn port<S: Generator<u64>>(
-    configuration: &mut UnSyncLazy<u64, S>,
-) -> Result<u64, InitError>
+pub fn port<S: Generator<u64>>(configuration: &mut UnSyncLazy<u64, S>) -> Result<u64, InitError>
     requires { S.may_call configuration.old.generator }
     ensures known { (p : ℕ) → configuration.old.value ≡ Some p → result ≡ Ok p }
     ensures same { (p : ℕ) → configuration.old.value ≡ Some p → configuration.new ≡ configuration.old }
