@@ -14,6 +14,8 @@ mod finalize;
 mod lending;
 mod making;
 mod no_exit;
+#[cfg(test)]
+mod tests;
 mod with_exit;
 
 /// A plain cell: a value that its generator makes when the first user asks for it. The marker `P` names its kind and its
