@@ -11,6 +11,9 @@ use crate::ways::{FREE, Row, Waiting};
 use std::alloc::{AllocError, Global};
 use std::marker::Model;
 
+#[cfg(test)]
+mod tests;
+
 /// How each party waits, and which calls of each cell are parked, in order of parking. This project's own: static_init
 /// parks threads in queues of the platform.
 ///
@@ -77,6 +80,14 @@ impl Parks {
         ensures { result ≡ (row_of self.now party).cell }
     {
         self.rows[party as usize].cell
+    }
+
+    /// How many cells there are.
+    #[cfg(test)]
+    pub(crate) fn cells(&self) -> usize
+        ensures { result ≡ length self.now.readers }
+    {
+        self.queues.len()
     }
 
     /// The rows of the parties.
