@@ -1,5 +1,7 @@
 //! Plain lazies in use.
 
+ghost use Rattle.std.specs.Prelude.{true, false};
+
 use crate::access::{Lazy, LazyFinalize};
 use exit_registry::{ExitRegistry, Finalizable, Turn};
 use phase_bits::{AccessError, Phase};
