@@ -1,7 +1,6 @@
 -- What an attempt got of the word, and a call that attempts again.
 use Rattle.std.proofs.Common.{◌++◌, ◌||◌, ◌≡◌, ◌≢◌, inl, inr, ℕ, ◌%◌, ◌/◌, ◌^◌, ◌==◌, Bool, true, false, List, [], ◌∷◌, refl, arith, ◌∙◌, sym, cond, append_assoc}
 use Rattle.std.specs.Bool.{OnTrue, OnFalse}
-use Rattle.std.specs.Prelude.{Option, Some, None, IfNone}
 use Rattle.phase_bits.specs.Number.{phase_of}
 use Rattle.phase_bits.specs.Word.{unpacked}
 use Rattle.phase_bits.specs.declared.phase.Phase.{Phase}
@@ -159,20 +158,6 @@ enters_later rule v w x k a m = record {
   before = m.before;
   event = m.event;
 }
-
-pub misses_later : (rule : Phase → LockNature → Type 0) (v w x : View) → v.hold ≡ Free → Waits v w → Misses rule w x → Misses rule v x
-misses_later rule v w x free a m = record {
-  looks = looks_later v w x a m.looks;
-  hold = m.hold ∙ (a.hold ∙ sym free);
-  why = elim m.why [
-    | inl barred ↦ inl barred
-    | inr beaten ↦ inr (record { loads = omega (arith, a.loads, beaten.loads); differ = beaten.differ })
-  ];
-}
-
-pub if_none : {X A B : Type 0} (answer : Option X) → IfNone answer A → (A → B) → IfNone answer B
-if_none None a h = h a
-if_none (Some x) a h = tt
 
 -- ---- the exchange that no load came before
 

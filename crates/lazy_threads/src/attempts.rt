@@ -31,52 +31,10 @@ impl SyncTable {
         phase_of_word(self.load(seat))
     }
 
-    /// One attempt, by the rule `how`. Where the rule asks to write at the phase that the seat found last, an exchange comes
-    /// first, which expects that phase and no holder. Else, and where it found another word, come a load, the rule at the
-    /// phase found, and at most one exchange. `None` comes only where the record bars what the rule asks, or where a step of
-    /// another seat came between load and exchange. The seat has no hold.
+    /// One attempt: a load, the rule `how` at the phase found, and at most one exchange. `None` comes only where the record
+    /// bars what the rule asks, or where a step of another seat came between load and exchange. The seat has no hold.
     #[inline(always)]
     pub fn try_enter<F: Fn(Phase) -> LockNature>(
-        &self,
-        seat: &mut CellSeat,
-        how: &F,
-    ) -> Option<LockResult<(), ()>>
-        requires table { IsSeatOf self.now seat.old }
-        requires hold { (view_of seat.old).hold ≡ hold.Free }
-        requires callable { F.IsAlwaysCallable how.now }
-        ensures seat { IsSameSeat seat.old seat.new }
-        ensures counts { SameCounts seat.old seat.new }
-        ensures enters { IfSome result (Gets (F.post how.now) (view_of seat.old) (view_of seat.new)) }
-        ensures phase { IfSome result (λ got. TellsPhase got (view_of seat.new)) }
-        ensures misses { IfNone result (Misses (F.post how.now) (view_of seat.old) (view_of seat.new)) }
-    {
-        if self.try_at_once(seat, how) {
-            return Some(LockResult::Write(()));
-        }
-        self.try_judged(seat, how)
-    }
-
-    /// The first exchange of an attempt, where the rule `how` asks to write at the phase that the seat found last.
-    #[inline(always)]
-    fn try_at_once<F: Fn(Phase) -> LockNature>(&self, seat: &mut CellSeat, how: &F) -> bool
-        requires table { IsSeatOf self.now seat.old }
-        requires hold { (view_of seat.old).hold ≡ hold.Free }
-        requires callable { F.IsAlwaysCallable how.now }
-        ensures seat { IsSameSeat seat.old seat.new }
-        ensures counts { SameCounts seat.old seat.new }
-        ensures enters { OnTrue result (Enters (F.post how.now) (view_of seat.old) (view_of seat.new) LockNature.Write) }
-        ensures waits { OnFalse result (Waits (view_of seat.old) (view_of seat.new)) }
-    {
-        let expected = seat.last % READER_UNITY as u64;
-        match how(phase_of_word(expected)) {
-            LockNature::Write => self.look_write(seat, expected) == expected,
-            LockNature::Read | LockNature::None => false,
-        }
-    }
-
-    /// The attempt that looks first: a load, the rule `how` at the phase found, and at most one exchange.
-    #[inline(always)]
-    fn try_judged<F: Fn(Phase) -> LockNature>(
         &self,
         seat: &mut CellSeat,
         how: &F,
@@ -115,7 +73,27 @@ impl SyncTable {
         }
     }
 
-    /// Attempts until there is an answer. Between them it spins, and then yields. The seat has no hold.
+    /// An exchange with no load before it, where the rule `how` asks to write at the phase that the seat found last: it expects
+    /// that phase and no holder.
+    #[inline(always)]
+    fn try_at_once<F: Fn(Phase) -> LockNature>(&self, seat: &mut CellSeat, how: &F) -> bool
+        requires table { IsSeatOf self.now seat.old }
+        requires hold { (view_of seat.old).hold ≡ hold.Free }
+        requires callable { F.IsAlwaysCallable how.now }
+        ensures seat { IsSameSeat seat.old seat.new }
+        ensures counts { SameCounts seat.old seat.new }
+        ensures enters { OnTrue result (Enters (F.post how.now) (view_of seat.old) (view_of seat.new) LockNature.Write) }
+        ensures waits { OnFalse result (Waits (view_of seat.old) (view_of seat.new)) }
+    {
+        let expected = seat.last % READER_UNITY as u64;
+        match how(phase_of_word(expected)) {
+            LockNature::Write => self.look_write(seat, expected) == expected,
+            LockNature::Read | LockNature::None => false,
+        }
+    }
+
+    /// Attempts until there is an answer. Where the rule `how` asks to write at the phase that the seat found last, an exchange
+    /// that expects that phase and no holder comes first. Between attempts it spins, and then yields. The seat has no hold.
     #[inline(always)]
     pub fn enter<R: Wait, F: Fn(Phase) -> LockNature>(
         &self,
@@ -131,6 +109,9 @@ impl SyncTable {
         ensures enters { Gets (F.post how.now) (view_of seat.old) (view_of seat.new) result }
         ensures phase { TellsPhase result (view_of seat.new) }
     {
+        if self.try_at_once(seat, how) {
+            return LockResult::Write(());
+        }
         if let Some(got) = self.try_enter(seat, how) {
             return got;
         }
@@ -156,7 +137,7 @@ impl SyncTable {
         let mut spin = SpinWait::new();
         for _ in rt.forever() {
             spin.spin_or_yield();
-            if let Some(got) = self.try_judged(seat, how) {
+            if let Some(got) = self.try_enter(seat, how) {
                 return got;
             }
         }

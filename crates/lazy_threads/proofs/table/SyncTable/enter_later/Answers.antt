@@ -5,8 +5,8 @@ use Rattle.lazy_threads.proofs.table.SyncTable.enter_later.Goals as goal
 pub loop-init : goal.loop-init
 loop-init g c = (tt, tt, record { table = refl; id = refl }, record { trail = refl; recorded = refl }, waits_first _ c.requires.hold)
 
-pub returns-in-Some-try_judged-clause-enters : goal.returns-in-Some-try_judged-clause-enters
-returns-in-Some-try_judged-clause-enters g c = enters_later _ _ _ _ _ c.loop.invariant.4 c.in-Some-try_judged.ensures.enters
+pub returns-in-Some-try_enter-clause-enters : goal.returns-in-Some-try_enter-clause-enters
+returns-in-Some-try_enter-clause-enters g c = enters_later _ _ _ _ _ c.loop.invariant.4 c.in-Some-try_enter.ensures.enters
 
 pub loop-preserved : goal.loop-preserved
 loop-preserved g c =
