@@ -1,5 +1,5 @@
 -- What an attempt got of the word, and a call that attempts again.
-use Rattle.std.proofs.Common.{◌++◌, ◌||◌, ◌≡◌, ◌≢◌, inl, inr, ℕ, ◌%◌, ◌≤◌, ◌==◌, Bool, true, false, List, [], ◌∷◌, refl, arith, ◌∙◌, sym, cond, append_assoc}
+use Rattle.std.proofs.Common.{◌++◌, ◌||◌, ◌≡◌, ◌≢◌, inl, inr, ℕ, ◌%◌, ◌/◌, ◌^◌, ◌==◌, Bool, true, false, List, [], ◌∷◌, refl, arith, ◌∙◌, sym, cond, append_assoc}
 use Rattle.std.specs.Bool.{OnTrue, OnFalse}
 use Rattle.phase_bits.specs.Number.{phase_of}
 use Rattle.phase_bits.specs.Word.{unpacked}
@@ -9,9 +9,9 @@ use Rattle.phase_locker.specs.declared.tickets.LockNature.{LockNature}
 use Rattle.phase_locker.specs.declared.tickets.LockNature.TheVariants as nature
 use Rattle.lazy_threads.specs.declared.view.View.{View}
 use Rattle.lazy_threads.specs.declared.view.Hold.TheVariants.{Free}
-use Rattle.lazy_threads.specs.Views.{HasInitialized, saw_initialized, loaded, exchanged, entered_read, entered_write}
+use Rattle.lazy_threads.specs.Views.{HasInitialized, saw_initialized, loaded, exchanged, entered_read, entered_write, looked_write}
 use Rattle.lazy_threads.specs.Rule.{IsCellWord}
-use Rattle.lazy_threads.specs.Calls.{Looks, Enters, Misses, Clones, MissesClone}
+use Rattle.lazy_threads.specs.Calls.{Looks, Enters, Misses, Clones, MissesClone, Waits}
 use Rattle.lazy_threads.proofs.Moves.{free_read, free_write, admits_read, admits_write}
 
 -- ---- one look
@@ -123,12 +123,6 @@ overtaken word found v seat old new lasts look exchange =
 
 -- ---- a call that attempts again
 
--- the seat has looked since, and has no hold
-pub record Waits (v w : View) : Type 0 where
-  pub hold : w.hold ≡ Free
-  pub loads : v.loads ≤ w.loads
-  pub seen : (more : List ℕ) × (w.seen ≡ more ++ v.seen)
-
 pub waits_first : (v : View) → v.hold ≡ Free → Waits v v
 waits_first v free = record { hold = free; loads = omega arith; seen = ([], refl) }
 
@@ -146,14 +140,17 @@ saw_behind : (more ps : List ℕ) → saw_initialized ps ≡ true → saw_initia
 saw_behind [] ps h = h
 saw_behind (p ∷ more) ps h = saw_more (p % 2 == 1) (saw_initialized (more ++ ps)) (saw_behind more ps h)
 
+looks_later : (v w x : View) → Waits v w → Looks w x → Looks v x
+looks_later v w x a look = record {
+  loads = omega (arith, a.loads, look.loads);
+  seen = (look.seen.0 ++ a.seen.0, joins _ _ _ _ _ a.seen.1 look.seen.1);
+  lasts = λ h. look.lasts (rw a.seen.1 (saw_behind a.seen.0 v.seen h));
+  knows = look.knows;
+}
+
 pub enters_later : (rule : Phase → LockNature → Type 0) (v w x : View) (k : LockNature) → Waits v w → Enters rule w x k → Enters rule v x k
 enters_later rule v w x k a m = record {
-  looks = record {
-    loads = omega (arith, a.loads, m.looks.loads);
-    seen = (m.looks.seen.0 ++ a.seen.0, joins _ _ _ _ _ a.seen.1 m.looks.seen.1);
-    lasts = λ h. m.looks.lasts (rw a.seen.1 (saw_behind a.seen.0 v.seen h));
-    knows = m.looks.knows;
-  };
+  looks = looks_later v w x a m.looks;
   asked = m.asked;
   free = m.free;
   hold = m.hold;
@@ -161,3 +158,27 @@ enters_later rule v w x k a m = record {
   before = m.before;
   event = m.event;
 }
+
+-- ---- the exchange that no load came before
+
+-- a phase with no holder bars no writer
+pub unheld : (n : ℕ) → bars (unpacked (n % 256)) nature.Write ≡ false
+unheld n =
+    let readers : n % 256 / 256 % 2 ^ 20 ≡ 0 = omega arith in
+    let lock : n % 256 / 2 ^ 29 % 2 ≡ 0 = omega arith in
+    rw (readers, lock) refl
+
+pub got_write_at_once : (rule : Phase → LockNature → Type 0) (expected found : ℕ) (v w : View) → IsCellWord found → (saw_initialized v.seen ≡ true → HasInitialized found) → rule (phase_of (expected % 256)) nature.Write → bars (unpacked expected) nature.Write ≡ false
+    → w ≡ exchanged looked_write expected found v → OnTrue (found == expected) (Enters rule v w nature.Write)
+got_write_at_once rule expected found v w is lasts asked free exchange =
+    on_true (found == expected) (Enters rule v w nature.Write) (λ e.
+    let same : found ≡ expected = grind (arith, e) in
+    let itself : (found == found) ≡ true = grind arith in
+    let end : w ≡ entered_write found (loaded found v) = exchange ∙ (rw e refl) in
+    got_write rule found found v (loaded found v) w is lasts (rw same asked) (rw same free) refl (end ∙ (rw itself refl)) refl)
+
+pub waits_at_once : (expected found : ℕ) (v w : View) → v.hold ≡ Free → w ≡ exchanged looked_write expected found v → OnFalse (found == expected) (Waits v w)
+waits_at_once expected found v w free exchange =
+    on_false (found == expected) (Waits v w) (λ e.
+    let end : w ≡ loaded found v = exchange ∙ (rw e refl) in
+    rw end (record { hold = free; loads = omega arith; seen = (found % 256 ∷ [], refl) }))

@@ -10,7 +10,7 @@ use Rattle.atomic_table.proofs.Lists.{at_set, at_snoc, set_again, set_else}
 use Rattle.phase_bits.specs.Word.{phase_in, readers_in, lock_in}
 use Rattle.lazy_threads.specs.declared.view.View.{View}
 use Rattle.lazy_threads.specs.declared.view.Hold.TheVariants.{Free, Read, Write}
-use Rattle.lazy_threads.specs.Views.{HasInitialized, saw_initialized, fresh, loaded, entered_read, entered_write, left_read, left_write, downgraded, split_off, joined}
+use Rattle.lazy_threads.specs.Views.{HasInitialized, saw_initialized, fresh, loaded, entered_read, entered_write, looked_write, left_read, left_write, downgraded, split_off, joined}
 use Rattle.lazy_threads.specs.Rule.{is_read, is_write, Knows, Keeps, rule, IsCellWord, Finds, FindsOwn}
 use Rattle.lazy_threads.proofs.Holds.{one_if, how_many-set, how_many-one, how_many-two, how_many-more}
 
@@ -91,6 +91,15 @@ entered_write-Keeps word vs id v free unlocked none k at =
     changed word (word + 2 ^ 29) vs id v (entered_write word v) k at (rw free (omega (arith, unlocked, k.below))) (rw free (omega (arith, k.below)))
     (record { below = omega (arith, k.below, unlocked); spare = omega (arith, k.spare); alone = λ h. omega (arith, none) })
     (record { entered = λ h. omega arith; seen = λ h. omega (arith, was.seen h) })
+    (same_phase word (word + 2 ^ 29) vs k (omega arith) id)
+
+pub looked_write-Keeps : (word : ℕ) (vs : List View) (id : ℕ) (v : View) → v.hold ≡ Free → word / 2 ^ 29 % 2 ≡ 0 → word / 256 % 2 ^ 20 ≡ 0 → Keeps word vs → get_elem? vs id ≡ some v → Keeps (word + 2 ^ 29) (set vs id (looked_write word v))
+looked_write-Keeps word vs id v free unlocked none k at =
+    let was = k.known id v at in
+    let entered = entered_write-Keeps word vs id v free unlocked none k at in
+    changed word (word + 2 ^ 29) vs id v (looked_write word v) k at (rw free (omega (arith, unlocked, k.below))) (rw free (omega (arith, k.below)))
+    (word_is (word + 2 ^ 29) (set vs id (entered_write word v)) entered)
+    (record { entered = λ h. omega arith; seen = λ h. let odd : word % 2 ≡ 1 = saw_front word v.seen h (λ i. was.seen i) in omega (arith, odd) })
     (same_phase word (word + 2 ^ 29) vs k (omega arith) id)
 
 -- ---- read leave

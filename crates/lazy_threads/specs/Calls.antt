@@ -84,6 +84,12 @@ pub record Clones (seat old new : View) : Type 0 where
   pub view : new ≡ entered_read seat.last old
   pub event : unpacked new.after ≡ admitted (unpacked new.before) nature.Read
 
+-- between two attempts of a call: the seat has looked since, and has no hold
+pub record Waits (v w : View) : Type 0 where
+  pub hold : w.hold ≡ Free
+  pub loads : v.loads ≤ w.loads
+  pub seen : (more : List ℕ) × (w.seen ≡ more ++ v.seen)
+
 -- the readers are at the limit, and the other seat did nothing
 pub record IsFull (seat old new : View) : Type 0 where
   pub readers : readers_in seat.last ≡ most_readers

@@ -27,6 +27,10 @@ entered_read word v = record v { hold = Read; before = word; after = word + 256 
 abbrev pub entered_write : ℕ → View → View
 entered_write word v = record v { hold = Write; entered = word % 256; before = word; after = word + 2 ^ 29 }
 
+-- after the step that was the load too, and got a write hold at this word
+abbrev pub looked_write : ℕ → View → View
+looked_write word v = entered_write word (loaded word v)
+
 -- after an exchange that expected the judged word and found this one: it enters where the two are one, and else it is a load
 abbrev pub exchanged : (ℕ → View → View) → ℕ → ℕ → View → View
 exchanged enter judged word v = if word == judged then enter word v else loaded word v

@@ -4,7 +4,7 @@ ghost use Rattle.std.specs.Prelude.{◌≡◌, IfSome, IfNone, false};
 ghost use Rattle.std.specs.Bool.{OnTrue, OnFalse};
 ghost use Rattle.phase_bits.specs.Word.{unpacked};
 ghost use Rattle.phase_locker.specs.Natures.{bars};
-ghost use Rattle.lazy_threads.specs.Calls.{phase_got, Looks, Gets, Misses, Clones, MissesClone, TellsPhase};
+ghost use Rattle.lazy_threads.specs.Calls.{phase_got, Looks, Enters, Gets, Misses, Waits, Clones, MissesClone, TellsPhase};
 ghost use Rattle.lazy_threads.specs.Rule.{IsCellWord};
 ghost use Rattle.lazy_threads.specs.Seats.{IsSeatOf, IsSameSeat, SameCounts, view_of};
 ghost use Rattle.lazy_threads.specs.Views.{loaded};
@@ -73,7 +73,27 @@ impl SyncTable {
         }
     }
 
-    /// Attempts until there is an answer. Between them it spins, and then yields. The seat has no hold.
+    /// An exchange with no load before it, where the rule `how` asks to write at the phase that the seat found last: it expects
+    /// that phase and no holder.
+    #[inline(always)]
+    fn try_at_once<F: Fn(Phase) -> LockNature>(&self, seat: &mut CellSeat, how: &F) -> bool
+        requires table { IsSeatOf self.now seat.old }
+        requires hold { (view_of seat.old).hold ≡ hold.Free }
+        requires callable { F.IsAlwaysCallable how.now }
+        ensures seat { IsSameSeat seat.old seat.new }
+        ensures counts { SameCounts seat.old seat.new }
+        ensures enters { OnTrue result (Enters (F.post how.now) (view_of seat.old) (view_of seat.new) LockNature.Write) }
+        ensures waits { OnFalse result (Waits (view_of seat.old) (view_of seat.new)) }
+    {
+        let expected = seat.last % READER_UNITY as u64;
+        match how(phase_of_word(expected)) {
+            LockNature::Write => self.look_write(seat, expected) == expected,
+            LockNature::Read | LockNature::None => false,
+        }
+    }
+
+    /// Attempts until there is an answer. Where the rule `how` asks to write at the phase that the seat found last, an exchange
+    /// that expects that phase and no holder comes first. Between attempts it spins, and then yields. The seat has no hold.
     #[inline(always)]
     pub fn enter<R: Wait, F: Fn(Phase) -> LockNature>(
         &self,
@@ -89,6 +109,9 @@ impl SyncTable {
         ensures enters { Gets (F.post how.now) (view_of seat.old) (view_of seat.new) result }
         ensures phase { TellsPhase result (view_of seat.new) }
     {
+        if self.try_at_once(seat, how) {
+            return LockResult::Write(());
+        }
         if let Some(got) = self.try_enter(seat, how) {
             return got;
         }

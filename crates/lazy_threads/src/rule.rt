@@ -5,7 +5,7 @@
 
 ghost use Rattle.std.specs.Prelude.{◌≡◌};
 ghost use Rattle.lazy_threads.specs.Rule.{rule, Finds, FindsOwn};
-ghost use Rattle.lazy_threads.specs.Views.{fresh, loaded, exchanged, entered_read, entered_write, left_read, left_write, downgraded, split_off, joined};
+ghost use Rattle.lazy_threads.specs.Views.{fresh, loaded, exchanged, entered_read, entered_write, looked_write, left_read, left_write, downgraded, split_off, joined};
 
 use crate::view::View;
 use atomic_table::{Join, Play, Split, TableRule};
@@ -38,6 +38,13 @@ pub(crate) struct EnterWrite;
 
 impl Play<(), View> for EnterWrite {
     ghost then = { λ step v found w. (w ≡ (exchanged entered_write step.first found v.0, v.1)) × Finds found v.0 };
+}
+
+/// An exchange for a write hold with no load before it. It is the load too, whatever it finds.
+pub(crate) struct LookWrite;
+
+impl Play<(), View> for LookWrite {
+    ghost then = { λ step v found w. (w ≡ (exchanged looked_write step.first found v.0, v.1)) × Finds found v.0 };
 }
 
 /// A read hold is given back.

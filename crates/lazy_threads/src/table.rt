@@ -3,7 +3,8 @@
 //! The word says the record of the cell's holders (`phase_bits`): the phase, how many hold the cell to read, and whether one
 //! holds it to write. It spins: both waiter flags stay clear.
 //!  1. To enter, a seat loads the word and judges it; where it bars nothing, one exchange makes the word that admits the
-//!     seat, and it succeeds only where the word is still the one that was judged.
+//!     seat, and it succeeds only where the word is still the one that was judged. A seat that wants to write may exchange
+//!     at once: it expects the phase that it found last, and no holder.
 //!  2. A reader adds READER_UNITY, where the word is not locked and has fewer than 2^20 - 1 readers.
 //!  3. A writer sets LOCKED_BIT, where the word is not locked and has no reader. From then on nobody else changes the word.
 //!  4. A reader leaves by taking READER_UNITY away, whatever the others do.
@@ -15,7 +16,8 @@
 ghost use Rattle.std.specs.Prelude.{◌≡◌, IfOk, false, max};
 
 use crate::rule::{
-    Downgrade, EnterRead, EnterWrite, JoinSeats, LeaveRead, LeaveWrite, Load, SplitSeat, WordRule,
+    Downgrade, EnterRead, EnterWrite, JoinSeats, LeaveRead, LeaveWrite, Load, LookWrite, SplitSeat,
+    WordRule,
 };
 use crate::seat::CellSeat;
 use crate::view::View;
@@ -45,7 +47,7 @@ impl SyncTable {
     ghost use Rattle.lazy_threads.specs.Calls.{LeavesRead, LeavesWrite, Downgrades, MayPublish};
     ghost use Rattle.lazy_threads.specs.Rule.{IsCellWord, Finds};
     ghost use Rattle.lazy_threads.specs.Seats.{IsSeatOf, IsSameSeat, Counts, SameCounts, view_of, counted, added};
-    ghost use Rattle.lazy_threads.specs.Views.{fresh, loaded, exchanged, entered_read, entered_write, split_off, joined};
+    ghost use Rattle.lazy_threads.specs.Views.{fresh, loaded, exchanged, entered_read, entered_write, looked_write, split_off, joined};
     ghost use Rattle.lazy_threads.specs.declared.view.Hold.TheVariants as hold;
 
     /// A word with the empty phase and no holder, and the first seat. The other seats are split off it.
@@ -121,6 +123,26 @@ impl SyncTable {
         if found != judged {
             seat.last = found;
         }
+        found
+    }
+
+    /// Write enter at once: the lock bit, by an exchange that no load came before. It is the load too, whatever it finds.
+    #[inline(always)]
+    pub(crate) fn look_write(&self, seat: &mut CellSeat, expected: u64) -> u64
+        requires table { IsSeatOf self.now seat.old }
+        requires hold { (view_of seat.old).hold ≡ hold.Free }
+        requires free { bars (unpacked expected) LockNature.Write ≡ false }
+        ensures seat { IsSameSeat seat.old seat.new }
+        ensures counts { SameCounts seat.old seat.new }
+        ensures view { view_of seat.new ≡ exchanged looked_write expected result (view_of seat.old) }
+        ensures finds { Finds result (view_of seat.old) }
+    {
+        let admitted = expected + LOCKED;
+        let found = self
+            .words
+            .shared
+            .compare_exchange::<LookWrite>(&mut seat.token, 0, expected, admitted);
+        seat.last = found;
         found
     }
 

@@ -21,7 +21,7 @@ pub struct View {
     pub entered: u32,
     /// The numbers of the phases seen, found by a load or published by a leave, the latest first.
     pub seen: LinkedList<u32>,
-    /// How many loads the seat made. An exchange that found another word is a load.
+    /// How many loads the seat made. An exchange is a load where no load came before it, and where it found another word.
     pub loads: u64,
     /// The word that the last load found.
     pub last: u64,

@@ -1,5 +1,5 @@
 use Rattle.lazy_threads.specs.Seats.{view_of, IsSameSeat, SameCounts}
-use Rattle.lazy_threads.proofs.Entering.{Waits}
+use Rattle.lazy_threads.specs.Calls.{Waits}
 use Rattle.lazy_threads.proofs.table.SyncTable.enter_later.Given as goal
 
 abbrev pub invariant-loop : goal.invariant-loop
