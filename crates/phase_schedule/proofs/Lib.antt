@@ -7,4 +7,6 @@ pub mod Records
 pub mod Phases
 pub mod Finals
 -- Runs
+pub mod Told
 pub mod Made
+pub mod Runs
