@@ -37,7 +37,7 @@ tries false c k = act.Call c k
 tries true c k = act.Again
 
 -- no change changes nothing
-unchanged : (cells : List CellPlan) (c d : ℕ) (y : Content) → content_after_back cells d (Some (record { cell = c; changes = [] })) y ≡ y
+pub unchanged : (cells : List CellPlan) (c d : ℕ) (y : Content) → content_after_back cells d (Some (record { cell = c; changes = [] })) y ≡ y
 unchanged cells c d y = by (c == d)
   where
     by : (b : Bool) → (if b then y else y) ≡ y

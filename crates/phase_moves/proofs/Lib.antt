@@ -32,3 +32,4 @@ pub mod Setting
 pub mod Looking
 pub mod Starting
 pub mod HistoryCalls
+pub mod HistoryExits
