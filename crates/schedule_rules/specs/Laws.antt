@@ -1,5 +1,5 @@
 -- What laws about all histories say.
-use Rattle.std.specs.Prelude.{ℕ, Bool, true, false, not, List, [], ◌∷◌, ◌≡◌, ◌≢◌, ◌==◌, ◌<◌, ◌+◌, ◌&&◌, ◌⊎◌, All, if◌then◌else◌}
+use Rattle.std.specs.Prelude.{ℕ, Bool, true, false, not, List, [], ◌∷◌, ◌≡◌, ◌≢◌, ◌==◌, ◌<◌, ◌+◌, ◌&&◌, ◌⊎◌, All, length, if◌then◌else◌}
 use Rattle.std.specs.declared.option.Option.{Option}
 use Rattle.std.specs.declared.option.Option.TheVariants.{Some}
 use Rattle.schedule_rules.specs.declared.line.Answer.{Answer}
@@ -21,7 +21,7 @@ use Rattle.schedule_rules.specs.Kinds.{cell_at, is_parking}
 use Rattle.schedule_rules.specs.Changes.{is_declined}
 use Rattle.schedule_rules.specs.Phases.{Failure, phase_reached, phase_finalized, tries_registration}
 use Rattle.schedule_rules.specs.Calls.{asks}
-use Rattle.schedule_rules.specs.History.{Event, is_closed, accepts, count}
+use Rattle.schedule_rules.specs.History.{Event, before, is_closed, accepts, count}
 use Rattle.schedule_rules.specs.Sections.{Section, innermost, is_turn, sections}
 use Rattle.schedule_rules.specs.Guards.{guards}
 use Rattle.schedule_rules.specs.Replay.{replay, phase_at}
@@ -173,6 +173,17 @@ abbrev pub turns_of : List CellPlan → ℕ → List Event → ℕ
 turns_of cells c h =
     occurs c (due (registry cells h)) + count (waits_to_turn c) (waits cells h) + count (finalizes_in c) (sections h)
     + occurs c (cells_of_turns (ended_turns h))
+
+-- the turns that have not ended: those to come, those that wait, and those that go on
+abbrev pub turns_at_hand : List CellPlan → List Event → ℕ
+turns_at_hand cells h =
+    length (due (registry cells h)) + count (λ w. is_turn w.want) (waits cells h) + count (λ s. is_turn s.want) (sections h)
+
+-- ---- what is open
+
+-- what is published of the cell is what was published there before this step
+abbrev pub IsAsAt : List CellPlan → List Event → ℕ → ℕ → Type 0
+IsAsAt cells h c start = replay cells c h ≡ replay cells c (before start h)
 
 -- ---- what a phase tells
 
