@@ -1,14 +1,18 @@
 -- When rows follow a legal history, and what one step more does.
 use Rattle.std.specs.Prelude.{ℕ, List, ◌∷◌, ◌≡◌, ◌≤◌, ◌<◌, length, vec_capacity}
-use Rattle.std.specs.declared.option.Option.TheVariants.{None}
+use Rattle.std.specs.declared.option.Option.TheVariants.{None, Some}
 use Rattle.phase_bits.specs.declared.holders.Holders.{Holders}
+use Rattle.phase_locker.specs.declared.ways.Given.{Given}
+use Rattle.phase_locker.specs.declared.ways.Given.TheVariants as given
 use Rattle.phase_locker.specs.declared.ways.LockerKind.{LockerKind}
 use Rattle.schedule_rules.specs.declared.line.Line.{Line}
+use Rattle.schedule_rules.specs.declared.line.Refusal.{Refusal}
 use Rattle.schedule_rules.specs.declared.plan.CellPlan.{CellPlan}
 use Rattle.schedule_rules.specs.declared.step.Act.{Act}
 use Rattle.schedule_rules.specs.declared.step.Step.{Step}
 use Rattle.schedule_rules.specs.History.{Event}
 use Rattle.schedule_rules.specs.Legal.{IsLegal}
+use Rattle.schedule_rules.specs.Refusals.{refusal}
 use Rattle.schedule_rules.specs.Transcripts.{NamesKnown}
 use Rattle.schedule_rules.specs.Waits.{waits, wait_of}
 use Rattle.phase_moves.specs.declared.rows.Rows.{Rows}
@@ -18,6 +22,11 @@ use Rattle.phase_moves.specs.Moves.{KeptWith, Rests}
 -- the step of a party that acts so
 abbrev pub step_of : ℕ → Act → Step
 step_of p a = record { party = p; act = a }
+
+-- what a step gave at its two moments, at one of which it gave nothing
+abbrev pub given_first : Given → Given → Given
+given_first given.Nobody last = last
+given_first g last = g
 
 module _ {L : Type 0} (held : L → Holders) (place : L → LockerKind) where
   -- the rows follow a legal history of these cells: they stand for what stands open after it, each step has its row of
@@ -51,6 +60,10 @@ module _ {L : Type 0} (held : L → Holders) (place : L → LockerKind) where
   -- whatever history the rows followed, they follow it with the step and this line
   abbrev pub Steps : Rows L → Step → Line → Rows L → Type 0
   Steps old s l new = (cells : List CellPlan) (h : List Event) → IsNext cells h old s → HasStepped cells h old s l new
+
+  -- so it is with each step that is to be refused for this reason
+  abbrev pub Refuses : Rows L → Refusal → Line → Rows L → Type 0
+  Refuses old r l new = (cells : List CellPlan) (h : List Event) (s : Step) → IsNext cells h old s → refusal cells h s ≡ Some r → HasStepped cells h old s l new
 
   -- ---- the step of a party that does not wait
 

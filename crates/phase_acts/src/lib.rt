@@ -3,6 +3,8 @@
 //! which follow a legal history follow the longer one.
 #![tactic(auto)]
 
+mod guards;
+mod line;
 mod machine;
 
 pub use machine::Machine;
