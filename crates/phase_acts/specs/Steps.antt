@@ -1,5 +1,6 @@
 -- When rows follow a legal history, and what one step more does.
 use Rattle.std.specs.Prelude.{ℕ, List, ◌∷◌, ◌≡◌, ◌≤◌, ◌<◌, length, vec_capacity}
+use Rattle.std.specs.declared.option.Option.{Option}
 use Rattle.std.specs.declared.option.Option.TheVariants.{None, Some}
 use Rattle.phase_bits.specs.declared.holders.Holders.{Holders}
 use Rattle.phase_locker.specs.declared.ways.Given.{Given}
@@ -9,6 +10,7 @@ use Rattle.schedule_rules.specs.declared.line.Line.{Line}
 use Rattle.schedule_rules.specs.declared.line.Refusal.{Refusal}
 use Rattle.schedule_rules.specs.declared.plan.CellPlan.{CellPlan}
 use Rattle.schedule_rules.specs.declared.step.Act.{Act}
+use Rattle.schedule_rules.specs.declared.step.Act.TheVariants as act
 use Rattle.schedule_rules.specs.declared.step.Step.{Step}
 use Rattle.schedule_rules.specs.History.{Event}
 use Rattle.schedule_rules.specs.Legal.{IsLegal}
@@ -22,6 +24,11 @@ use Rattle.phase_moves.specs.Moves.{KeptWith, Rests}
 -- the step of a party that acts so
 abbrev pub step_of : ℕ → Act → Step
 step_of p a = record { party = p; act = a }
+
+-- the outcome of a generator, which made this value or failed
+abbrev pub outcome : Option ℕ → Act
+outcome None = act.MadeFailed
+outcome (Some v) = act.Made v
 
 -- what a step gave at its two moments, at one of which it gave nothing
 abbrev pub given_first : Given → Given → Given
