@@ -10,14 +10,14 @@ use Rattle.schedule_rules.specs.declared.step.Act.{Act}
 use Rattle.schedule_rules.specs.declared.step.Act.TheVariants as act
 use Rattle.schedule_rules.specs.Changes.{Asked, Content}
 use Rattle.schedule_rules.specs.Exits.{registry, owner, ended_turns, first_owner}
-use Rattle.schedule_rules.specs.Guards.{guards, put_in}
+use Rattle.schedule_rules.specs.Guards.{guards}
 use Rattle.schedule_rules.specs.History.{Event}
 use Rattle.schedule_rules.specs.Replay.{replay}
 use Rattle.schedule_rules.specs.Sections.{sections}
 use Rattle.schedule_rules.specs.Waits.{waits, wait_of}
 use Rattle.waiting_rows.proofs.Counted.{none_without}
 use Rattle.phase_moves.specs.Histories.{standing, event}
-use Rattle.phase_moves.specs.Standing.{Standing, owned, put, round_looked}
+use Rattle.phase_moves.specs.Standing.{Standing, owned, round_looked}
 
 module _ (cells : List CellPlan) (h : List Event) (p : ℕ) (awake : wait_of p (waits cells h) ≡ None) where
   -- the exit is whose it was
@@ -39,11 +39,6 @@ module _ (cells : List CellPlan) (h : List Event) (p : ℕ) (awake : wait_of p (
   phase_stays c q =
       let owner_is = owner_stays (owner h) in
       λ i. record (standing cells h) { waits = none_without p (waits cells h) awake i; owner = owner_is i }
-
-  pub set_put : (g v : ℕ) → standing cells (event p (act.Set g v) (record { answer = answer.Done; given = given.Nobody }) ∷ h) ≡ put g v (standing cells h)
-  set_put g v =
-      let owner_is = owner_stays (owner h) in
-      λ i. record (standing cells h) { waits = none_without p (waits cells h) awake i; guards = put_in g v (guards h); owner = owner_is i }
 
   -- a look of the exit, by its owner
   module _ (mine : first_owner act.Exit p (owner h) ≡ Some p) where

@@ -11,3 +11,4 @@ pub mod Trying
 pub mod Lines
 -- The acts
 pub mod Releasing
+pub mod Settling

@@ -6,5 +6,6 @@
 mod guards;
 mod line;
 mod machine;
+mod settle;
 
 pub use machine::Machine;
