@@ -4,11 +4,15 @@ pub mod Exclusive
 pub mod Keeping
 pub mod Pushing
 pub mod Stepping
--- What stands open after one step more
-pub mod Histories
+-- What stands open after an attempt
 pub mod Trying
 -- Legal lines
 pub mod Lines
--- The acts
+-- The acts on guards
+pub mod Holding
 pub mod Releasing
+pub mod Looking
+pub mod Downgrading
+pub mod Cloning
+-- Attempts
 pub mod Settling

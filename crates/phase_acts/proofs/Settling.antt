@@ -1,6 +1,6 @@
 -- What an attempt took is kept, or given back.
 use Rattle.std.proofs.Common.{◌≡◌, ◌∙◌, ◌+◌, ◌<◌, ℕ, List, [], ◌∷◌, length, get_or, ap, sym, subst, refl, arith, Bool, true, false, cond, None, Some}
-use Rattle.std.specs.Prelude.{MatchBool, if◌then◌else◌, slice_get, vec_capacity}
+use Rattle.std.specs.Prelude.{◌==◌, MatchBool, if◌then◌else◌, slice_get, vec_capacity}
 use Rattle.std.specs.declared.option.Option.{Option}
 use Rattle.phase_bits.specs.declared.phase.Phase.{Phase}
 use Rattle.phase_bits.specs.declared.holders.Holders.{Holders}

@@ -6,6 +6,8 @@
 mod guards;
 mod line;
 mod machine;
+mod sections;
 mod settle;
+mod values;
 
 pub use machine::Machine;
