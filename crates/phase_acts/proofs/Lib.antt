@@ -16,3 +16,4 @@ pub mod Downgrading
 pub mod Cloning
 -- Attempts
 pub mod Settling
+pub mod Tried
