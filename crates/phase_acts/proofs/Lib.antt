@@ -17,3 +17,4 @@ pub mod Cloning
 -- Attempts
 pub mod Settling
 pub mod Tried
+pub mod TriedLegal
