@@ -66,7 +66,7 @@ use Rattle.phase_moves.specs.declared.rows.Taken.{Taken}
 use Rattle.phase_moves.specs.declared.rows.Taken.TheVariants as taken
 use Rattle.phase_moves.specs.declared.rows.Target.{Target}
 use Rattle.phase_moves.specs.Calls.{registry_for}
-use Rattle.phase_moves.specs.Meets.{GivesDown, GivesFirst, GivesLast, IsMet, IsReaching, answer_taken, declines_in, holding_in, keeps_in, meets, readers_in}
+use Rattle.phase_moves.specs.Meets.{IsOf, GivesDown, GivesFirst, GivesLast, IsMet, IsReaching, answer_taken, declines_in, holding_in, keeps_in, meets, readers_in}
 use Rattle.phase_moves.specs.Standing.{Standing, Run, reads_in, run_in, runner_of, writes_in}
 use Rattle.phase_moves.specs.Stands.{AreShown, IsLocked, kind_at, want_of}
 use Rattle.phase_moves.specs.Tries.{ask_of}
@@ -188,3 +188,37 @@ module _ (x : CellPlan) (c p : ℕ) (reg : Registry) (y : Content) where
       by : (b : Bool) → has y.phase initialized ≡ b → Due Turns
       by false e = rw e refl
       by true e = rw e refl
+
+  -- and what is got is of the kind that is wanted
+  abbrev Kept : Want → Type 0
+  Kept w = (g : Given) → IsOf w g (taken_of (begun_settled (ask_of x w) o q (begun_of who (ask_of x w) q (got (nature_of (ask_of x w) q) q))))
+
+  run_of : (k : Call) (b : Begun) (s : SeqSection) (g : Given) → IsOf (Calls k) g (taken_of b) → (c : Bool) → IsOf (Calls k) g (taken_of (if c then b else begun.Run s))
+  run_of k b s g is true = is
+  run_of k b s g is false = tt
+
+  -- a call that gets the lock to write, where it asks for a run or not
+  written_of : (k : Call) (b : Bool) (g : Given) → nature_of (ask_of x (Calls k)) q ≡ nature.Write → asks_run (ask_of x (Calls k)) q ≡ b
+      → IsOf (Calls k) g (taken_of (begun_settled (ask_of x (Calls k)) o q (if b then begun.Run (section_by who (want_of (Calls k)) unregistered write_ticket) else begun_write who (want_of (Calls k)) q write_ticket)))
+      → IsOf (Calls k) g (taken_of (begun_settled (ask_of x (Calls k)) o q (begun_of who (ask_of x (Calls k)) q (got (nature_of (ask_of x (Calls k)) q) q))))
+  written_of k b g n a is =
+      subst (λ z. IsOf (Calls k) g (taken_of (begun_settled (ask_of x (Calls k)) o q (begun_of who (ask_of x (Calls k)) q (got z q))))) (sym n)
+      (subst (λ z. IsOf (Calls k) g (taken_of (begun_settled (ask_of x (Calls k)) o q (if z then begun.Run (section_by who (want_of (Calls k)) unregistered write_ticket) else begun_write who (want_of (Calls k)) q write_ticket)))) (sym a) is)
+
+  pub admitted_of : (w : Want) → w ≢ Calls call.Phase → Kept w
+  admitted_of (Calls call.Phase) ne g = absurd (ne refl)
+  admitted_of (Calls call.Read) ne g = by (shall_init (tolerance_of x) q) refl
+    where
+      by : (b : Bool) → shall_init (tolerance_of x) q ≡ b → IsOf (Calls call.Read) g (taken_of (begun_settled (ask_of x (Calls call.Read)) o q (begun_of who (ask_of x (Calls call.Read)) q (got (nature_of (ask_of x (Calls call.Read)) q) q))))
+      by false e = subst (λ z. IsOf (Calls call.Read) g (taken_of (begun_settled (ask_of x (Calls call.Read)) o q (begun_of who (ask_of x (Calls call.Read)) q (got z q))))) (sym (ap (λ z. if z then nature.Write else nature.Read) e)) refl
+      by true e = written_of call.Read true g (ap (λ z. if z then nature.Write else nature.Read) e) e (run_of call.Read (begun.Read read_ticket refused) (section_by who want.Read (stays_asked o q) write_ticket) g refl (is_refused x.leak o q))
+  admitted_of (Calls call.Write) ne g = by (shall_init (tolerance_of x) q) refl
+    where
+      by : (b : Bool) → shall_init (tolerance_of x) q ≡ b → IsOf (Calls call.Write) g (taken_of (begun_settled (ask_of x (Calls call.Write)) o q (begun_of who (ask_of x (Calls call.Write)) q (got (nature_of (ask_of x (Calls call.Write)) q) q))))
+      by false e = written_of call.Write false g refl e refl
+      by true e = written_of call.Write true g refl e (run_of call.Write (begun.Write write_ticket refused) (section_by who want.Write (stays_asked o q) write_ticket) g refl (is_refused x.leak o q))
+  admitted_of Turns ne g = by (has y.phase initialized)
+    where
+      by : (b : Bool) → IsOf Turns g (taken_of (begun_settled (ask_of x Turns) o q (begun_of who (ask_of x Turns) q (got (if b then nature.Write else nature.None) q))))
+      by false = refl
+      by true = tt

@@ -66,7 +66,7 @@ use Rattle.phase_moves.specs.declared.rows.Taken.{Taken}
 use Rattle.phase_moves.specs.declared.rows.Taken.TheVariants as taken
 use Rattle.phase_moves.specs.declared.rows.Target.{Target}
 use Rattle.phase_moves.specs.Calls.{registry_for}
-use Rattle.phase_moves.specs.Meets.{GivesDown, GivesFirst, GivesLast, IsMet, IsReaching, answer_taken, declines_in, holding_in, keeps_in, meets, readers_in, writers_in}
+use Rattle.phase_moves.specs.Meets.{IsOf, is_read, GivesDown, GivesFirst, GivesLast, IsMet, IsReaching, answer_taken, declines_in, holding_in, keeps_in, meets, readers_in, writers_in}
 use Rattle.phase_moves.specs.Standing.{Standing, Run, reads_in, run_in, runner_of, writes_in}
 use Rattle.phase_moves.specs.Stands.{AreShown, IsLocked, kind_at, want_of}
 use Rattle.phase_moves.specs.Tries.{ask_of}
@@ -77,7 +77,7 @@ use Rattle.phase_moves.proofs.Giving.{idle_at}
 use Rattle.phase_moves.proofs.Judged.{IsJudged, IsKept, IsWaiting}
 use Rattle.phase_moves.proofs.Parking.{shown_called}
 use Rattle.phase_moves.proofs.Settling.{IsDeclined, IsSettled, begun_declined, begun_settled}
-use Rattle.phase_moves.proofs.Admitting.{admitted_due, judged_no, own_same, runs_same, taken_of, turned_no, turned_so, wakes_same, wanted_same}
+use Rattle.phase_moves.proofs.Admitting.{admitted_due, admitted_of, judged_no, own_same, runs_same, taken_of, turned_no, turned_so, wakes_same, wanted_same}
 
 -- ---- what is given up
 
@@ -259,6 +259,11 @@ module _ (n : ℕ) (k : LockerKind) (h : Holders) (s : Parking) (m : Standing) (
       ∙ (λ i. answer_taken x.kind t (taken_of (begun_settled ask o (locked.phase_is i) (begun_of who ask (locked.phase_is i) (got (nature_of ask (locked.phase_is i)) (locked.phase_is i))))))
       ∙ admitted_due x t.cell p m.registry y t.want asks
 
+  of_admitted : (e : Begun) (g : Given) → e ≡ begun_of who ask h.phase (got (nature_of ask h.phase) h.phase) → IsOf t.want g (taken_of (begun_settled ask o h.phase e))
+  of_admitted e g is =
+      subst (λ z. IsOf t.want g (taken_of (begun_settled ask o h.phase z))) (sym is)
+      (subst (λ z. IsOf t.want g (taken_of (begun_settled ask o z (begun_of who ask z (got (nature_of ask z) z))))) (sym locked.phase_is) (admitted_of x t.cell p m.registry y t.want asks g))
+
   module _ (calm : is_cyclic (want_of t.want) p (runner_of (run_in t.cell m.sections)) ≡ false) where
     own_no : (initializes t.want && generates_for p (find (runs_in t.cell) m.sections)) ≡ false
     own_no = sym (own_same t.want (generates_for p (find (runs_in t.cell) m.sections)) (runner_of (run_in t.cell m.sections)) p asks (runs_same p t.cell m.sections)) ∙ calm
@@ -298,11 +303,20 @@ module _ (n : ℕ) (k : LockerKind) (h : Holders) (s : Parking) (m : Standing) (
             way = way_due x.place t.want wanted (holding_in t.cell (given_on t.cell g others) m) j.fresh j.mid locks (sym barred_is ∙ f) w.way may
         by false f w = admitted_is e w ∙ sym (due_by (waits_by e) false (sym barred_is ∙ f))
 
+    -- what is got is of the kind that is wanted
+    of_entered : (e : Begun) (first g : Given) → IsKept k who ask h s e first ⊎ IsJudged k who ask h s e first → IsOf t.want g (taken_of (begun_settled ask o h.phase e))
+    of_entered e first g (inl kept) = of_admitted e g kept.begins
+    of_entered e first g (inr j) = by (bars j.mid (nature_of ask h.phase)) j.judged
+      where
+        by : (b : Bool) → MatchBool b (IsWaiting k who ask h s j.fresh j.mid e) (e ≡ begun_of who ask h.phase (got (nature_of ask h.phase) h.phase)) → IsOf t.want g (taken_of (begun_settled ask o h.phase e))
+        by true w = subst (λ z. IsOf t.want g (taken_of (begun_settled ask o h.phase z))) (sym w.begins) tt
+        by false w = of_admitted e g w
+
     -- what gives then is a read that is declined
-    gives_last : (e : Begun) (first g : Given) → IsKept k who ask h s e first ⊎ IsJudged k who ask h s e first → IsDeclined k who ask o h s e first g → GivesLast p t g m
+    gives_last : (e : Begun) (first g : Given) → IsKept k who ask h s e first ⊎ IsJudged k who ask h s e first → IsDeclined k who ask o h s e first g → GivesLast p t (taken_of (begun_settled ask o h.phase e)) g m
     gives_last e first given.Nobody j d = tt
     gives_last e first (given.Writer q) j d = absurd d.may
-    gives_last e first given.Readers j d = record { reaching = reaching given.Readers (listed_share t.cell freed_p given.Readers d.may) (λ z. (let f : given.Readers ≡ given.Nobody = z in cc)); declined = is_declined_then }
+    gives_last e first given.Readers j d = record { reaching = reaching given.Readers (listed_share t.cell freed_p given.Readers d.may) (λ z. (let f : given.Readers ≡ given.Nobody = z in cc)); declined = is_declined_then; reads = is_read_lock e d.ran }
       where
         admitted : IsKept k who ask h s e first ⊎ IsJudged k who ask h s e first → e ≡ begun_of who ask h.phase (got (nature_of ask h.phase) h.phase)
         admitted (inl kept) = kept.begins
@@ -311,6 +325,16 @@ module _ (n : ℕ) (k : LockerKind) (h : Holders) (s : Parking) (m : Standing) (
             by : (b : Bool) → MatchBool b (IsWaiting k who ask h s j.fresh j.mid e) (e ≡ begun_of who ask h.phase (got (nature_of ask h.phase) h.phase)) → e ≡ begun_of who ask h.phase (got (nature_of ask h.phase) h.phase)
             by true w = absurd (let f : false ≡ true = sym (ap is_run w.begins) ∙ d.ran in cc)
             by false w = w
+
+        is_read_lock : (z : Begun) → is_run z ≡ true → is_read (taken_of (begun_settled ask o h.phase z)) ≡ true
+        is_read_lock (begun.Run z) f = ap (λ c. is_read (taken_of (if c then begun_declined ask.want else begun.Run (section_by z.who z.want (stays_asked o h.phase) z.ticket)))) d.refuses ∙ ap (λ c. is_read (taken_of (begun_declined c))) d.reads
+        is_read_lock (begun.Wait way) f = absurd (cc)
+        is_read_lock begun.Missed f = absurd (cc)
+        is_read_lock begun.Cyclic f = absurd (cc)
+        is_read_lock (begun.Nothing z) f = absurd (cc)
+        is_read_lock (begun.Read l z) f = absurd (cc)
+        is_read_lock (begun.Write l z) f = absurd (cc)
+        is_read_lock (begun.Final z) f = absurd (cc)
 
         asked : asks_run ask h.phase ≡ true
         asked = ran_asked who ask h.phase (nature_of ask h.phase) (ap is_run (sym (admitted j)) ∙ d.ran)
@@ -334,22 +358,30 @@ module _ (n : ℕ) (k : LockerKind) (h : Holders) (s : Parking) (m : Standing) (
         quiet_judged : (first : Given) → first ≡ given.Nobody → IsJudged k who ask h s st.entered first → IsDue b others (waits_by st.entered)
         quiet_judged first e j = subst (λ z. IsDue z others (waits_by st.entered)) (sym st.begins) (subst (λ z. IsDue (begun_settled ask o h.phase st.entered) (given_on t.cell z others) (waits_by st.entered)) e (judged_due st.entered first j))
 
+        gives_then : IsKept k who ask h s st.entered st.first ⊎ IsJudged k who ask h s st.entered st.first → IsDeclined k who ask o h s st.entered st.first g → GivesLast p t (taken_of b) g m
+        gives_then j d = subst (λ z. GivesLast p t (taken_of z) g m) (sym st.begins) (gives_last st.entered st.first g j d)
+
+        wanted_of : IsOf t.want g (taken_of b)
+        wanted_of = subst (λ z. IsOf t.want g (taken_of z)) (sym st.begins) (of_entered st.entered st.first g st.how)
+
         by : IsKept k who ask h s st.entered st.first ⊎ IsJudged k who ask h s st.entered st.first → (g ≡ st.first) ⊎ IsDeclined k who ask o h s st.entered st.first g → IsMet p t (taken_of b) g m
         by (inl kept) (inl e) =
             record {
               moment = Last;
               chosen = false;
               answered = subst (λ z. IsDue z others false) (sym st.begins) (kept_due st.entered st.first others kept);
-              gives = subst (λ z. GivesLast p t z m) (sym (e ∙ kept.quiet)) tt;
+              gives = subst (λ z. GivesLast p t (taken_of b) z m) (sym (e ∙ kept.quiet)) tt;
+              wanted = wanted_of;
             }
         by (inl kept) (inr d) =
             record {
               moment = Last;
               chosen = false;
               answered = subst (λ z. IsDue z others false) (sym st.begins) (kept_due st.entered st.first others kept);
-              gives = gives_last st.entered st.first g (inl kept) d;
+              gives = gives_then (inl kept) d;
+              wanted = wanted_of;
             }
-        by (inr j) (inr d) = record { moment = Last; chosen = waits_by st.entered; answered = quiet_judged st.first d.quiet j; gives = gives_last st.entered st.first g (inr j) d }
+        by (inr j) (inr d) = record { moment = Last; chosen = waits_by st.entered; answered = quiet_judged st.first d.quiet j; gives = gives_then (inr j) d; wanted = wanted_of }
         by (inr j) (inl e) = at g refl
           where
             first : g ≢ given.Nobody → IsMet p t (taken_of b) g m
@@ -359,10 +391,11 @@ module _ (n : ℕ) (k : LockerKind) (h : Holders) (s : Parking) (m : Standing) (
                   chosen = waits_by st.entered;
                   answered = subst (λ z. IsDue z (given_on t.cell g others) (waits_by st.entered)) (sym st.begins) (subst (λ z. IsDue (begun_settled ask o h.phase st.entered) (given_on t.cell z others) (waits_by st.entered)) (sym e) (judged_due st.entered st.first j));
                   gives = gives_first g (sym kept_is ∙ j.dropped) ne (subst (λ z. MayHand t.cell (given_up (row_of s p).waiting h) freed_p z) (sym e) j.may);
+                  wanted = wanted_of;
                 }
 
             at : (z : Given) → g ≡ z → IsMet p t (taken_of b) g m
-            at given.Nobody f = record { moment = Last; chosen = waits_by st.entered; answered = quiet_judged st.first (sym e ∙ f) j; gives = subst (λ z. GivesLast p t z m) (sym f) tt }
+            at given.Nobody f = record { moment = Last; chosen = waits_by st.entered; answered = quiet_judged st.first (sym e ∙ f) j; gives = subst (λ z. GivesLast p t (taken_of b) z m) (sym f) tt; wanted = wanted_of }
             at (given.Writer q) f = first (λ z. (let a : given.Writer q ≡ given.Nobody = sym f ∙ z in cc))
             at given.Readers f = first (λ z. (let a : given.Readers ≡ given.Nobody = sym f ∙ z in cc))
 
@@ -374,4 +407,5 @@ met_turned m p t asks turned =
       chosen = false;
       answered = sym (turned_so (initializes t.want && generates_for p (find (runs_in t.cell) m.sections)) answer.Cyclic _ (sym (own_same t.want (generates_for p (find (runs_in t.cell) m.sections)) (runner_of (run_in t.cell m.sections)) p asks (runs_same p t.cell m.sections)) ∙ turned));
       gives = tt;
+      wanted = refl;
     }
