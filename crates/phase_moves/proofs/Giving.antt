@@ -35,7 +35,7 @@ parking k h s c place_of.Spin given.Nobody fits e l ne = absurd (ne refl)
 parking k h s c place_of.Spin (given.Writer q) fits e l ne = absurd (listed_in q (writers_of s c) l (fits.still (ap is_park e)).0.1)
 parking k h s c place_of.Spin given.Readers fits e l ne = absurd (let a = (fits.still (ap is_park e)).0.0 in let b : false ≡ true = sym l ∙ a in cc)
 
-idle_at : (c : ℕ) (h : Holders) (s : Parking) (g : Given) → MayHand c h s g → g ≢ given.Nobody → IsIdle h
+pub idle_at : (c : ℕ) (h : Holders) (s : Parking) (g : Given) → MayHand c h s g → g ≢ given.Nobody → IsIdle h
 idle_at c h s given.Nobody may ne = absurd (ne refl)
 idle_at c h s (given.Writer q) may ne = may.0
 idle_at c h s given.Readers may ne = may.0
