@@ -17,7 +17,7 @@ use Rattle.schedule_rules.specs.declared.plan.CellPlan.{CellPlan}
 use Rattle.schedule_rules.specs.declared.step.Act.{Act}
 use Rattle.schedule_rules.specs.declared.step.Act.TheVariants as act
 use Rattle.schedule_rules.specs.declared.step.Want.TheVariants.{Calls}
-use Rattle.schedule_rules.specs.Kinds.{cell_at}
+use Rattle.schedule_rules.specs.Kinds.{cell_at, tolerance_of, tolerance_at}
 use Rattle.schedule_rules.specs.Changes.{Content, Change, Asked, effect, is_declined}
 use Rattle.schedule_rules.specs.Exits.{registry, owner, ended_turns, first_owner, registry_taken, registry_run, turns_finished}
 use Rattle.schedule_rules.specs.Guards.{guards, reader, with_reader, with_writer, writer}
@@ -46,9 +46,9 @@ unchanged cells c d y = by (c == d)
 
 -- what was asked changes nothing where it is not declined
 asked_same : (x : CellPlan) (k : Call) (o : Bool) (y : Content) → effect x (Asked o k ∷ []) y ≡ effect x (changes_asked x (Calls k) o y) y
-asked_same x k o y = by (is_declined x k o y.phase) refl
+asked_same x k o y = by (is_declined x.kind (tolerance_of x) k o y.phase) refl
   where
-    by : (b : Bool) → is_declined x k o y.phase ≡ b → effect x (Asked o k ∷ []) y ≡ effect x (if b then Asked o k ∷ [] else []) y
+    by : (b : Bool) → is_declined x.kind (tolerance_of x) k o y.phase ≡ b → effect x (Asked o k ∷ []) y ≡ effect x (if b then Asked o k ∷ [] else []) y
     by true e = refl
     by false e = rw e refl
 
@@ -127,7 +127,7 @@ module _ (cells : List CellPlan) (h : List Event) (p : ℕ) where
         content e false f = refl
         content e true f = let same : e ≡ c = grind (arith, f) in rw same (asked_same (cell_at cells c) k (registry cells h).is_open (replay cells c h))
 
-    module _ (calm : is_declined (cell_at cells c) k (registry cells h).is_open (replay cells c h).phase ≡ false) where
+    module _ (calm : is_declined (cell_at cells c).kind (tolerance_at cells c) k (registry cells h).is_open (replay cells c h).phase ≡ false) where
       nothing : changes_at c (Calls k) (standing cells h) ≡ []
       nothing = ap (λ b. if b then Asked (registry cells h).is_open k ∷ [] else []) calm
 

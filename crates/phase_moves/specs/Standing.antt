@@ -13,7 +13,7 @@ use Rattle.phase_seq.specs.declared.section.Finished.TheVariants as finished
 use Rattle.schedule_rules.specs.declared.plan.CellPlan.{CellPlan}
 use Rattle.schedule_rules.specs.declared.step.Want.{Want}
 use Rattle.schedule_rules.specs.declared.step.Want.TheVariants.{Calls, Turns}
-use Rattle.schedule_rules.specs.Kinds.{cell_at}
+use Rattle.schedule_rules.specs.Kinds.{cell_at, tolerance_of}
 use Rattle.schedule_rules.specs.Changes.{Content, Change, Ran, Asked, effect, is_declined}
 use Rattle.schedule_rules.specs.Exits.{registry_of_run}
 use Rattle.schedule_rules.specs.History.{count}
@@ -71,7 +71,7 @@ runner_of (Some r) = if is_turn r.section.want then None else Some r.section.par
 
 -- what an admitted attempt did in its section, where no section is left to run: it may be declined
 abbrev pub changes_asked : CellPlan → Want → Bool → Content → List Change
-changes_asked x (Calls k) is_open y = if is_declined x k is_open y.phase then Asked is_open k ∷ [] else []
+changes_asked x (Calls k) is_open y = if is_declined x.kind (tolerance_of x) k is_open y.phase then Asked is_open k ∷ [] else []
 changes_asked x Turns is_open y = []
 
 -- the same, at a cell

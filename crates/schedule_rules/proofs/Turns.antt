@@ -309,7 +309,7 @@ module _ (cells : List CellPlan) (c : ℕ) where
 
     -- a call that begins a run
     running : (a : Act) (d : ℕ) (j : Call) → Calling cells h p a d j → Asking cells h p d j true → IsAllowed a → HasTurn (event a answer.Running ∷ h)
-    running a d j t q f = by (tries_registration (cell_at cells d) (phase_at cells d h)) refl
+    running a d j t q f = by (tries_registration (cell_at cells d).kind (phase_at cells d h)) refl
       where
         is : registry cells (event a answer.Running ∷ h) ≡ registry_of_run cells d (phase_at cells d h) (registry cells h)
         is = ap (λ b. registry_run cells h b (registry cells h)) t.does
@@ -320,7 +320,7 @@ module _ (cells : List CellPlan) (c : ℕ) where
         on : count (finalizes_in c) (sections (event a answer.Running ∷ h)) ≡ count (finalizes_in c) (sections h)
         on = ap (λ b. count (finalizes_in c) (with_run b p (length h) (accepts h) (sections h))) t.does
 
-        by : (b : Bool) → tries_registration (cell_at cells d) (phase_at cells d h) ≡ b → HasTurn (event a answer.Running ∷ h)
+        by : (b : Bool) → tries_registration (cell_at cells d).kind (phase_at cells d h) ≡ b → HasTurn (event a answer.Running ∷ h)
         by false e =
             steady (event a answer.Running) (is ∙ ap (λ (b : Bool). if b then after_register d (registry cells h) else registry cells h) e) waiting on refl
         by true e =

@@ -17,7 +17,7 @@ use Rattle.exit_registry.specs.Exits.{cells_of_turns}
 use Rattle.phase_seq.specs.Phases.{registered, registration_refused, flags_refused}
 use Rattle.schedule_rules.specs.declared.plan.Call.{Call}
 use Rattle.schedule_rules.specs.declared.step.Want.TheVariants.{Calls, Turns}
-use Rattle.schedule_rules.specs.Kinds.{cell_at, is_parking}
+use Rattle.schedule_rules.specs.Kinds.{cell_at, tolerance_at, is_parking}
 use Rattle.schedule_rules.specs.Changes.{is_declined}
 use Rattle.schedule_rules.specs.Phases.{Failure, phase_reached, phase_finalized, tries_registration}
 use Rattle.schedule_rules.specs.Calls.{asks}
@@ -67,7 +67,7 @@ pub record KeepsValues (cells : List CellPlan) (h : List Event) (e : Event) : Ty
 pub record DeclinesAt (cells : List CellPlan) (h : List Event) (s : Step) (c : ℕ) : Type 0 where
   pub call : Call
   pub tried : attempt cells h s ≡ Some (record { cell = c; want = Calls call })
-  pub declines : is_declined (cell_at cells c) call (accepts h) (phase_at cells c h) ≡ true
+  pub declines : is_declined (cell_at cells c).kind (tolerance_at cells c) call (accepts h) (phase_at cells c h) ≡ true
 
 -- the event gives a section of the cell back: there are fewer write holds of the cell afterwards, or it was a section at
 -- once
@@ -82,7 +82,7 @@ read_at s g = record { step = s; line = record { answer = answer.ReadGuard; give
 pub record IsDeclined (cells : List CellPlan) (h : List Event) (e : Event) (c : ℕ) (shows : Phase) : Type 0 where
   pub call : Call
   pub tried : attempt cells h e.step ≡ Some (record { cell = c; want = Calls call })
-  pub declines : is_declined (cell_at cells c) call (accepts h) (phase_at cells c h) ≡ true
+  pub declines : is_declined (cell_at cells c).kind (tolerance_at cells c) call (accepts h) (phase_at cells c h) ≡ true
   pub shown : shows ≡ phase_of flags_refused
   pub left : phase_at cells c (e ∷ h) ≡ flags_refused
 
@@ -99,7 +99,7 @@ pub record IsFailedRun (cells : List CellPlan) (h : List Event) (e : Event) (c :
   pub section : Section
   pub found : innermost e.step.party (sections h) ≡ Some section
   pub value_stays : (replay cells c (e ∷ h)).value ≡ (replay cells c h).value
-  pub fails : phase_at cells c (e ∷ h) ≡ phase_reached (cell_at cells c) section.is_open (phase_at cells c h) Failure
+  pub fails : phase_at cells c (e ∷ h) ≡ phase_reached (cell_at cells c).kind section.is_open (phase_at cells c h) Failure
   pub others_stay : (d : ℕ) → c ≢ d → replay cells d (e ∷ h) ≡ replay cells d h
 
 -- no cell parks a call
@@ -125,7 +125,7 @@ module _ (cells : List CellPlan) where
   abbrev pub asks_registration : ℕ → List Event → Attempt → Bool
   asks_registration c h a =
       (a.cell == c)
-      && (asks (cell_at cells a.cell) a.want (phase_at cells a.cell h) && tries_registration (cell_at cells a.cell) (phase_at cells a.cell h))
+      && (asks (tolerance_at cells a.cell) a.want (phase_at cells a.cell h) && tries_registration (cell_at cells a.cell).kind (phase_at cells a.cell h))
 
   -- the step tries to register the cell, where its line gives this at this moment: it is not refused, and its attempt is
   -- admitted and asks so

@@ -12,7 +12,7 @@ ghost use Rattle.schedule_rules.specs.declared.line.Line.{Line};
 ghost use Rattle.schedule_rules.specs.declared.line.Refusal.{Refusal};
 ghost use Rattle.schedule_rules.specs.declared.line.Answer.TheVariants as answer;
 ghost use Rattle.schedule_rules.specs.declared.plan.Call.TheVariants as call;
-ghost use Rattle.schedule_rules.specs.Calls.{Reads, Writes};
+ghost use Rattle.phase_locker.specs.declared.tickets.LockNature.TheVariants as nature;
 ghost use Rattle.schedule_rules.specs.declared.step.Want.TheVariants.{Calls, Turns};
 ghost use Rattle.schedule_rules.specs.Refusals.{refusal};
 ghost use Rattle.schedule_rules.specs.History.{Event, accepts, is_closed};
@@ -177,14 +177,14 @@ pub fn holds_exclude_each_other()
 /// its share or its drain is not barred at all.
 pub fn records_bar_what_rules_bar()
     ensures reads { (cells : List CellPlan) (h : List Event) (c : ℕ) → IsExclusive cells h c →
-        is_barred (Some Reads) (holding cells c h) ≡ bars_read (core cells c h) }
+        is_barred nature.Read (holding cells c h) ≡ bars_read (core cells c h) }
     ensures writes { (cells : List CellPlan) (h : List Event) (c : ℕ) →
-        is_barred (Some Writes) (holding cells c h) ≡ bars_write (core cells c h) }
+        is_barred nature.Write (holding cells c h) ≡ bars_write (core cells c h) }
     ensures reads_with { (cells : List CellPlan) (h : List Event) (c : ℕ) (ws : List Wait) →
         (0 < writers_with c h ws → readers_with c h ws ≡ 0) →
-        is_barred (Some Reads) (holding_with c h ws) ≡ bars_read (core_with cells c h ws) }
+        is_barred nature.Read (holding_with c h ws) ≡ bars_read (core_with cells c h ws) }
     ensures writes_with { (cells : List CellPlan) (h : List Event) (c : ℕ) (ws : List Wait) →
-        is_barred (Some Writes) (holding_with c h ws) ≡ bars_write (core_with cells c h ws) }
+        is_barred nature.Write (holding_with c h ws) ≡ bars_write (core_with cells c h ws) }
     ensures kept { (cells : List CellPlan) (h : List Event) (p : ℕ) (a : Attempt) (ws : List Wait) (chosen : Bool) →
         keeps_own cells h p a ≡ true → is_waiting (due_attempt cells h p a ws chosen) ≡ false }
 {}
