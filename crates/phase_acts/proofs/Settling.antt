@@ -19,7 +19,7 @@ use Rattle.schedule_rules.specs.declared.step.Want.{Want}
 use Rattle.schedule_rules.specs.declared.step.Want.TheVariants.{Calls, Turns}
 use Rattle.schedule_rules.specs.Changes.{Content, Asked, effect, is_declined}
 use Rattle.schedule_rules.specs.Guards.{Guard, numbered, reader}
-use Rattle.schedule_rules.specs.Kinds.{cell_at}
+use Rattle.schedule_rules.specs.Kinds.{cell_at, tolerance_of}
 use Rattle.phase_moves.specs.declared.rows.CellRow.{CellRow}
 use Rattle.phase_moves.specs.declared.rows.GuardRow.TheVariants as guard
 use Rattle.phase_moves.specs.declared.rows.Rows.{Rows}
@@ -41,9 +41,9 @@ use Rattle.phase_acts.proofs.Pushing.{opened_found, pushed_reader, pushed_writer
 -- what a call was asked leaves the value
 value_asked : (x : CellPlan) (w : Want) (o : Bool) (y : Content) → (effect x (changes_asked x w o y) y).value ≡ y.value
 value_asked x Turns o y = refl
-value_asked x (Calls k) o y = by (is_declined x k o y.phase) refl
+value_asked x (Calls k) o y = by (is_declined x.kind (tolerance_of x) k o y.phase) refl
   where
-    by : (b : Bool) → is_declined x k o y.phase ≡ b → (effect x (if b then Asked o k ∷ [] else []) y).value ≡ y.value
+    by : (b : Bool) → is_declined x.kind (tolerance_of x) k o y.phase ≡ b → (effect x (if b then Asked o k ∷ [] else []) y).value ≡ y.value
     by false e = refl
     by true e = rw e refl
 

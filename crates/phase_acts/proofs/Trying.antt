@@ -22,7 +22,7 @@ use Rattle.schedule_rules.specs.Changes.{Content, Change, Asked, effect, is_decl
 use Rattle.schedule_rules.specs.Exits.{registry, registry_taken, registry_run, registry_of_run, owner, ended_turns, first_owner}
 use Rattle.schedule_rules.specs.Guards.{Guard, guards, with_reader, with_writer, reader, writer, without_guard}
 use Rattle.schedule_rules.specs.History.{Event, act_of, accepts}
-use Rattle.schedule_rules.specs.Kinds.{cell_at}
+use Rattle.schedule_rules.specs.Kinds.{cell_at, tolerance_at}
 use Rattle.schedule_rules.specs.Phases.{NoRun, phase_reached}
 use Rattle.schedule_rules.specs.Replay.{replay, phase_at, back_read, back_at_once, content_after_back}
 use Rattle.schedule_rules.specs.Sections.{Section, sections, sections_ended, with_run}
@@ -105,7 +105,7 @@ module _ (cells : List CellPlan) (h : List Event) (p : ℕ) (a : Act) (c : ℕ) 
         λ i. record (standing cells h) { waits = gave d i; sections = sections_are i; registry = registry_is i; owner = k.owned i }
 
     -- it gets a guard: nothing happened to its cell
-    module _ (undeclined : is_declined (cell_at cells c) j r.is_open (phase_at cells c h) ≡ false) where
+    module _ (undeclined : is_declined (cell_at cells c).kind (tolerance_at cells c) j r.is_open (phase_at cells c h) ≡ false) where
       nothing : changes_at c w (standing_at cells h r o) ≡ []
       nothing = ap (λ v. changes_at c v (standing_at cells h r o)) calls ∙ ap (λ b. if b then Asked r.is_open j ∷ [] else []) undeclined
 
@@ -138,11 +138,11 @@ module _ (cells : List CellPlan) (h : List Event) (p : ℕ) (a : Act) (c : ℕ) 
         where
           by : (b : Bool) → (c == x) ≡ b → (if b then effect (cell_at cells x) (Asked r.is_open j ∷ []) (replay cells x h) else replay cells x h) ≡ (if b then effect (cell_at cells x) (changes_asked (cell_at cells c) (Calls j) r.is_open (replay cells c h)) (replay cells x h) else replay cells x h)
           by false e = refl
-          by true e = let same_cell : c ≡ x = grind (arith, e) in ap (λ z. effect (cell_at cells z) (Asked r.is_open j ∷ []) (replay cells z h)) (sym same_cell) ∙ split (is_declined (cell_at cells c) j r.is_open (phase_at cells c h)) refl ∙ ap (λ z. effect (cell_at cells z) (changes_asked (cell_at cells c) (Calls j) r.is_open (replay cells c h)) (replay cells z h)) same_cell
+          by true e = let same_cell : c ≡ x = grind (arith, e) in ap (λ z. effect (cell_at cells z) (Asked r.is_open j ∷ []) (replay cells z h)) (sym same_cell) ∙ split (is_declined (cell_at cells c).kind (tolerance_at cells c) j r.is_open (phase_at cells c h)) refl ∙ ap (λ z. effect (cell_at cells z) (changes_asked (cell_at cells c) (Calls j) r.is_open (replay cells c h)) (replay cells z h)) same_cell
             where
-              split : (b : Bool) → is_declined (cell_at cells c) j r.is_open (phase_at cells c h) ≡ b → effect (cell_at cells c) (Asked r.is_open j ∷ []) (replay cells c h) ≡ effect (cell_at cells c) (changes_asked (cell_at cells c) (Calls j) r.is_open (replay cells c h)) (replay cells c h)
+              split : (b : Bool) → is_declined (cell_at cells c).kind (tolerance_at cells c) j r.is_open (phase_at cells c h) ≡ b → effect (cell_at cells c) (Asked r.is_open j ∷ []) (replay cells c h) ≡ effect (cell_at cells c) (changes_asked (cell_at cells c) (Calls j) r.is_open (replay cells c h)) (replay cells c h)
               split true d = ap (λ z. effect (cell_at cells c) (if z then Asked r.is_open j ∷ [] else []) (replay cells c h)) (sym d)
-              split false d = ap (λ z. if z then record { phase = phase_reached (cell_at cells c) r.is_open (phase_at cells c h) NoRun; value = (replay cells c h).value } else replay cells c h) d ∙ ap (λ z. effect (cell_at cells c) (if z then Asked r.is_open j ∷ [] else []) (replay cells c h)) (sym d)
+              split false d = ap (λ z. if z then record { phase = phase_reached (cell_at cells c).kind r.is_open (phase_at cells c h) NoRun; value = (replay cells c h).value } else replay cells c h) d ∙ ap (λ z. effect (cell_at cells c) (if z then Asked r.is_open j ∷ [] else []) (replay cells c h)) (sym d)
 
       pub try_denied_read : (t : ReadTicket) → standing cells (event p a (record { answer = answer.Access q; given = given_first first last }) ∷ h) ≡ left (reader (length h) p c) last (took (length h) p c w first (taken.Read t q) (standing_at cells h r o))
       try_denied_read t =
