@@ -50,6 +50,8 @@ use Rattle.phase_moves.proofs.Leaving.{parked_few, parked_fewer}
 use Rattle.phase_moves.proofs.Lockers.{locked_write, locked_down, hands_writers, downgrades_writers}
 use Rattle.phase_moves.proofs.Guards.{target_given}
 use Rattle.phase_moves.proofs.Opening.{guard_opened, seen_reader}
+use Rattle.phase_moves.specs.Gifts.{MayGive, MayGiveDown}
+use Rattle.phase_moves.proofs.EndGives.{gives_closed, gives_down}
 use Rattle.phase_moves.proofs.Innermost.{in_cells, cell_here, runs_here, o_is, its_row, write_open, seen_closed, seen_without, closed_moved, without_moved, without_it, cell_ended, parties_ended}
 use Rattle.phase_moves.proofs.Moved.{HasParties, exit_kept, moved}
 
@@ -191,6 +193,10 @@ module _ {L : Type 0} (held : L → Holders) (place : L → LockerKind) (m : Sta
     inside : c < length v.cells.items
     inside = in_cells held place m v p c s is.inner row row_is
 
+    -- what is seen of the cell then, where nothing was given yet
+    seen_gone : seen_at c (run_closed s made given.Nobody m) ≡ record { plan = cell_at m.plans c; content = made_as; reads = 0; writes = 0; run = None }
+    seen_gone = seen_closed held place m v p c s is.inner row row_is (Ran s.is_open made ∷ []) given.Nobody
+
     -- it failed
     pub ends_failed : (q : Phase) → r.0 ≡ finished.Failed q → row'.value ≡ row.value → EndsAs held place m v s made (Some (finished.Failed q, r.1)) v'
     ends_failed q e value =
@@ -202,6 +208,8 @@ module _ {L : Type 0} (held : L → Holders) (place : L → LockerKind) (m : Sta
               (closed_moved held place m v p c s is.inner row row_is (Ran s.is_open made ∷ []) r.1 m.turns v' left_here guards (exit_kept (length v.cells.items) m m v.exit v'.exit exit refl refl refl ok.exit) (hands_writers c _ v.parks r.1 _ v'.parks d.2) (listed_hand c _ v.parks r.1 d.2.may) d.2.rows)
               (parties_now (run_closed s made r.1 m) refl (λ x. target_given s.cell r.1 m.waits x));
           told = failing made (subst (IsMadeAs made) d.0 made_is) (told_as q (d.1 ∙ phase_is false d.0));
+          gave = subst (λ z. MayGive z (run_closed s made given.Nobody m) r.1) (sym is.inner.at)
+              (gives_closed held place m v p c s is.inner row row_is (run_closed s made given.Nobody m) refl refl (ap (λ (z : Seen). z.reads) seen_gone) (ap (λ (z : Seen). z.writes) seen_gone) (reached its.stays false) r.1 _ v'.parks d.2);
         }
       where
         failing : (x : Option ℕ) → IsMadeAs x false → q ≡ phase_of (content_of_run (cell_at m.plans s.cell).kind s.is_open x (m.content s.cell)).phase → GoesAs s.want x (phase_of (content_of_run (cell_at m.plans s.cell).kind s.is_open x (m.content s.cell)).phase) (finished.Failed q) r.1
@@ -221,6 +229,7 @@ module _ {L : Type 0} (held : L → Holders) (place : L → LockerKind) (m : Sta
               refl is.inner.at (omega arith) is.inner.rests.empty is.inner.rests.empty inside)
               (parties_now (guarded (reader n s.party s.cell) (run_closed s made r.1 m)) refl (λ x. target_given s.cell r.1 m.waits x));
           told = going made (subst (IsMadeAs made) d.0 made_is) (d.1, told_as q (d.2 ∙ phase_is true d.0));
+          gave = subst (λ z. MayGiveDown z m r.1) (sym is.inner.at) (gives_down held place m v p c s is.inner row row_is (reached its.stays true) r.1 _ v'.parks d.3);
         }
       where
         seen : seen_at c (guarded (reader n s.party s.cell) (run_closed s made r.1 m)) ≡ record { plan = cell_at m.plans c; content = made_as; reads = 1; writes = 0; run = None }
@@ -253,6 +262,7 @@ module _ {L : Type 0} (held : L → Holders) (place : L → LockerKind) (m : Sta
               (guard_opened held place c n n n m gone v v' (writer_of n s made) (without_moved held place m v p c s is.inner row row_is v' left_here guards exit d.4) refl is.inner.at (omega arith) is.inner.rests.empty is.inner.rests.empty inside)
               (parties_now (guarded (writer_of n s made) gone) refl (λ x. refl));
           told = going made (subst (IsMadeAs made) d.0 made_is) (d.1, told_as q (d.2 ∙ phase_is true d.0), d.5);
+          gave = d.5;
         }
       where
         gone : Standing

@@ -7,8 +7,7 @@ use Rattle.std.proofs.lemmas.Grind.{common_steps}
 use Rattle.std.specs.Prelude.{slice_get, vec_capacity, ◌⊎◌}
 use Rattle.phase_bits.specs.declared.holders.Holders.{Holders}
 use Rattle.phase_bits.specs.Number.{phase_of}
-use Rattle.phase_bits.specs.Records.{unheld}
-use Rattle.exit_registry.specs.Registry.{Registry, cells_of, new_registry}
+use Rattle.exit_registry.specs.Registry.{new_registry}
 use Rattle.phase_locker.specs.declared.ways.LockerKind.{LockerKind}
 use Rattle.phase_locker.specs.Rows.{Rows as Parking, no_rows}
 use Rattle.phase_locker.specs.Fits.{Fits}
