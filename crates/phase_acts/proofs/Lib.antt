@@ -18,3 +18,4 @@ pub mod Cloning
 pub mod Settling
 pub mod Tried
 pub mod TriedLegal
+pub mod Attempting
