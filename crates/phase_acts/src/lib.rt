@@ -6,7 +6,9 @@
 mod attempts;
 mod guards;
 mod line;
+mod exit;
 mod machine;
+mod perform;
 mod sections;
 mod settle;
 mod values;
