@@ -35,7 +35,7 @@ use Rattle.phase_seq.specs.Asks.{nature_of, wake_of}
 use Rattle.phase_seq.specs.Begins.{Begins, Resumes, TurnsBack, MakesAttempt, MakesAnother, TriesLock, begun_by, begun_of, is_cyclic}
 use Rattle.phase_moves.specs.Calls.{Enters}
 use Rattle.phase_moves.proofs.Attempts.{free_same, got_to, writes_begun}
-use Rattle.phase_moves.proofs.Lockers.{hands_phase}
+use Rattle.phase_moves.proofs.Lockers.{handed_few, hands_phase}
 
 -- ---- how many read then
 
@@ -54,11 +54,6 @@ admitted_few nature.Read h e le = by (h.locked && (h.readers == 0)) (h.readers =
     by false false f e = grind (arith, f, le)
 admitted_few nature.Write h e le = le
 admitted_few nature.None h e le = le
-
-pub handed_few : (g : Given) (c : ℕ) (h : Holders) (s : Parking) → MayHand c h s g → h.readers ≤ most_readers → length (readers_of s c) ≤ most_readers → (held_handed c g s h).readers ≤ most_readers
-handed_few given.Nobody c h s may le room = le
-handed_few (given.Writer q) c h s may le room = le
-handed_few given.Readers c h s may le room = let none = may.0.readers in omega (arith, none, room)
 
 given_up_few : (w : Waiting) (h : Holders) → h.readers ≤ most_readers → (given_up w h).readers ≤ most_readers
 given_up_few waiting.ShareRead h le = omega (arith, le)

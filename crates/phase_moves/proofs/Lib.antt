@@ -38,3 +38,5 @@ pub mod Few
 pub mod Judged
 pub mod Settling
 pub mod Barring
+pub mod Admitting
+pub mod Meeting

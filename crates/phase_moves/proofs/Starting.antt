@@ -63,6 +63,7 @@ module _ {L : Type 0} (held : L → Holders) (place : L → LockerKind) where
               write_is = λ lt. absurd (omega (arith, lt));
               write_was = λ o. (let z : (held row.seq.locker).locked ≡ _ = ap (λ (h : Holders). h.locked) k.free in let y = o.locked in absurd (cc));
               one = omega arith;
+              limit = (let z : (held row.seq.locker).readers ≡ 0 = ap (λ (h : Holders). h.readers) k.free in omega (arith, z));
             };
         placed = k.placed;
         runner = k.runner;
