@@ -8,12 +8,12 @@ use Rattle.phase_bits.specs.declared.holders.Holders.{Holders}
 use Rattle.phase_locker.specs.declared.tickets.ReadTicket.{ReadTicket}
 use Rattle.phase_locker.specs.declared.ways.Given.TheVariants as given
 use Rattle.phase_locker.specs.declared.ways.LockerKind.{LockerKind}
-use Rattle.phase_locker.specs.declared.tickets.LockNature.TheVariants as nature
 use Rattle.schedule_rules.specs.declared.line.Answer.TheVariants as answer
 use Rattle.schedule_rules.specs.declared.line.Line.{Line}
 use Rattle.schedule_rules.specs.declared.line.Refusal.TheVariants as refused
 use Rattle.schedule_rules.specs.declared.plan.CellPlan.{CellPlan}
 use Rattle.schedule_rules.specs.declared.step.Act.TheVariants as act
+use Rattle.phase_locker.specs.declared.tickets.LockNature.TheVariants as nature
 use Rattle.schedule_rules.specs.Due.{due_clone}
 use Rattle.schedule_rules.specs.History.{Event, count}
 use Rattle.schedule_rules.specs.Guards.{Guard, guards, guard_of, numbered}

@@ -17,3 +17,5 @@ pub mod Downgrading
 pub mod Cloning
 -- Attempts
 pub mod Settling
+pub mod Tried
+pub mod TriedLegal

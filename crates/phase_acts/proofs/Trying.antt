@@ -19,6 +19,7 @@ use Rattle.schedule_rules.specs.declared.step.Act.TheVariants as act
 use Rattle.schedule_rules.specs.declared.step.Want.{Want}
 use Rattle.schedule_rules.specs.declared.step.Want.TheVariants.{Calls, Turns}
 use Rattle.schedule_rules.specs.Changes.{Content, Change, Asked, effect, is_declined}
+use Rattle.schedule_rules.specs.Due.{due_answer, due_tried}
 use Rattle.schedule_rules.specs.Exits.{registry, registry_taken, registry_run, registry_of_run, owner, ended_turns, first_owner}
 use Rattle.schedule_rules.specs.Guards.{Guard, guards, with_reader, with_writer, reader, writer, without_guard}
 use Rattle.schedule_rules.specs.History.{Event, act_of, accepts}
@@ -44,6 +45,7 @@ pub record Attempts (cells : List CellPlan) (h : List Event) (p : ℕ) (a : Act)
   pub attempted : attempt cells h (step_of p a) ≡ Some (record { cell = c; want = w })
   pub concerned : cell_concerned cells h (step_of p a) ≡ Some c
   pub does : act_of h (step_of p a) ≡ act_for c w
+  pub tries : (vs : List Wait) (chosen : Bool) → due_answer cells h (step_of p a) vs chosen ≡ due_tried cells h p (attempt cells h (step_of p a)) vs chosen
   pub calm : (ss : List Section) → sections_ended a p ss ≡ ss
   pub quiet : back_read h p a ≡ None
   pub taken : registry_taken a (registry cells h) ≡ r

@@ -26,7 +26,7 @@ returns-in-Read g c = λ cells h is.
     let k = how g.L.PhaseLocker.held g.L.PhaseLocker.place c.args.self.now.rows c.args.party c.innermost.result c.innermost.ensures cells h c.args.made is c.in-Some.run' c.in-Some.is c.in-Calls.field-0 c.in-Calls.is _ c.end.result c.end.ensures.ends c.in-Some-end.given c.in-Some-end.finished c.in-Some-end.is in
     let none = none_refused g.L.PhaseLocker.held g.L.PhaseLocker.place c.args.self.now.rows c.args.party c.innermost.result c.innermost.ensures cells h c.args.made is c.in-Some.run' c.in-Some.is c.in-Calls.field-0 c.in-Calls.is in
     run_reads g.L.PhaseLocker.held g.L.PhaseLocker.place c.args.self.now.rows _ _ c.args.party cells h t.s t.is c.in-Some-end.given c.end.ensures.kept e.kept c.end_step-in-Read.result c.args.made c.in-Read._phase c.in-Read.lock c.in-Some.run'.cell is none t.at
-    (subst (λ z. IsEnded g.L.PhaseLocker.held g.L.PhaseLocker.place (standing cells h) c.args.self.now.rows t.s c.args.made z c.in-Some-end.given _) c.in-Read.is k) e.line c.in-Read.lock e.pushes
+    (subst (λ z. IsEnded g.L.PhaseLocker.held g.L.PhaseLocker.place (standing cells h) c.args.self.now.rows t.s c.args.made z c.in-Some-end.given c.end.new.self) c.in-Read.is k) e.line c.in-Read.lock e.pushes
 
 pub returns-in-Write : goal.returns-in-Write
 returns-in-Write g c = λ cells h is.
@@ -35,7 +35,7 @@ returns-in-Write g c = λ cells h is.
     let k = how g.L.PhaseLocker.held g.L.PhaseLocker.place c.args.self.now.rows c.args.party c.innermost.result c.innermost.ensures cells h c.args.made is c.in-Some.run' c.in-Some.is c.in-Calls.field-0 c.in-Calls.is _ c.end.result c.end.ensures.ends c.in-Some-end.given c.in-Some-end.finished c.in-Some-end.is in
     let none = none_refused g.L.PhaseLocker.held g.L.PhaseLocker.place c.args.self.now.rows c.args.party c.innermost.result c.innermost.ensures cells h c.args.made is c.in-Some.run' c.in-Some.is c.in-Calls.field-0 c.in-Calls.is in
     run_writes g.L.PhaseLocker.held g.L.PhaseLocker.place c.args.self.now.rows _ _ c.args.party cells h t.s t.is c.in-Some-end.given c.end.ensures.kept e.kept c.end_step-in-Write.result c.args.made c.in-Write.phase c.in-Write.lock c.in-Some.run'.cell is none t.at
-    (subst (λ z. IsEnded g.L.PhaseLocker.held g.L.PhaseLocker.place (standing cells h) c.args.self.now.rows t.s c.args.made z c.in-Some-end.given _) c.in-Write.is k) e.line c.in-Write.lock e.pushes
+    (subst (λ z. IsEnded g.L.PhaseLocker.held g.L.PhaseLocker.place (standing cells h) c.args.self.now.rows t.s c.args.made z c.in-Some-end.given c.end.new.self) c.in-Write.is k) e.line c.in-Write.lock e.pushes
 
 pub returns-in-Failed : goal.returns-in-Failed
 returns-in-Failed g c = λ cells h is.
@@ -44,4 +44,4 @@ returns-in-Failed g c = λ cells h is.
     let k = how g.L.PhaseLocker.held g.L.PhaseLocker.place c.args.self.now.rows c.args.party c.innermost.result c.innermost.ensures cells h c.args.made is c.in-Some.run' c.in-Some.is c.in-Calls.field-0 c.in-Calls.is _ c.end.result c.end.ensures.ends c.in-Some-end.given c.in-Some-end.finished c.in-Some-end.is in
     let none = none_refused g.L.PhaseLocker.held g.L.PhaseLocker.place c.args.self.now.rows c.args.party c.innermost.result c.innermost.ensures cells h c.args.made is c.in-Some.run' c.in-Some.is c.in-Calls.field-0 c.in-Calls.is in
     run_fails g.L.PhaseLocker.held g.L.PhaseLocker.place c.args.self.now.rows _ _ c.args.party cells h t.s t.is c.in-Some-end.given c.end.ensures.kept e.kept c.end_step-in-Failed.result c.args.made c.in-Failed._phase is none
-    (subst (λ z. IsEnded g.L.PhaseLocker.held g.L.PhaseLocker.place (standing cells h) c.args.self.now.rows t.s c.args.made z c.in-Some-end.given _) c.in-Failed.is k) e.line e.pushes
+    (subst (λ z. IsEnded g.L.PhaseLocker.held g.L.PhaseLocker.place (standing cells h) c.args.self.now.rows t.s c.args.made z c.in-Some-end.given c.end.new.self) c.in-Failed.is k) e.line e.pushes
