@@ -17,5 +17,8 @@ pub mod Downgrading
 pub mod Cloning
 -- Attempts
 pub mod Settling
+pub mod Taking
 pub mod Tried
 pub mod TriedLegal
+pub mod Attempting
+pub mod Causes

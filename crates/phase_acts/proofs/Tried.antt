@@ -34,6 +34,7 @@ use Rattle.phase_moves.specs.declared.rows.Taken.{Taken}
 use Rattle.phase_moves.specs.declared.rows.Taken.TheVariants as taken
 use Rattle.phase_moves.specs.Gifts.{stand_on, IsGift, MayGive}
 use Rattle.phase_moves.specs.Histories.{standing, event}
+use Rattle.phase_moves.specs.Meets.{IsOf}
 use Rattle.phase_moves.specs.Standing.{Standing, took, left, changes_at, writer_asked, reads_in, writes_in}
 use Rattle.phase_moves.specs.Tries.{TellsPhase, phase_asked}
 use Rattle.phase_acts.specs.Settles.{is_made, answer_settled, answer_opened, answer_unlocked, unlocked, settled, GivesSettled}
@@ -108,15 +109,6 @@ module _ (c : ℕ) (w : Want) (m : Standing) (j : Call) (calls : w ≡ Calls j) 
 
 -- ---- what stands open
 
--- what was taken, by what was wanted
-abbrev pub IsOf : Want → Taken → Type 0
-IsOf w (taken.Wait how) = Unit {0}
-IsOf w taken.Cyclic = Unit {0}
-IsOf w (taken.Nothing q) = w ≡ Turns
-IsOf w (taken.Read t q) = w ≡ Calls call.Read
-IsOf w (taken.Write t q) = w ≡ Calls call.Write
-IsOf w taken.Runs = Unit {0}
-
 module _ (cells : List CellPlan) (h : List Event) (p : ℕ) (a : Act) (c : ℕ) (w : Want) (r : Registry) (o : Option ℕ) (k : Attempts cells h p a c w r o) (accepted : accepts h ≡ r.is_open) (same : (j : Call) → w ≡ Calls j → r ≡ registry cells h) where
   abbrev m : Standing
   m = standing_at cells h r o
@@ -160,10 +152,10 @@ module _ (cells : List CellPlan) (h : List Event) (p : ℕ) (a : Act) (c : ℕ) 
         by true made gives = quiet answer.WriteGuard gives ∙ try_writes cells h p a c w r o k call.Write writes (same call.Write writes) accepted (undeclined c w m call.Write writes q told made) t q g
         by false lacks gives_last = try_denied_write cells h p a c w r o k call.Write writes (same call.Write writes) accepted g d (one (taken.Write t q) gives) q t
 
-    -- a call that asks for its own run gives nothing, and does not wait
-    pub after_tried : (b : Taken) → IsOf w b → TellsPhase (phase_asked c w m) b → GivesSettled n p c w g d b m → (b ≡ taken.Cyclic → (wait_of p (waits cells h) ≡ None) × (g ≡ given.Nobody)) → after b g d ≡ settled n p c w g d b m
+    -- a call that asks for its own run does not wait
+    pub after_tried : (b : Taken) → IsOf w g b → TellsPhase (phase_asked c w m) b → GivesSettled n p c w g d b m → (b ≡ taken.Cyclic → wait_of p (waits cells h) ≡ None) → after b g d ≡ settled n p c w g d b m
     after_tried (taken.Wait how) of told gives alone = quiet (answer.Waiting how) gives ∙ try_waits cells h p a c w r o k how g
-    after_tried taken.Cyclic of told gives alone = quiet answer.Cyclic gives ∙ ap (λ y. standing cells (event p a (record { answer = answer.Cyclic; given = y }) ∷ h)) (alone refl).1 ∙ try_cyclic cells h p a c w r o k (alone refl).0
+    after_tried taken.Cyclic of told gives alone = quiet answer.Cyclic gives ∙ ap (λ y. standing cells (event p a (record { answer = answer.Cyclic; given = y }) ∷ h)) of ∙ try_cyclic cells h p a c w r o k (alone refl)
     after_tried (taken.Nothing q) of told gives alone = after_nothing q of gives
     after_tried (taken.Read t q) of told gives alone = after_read t q of told gives
     after_tried (taken.Write t q) of told gives alone = after_write t q of told gives
