@@ -1,6 +1,5 @@
 -- Sections end: by the outcome of a generator, and of a finalizer.
-use Rattle.std.proofs.Common.{◌≡◌, ◌==◌, ◌∙◌, ◌+◌, ◌<◌, ℕ, List, ◌∷◌, length, ap, sym, subst, refl, arith, Bool, true, false, not, None, Some}
-use Rattle.std.specs.Prelude.{vec_capacity}
+use Rattle.std.proofs.Common.{◌≡◌, ◌==◌, ◌∙◌, ℕ, List, ◌∷◌, length, ap, sym, subst, refl, arith, Bool, true, false, not, None, Some}
 use Rattle.std.specs.declared.option.Option.{Option}
 use Rattle.phase_bits.specs.declared.phase.Phase.{Phase}
 use Rattle.phase_bits.specs.declared.holders.Holders.{Holders}
@@ -13,14 +12,12 @@ use Rattle.phase_locker.specs.declared.ways.LockerKind.{LockerKind}
 use Rattle.phase_seq.specs.declared.ask.Want.TheVariants as sought
 use Rattle.phase_seq.specs.declared.section.Finished.{Finished}
 use Rattle.phase_seq.specs.declared.section.Finished.TheVariants as finished
-use Rattle.schedule_rules.specs.declared.line.Answer.{Answer}
 use Rattle.schedule_rules.specs.declared.line.Answer.TheVariants as answer
 use Rattle.schedule_rules.specs.declared.line.Line.{Line}
 use Rattle.schedule_rules.specs.declared.line.Refusal.TheVariants as refused
 use Rattle.schedule_rules.specs.declared.plan.Call.{Call}
 use Rattle.schedule_rules.specs.declared.plan.Call.TheVariants as call
 use Rattle.schedule_rules.specs.declared.plan.CellPlan.{CellPlan}
-use Rattle.schedule_rules.specs.declared.step.Act.{Act}
 use Rattle.schedule_rules.specs.declared.step.Act.TheVariants as act
 use Rattle.schedule_rules.specs.declared.step.Want.{Want}
 use Rattle.schedule_rules.specs.declared.step.Want.TheVariants.{Calls, Turns}
@@ -28,31 +25,30 @@ use Rattle.schedule_rules.specs.Answers.{answer_of_made}
 use Rattle.schedule_rules.specs.Changes.{content_of_run}
 use Rattle.schedule_rules.specs.Due.{due_made, due_finished, due_answer}
 use Rattle.schedule_rules.specs.Exits.{ended_turns, finishing}
-use Rattle.schedule_rules.specs.Guards.{reader, guards, numbered}
+use Rattle.schedule_rules.specs.Guards.{reader}
 use Rattle.schedule_rules.specs.History.{Event}
 use Rattle.schedule_rules.specs.Kinds.{cell_at}
 use Rattle.schedule_rules.specs.Refusals.{refusal, refusal_free, no_outcome, ends_run, ends_turn}
 use Rattle.schedule_rules.specs.Sections.{Section, innermost, without_innermost, is_turn, sections}
 use Rattle.schedule_rules.specs.Replay.{replay}
 use Rattle.schedule_rules.proofs.Found.{found_passes}
-use Rattle.schedule_rules.specs.Waits.{Wait, cell_of_section, cell_concerned, other_waits, waits}
+use Rattle.schedule_rules.specs.Waits.{Wait, cell_of_section, cell_concerned, other_waits}
 use Rattle.schedule_rules.proofs.TurnRoom.{room-running}
-use Rattle.phase_moves.specs.declared.rows.GuardRow.{GuardRow}
 use Rattle.phase_moves.specs.declared.rows.GuardRow.TheVariants as guard
 use Rattle.phase_moves.specs.declared.rows.Rows.{Rows}
 use Rattle.phase_moves.specs.declared.rows.Target.{Target}
 use Rattle.phase_moves.specs.Ends.{IsEnding, MayEnd, Ends, EndsAs, IsEnded, GoesAs, IsFinalizing, MayFinalize, Finalizes, FinalizesAs, IsFinalized}
 use Rattle.phase_moves.specs.Gifts.{MayGive}
 use Rattle.phase_moves.specs.Histories.{event, standing}
-use Rattle.phase_moves.specs.Moves.{KeptGuards, KeptWith, Pushes, Rests}
+use Rattle.phase_moves.specs.Moves.{KeptGuards, KeptWith, Pushes}
 use Rattle.phase_moves.specs.Reading.{RunsBy, target_of_section}
 use Rattle.phase_moves.specs.Standing.{Standing, guarded, run_closed, ended, finalized, writer_of}
-use Rattle.phase_moves.specs.Stands.{Stands, want_of}
+use Rattle.phase_moves.specs.Stands.{want_of}
 use Rattle.phase_moves.proofs.Hand.{pushed_free}
 use Rattle.phase_moves.proofs.Histories.{made_read, made_write, made_failed, final_ended}
 use Rattle.phase_acts.specs.Steps.{IsAwake, HasStepped, step_of, outcome}
 use Rattle.phase_acts.proofs.Keeping.{guards_with}
-use Rattle.phase_acts.proofs.Lines.{legal_last, refusal_awake, others_all, gave_freed, gave_down}
+use Rattle.phase_acts.proofs.Lines.{legal_last, refusal_awake, gave_freed, gave_down}
 use Rattle.phase_acts.proofs.Pushing.{pushed_reader, pushed_writer}
 use Rattle.phase_acts.proofs.Stepping.{stepped}
 
@@ -167,7 +163,7 @@ module _ {L : Type 0} (held : L → Holders) (place : L → LockerKind) (old : R
               (pushed_free held place (length old.guards.items) (finalized f.s fine x.1 (standing cells h)) mid new k.stands is.next.follows.rests.empty push)
               (guards_with old mid new 1 kept last)
               (legal_last cells h (step_of p (finishing fine)) (answer.Phase x.0) x.1 none due
-              (gave_freed cells h p is.awake (finishing fine) (answer.Phase x.0) f.s.cell concerned x.1 gave (others_all cells h p is.awake (finishing fine)))))
+              (gave_freed cells h p (finishing fine) (answer.Phase x.0) f.s.cell concerned x.1 gave refl)))
 
   -- ---- a generator
 
@@ -252,7 +248,7 @@ module _ {L : Type 0} (held : L → Holders) (place : L → LockerKind) (old mid
       (pushed_free held place n (run_closed s None d m) mid new k.stands is.next.follows.rests.empty push)
       (guards_with old mid new 1 kept last)
       (legal_last cells h (step_of p act.MadeFailed) answer.Failed d none refl
-      (gave_freed cells h p is.awake act.MadeFailed answer.Failed s.cell (ap cell_of_section found) d gave (others_all cells h p is.awake act.MadeFailed))))
+      (gave_freed cells h p act.MadeFailed answer.Failed s.cell (ap cell_of_section found) d gave refl)))
 
   module _ (v : ℕ) (is : IsAwake held place cells h old p (act.Made v)) (none : refusal cells h (step_of p (act.Made v)) ≡ None) (line : Line) where
     due_is : due_answer cells h (step_of p (act.Made v)) (other_waits cells h (step_of p (act.Made v))) false ≡ answer_of_made s.want

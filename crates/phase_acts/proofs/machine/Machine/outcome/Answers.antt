@@ -1,4 +1,4 @@
-use Rattle.std.proofs.Common.{sym, subst}
+use Rattle.std.proofs.Common.{subst}
 use Rattle.phase_moves.specs.Ends.{IsEnded}
 use Rattle.phase_moves.specs.Histories.{standing}
 use Rattle.phase_acts.proofs.Ending.{outcome_no_section, outcome_no_outcome, may_end, none_refused, never_none_run, how, never_phase, its, run_fails, run_reads, run_writes}
