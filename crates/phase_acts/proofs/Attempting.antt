@@ -1,44 +1,27 @@
 -- A step that attempts something is a legal step.
-use Rattle.std.proofs.Common.{◌≡◌, ◌≢◌, ◌∙◌, ◌+◌, ◌<◌, ℕ, List, ◌∷◌, length, ap, sym, subst, refl, arith, Bool, true, false, None, Some}
-use Rattle.std.specs.Prelude.{MatchBool, IsTrue, vec_capacity, nat_lt}
+use Rattle.std.proofs.Common.{◌≡◌, ◌∙◌, ℕ, List, length, ap, sym, subst, None}
 use Rattle.std.specs.declared.option.Option.{Option}
-use Rattle.exit_registry.specs.Registry.{Registry, after_turn, first_of, is_known}
+use Rattle.exit_registry.specs.Registry.{Registry}
 use Rattle.phase_bits.specs.declared.holders.Holders.{Holders}
 use Rattle.phase_locker.specs.declared.ways.LockerKind.{LockerKind}
 use Rattle.schedule_rules.specs.declared.line.Answer.TheVariants as answer
 use Rattle.schedule_rules.specs.declared.line.Line.{Line}
 use Rattle.schedule_rules.specs.declared.plan.Call.{Call}
-use Rattle.schedule_rules.specs.declared.plan.Call.TheVariants as call
 use Rattle.schedule_rules.specs.declared.plan.CellPlan.{CellPlan}
 use Rattle.schedule_rules.specs.declared.step.Act.{Act}
-use Rattle.schedule_rules.specs.declared.step.Act.TheVariants as act
 use Rattle.schedule_rules.specs.declared.step.Want.{Want}
-use Rattle.schedule_rules.specs.declared.step.Want.TheVariants.{Calls, Turns}
-use Rattle.schedule_rules.specs.Exits.{registry, owner, first_owner, ended_turns}
-use Rattle.schedule_rules.specs.History.{Event, accepts, latest_act}
-use Rattle.schedule_rules.specs.Legal.{IsLegal, IsLegalLine}
-use Rattle.schedule_rules.specs.Refusals.{refusal, refusal_by, refusal_waiting}
-use Rattle.schedule_rules.specs.Replay.{phase_at}
-use Rattle.schedule_rules.specs.Waits.{Wait, wait_of, waits, attempt, attempt_of_wait, act_for, cell_of_attempt}
-use Rattle.schedule_rules.proofs.Accepts.{open-accepts}
-use Rattle.schedule_rules.proofs.GoesOn.{Matches, wait-matches}
-use Rattle.schedule_rules.proofs.NotCyclic.{again-not-cyclic}
-use Rattle.schedule_rules.proofs.Registered.{fresh-unknown}
-use Rattle.schedule_rules.proofs.TurnRoom.{room-taken}
-use Rattle.schedule_rules.proofs.WaitsToLock.{waiting-no-phase}
+use Rattle.schedule_rules.specs.declared.step.Want.TheVariants.{Calls}
+use Rattle.schedule_rules.specs.Exits.{registry}
+use Rattle.schedule_rules.specs.History.{Event, accepts}
+use Rattle.schedule_rules.specs.Legal.{IsLegalLine}
+use Rattle.schedule_rules.specs.Refusals.{refusal}
+use Rattle.schedule_rules.specs.Waits.{wait_of, waits}
 use Rattle.phase_moves.specs.declared.rows.Rows.{Rows}
-use Rattle.phase_moves.specs.declared.rows.Taken.{Taken}
 use Rattle.phase_moves.specs.declared.rows.Taken.TheVariants as taken
-use Rattle.phase_moves.specs.declared.rows.Target.{Target}
-use Rattle.phase_moves.specs.Histories.{standing}
-use Rattle.phase_moves.specs.Moves.{KeptWith, Rests}
-use Rattle.phase_moves.specs.Standing.{Standing}
-use Rattle.phase_moves.specs.Stands.{Stands, target_of}
-use Rattle.phase_moves.specs.Tries.{IsAttempting, IsUnknown, WaitsAt}
-use Rattle.phase_acts.specs.Settles.{IsSettled, answer_settled, settled, GivesSettled}
-use Rattle.phase_acts.specs.Steps.{IsAwake, IsNext, HasStepped, given_first, step_of}
-use Rattle.phase_acts.specs.Tries.{IsTaking, IsTried, IsTrying}
-use Rattle.phase_acts.proofs.Lines.{refusal_awake}
+use Rattle.phase_moves.specs.Moves.{KeptWith}
+use Rattle.phase_acts.specs.Settles.{IsSettled, answer_settled, GivesSettled}
+use Rattle.phase_acts.specs.Steps.{IsNext, HasStepped, given_first, step_of}
+use Rattle.phase_acts.specs.Tries.{IsTaking, IsTried}
 use Rattle.phase_acts.proofs.Stepping.{stepped}
 use Rattle.phase_acts.proofs.Tried.{after_tried}
 use Rattle.phase_acts.proofs.TriedLegal.{legal_tried, gift_reaches}

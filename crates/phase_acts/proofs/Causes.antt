@@ -1,25 +1,21 @@
 -- Who may attempt what: a call, one more attempt of a call or a turn that waits, and the first attempt of a turn.
-use Rattle.std.proofs.Common.{◌≡◌, ◌≢◌, ◌∙◌, ◌+◌, ◌<◌, ◌≤◌, ℕ, List, ◌∷◌, length, ap, sym, subst, refl, arith, Bool, true, false, None, Some}
-use Rattle.std.specs.Prelude.{IsTrue, MatchBool, nat_lt, vec_capacity, is_some, not, ◌||◌, ◌==◌}
+use Rattle.std.proofs.Common.{◌≡◌, ◌≢◌, ◌∙◌, ◌<◌, ◌≤◌, ℕ, List, length, ap, sym, subst, refl, arith, true, false, None, Some}
+use Rattle.std.specs.Prelude.{IsTrue, nat_lt, vec_capacity, is_some}
 use Rattle.std.specs.declared.option.Option.{Option}
-use Rattle.exit_registry.specs.Registry.{Registry, after_turn, first_of}
+use Rattle.exit_registry.specs.Registry.{after_turn, first_of}
 use Rattle.phase_bits.specs.declared.holders.Holders.{Holders}
 use Rattle.phase_locker.specs.declared.ways.LockerKind.{LockerKind}
-use Rattle.schedule_rules.specs.declared.line.Answer.TheVariants as answer
 use Rattle.schedule_rules.specs.declared.line.Line.{Line}
 use Rattle.schedule_rules.specs.declared.plan.Call.{Call}
 use Rattle.schedule_rules.specs.declared.plan.Call.TheVariants as call
 use Rattle.schedule_rules.specs.declared.plan.CellPlan.{CellPlan}
-use Rattle.schedule_rules.specs.declared.step.Act.{Act}
 use Rattle.schedule_rules.specs.declared.step.Act.TheVariants as act
-use Rattle.schedule_rules.specs.declared.step.Want.{Want}
 use Rattle.schedule_rules.specs.declared.step.Want.TheVariants.{Calls, Turns}
 use Rattle.schedule_rules.specs.Exits.{registry, owner, first_owner, ended_turns}
 use Rattle.schedule_rules.specs.Guards.{guards, numbered}
-use Rattle.schedule_rules.specs.History.{Event, accepts, latest_act}
-use Rattle.schedule_rules.specs.Legal.{IsLegalLine}
-use Rattle.schedule_rules.specs.Refusals.{refusal, refusal_by, is_other}
-use Rattle.schedule_rules.specs.Waits.{Wait, wait_of, waits, attempt, attempt_of_wait, attempt_of_turn, cell_of_attempt, act_for}
+use Rattle.schedule_rules.specs.History.{Event, latest_act}
+use Rattle.schedule_rules.specs.Refusals.{refusal, refusal_by}
+use Rattle.schedule_rules.specs.Waits.{Wait, wait_of, waits, attempt, attempt_of_wait, attempt_of_turn, cell_of_attempt}
 use Rattle.schedule_rules.proofs.Accepts.{open-accepts}
 use Rattle.schedule_rules.proofs.GoesOn.{Matches, wait-matches}
 use Rattle.schedule_rules.proofs.NotCyclic.{again-not-cyclic}
@@ -29,12 +25,12 @@ use Rattle.schedule_rules.proofs.WaitsToLock.{waiting-no-phase}
 use Rattle.phase_moves.specs.declared.rows.Rows.{Rows}
 use Rattle.phase_moves.specs.declared.rows.Target.{Target}
 use Rattle.phase_moves.specs.Histories.{standing}
-use Rattle.phase_moves.specs.Moves.{KeptGuards, KeptWith, Rests}
+use Rattle.phase_moves.specs.Moves.{KeptGuards, KeptWith}
 use Rattle.phase_moves.specs.Standing.{Standing}
 use Rattle.phase_moves.specs.Stands.{Stands, target_of}
-use Rattle.phase_moves.specs.Tries.{IsAttempting, WaitsAt}
+use Rattle.phase_moves.specs.Tries.{WaitsAt}
 use Rattle.phase_acts.specs.Steps.{IsAwake, IsNext, HasStepped, step_of}
-use Rattle.phase_acts.specs.Tries.{IsTried, IsTrying, MayTry}
+use Rattle.phase_acts.specs.Tries.{IsTried, IsTrying}
 use Rattle.phase_acts.proofs.Attempting.{tried_steps}
 use Rattle.phase_acts.proofs.Keeping.{guards_with}
 use Rattle.phase_acts.proofs.Lines.{refusal_awake}

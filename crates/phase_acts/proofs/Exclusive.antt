@@ -27,7 +27,7 @@ use Rattle.phase_moves.specs.declared.rows.CellRow.{CellRow}
 use Rattle.phase_moves.specs.declared.rows.Rows.{Rows}
 use Rattle.phase_moves.specs.Histories.{standing}
 use Rattle.phase_moves.specs.Standing.{Standing, reads_in, writes_in}
-use Rattle.phase_moves.specs.Stands.{Stands, IsLocked, AreInside, seen_at}
+use Rattle.phase_moves.specs.Stands.{Stands, IsLocked, AreInside}
 
 -- what stands on a cell excludes each other
 pub record Excludes (m : Standing) (c : ℕ) : Type 0 where

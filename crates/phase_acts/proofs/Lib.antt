@@ -10,6 +10,7 @@ pub mod Trying
 pub mod Lines
 -- The acts on guards
 pub mod Holding
+pub mod Ending
 pub mod Releasing
 pub mod Looking
 pub mod Downgrading

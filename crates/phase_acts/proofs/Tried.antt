@@ -1,16 +1,15 @@
 -- What stands open after an attempt, with what became of what it took.
-use Rattle.std.proofs.Common.{◌≡◌, ◌≢◌, ◌∙◌, ◌+◌, ◌<◌, ℕ, List, [], ◌∷◌, length, ap, sym, subst, refl, arith, Bool, true, false, None, Some, ◌⊎◌, inl, inr}
+use Rattle.std.proofs.Common.{◌≡◌, ◌≢◌, ◌∙◌, ◌+◌, ◌<◌, ℕ, List, [], ◌∷◌, length, ap, sym, refl, arith, Bool, true, false, None, ◌⊎◌, inl, inr}
 use Rattle.std.specs.Prelude.{MatchBool, if◌then◌else◌}
 use Rattle.std.specs.declared.option.Option.{Option}
 use Rattle.exit_registry.specs.Registry.{Registry}
 use Rattle.phase_bits.specs.Flags.{has, initialized}
-use Rattle.phase_bits.specs.Number.{number, phase_of}
+use Rattle.phase_bits.specs.Number.{number}
 use Rattle.phase_bits.specs.declared.phase.Phase.{Phase}
 use Rattle.phase_locker.specs.declared.tickets.ReadTicket.{ReadTicket}
 use Rattle.phase_locker.specs.declared.tickets.WriteTicket.{WriteTicket}
 use Rattle.phase_locker.specs.declared.ways.Given.{Given}
 use Rattle.phase_locker.specs.declared.ways.Given.TheVariants as given
-use Rattle.phase_locker.specs.declared.ways.How.{How}
 use Rattle.schedule_rules.specs.declared.line.Answer.{Answer}
 use Rattle.schedule_rules.specs.declared.line.Answer.TheVariants as answer
 use Rattle.schedule_rules.specs.declared.plan.Call.{Call}
@@ -26,19 +25,18 @@ use Rattle.schedule_rules.specs.Gifts.{reaches}
 use Rattle.schedule_rules.specs.Guards.{reader}
 use Rattle.schedule_rules.specs.History.{Event, accepts, count}
 use Rattle.schedule_rules.specs.Kinds.{cell_at, tolerance_at}
-use Rattle.schedule_rules.specs.Replay.{phase_at}
-use Rattle.schedule_rules.specs.Waits.{Wait, waits, wait_of, without_wait, shares_read, shares_write, drains_on}
+use Rattle.schedule_rules.specs.Waits.{Wait, waits, wait_of, without_wait, shares_read, shares_write}
 use Rattle.waiting_rows.specs.Given.{given_on}
 use Rattle.waiting_rows.proofs.Gave.{gave_share}
 use Rattle.phase_moves.specs.declared.rows.Taken.{Taken}
 use Rattle.phase_moves.specs.declared.rows.Taken.TheVariants as taken
-use Rattle.phase_moves.specs.Gifts.{stand_on, IsGift, MayGive}
+use Rattle.phase_moves.specs.Gifts.{MayGive}
 use Rattle.phase_moves.specs.Histories.{standing, event}
 use Rattle.phase_moves.specs.Meets.{IsOf}
-use Rattle.phase_moves.specs.Standing.{Standing, took, left, changes_at, writer_asked, reads_in, writes_in}
+use Rattle.phase_moves.specs.Standing.{Standing, took, left, changes_at, writer_asked}
 use Rattle.phase_moves.specs.Tries.{TellsPhase, phase_asked}
 use Rattle.phase_acts.specs.Settles.{is_made, answer_settled, answer_opened, answer_unlocked, unlocked, settled, GivesSettled}
-use Rattle.phase_acts.specs.Steps.{step_of, given_first}
+use Rattle.phase_acts.specs.Steps.{given_first}
 use Rattle.phase_acts.proofs.Settling.{first_alone}
 use Rattle.phase_acts.proofs.Trying.{Attempts, standing_at, try_waits, try_cyclic, try_skips, try_finalizes, try_runs, try_reads, try_writes, try_denied_read, try_denied_write}
 

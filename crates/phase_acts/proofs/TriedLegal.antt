@@ -1,14 +1,11 @@
 -- The line of an attempt is legal.
-use Rattle.std.proofs.Common.{◌≡◌, ◌≢◌, ◌∙◌, ◌+◌, ◌==◌, ℕ, List, ◌∷◌, length, ap, sym, subst, refl, Bool, true, false, None, Some, ◌⊎◌, inl, inr}
+use Rattle.std.proofs.Common.{◌≡◌, ◌≢◌, ◌∙◌, ◌==◌, ℕ, List, length, ap, sym, subst, refl, Bool, true, false, None, Some}
 use Rattle.std.specs.Prelude.{◌&&◌, IsTrue, MatchBool, if◌then◌else◌}
 use Rattle.std.specs.declared.option.Option.{Option}
 use Rattle.exit_registry.specs.Registry.{Registry}
 use Rattle.phase_bits.specs.declared.phase.Phase.{Phase}
-use Rattle.phase_locker.specs.declared.tickets.ReadTicket.{ReadTicket}
-use Rattle.phase_locker.specs.declared.tickets.WriteTicket.{WriteTicket}
 use Rattle.phase_locker.specs.declared.ways.Given.{Given}
 use Rattle.phase_locker.specs.declared.ways.Given.TheVariants as given
-use Rattle.schedule_rules.specs.declared.line.Answer.{Answer}
 use Rattle.schedule_rules.specs.declared.line.Answer.TheVariants as answer
 use Rattle.schedule_rules.specs.declared.line.Line.{Line}
 use Rattle.schedule_rules.specs.declared.plan.Call.{Call}
@@ -17,25 +14,24 @@ use Rattle.schedule_rules.specs.declared.plan.CellPlan.{CellPlan}
 use Rattle.schedule_rules.specs.declared.step.Act.{Act}
 use Rattle.schedule_rules.specs.declared.step.Want.{Want}
 use Rattle.schedule_rules.specs.declared.step.Want.TheVariants.{Calls, Turns}
-use Rattle.schedule_rules.specs.Answers.{Meeting, answer_of_attempt}
+use Rattle.schedule_rules.specs.Answers.{answer_of_attempt}
 use Rattle.schedule_rules.specs.Changes.{is_declined}
-use Rattle.schedule_rules.specs.Due.{due_answer, due_tried, due_attempt, meeting}
+use Rattle.schedule_rules.specs.Due.{due_answer, due_tried, meeting}
 use Rattle.schedule_rules.specs.Exits.{registry}
-use Rattle.schedule_rules.specs.Gifts.{declines_read, downgrades, may_give_first, may_give_last, reads_on, reaches}
+use Rattle.schedule_rules.specs.Gifts.{declines_read, may_give_first, may_give_last, reads_on, reaches}
 use Rattle.schedule_rules.specs.Guards.{reader}
 use Rattle.schedule_rules.specs.History.{Event, accepts}
 use Rattle.schedule_rules.specs.Kinds.{cell_at, tolerance_at}
 use Rattle.schedule_rules.specs.Legal.{IsLegalLine, Moment, First, Last, answer_of, due_at, may_give}
 use Rattle.schedule_rules.specs.Refusals.{refusal}
 use Rattle.schedule_rules.specs.Replay.{phase_at}
-use Rattle.schedule_rules.specs.Waits.{Wait, waits, without_wait, attempt, waits_given, other_waits}
+use Rattle.schedule_rules.specs.Waits.{Wait, waits, without_wait, attempt}
 use Rattle.waiting_rows.specs.Given.{given_on}
 use Rattle.waiting_rows.proofs.GivenOn.{given_concerned}
 use Rattle.phase_moves.specs.declared.rows.Taken.{Taken}
 use Rattle.phase_moves.specs.declared.rows.Taken.TheVariants as taken
 use Rattle.phase_moves.specs.declared.rows.Target.{Target}
 use Rattle.phase_moves.specs.Gifts.{MayGive}
-use Rattle.phase_moves.specs.Histories.{standing, event}
 use Rattle.phase_moves.specs.Meets.{IsMet, IsOf, GivesFirst, GivesLast, GivesDown, MayGiveAt, meets, waits_at, declines_in, is_read, answer_taken}
 use Rattle.phase_moves.specs.Standing.{Standing, took, left, changes_at, writer_asked}
 use Rattle.phase_moves.specs.Tries.{TellsPhase, phase_asked}

@@ -94,7 +94,7 @@ reached_as x (Calls k) is_open y None true e m = absurd (cc)
 reached_as x (Calls k) is_open y None false e m = refl
 reached_as x Turns is_open y made b e m = absurd (cc)
 
-asked_run : (w : Want) → is_turn w ≡ false → initializes (want_of w) ≡ true
+pub asked_run : (w : Want) → is_turn w ≡ false → initializes (want_of w) ≡ true
 asked_run (Calls call.Phase) e = refl
 asked_run (Calls call.Read) e = refl
 asked_run (Calls call.Write) e = refl

@@ -1,5 +1,3 @@
-use Rattle.std.proofs.Common.{◌<◌, length, arith}
-use Rattle.std.specs.Prelude.{vec_capacity}
 use Rattle.phase_acts.proofs.Keeping.{guards_with, guards_room}
 use Rattle.phase_acts.proofs.Taking.{is_settling, is_tried}
 use Rattle.phase_acts.proofs.machine.Machine.tries.Goals as goal
