@@ -22,3 +22,4 @@ pub mod Tried
 pub mod TriedLegal
 pub mod Attempting
 pub mod Causes
+pub mod Performing
