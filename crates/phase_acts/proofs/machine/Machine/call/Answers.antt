@@ -1,7 +1,8 @@
-use Rattle.std.proofs.Common.{◌≡◌, sym, ◌∙◌}
+use Rattle.std.proofs.Common.{◌≡◌, ap, sym, ◌∙◌}
 use Rattle.phase_moves.specs.Histories.{standing}
 use Rattle.schedule_rules.specs.declared.plan.Call.TheVariants as call
 use Rattle.phase_acts.proofs.Causes.{call_trying, call_steps}
+use Rattle.phase_acts.proofs.Telling.{tells_phase}
 use Rattle.phase_acts.proofs.machine.Machine.call.Goals as goal
 
 pub tries-requires : goal.tries-requires
@@ -21,7 +22,7 @@ tries-requires-in-Write g c =
     }
 
 pub returns-in-Phase : goal.returns-in-Phase
-returns-in-Phase g c = λ cells h is. let z = c in ?
+returns-in-Phase g c = λ cells h is. tells_phase g.L.PhaseLocker.held g.L.PhaseLocker.place cells h c.args.self.now.rows _ c.args.party c.args.cell c.args.call is c.in-Phase.is c.index.result.now c.index.ensures c.phase-phase.result (c.phase-phase.ensures.phase ∙ ap (λ l. (g.L.PhaseLocker.held l).phase) c.locker.ensures) c.end_step.result c.end_step.ensures.line c.end_step.ensures.pushes c.end_step.ensures.kept
 
 pub returns-in-Read : goal.returns-in-Read
 returns-in-Read g c = λ cells h is.
