@@ -4,9 +4,9 @@
 #![tactic(auto)]
 
 mod attempts;
+mod exit;
 mod guards;
 mod line;
-mod exit;
 mod machine;
 mod perform;
 mod sections;
