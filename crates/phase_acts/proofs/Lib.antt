@@ -23,3 +23,5 @@ pub mod Tried
 pub mod TriedLegal
 pub mod Attempting
 pub mod Causes
+pub mod Telling
+pub mod Performing
