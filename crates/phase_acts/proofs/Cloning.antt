@@ -1,5 +1,5 @@
 -- One more read guard beside another.
-use Rattle.std.proofs.Common.{◌≡◌, ◌≤◌, ◌∙◌, ◌+◌, ◌<◌, ℕ, List, ◌∷◌, length, ap, sym, subst, refl, arith, Bool, true, false, None, Some, inl, inr}
+use Rattle.std.proofs.Common.{◌≡◌, ◌∙◌, ◌+◌, ◌<◌, ℕ, List, length, ap, sym, subst, refl, arith, Bool, true, false, None, Some, inl, inr}
 use Rattle.std.proofs.lemmas.Bool.{cases_lt}
 use Rattle.std.specs.Prelude.{◌==◌, nat_lt, if◌then◌else◌}
 use Rattle.std.specs.declared.option.Option.{Option}
@@ -19,13 +19,13 @@ use Rattle.schedule_rules.specs.History.{Event, count}
 use Rattle.schedule_rules.specs.Guards.{Guard, guards, guard_of, numbered}
 use Rattle.schedule_rules.specs.Holds.{holding_with, is_barred, reads_cell}
 use Rattle.schedule_rules.specs.Refusals.{refusal, no_reader, writes_of}
-use Rattle.schedule_rules.specs.Waits.{Wait, waits, other_waits, shares_read, shares_write, drains_on}
+use Rattle.schedule_rules.specs.Waits.{waits, other_waits, shares_read, shares_write, drains_on}
 use Rattle.schedule_rules.proofs.Found.{found_counts}
 use Rattle.phase_moves.specs.declared.look_up.Held.{Held}
 use Rattle.phase_moves.specs.declared.rows.GuardRow.TheVariants as guard
 use Rattle.phase_moves.specs.declared.rows.Rows.{Rows}
 use Rattle.phase_moves.specs.Histories.{standing}
-use Rattle.phase_moves.specs.Moves.{Clones, ClonesAs, IsFull, IsOpenReader, KeptGuards, KeptWith, MayClone, Pushes, Rests}
+use Rattle.phase_moves.specs.Moves.{Clones, ClonesAs, IsFull, IsOpenReader, KeptGuards, KeptWith, MayClone, Pushes}
 use Rattle.phase_moves.specs.Reading.{HoldsBy}
 use Rattle.phase_moves.specs.Standing.{Standing, cloned, reads_in, writes_in}
 use Rattle.phase_moves.specs.Stands.{Stands, Seen}

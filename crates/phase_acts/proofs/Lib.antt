@@ -10,11 +10,18 @@ pub mod Trying
 pub mod Lines
 -- The acts on guards
 pub mod Holding
+pub mod Ending
+pub mod Exiting
 pub mod Releasing
 pub mod Looking
 pub mod Downgrading
 pub mod Cloning
 -- Attempts
 pub mod Settling
+pub mod Taking
 pub mod Tried
 pub mod TriedLegal
+pub mod Attempting
+pub mod Causes
+pub mod Telling
+pub mod Performing

@@ -1,13 +1,11 @@
 -- Lines that are legal.
-use Rattle.std.proofs.Common.{◌≡◌, ◌∙◌, ℕ, List, [], ◌∷◌, ap, sym, subst, refl, Bool, true, false, None, Some}
+use Rattle.std.proofs.Common.{◌≡◌, ◌∙◌, ℕ, List, ◌∷◌, ap, sym, subst, refl, true, false, None, Some}
 use Rattle.std.specs.Prelude.{◌==◌, ◌&&◌, ◌||◌, IsTrue, is_some}
 use Rattle.std.proofs.lemmas.Bool.{or_right}
-use Rattle.std.specs.declared.option.Option.{Option}
 use Rattle.phase_locker.specs.declared.ways.Given.{Given}
 use Rattle.phase_locker.specs.declared.ways.Given.TheVariants as given
 use Rattle.schedule_rules.specs.declared.line.Answer.{Answer}
 use Rattle.schedule_rules.specs.declared.line.Answer.TheVariants as answer
-use Rattle.schedule_rules.specs.declared.line.Line.{Line}
 use Rattle.schedule_rules.specs.declared.line.Refusal.{Refusal}
 use Rattle.schedule_rules.specs.declared.plan.CellPlan.{CellPlan}
 use Rattle.schedule_rules.specs.declared.step.Act.{Act}
@@ -20,7 +18,7 @@ use Rattle.schedule_rules.specs.Refusals.{refusal, refusal_by, refusal_free}
 use Rattle.schedule_rules.specs.Due.{due_answer}
 use Rattle.schedule_rules.specs.Legal.{IsLegalLine, Last, answer_of, may_give}
 use Rattle.waiting_rows.proofs.Counted.{none_without}
-use Rattle.phase_moves.specs.Gifts.{IsGift, MayGive, IsShare, MayGiveDown}
+use Rattle.phase_moves.specs.Gifts.{IsGift, MayGive, MayGiveDown}
 use Rattle.phase_moves.specs.Histories.{standing, event}
 use Rattle.phase_acts.specs.Steps.{step_of}
 

@@ -1,5 +1,5 @@
 -- A guard is given back.
-use Rattle.std.proofs.Common.{◌≡◌, ◌∙◌, ◌+◌, ◌<◌, ℕ, List, ◌∷◌, length, ap, sym, subst, refl, arith, Bool, true, false, None, Some}
+use Rattle.std.proofs.Common.{◌≡◌, ◌∙◌, ℕ, List, length, ap, sym, subst, refl, arith, Bool, true, false, None, Some}
 use Rattle.std.specs.Prelude.{◌==◌, if◌then◌else◌}
 use Rattle.std.specs.declared.option.Option.{Option}
 use Rattle.phase_bits.specs.declared.phase.Phase.{Phase}
@@ -26,7 +26,7 @@ use Rattle.phase_moves.specs.Histories.{standing}
 use Rattle.phase_moves.specs.Moves.{IsReader, IsWriter, TakenAs, Takes, LeavesRead, LeavesWrite, MayLeaveRead, MayLeaveWrite, KeptGuards, KeptWith, Pushes, Rests}
 use Rattle.phase_moves.specs.Standing.{Standing, left}
 use Rattle.phase_moves.specs.Stands.{Stands, guard_row}
-use Rattle.phase_moves.proofs.Hand.{ReadRow, WriteRow, read_row, write_row, pushed_free, left_empty}
+use Rattle.phase_moves.proofs.Hand.{read_row, write_row, pushed_free, left_empty}
 use Rattle.phase_moves.proofs.Histories.{release_left}
 use Rattle.phase_acts.specs.Steps.{IsAwake, IsNext, HasStepped, step_of}
 use Rattle.phase_acts.proofs.Keeping.{none_with, guards_with}

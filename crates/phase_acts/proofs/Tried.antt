@@ -1,16 +1,15 @@
 -- What stands open after an attempt, with what became of what it took.
-use Rattle.std.proofs.Common.{◌≡◌, ◌≢◌, ◌∙◌, ◌+◌, ◌<◌, ℕ, List, [], ◌∷◌, length, ap, sym, subst, refl, arith, Bool, true, false, None, Some, ◌⊎◌, inl, inr}
+use Rattle.std.proofs.Common.{◌≡◌, ◌≢◌, ◌∙◌, ◌+◌, ◌<◌, ℕ, List, [], ◌∷◌, length, ap, sym, refl, arith, Bool, true, false, None, ◌⊎◌, inl, inr}
 use Rattle.std.specs.Prelude.{MatchBool, if◌then◌else◌}
 use Rattle.std.specs.declared.option.Option.{Option}
 use Rattle.exit_registry.specs.Registry.{Registry}
 use Rattle.phase_bits.specs.Flags.{has, initialized}
-use Rattle.phase_bits.specs.Number.{number, phase_of}
+use Rattle.phase_bits.specs.Number.{number}
 use Rattle.phase_bits.specs.declared.phase.Phase.{Phase}
 use Rattle.phase_locker.specs.declared.tickets.ReadTicket.{ReadTicket}
 use Rattle.phase_locker.specs.declared.tickets.WriteTicket.{WriteTicket}
 use Rattle.phase_locker.specs.declared.ways.Given.{Given}
 use Rattle.phase_locker.specs.declared.ways.Given.TheVariants as given
-use Rattle.phase_locker.specs.declared.ways.How.{How}
 use Rattle.schedule_rules.specs.declared.line.Answer.{Answer}
 use Rattle.schedule_rules.specs.declared.line.Answer.TheVariants as answer
 use Rattle.schedule_rules.specs.declared.plan.Call.{Call}
@@ -26,20 +25,20 @@ use Rattle.schedule_rules.specs.Gifts.{reaches}
 use Rattle.schedule_rules.specs.Guards.{reader}
 use Rattle.schedule_rules.specs.History.{Event, accepts, count}
 use Rattle.schedule_rules.specs.Kinds.{cell_at, tolerance_at}
-use Rattle.schedule_rules.specs.Replay.{phase_at}
-use Rattle.schedule_rules.specs.Waits.{Wait, waits, wait_of, without_wait, shares_read, shares_write, drains_on}
+use Rattle.schedule_rules.specs.Waits.{Wait, waits, wait_of, without_wait, shares_read, shares_write}
 use Rattle.waiting_rows.specs.Given.{given_on}
 use Rattle.waiting_rows.proofs.Gave.{gave_share}
 use Rattle.phase_moves.specs.declared.rows.Taken.{Taken}
 use Rattle.phase_moves.specs.declared.rows.Taken.TheVariants as taken
-use Rattle.phase_moves.specs.Gifts.{stand_on, IsGift, MayGive}
+use Rattle.phase_moves.specs.Gifts.{MayGive}
 use Rattle.phase_moves.specs.Histories.{standing, event}
-use Rattle.phase_moves.specs.Standing.{Standing, took, left, changes_at, writer_asked, reads_in, writes_in}
+use Rattle.phase_moves.specs.Meets.{IsOf, answer_nothing, answer_running}
+use Rattle.phase_moves.specs.Standing.{Standing, took, left, changes_at, writer_asked}
 use Rattle.phase_moves.specs.Tries.{TellsPhase, phase_asked}
-use Rattle.phase_acts.specs.Settles.{is_made, answer_settled, answer_opened, answer_unlocked, unlocked, settled, GivesSettled}
-use Rattle.phase_acts.specs.Steps.{step_of, given_first}
+use Rattle.phase_acts.specs.Settles.{is_made, answer_settled, unlocked, settled, GivesSettled}
+use Rattle.phase_acts.specs.Steps.{given_first}
 use Rattle.phase_acts.proofs.Settling.{first_alone}
-use Rattle.phase_acts.proofs.Trying.{Attempts, standing_at, try_waits, try_cyclic, try_skips, try_finalizes, try_runs, try_reads, try_writes, try_denied_read, try_denied_write}
+use Rattle.phase_acts.proofs.Trying.{IsAttempt, standing_at, try_waits, try_cyclic, try_skips, try_finalizes, try_runs, try_reads, try_writes, try_denied_read, try_denied_write}
 
 -- ---- one gift of two
 
@@ -108,16 +107,7 @@ module _ (c : ℕ) (w : Want) (m : Standing) (j : Call) (calls : w ≡ Calls j) 
 
 -- ---- what stands open
 
--- what was taken, by what was wanted
-abbrev pub IsOf : Want → Taken → Type 0
-IsOf w (taken.Wait how) = Unit {0}
-IsOf w taken.Cyclic = Unit {0}
-IsOf w (taken.Nothing q) = w ≡ Turns
-IsOf w (taken.Read t q) = w ≡ Calls call.Read
-IsOf w (taken.Write t q) = w ≡ Calls call.Write
-IsOf w taken.Runs = Unit {0}
-
-module _ (cells : List CellPlan) (h : List Event) (p : ℕ) (a : Act) (c : ℕ) (w : Want) (r : Registry) (o : Option ℕ) (k : Attempts cells h p a c w r o) (accepted : accepts h ≡ r.is_open) (same : (j : Call) → w ≡ Calls j → r ≡ registry cells h) where
+module _ (cells : List CellPlan) (h : List Event) (p : ℕ) (a : Act) (c : ℕ) (w : Want) (r : Registry) (o : Option ℕ) (k : IsAttempt cells h p a c w r o) (accepted : accepts h ≡ r.is_open) (same : (j : Call) → w ≡ Calls j → r ≡ registry cells h) where
   abbrev m : Standing
   m = standing_at cells h r o
 
@@ -138,11 +128,11 @@ module _ (cells : List CellPlan) (h : List Event) (p : ℕ) (a : Act) (c : ℕ) 
 
     after_nothing : (q : Phase) → w ≡ Turns → d ≡ given.Nobody → after (taken.Nothing q) g d ≡ settled n p c w g d (taken.Nothing q) m
     after_nothing q turns e =
-        quiet (answer_settled c w (taken.Nothing q)) e ∙ ap (λ v. standing cells (event p a (record { answer = answer_unlocked c v q; given = g }) ∷ h)) turns ∙ try_skips cells h p a c w r o k turns q g ∙ ap (λ v. unlocked c v (took n p c w g (taken.Nothing q) m)) (sym turns)
+        quiet (answer_settled c w (taken.Nothing q)) e ∙ ap (λ v. standing cells (event p a (record { answer = answer_nothing c v q; given = g }) ∷ h)) turns ∙ try_skips cells h p a c w r o k turns q g ∙ ap (λ v. unlocked c v (took n p c w g (taken.Nothing q) m)) (sym turns)
 
     after_runs : (v : Want) → w ≡ v → d ≡ given.Nobody → after taken.Runs g d ≡ settled n p c w g d taken.Runs m
-    after_runs (Calls j) e none = quiet (answer_settled c w taken.Runs) none ∙ ap (λ v. standing cells (event p a (record { answer = answer_opened c v; given = g }) ∷ h)) e ∙ try_runs cells h p a c w r o k j e (same j e) accepted g
-    after_runs Turns e none = quiet (answer_settled c w taken.Runs) none ∙ ap (λ v. standing cells (event p a (record { answer = answer_opened c v; given = g }) ∷ h)) e ∙ try_finalizes cells h p a c w r o k accepted e g
+    after_runs (Calls j) e none = quiet (answer_settled c w taken.Runs) none ∙ ap (λ v. standing cells (event p a (record { answer = answer_running c v; given = g }) ∷ h)) e ∙ try_runs cells h p a c w r o k j e (same j e) accepted g
+    after_runs Turns e none = quiet (answer_settled c w taken.Runs) none ∙ ap (λ v. standing cells (event p a (record { answer = answer_running c v; given = g }) ∷ h)) e ∙ try_finalizes cells h p a c w r o k accepted e g
 
     after_read : (t : ReadTicket) (q : Phase) → w ≡ Calls call.Read → q ≡ phase_asked c w m → GivesSettled n p c w g d (taken.Read t q) m → after (taken.Read t q) g d ≡ settled n p c w g d (taken.Read t q) m
     after_read t q reads told gives = by (is_made q) refl gives
@@ -160,10 +150,10 @@ module _ (cells : List CellPlan) (h : List Event) (p : ℕ) (a : Act) (c : ℕ) 
         by true made gives = quiet answer.WriteGuard gives ∙ try_writes cells h p a c w r o k call.Write writes (same call.Write writes) accepted (undeclined c w m call.Write writes q told made) t q g
         by false lacks gives_last = try_denied_write cells h p a c w r o k call.Write writes (same call.Write writes) accepted g d (one (taken.Write t q) gives) q t
 
-    -- a call that asks for its own run gives nothing, and does not wait
-    pub after_tried : (b : Taken) → IsOf w b → TellsPhase (phase_asked c w m) b → GivesSettled n p c w g d b m → (b ≡ taken.Cyclic → (wait_of p (waits cells h) ≡ None) × (g ≡ given.Nobody)) → after b g d ≡ settled n p c w g d b m
+    -- a call that asks for its own run does not wait
+    pub after_tried : (b : Taken) → IsOf w g b → TellsPhase (phase_asked c w m) b → GivesSettled n p c w g d b m → (b ≡ taken.Cyclic → wait_of p (waits cells h) ≡ None) → after b g d ≡ settled n p c w g d b m
     after_tried (taken.Wait how) of told gives alone = quiet (answer.Waiting how) gives ∙ try_waits cells h p a c w r o k how g
-    after_tried taken.Cyclic of told gives alone = quiet answer.Cyclic gives ∙ ap (λ y. standing cells (event p a (record { answer = answer.Cyclic; given = y }) ∷ h)) (alone refl).1 ∙ try_cyclic cells h p a c w r o k (alone refl).0
+    after_tried taken.Cyclic of told gives alone = quiet answer.Cyclic gives ∙ ap (λ y. standing cells (event p a (record { answer = answer.Cyclic; given = y }) ∷ h)) of ∙ try_cyclic cells h p a c w r o k (alone refl)
     after_tried (taken.Nothing q) of told gives alone = after_nothing q of gives
     after_tried (taken.Read t q) of told gives alone = after_read t q of told gives
     after_tried (taken.Write t q) of told gives alone = after_write t q of told gives

@@ -1,5 +1,5 @@
 -- What stands open after an attempt: of a call or a turn, a first one or one more.
-use Rattle.std.proofs.Common.{◌≡◌, ◌∙◌, ◌+◌, ◌==◌, ℕ, List, [], ◌∷◌, ◌++◌, length, ap, sym, refl, arith, Bool, true, false, None, Some}
+use Rattle.std.proofs.Common.{◌≡◌, ◌∙◌, ◌==◌, ℕ, List, [], ◌∷◌, ◌++◌, length, ap, sym, refl, arith, Bool, true, false, None, Some}
 use Rattle.std.specs.Prelude.{if◌then◌else◌}
 use Rattle.std.specs.declared.option.Option.{Option}
 use Rattle.exit_registry.specs.Registry.{Registry}
@@ -10,7 +10,6 @@ use Rattle.phase_locker.specs.declared.tickets.WriteTicket.{WriteTicket}
 use Rattle.phase_locker.specs.declared.ways.Given.{Given}
 use Rattle.phase_locker.specs.declared.ways.Given.TheVariants as given
 use Rattle.phase_locker.specs.declared.ways.How.{How}
-use Rattle.schedule_rules.specs.declared.line.Answer.{Answer}
 use Rattle.schedule_rules.specs.declared.line.Answer.TheVariants as answer
 use Rattle.schedule_rules.specs.declared.plan.Call.{Call}
 use Rattle.schedule_rules.specs.declared.plan.CellPlan.{CellPlan}
@@ -18,10 +17,10 @@ use Rattle.schedule_rules.specs.declared.step.Act.{Act}
 use Rattle.schedule_rules.specs.declared.step.Act.TheVariants as act
 use Rattle.schedule_rules.specs.declared.step.Want.{Want}
 use Rattle.schedule_rules.specs.declared.step.Want.TheVariants.{Calls, Turns}
-use Rattle.schedule_rules.specs.Changes.{Content, Change, Asked, effect, is_declined}
+use Rattle.schedule_rules.specs.Changes.{Content, Asked, effect, is_declined}
 use Rattle.schedule_rules.specs.Due.{due_answer, due_tried}
 use Rattle.schedule_rules.specs.Exits.{registry, registry_taken, registry_run, registry_of_run, owner, ended_turns, first_owner}
-use Rattle.schedule_rules.specs.Guards.{Guard, guards, with_reader, with_writer, reader, writer, without_guard}
+use Rattle.schedule_rules.specs.Guards.{Guard, guards, with_reader, with_writer, reader, without_guard}
 use Rattle.schedule_rules.specs.History.{Event, act_of, accepts}
 use Rattle.schedule_rules.specs.Kinds.{cell_at, tolerance_at}
 use Rattle.schedule_rules.specs.Phases.{NoRun, phase_reached}
@@ -41,7 +40,7 @@ abbrev pub standing_at : List CellPlan → List Event → Registry → Option �
 standing_at cells h r o = record (standing cells h) { registry = r; owner = o }
 
 -- the act attempts this at the cell: a call, a turn, or one more attempt
-pub record Attempts (cells : List CellPlan) (h : List Event) (p : ℕ) (a : Act) (c : ℕ) (w : Want) (r : Registry) (o : Option ℕ) : Type 0 where
+pub record IsAttempt (cells : List CellPlan) (h : List Event) (p : ℕ) (a : Act) (c : ℕ) (w : Want) (r : Registry) (o : Option ℕ) : Type 0 where
   pub attempted : attempt cells h (step_of p a) ≡ Some (record { cell = c; want = w })
   pub concerned : cell_concerned cells h (step_of p a) ≡ Some c
   pub does : act_of h (step_of p a) ≡ act_for c w
@@ -59,7 +58,7 @@ same_content cells c d y = by (c == d)
     by true = refl
     by false = refl
 
-module _ (cells : List CellPlan) (h : List Event) (p : ℕ) (a : Act) (c : ℕ) (w : Want) (r : Registry) (o : Option ℕ) (k : Attempts cells h p a c w r o) where
+module _ (cells : List CellPlan) (h : List Event) (p : ℕ) (a : Act) (c : ℕ) (w : Want) (r : Registry) (o : Option ℕ) (k : IsAttempt cells h p a c w r o) where
   abbrev ws : List Wait
   ws = waits cells h
 
