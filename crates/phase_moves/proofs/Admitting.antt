@@ -69,7 +69,7 @@ use Rattle.phase_moves.specs.Calls.{registry_for}
 use Rattle.phase_moves.specs.Meets.{IsOf, GivesDown, GivesFirst, GivesLast, IsMet, IsReaching, answer_taken, declines_in, holding_in, keeps_in, meets, readers_in}
 use Rattle.phase_moves.specs.Standing.{Standing, Run, reads_in, run_in, runner_of, writes_in}
 use Rattle.phase_moves.specs.Stands.{AreShown, IsLocked, kind_at, want_of}
-use Rattle.phase_moves.specs.Tries.{ask_of}
+use Rattle.phase_moves.specs.Tries.{ask_of, taken_of}
 use Rattle.phase_moves.proofs.Asked.{refuses_same}
 use Rattle.phase_moves.proofs.Attempts.{stays_asked}
 use Rattle.phase_moves.proofs.Barring.{barred_same, locked_same, readers_same, row_kept, way_due}
@@ -77,17 +77,6 @@ use Rattle.phase_moves.proofs.Giving.{idle_at}
 use Rattle.phase_moves.proofs.Judged.{IsJudged, IsKept, IsWaiting}
 use Rattle.phase_moves.proofs.Parking.{shown_called}
 use Rattle.phase_moves.proofs.Settling.{IsDeclined, IsSettled, begun_declined, begun_settled}
-
--- what the code takes of what was begun
-abbrev pub taken_of : Begun → Taken
-taken_of (begun.Wait way) = taken.Wait way
-taken_of begun.Missed = taken.Cyclic
-taken_of begun.Cyclic = taken.Cyclic
-taken_of (begun.Nothing q) = taken.Nothing q
-taken_of (begun.Read t q) = taken.Read t q
-taken_of (begun.Write t q) = taken.Write t q
-taken_of (begun.Run o) = taken.Runs
-taken_of (begun.Final o) = taken.Runs
 
 -- ---- the three answers of an attempt
 

@@ -69,7 +69,7 @@ use Rattle.phase_moves.specs.Calls.{registry_for}
 use Rattle.phase_moves.specs.Meets.{IsOf, is_read, GivesDown, GivesFirst, GivesLast, IsMet, IsReaching, answer_taken, declines_in, holding_in, keeps_in, meets, readers_in, writers_in}
 use Rattle.phase_moves.specs.Standing.{Standing, Run, reads_in, run_in, runner_of, writes_in}
 use Rattle.phase_moves.specs.Stands.{AreShown, IsLocked, kind_at, want_of}
-use Rattle.phase_moves.specs.Tries.{ask_of}
+use Rattle.phase_moves.specs.Tries.{ask_of, taken_of}
 use Rattle.phase_moves.proofs.Asked.{declined, declines_same}
 use Rattle.phase_moves.proofs.Attempts.{stays_asked}
 use Rattle.phase_moves.proofs.Barring.{barred_same, locked_same, readers_same, row_kept, way_due}
@@ -77,7 +77,7 @@ use Rattle.phase_moves.proofs.Giving.{idle_at}
 use Rattle.phase_moves.proofs.Judged.{IsJudged, IsKept, IsWaiting}
 use Rattle.phase_moves.proofs.Parking.{shown_called}
 use Rattle.phase_moves.proofs.Settling.{IsDeclined, IsSettled, begun_declined, begun_settled}
-use Rattle.phase_moves.proofs.Admitting.{admitted_due, admitted_of, judged_no, own_same, runs_same, taken_of, turned_no, turned_so, wakes_same, wanted_same}
+use Rattle.phase_moves.proofs.Admitting.{admitted_due, admitted_of, judged_no, own_same, runs_same, turned_no, turned_so, wakes_same, wanted_same}
 
 -- ---- what is given up
 

@@ -59,10 +59,9 @@ use Rattle.phase_moves.specs.declared.rows.Taken.TheVariants as taken
 use Rattle.phase_moves.specs.Calls.{Calling, Calls as CallOf, registry_for, registry_begun}
 use Rattle.phase_moves.specs.Standing.{Standing, Run, run_in, runner_of, reads_in, writes_in, changes_at, called, answered, waiting, guarded, opened, section_asked, writer_asked, registry_asked}
 use Rattle.phase_moves.specs.Stands.{Seen, seen_at, IsCell, IsExit, IsLocked, AreShown, party_row, open_run, stays_in, target_of, want_of}
-use Rattle.phase_moves.specs.Tries.{IsAttempting, IsTook, WaitsAt, ask_of, phase_asked}
+use Rattle.phase_moves.specs.Tries.{IsAttempting, IsTook, WaitsAt, ask_of, opens_section, party_after, phase_asked, run_after, taken_of}
 use Rattle.phase_moves.specs.declared.rows.Taken.{Taken}
 use Rattle.phase_moves.specs.Meets.{IsMet}
-use Rattle.phase_moves.proofs.Admitting.{taken_of}
 use Rattle.phase_moves.proofs.Asked.{declined, declines_same, asked_left, told_same, stays_same, run_calls, final_turns, registry_still, registry_run, cells_stay}
 use Rattle.phase_moves.proofs.Attempts.{IsBegun, IsTurned, Tells, declines, phase_left, phase_told, rows_begun, stays_asked, writes_begun, wrote, answered as begun_as}
 use Rattle.phase_moves.proofs.Calling.{answered_moved}
@@ -548,25 +547,25 @@ module _ {L : Type 0} (held : L → Holders) (place : L → LockerKind) where
 
       -- ---- the arms of the code
 
-      pub does_nothing : (q : Phase) → b ≡ begun.Nothing q → of' ≡ record { waiting = None; innermost = of.innermost } → row'.run ≡ row.run → IsTook held place m v p t (taken.Nothing q) g v'
+      does_nothing : (q : Phase) → b ≡ begun.Nothing q → of' ≡ record { waiting = None; innermost = of.innermost } → row'.run ≡ row.run → IsTook held place m v p t (taken.Nothing q) g v'
       does_nothing q e o run = took_nothing (did (λ x. (let f : begun.Nothing q ≡ begun.Cyclic = sym e ∙ x in cc))) (few_now (ap is_turned_back e)) (told_met (ap is_turned_back e)) q e o run
 
-      pub does_read : (l : ReadTicket) (q : Phase) → b ≡ begun.Read l q → of' ≡ record { waiting = None; innermost = of.innermost } → row'.run ≡ row.run → IsTook held place m v p t (taken.Read l q) g v'
+      does_read : (l : ReadTicket) (q : Phase) → b ≡ begun.Read l q → of' ≡ record { waiting = None; innermost = of.innermost } → row'.run ≡ row.run → IsTook held place m v p t (taken.Read l q) g v'
       does_read l q e o run = took_read (did (λ x. (let f : begun.Read l q ≡ begun.Cyclic = sym e ∙ x in cc))) (few_now (ap is_turned_back e)) (told_met (ap is_turned_back e)) l q e o run
 
-      pub does_write : (l : WriteTicket) (q : Phase) → b ≡ begun.Write l q → of' ≡ record { waiting = None; innermost = of.innermost } → row'.run ≡ row.run → IsTook held place m v p t (taken.Write l q) g v'
+      does_write : (l : WriteTicket) (q : Phase) → b ≡ begun.Write l q → of' ≡ record { waiting = None; innermost = of.innermost } → row'.run ≡ row.run → IsTook held place m v p t (taken.Write l q) g v'
       does_write l q e o run = took_write (did (λ x. (let f : begun.Write l q ≡ begun.Cyclic = sym e ∙ x in cc))) (few_now (ap is_turned_back e)) (told_met (ap is_turned_back e)) l q e o run
 
-      pub does_wait : (way : How) → b ≡ begun.Wait way → of' ≡ record { waiting = Some (record { cell = t.cell; want = t.want }); innermost = of.innermost } → row'.run ≡ row.run → IsTook held place m v p t (taken.Wait way) g v'
+      does_wait : (way : How) → b ≡ begun.Wait way → of' ≡ record { waiting = Some (record { cell = t.cell; want = t.want }); innermost = of.innermost } → row'.run ≡ row.run → IsTook held place m v p t (taken.Wait way) g v'
       does_wait way e o run = took_wait (did (λ x. (let f : begun.Wait way ≡ begun.Cyclic = sym e ∙ x in cc))) (few_now (ap is_turned_back e)) (told_met (ap is_turned_back e)) way e o run
 
-      pub does_cyclic : b ≡ begun.Cyclic → of' ≡ of → row'.run ≡ row.run → IsTook held place m v p t taken.Cyclic g v'
+      does_cyclic : b ≡ begun.Cyclic → of' ≡ of → row'.run ≡ row.run → IsTook held place m v p t taken.Cyclic g v'
       does_cyclic e o run = elim all [
         | inl d ↦ took_cyclic d o run
         | inr d ↦ absurd (told_as d begun.Cyclic e)
       ]
 
-      pub does_missed : b ≡ begun.Missed → IsTook held place m v p t taken.Cyclic g v'
+      does_missed : b ≡ begun.Missed → IsTook held place m v p t taken.Cyclic g v'
       does_missed e = absurd (told_as (did (λ x. (let f : begun.Missed ≡ begun.Cyclic = sym e ∙ x in cc))) begun.Missed e)
 
       -- no section ran where one is opened
@@ -579,13 +578,13 @@ module _ {L : Type 0} (held : L → Holders) (place : L → LockerKind) where
       final_began : (s : SeqSection) → b ≡ begun.Final s → Begun_
       final_began s e = did (λ x. (let f : begun.Final s ≡ begun.Cyclic = sym e ∙ x in cc))
 
-      pub none_before_run : (s : SeqSection) → b ≡ begun.Run s → row.run ≡ None
+      none_before_run : (s : SeqSection) → b ≡ begun.Run s → row.run ≡ None
       none_before_run s e = none_ran (run_began s e) (ap (wrote _) e)
 
-      pub none_before_final : (s : SeqSection) → b ≡ begun.Final s → row.run ≡ None
+      none_before_final : (s : SeqSection) → b ≡ begun.Final s → row.run ≡ None
       none_before_final s e = none_ran (final_began s e) (ap (wrote _) e)
 
-      pub does_run : (s : SeqSection) → b ≡ begun.Run s → of' ≡ record { waiting = None; innermost = Some t.cell } → row'.run ≡ Some (record { run = record { party = p; want = t.want; outer = of.innermost }; section = s }) → IsTook held place m v p t taken.Runs g v'
+      does_run : (s : SeqSection) → b ≡ begun.Run s → of' ≡ record { waiting = None; innermost = Some t.cell } → row'.run ≡ Some (record { run = record { party = p; want = t.want; outer = of.innermost }; section = s }) → IsTook held place m v p t taken.Runs g v'
       does_run s e o run =
           let d = run_began s e in
           let tells = told_as d (begun.Run s) e in
@@ -609,7 +608,7 @@ module _ {L : Type 0} (held : L → Holders) (place : L → LockerKind) where
                   (cells_stay t.cell (tries_registration x.kind y.phase) m.registry)
               by Turns q f = absurd (cc)
 
-      pub does_final : (s : SeqSection) → b ≡ begun.Final s → of' ≡ record { waiting = None; innermost = Some t.cell } → row'.run ≡ Some (record { run = record { party = p; want = t.want; outer = of.innermost }; section = s }) → IsTook held place m v p t taken.Runs g v'
+      does_final : (s : SeqSection) → b ≡ begun.Final s → of' ≡ record { waiting = None; innermost = Some t.cell } → row'.run ≡ Some (record { run = record { party = p; want = t.want; outer = of.innermost }; section = s }) → IsTook held place m v p t taken.Runs g v'
       does_final s e o run =
           let d = final_began s e in
           let tells = told_as d (begun.Final s) e in
@@ -619,6 +618,34 @@ module _ {L : Type 0} (held : L → Holders) (place : L → LockerKind) where
           (subst (λ w. IsExit (length v.cells.items) (record m { registry = registry_asked t.cell w m }) v'.exit) (sym turn) (exit_still (ap is_run e)))
           (running ∙ ap (λ x. running_after x row.seq.running) e ∙ here.runner ∙ ap runner_of (none_runs t.cell m.sections (let z = was_none d (ap (wrote _) e) in omega (arith, z))) ∙ sym (ap (λ w. if is_turn w then None else Some p) turn))
           (tells.0 ∙ (λ i. section_by who (ask_of (here.planned i) t.want).want (here.locked.phase_is i) write_ticket) ∙ ap (λ w. section_by who (ask_of x t.want).want (stays_in x w m.registry.is_open y.phase) write_ticket) (sym turn)) (cyclic_as (begun.Final s) e) (told_met (ap is_turned_back e) taken.Runs (ap taken_of e)) o run
+
+      -- no section ran where one is opened
+      pub none_before : opens_section b ≡ true → row.run ≡ None
+      none_before e = by b refl e
+        where
+          by : (z : Begun) → b ≡ z → opens_section z ≡ true → row.run ≡ None
+          by (begun.Run s) f e = none_before_run s f
+          by (begun.Final s) f e = none_before_final s f
+          by (begun.Wait way) f e = absurd (cc)
+          by begun.Missed f e = absurd (cc)
+          by begun.Cyclic f e = absurd (cc)
+          by (begun.Nothing q) f e = absurd (cc)
+          by (begun.Read l q) f e = absurd (cc)
+          by (begun.Write l q) f e = absurd (cc)
+
+      -- all of it
+      pub does : of' ≡ party_after t b of → row'.run ≡ run_after p t of b row.run → IsTook held place m v p t (taken_of b) g v'
+      does o run = by b refl o run
+        where
+          by : (z : Begun) → b ≡ z → of' ≡ party_after t z of → row'.run ≡ run_after p t of z row.run → IsTook held place m v p t (taken_of z) g v'
+          by (begun.Wait way) e o run = does_wait way e o run
+          by begun.Missed e o run = does_missed e
+          by begun.Cyclic e o run = does_cyclic e o run
+          by (begun.Nothing q) e o run = does_nothing q e o run
+          by (begun.Read l q) e o run = does_read l q e o run
+          by (begun.Write l q) e o run = does_write l q e o run
+          by (begun.Run s) e o run = does_run s e o run
+          by (begun.Final s) e o run = does_final s e o run
 
 -- what the code reads of the cell
 module _ {L : Type 0} (held : L → Holders) (place : L → LockerKind) (m : Standing) (v : Rows L) (p : ℕ) (t : Target) (waits : Bool) (is : IsAttempting held place m v p t waits) (row : CellRow L) (row_is : row ≡ get_or v.cells.items t.cell row) where
