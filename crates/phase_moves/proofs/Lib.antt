@@ -23,7 +23,10 @@ pub mod Finalizing
 pub mod Attempts
 pub mod Parking
 pub mod Asked
+pub mod OpeningRuns
 pub mod Took
+pub mod Arms
+pub mod Trying
 -- The exit, and the end
 pub mod Exiting
 pub mod Closing

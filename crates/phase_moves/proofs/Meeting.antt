@@ -1,13 +1,11 @@
 -- What an attempt took is the answer that is due of what it met, and what it gave it may give.
-use Rattle.std.proofs.Common.{◌≡◌, ◌≢◌, ◌<◌, ◌≤◌, ◌+◌, ◌^◌, ◌∙◌, ℕ, List, [], ◌∷◌, length, ap, sym, subst, refl, arith, Bool, true, false, None, Some, inl, inr, not, ◌&&◌, ◌||◌}
+use Rattle.std.proofs.Common.{◌≡◌, ◌≢◌, ◌<◌, ◌+◌, ◌^◌, ◌∙◌, ℕ, List, length, ap, sym, subst, refl, arith, Bool, true, false, None, Some, inl, inr, ◌&&◌, ◌||◌}
 use Rattle.std.proofs.lemmas.Bool.{cases_lt}
-use Rattle.std.specs.Prelude.{◌⊎◌, MatchBool, if◌then◌else◌, nat_lt, ◌==◌}
+use Rattle.std.specs.Prelude.{◌⊎◌, MatchBool, if◌then◌else◌, nat_lt}
 use Rattle.std.specs.List.{find}
 use Rattle.std.specs.declared.option.Option.{Option}
 use Rattle.phase_bits.specs.declared.phase.Phase.{Phase}
 use Rattle.phase_bits.specs.declared.holders.Holders.{Holders}
-use Rattle.phase_bits.specs.Flags.{has, initialized}
-use Rattle.phase_bits.specs.Number.{number, phase_of}
 use Rattle.exit_registry.specs.Registry.{Registry}
 use Rattle.phase_locker.specs.declared.ways.Given.{Given}
 use Rattle.phase_locker.specs.declared.ways.Given.TheVariants as given
@@ -20,9 +18,9 @@ use Rattle.phase_locker.specs.declared.ways.Waiting.TheVariants as waiting
 use Rattle.phase_locker.specs.declared.ways.LockerKind.{LockerKind}
 use Rattle.phase_locker.specs.declared.tickets.LockNature.{LockNature}
 use Rattle.phase_locker.specs.declared.tickets.LockNature.TheVariants as nature
-use Rattle.phase_locker.specs.Natures.{bars, got, read_ticket, write_ticket}
-use Rattle.phase_locker.specs.Rows.{Rows as Parking, row_of, freed, left, readers_of, writers_of}
-use Rattle.phase_locker.specs.Fits.{Fits, IsIdle, IsWriteOpen, NobodyParked, is_park, open_reads}
+use Rattle.phase_locker.specs.Natures.{bars, got, write_ticket}
+use Rattle.phase_locker.specs.Rows.{Rows as Parking, row_of, freed, left, writers_of}
+use Rattle.phase_locker.specs.Fits.{IsIdle, NobodyParked, is_park, open_reads}
 use Rattle.phase_locker.specs.Gifts.{MayHand, rows_handed}
 use Rattle.phase_locker.specs.Attempts.{MayWait, given_up, keeps as row_keeps}
 use Rattle.phase_locker.proofs.Holding.{Holds, listed_in}
@@ -34,13 +32,11 @@ use Rattle.phase_seq.specs.declared.section.Section.{Section as SeqSection}
 use Rattle.phase_seq.specs.declared.section.Begun.{Begun}
 use Rattle.phase_seq.specs.declared.section.Begun.TheVariants as begun
 use Rattle.phase_seq.specs.Asks.{asks_run, finalizes, nature_of, wake_of}
-use Rattle.phase_seq.specs.Begins.{begun_of, begun_write, is_cyclic, runs, section_by}
+use Rattle.phase_seq.specs.Begins.{begun_of, begun_write, is_cyclic, section_by}
 use Rattle.phase_seq.specs.Exactly.{is_run}
-use Rattle.phase_seq.specs.Phases.{flags_refused, refused, unregistered}
+use Rattle.phase_seq.specs.Phases.{unregistered}
 use Rattle.phase_seq.specs.Registers.{is_refused}
-use Rattle.schedule_rules.specs.declared.line.Answer.{Answer}
 use Rattle.schedule_rules.specs.declared.line.Answer.TheVariants as answer
-use Rattle.schedule_rules.specs.declared.plan.Call.{Call}
 use Rattle.schedule_rules.specs.declared.plan.Call.TheVariants as call
 use Rattle.schedule_rules.specs.declared.plan.CellPlan.{CellPlan}
 use Rattle.schedule_rules.specs.declared.plan.Place.{Place}
@@ -50,24 +46,21 @@ use Rattle.schedule_rules.specs.declared.step.Want.TheVariants.{Calls, Turns}
 use Rattle.schedule_rules.specs.Answers.{answer_admitted, answer_barred, answer_of_attempt, drains_by, way_at, way_parked}
 use Rattle.schedule_rules.specs.Calls.{initializes, lock_wanted, wakes_as}
 use Rattle.schedule_rules.specs.Changes.{Content}
-use Rattle.schedule_rules.specs.Gifts.{reaches}
 use Rattle.schedule_rules.specs.History.{count}
-use Rattle.schedule_rules.specs.Holds.{Holding, has_own, is_barred, keeps}
+use Rattle.schedule_rules.specs.Holds.{has_own, is_barred, keeps}
 use Rattle.schedule_rules.specs.Kinds.{cell_at, is_parking, tolerance_of}
 use Rattle.schedule_rules.specs.Legal.{First, Last}
-use Rattle.schedule_rules.specs.Phases.{runs_generator}
-use Rattle.schedule_rules.specs.Sections.{Section, generates_for, is_turn, runs_in}
-use Rattle.schedule_rules.specs.Waits.{Wait, drains_on, is_drain, shares_read, shares_write, wait_of, without_wait}
+use Rattle.schedule_rules.specs.Sections.{generates_for, runs_in}
+use Rattle.schedule_rules.specs.Waits.{Wait, drains_on, is_drain, wait_of, without_wait}
 use Rattle.waiting_rows.specs.Given.{IsListed, given_on}
-use Rattle.waiting_rows.specs.Shown.{Shows, wait_row, waiting_of}
+use Rattle.waiting_rows.specs.Shown.{wait_row, waiting_of}
 use Rattle.waiting_rows.proofs.GivenOn.{listed_hand, listed_share, reaches_given}
 use Rattle.waiting_rows.proofs.RowCounts.{claims_shown, shares_shown}
-use Rattle.phase_moves.specs.declared.rows.Taken.{Taken}
 use Rattle.phase_moves.specs.declared.rows.Taken.TheVariants as taken
 use Rattle.phase_moves.specs.declared.rows.Target.{Target}
 use Rattle.phase_moves.specs.Calls.{registry_for}
-use Rattle.phase_moves.specs.Meets.{IsOf, is_read, GivesDown, GivesFirst, GivesLast, IsMet, IsReaching, answer_taken, declines_in, holding_in, keeps_in, meets, readers_in, writers_in}
-use Rattle.phase_moves.specs.Standing.{Standing, Run, reads_in, run_in, runner_of, writes_in}
+use Rattle.phase_moves.specs.Meets.{IsOf, is_read, GivesFirst, GivesLast, IsMet, IsReaching, answer_taken, declines_in, holding_in, keeps_in, meets, readers_in, writers_in}
+use Rattle.phase_moves.specs.Standing.{Standing, reads_in, run_in, runner_of, writes_in}
 use Rattle.phase_moves.specs.Stands.{AreShown, IsLocked, kind_at, want_of}
 use Rattle.phase_moves.specs.Tries.{ask_of, taken_of}
 use Rattle.phase_moves.proofs.Asked.{declined, declines_same}

@@ -2,7 +2,8 @@ use Rattle.std.proofs.Common.{refl, sym, ap}
 use Rattle.std.specs.Vec.{with_item}
 use Rattle.phase_seq.specs.declared.ask.Ask.{Ask}
 use Rattle.phase_moves.proofs.Places.{set_there}
-use Rattle.phase_moves.proofs.Took.{call_fits, may_call, may_register, does, none_before}
+use Rattle.phase_moves.proofs.Arms.{does, none_before}
+use Rattle.phase_moves.proofs.Trying.{call_fits, may_call, may_register}
 use Rattle.phase_moves.proofs.rows.Rows.attempt.Goals as goal
 
 pub call-begun-requires-clause-calls : goal.call-begun-requires-clause-calls
