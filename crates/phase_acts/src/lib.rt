@@ -3,9 +3,12 @@
 //! which follow a legal history follow the longer one.
 #![tactic(auto)]
 
+mod attempts;
 mod guards;
 mod line;
+mod exit;
 mod machine;
+mod perform;
 mod sections;
 mod settle;
 mod values;
