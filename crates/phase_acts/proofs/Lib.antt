@@ -11,6 +11,7 @@ pub mod Lines
 -- The acts on guards
 pub mod Holding
 pub mod Ending
+pub mod Exiting
 pub mod Releasing
 pub mod Looking
 pub mod Downgrading

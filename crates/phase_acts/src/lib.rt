@@ -4,6 +4,7 @@
 #![tactic(auto)]
 
 mod attempts;
+mod exit;
 mod guards;
 mod line;
 mod exit;
