@@ -7,7 +7,6 @@ mod attempts;
 mod exit;
 mod guards;
 mod line;
-mod exit;
 mod machine;
 mod perform;
 mod sections;
