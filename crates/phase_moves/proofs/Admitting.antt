@@ -1,93 +1,44 @@
 -- What an attempt took that is admitted is the answer that is due.
-use Rattle.std.proofs.Common.{◌≡◌, ◌≢◌, ◌<◌, ◌≤◌, ◌+◌, ◌^◌, ◌∙◌, ℕ, List, [], ◌∷◌, length, ap, sym, subst, refl, arith, Bool, true, false, None, Some, inl, inr, not, ◌&&◌}
-use Rattle.std.proofs.lemmas.Bool.{cases_lt}
-use Rattle.std.specs.Prelude.{◌⊎◌, MatchBool, if◌then◌else◌, nat_lt, ◌==◌}
+use Rattle.std.proofs.Common.{◌≡◌, ◌≢◌, ◌∙◌, ℕ, List, [], ◌∷◌, ap, sym, subst, refl, Bool, true, false, None, Some, not, ◌&&◌}
+use Rattle.std.specs.Prelude.{if◌then◌else◌, ◌==◌}
 use Rattle.std.specs.List.{find}
 use Rattle.std.specs.declared.option.Option.{Option}
 use Rattle.phase_bits.specs.declared.phase.Phase.{Phase}
-use Rattle.phase_bits.specs.declared.holders.Holders.{Holders}
 use Rattle.phase_bits.specs.Flags.{has, initialized}
-use Rattle.phase_bits.specs.Number.{number, phase_of}
+use Rattle.phase_bits.specs.Number.{phase_of}
 use Rattle.exit_registry.specs.Registry.{Registry}
 use Rattle.phase_locker.specs.declared.ways.Given.{Given}
-use Rattle.phase_locker.specs.declared.ways.Given.TheVariants as given
-use Rattle.phase_locker.specs.declared.ways.How.{How}
-use Rattle.phase_locker.specs.declared.ways.How.TheVariants as how
-use Rattle.phase_locker.specs.declared.ways.Row.{Row}
 use Rattle.phase_locker.specs.declared.ways.Who.{Who}
-use Rattle.phase_locker.specs.declared.ways.Waiting.{Waiting}
-use Rattle.phase_locker.specs.declared.ways.Waiting.TheVariants as waiting
-use Rattle.phase_locker.specs.declared.ways.LockerKind.{LockerKind}
-use Rattle.phase_locker.specs.declared.tickets.LockNature.{LockNature}
 use Rattle.phase_locker.specs.declared.tickets.LockNature.TheVariants as nature
-use Rattle.phase_locker.specs.Natures.{bars, got, read_ticket, write_ticket}
-use Rattle.phase_locker.specs.Rows.{Rows as Parking, row_of, freed, left, readers_of, writers_of}
-use Rattle.phase_locker.specs.Fits.{Fits, IsIdle, IsWriteOpen, NobodyParked, is_park, open_reads}
-use Rattle.phase_locker.specs.Gifts.{MayHand, rows_handed}
-use Rattle.phase_locker.specs.Attempts.{given_up, keeps as row_keeps}
-use Rattle.phase_locker.proofs.Holding.{Holds, listed_in}
-use Rattle.phase_locker.proofs.Keeping.{gives_up_freed, still_empty}
-use Rattle.phase_locker.proofs.Standing.{given_up_reads, left_writes}
-use Rattle.phase_seq.specs.declared.ask.Ask.{Ask}
+use Rattle.phase_locker.specs.Natures.{got, read_ticket, write_ticket}
 use Rattle.phase_seq.specs.declared.ask.Want.TheVariants as want
 use Rattle.phase_seq.specs.declared.section.Section.{Section as SeqSection}
 use Rattle.phase_seq.specs.declared.section.Begun.{Begun}
 use Rattle.phase_seq.specs.declared.section.Begun.TheVariants as begun
 use Rattle.phase_seq.specs.Asks.{asks_run, nature_of, shall_init, wake_of}
 use Rattle.phase_seq.specs.Begins.{begun_of, begun_write, is_cyclic, runs, section_by}
-use Rattle.phase_seq.specs.Exactly.{is_run}
 use Rattle.phase_seq.specs.Phases.{flags_refused, refused, unregistered}
 use Rattle.phase_seq.specs.Registers.{is_refused}
-use Rattle.schedule_rules.specs.declared.line.Answer.{Answer}
 use Rattle.schedule_rules.specs.declared.line.Answer.TheVariants as answer
 use Rattle.schedule_rules.specs.declared.plan.Call.{Call}
 use Rattle.schedule_rules.specs.declared.plan.Call.TheVariants as call
 use Rattle.schedule_rules.specs.declared.plan.CellPlan.{CellPlan}
-use Rattle.schedule_rules.specs.declared.plan.Place.{Place}
-use Rattle.schedule_rules.specs.declared.plan.Place.TheVariants as place_of
 use Rattle.schedule_rules.specs.declared.step.Want.{Want}
 use Rattle.schedule_rules.specs.declared.step.Want.TheVariants.{Calls, Turns}
-use Rattle.schedule_rules.specs.Answers.{answer_admitted, answer_barred, answer_locked, answer_of_run, call_answer_admitted, answer_of_attempt, drains_by, way_parked}
+use Rattle.schedule_rules.specs.Answers.{answer_admitted, answer_locked, answer_of_run, call_answer_admitted}
 use Rattle.schedule_rules.specs.Calls.{asks, initializes, lock_wanted, wakes_as}
 use Rattle.schedule_rules.specs.Changes.{Content}
-use Rattle.schedule_rules.specs.Gifts.{reaches}
-use Rattle.schedule_rules.specs.History.{count}
-use Rattle.schedule_rules.specs.Holds.{Holding, has_own, is_barred, keeps}
-use Rattle.schedule_rules.specs.Kinds.{cell_at, is_parking, tolerance_of}
-use Rattle.schedule_rules.specs.Legal.{First, Last}
+use Rattle.schedule_rules.specs.Kinds.{tolerance_of}
 use Rattle.schedule_rules.specs.Phases.{runs_generator}
 use Rattle.schedule_rules.specs.Sections.{Section, generates_for, is_turn, runs_in}
-use Rattle.schedule_rules.specs.Waits.{Wait, drains_on, is_drain, shares_read, shares_write, wait_of, without_wait}
-use Rattle.waiting_rows.specs.Given.{IsListed, given_on}
-use Rattle.waiting_rows.specs.Shown.{Shows, wait_row, waiting_of}
-use Rattle.waiting_rows.proofs.GivenOn.{listed_hand, listed_share, reaches_given}
-use Rattle.waiting_rows.proofs.RowCounts.{claims_shown, shares_shown}
-use Rattle.phase_moves.specs.declared.rows.Taken.{Taken}
-use Rattle.phase_moves.specs.declared.rows.Taken.TheVariants as taken
-use Rattle.phase_moves.specs.declared.rows.Target.{Target}
 use Rattle.phase_moves.specs.Calls.{registry_for}
-use Rattle.phase_moves.specs.Meets.{IsOf, GivesDown, GivesFirst, GivesLast, IsMet, IsReaching, answer_taken, declines_in, holding_in, keeps_in, meets, readers_in}
-use Rattle.phase_moves.specs.Standing.{Standing, Run, reads_in, run_in, runner_of, writes_in}
-use Rattle.phase_moves.specs.Stands.{AreShown, IsLocked, kind_at, want_of}
-use Rattle.phase_moves.specs.Tries.{ask_of}
+use Rattle.phase_moves.specs.Meets.{IsOf, answer_taken}
+use Rattle.phase_moves.specs.Standing.{run_in, runner_of}
+use Rattle.phase_moves.specs.Stands.{want_of}
+use Rattle.phase_moves.specs.Tries.{ask_of, taken_of}
 use Rattle.phase_moves.proofs.Asked.{refuses_same}
 use Rattle.phase_moves.proofs.Attempts.{stays_asked}
-use Rattle.phase_moves.proofs.Barring.{barred_same, locked_same, readers_same, row_kept, way_due}
-use Rattle.phase_moves.proofs.Giving.{idle_at}
-use Rattle.phase_moves.proofs.Judged.{IsJudged, IsKept, IsWaiting}
-use Rattle.phase_moves.proofs.Parking.{shown_called}
-use Rattle.phase_moves.proofs.Settling.{IsDeclined, IsSettled, begun_declined, begun_settled}
-
--- what the code takes of what was begun
-abbrev pub taken_of : Begun → Taken
-taken_of (begun.Wait way) = taken.Wait way
-taken_of begun.Missed = taken.Cyclic
-taken_of begun.Cyclic = taken.Cyclic
-taken_of (begun.Nothing q) = taken.Nothing q
-taken_of (begun.Read t q) = taken.Read t q
-taken_of (begun.Write t q) = taken.Write t q
-taken_of (begun.Run o) = taken.Runs
-taken_of (begun.Final o) = taken.Runs
+use Rattle.phase_moves.proofs.Settling.{begun_settled}
 
 -- ---- the three answers of an attempt
 

@@ -27,7 +27,7 @@ use Rattle.phase_moves.specs.declared.rows.GuardRow.TheVariants as guard
 use Rattle.phase_moves.specs.declared.rows.OpenRun.{OpenRun}
 use Rattle.phase_moves.specs.declared.rows.Rows.{Rows}
 use Rattle.phase_moves.specs.Standing.{Run, Standing, left, run_in, runner_of}
-use Rattle.phase_moves.specs.Stands.{IsCell, Stands, guard_row, open_run, section_of, seen_at, slot_row, stays_in}
+use Rattle.phase_moves.specs.Stands.{IsCell, Stands, guard_row, open_run, section_of, seen_at, slot_row}
 use Rattle.phase_moves.specs.Moves.{Rests, LeavesRead, LeavesWrite, MayLeaveRead, MayLeaveWrite, IsReader, IsWriter}
 use Rattle.phase_moves.specs.Closing.{AreClosing, CanClose, IsClosing, IsOpenRun, IsPopped, RunsFor, StayBeside}
 use Rattle.phase_moves.proofs.Ending.{asked_run}

@@ -20,7 +20,7 @@ use Rattle.phase_locker.specs.declared.tickets.Attempt.{Attempt}
 use Rattle.phase_locker.specs.Natures.{bars, admitted, got}
 use Rattle.phase_locker.specs.Rows.{Rows as Parking, IsSound, row_of, free_row, freed, left, is_drain, readers_of}
 use Rattle.phase_locker.specs.Fits.{Fits, IsWriteOpen, flagged, open_reads}
-use Rattle.phase_locker.specs.Gifts.{MayHand, held_handed, rows_handed}
+use Rattle.phase_locker.specs.Gifts.{MayHand, rows_handed}
 use Rattle.phase_locker.specs.Attempts.{Judged, Waits, Gets, Keeps, GivesUp, MayWait, held_waiting, given_up, keeps}
 use Rattle.phase_locker.proofs.Holding.{hands_fit}
 use Rattle.phase_locker.proofs.Judging.{by_bool}

@@ -21,9 +21,13 @@ pub mod Ending
 pub mod Finalizing
 -- An attempt
 pub mod Attempts
+pub mod Answered
 pub mod Parking
 pub mod Asked
+pub mod OpeningRuns
 pub mod Took
+pub mod Arms
+pub mod Trying
 -- The exit, and the end
 pub mod Exiting
 pub mod Closing
@@ -39,4 +43,5 @@ pub mod Judged
 pub mod Settling
 pub mod Barring
 pub mod Admitting
+pub mod GivenUp
 pub mod Meeting
