@@ -1,5 +1,5 @@
 -- One more read guard beside another.
-use Rattle.std.proofs.Common.{◌≡◌, ◌≤◌, ◌∙◌, ◌+◌, ◌<◌, ℕ, List, ◌∷◌, length, ap, sym, subst, refl, arith, Bool, true, false, None, Some, inl, inr}
+use Rattle.std.proofs.Common.{◌≡◌, ◌∙◌, ◌+◌, ◌<◌, ℕ, List, length, ap, sym, subst, refl, arith, Bool, true, false, None, Some, inl, inr}
 use Rattle.std.proofs.lemmas.Bool.{cases_lt}
 use Rattle.std.specs.Prelude.{◌==◌, nat_lt, if◌then◌else◌}
 use Rattle.std.specs.declared.option.Option.{Option}
@@ -13,19 +13,19 @@ use Rattle.schedule_rules.specs.declared.line.Line.{Line}
 use Rattle.schedule_rules.specs.declared.line.Refusal.TheVariants as refused
 use Rattle.schedule_rules.specs.declared.plan.CellPlan.{CellPlan}
 use Rattle.schedule_rules.specs.declared.step.Act.TheVariants as act
-use Rattle.schedule_rules.specs.Calls.{Reads}
+use Rattle.phase_locker.specs.declared.tickets.LockNature.TheVariants as nature
 use Rattle.schedule_rules.specs.Due.{due_clone}
 use Rattle.schedule_rules.specs.History.{Event, count}
 use Rattle.schedule_rules.specs.Guards.{Guard, guards, guard_of, numbered}
 use Rattle.schedule_rules.specs.Holds.{holding_with, is_barred, reads_cell}
 use Rattle.schedule_rules.specs.Refusals.{refusal, no_reader, writes_of}
-use Rattle.schedule_rules.specs.Waits.{Wait, waits, other_waits, shares_read, shares_write, drains_on}
+use Rattle.schedule_rules.specs.Waits.{waits, other_waits, shares_read, shares_write, drains_on}
 use Rattle.schedule_rules.proofs.Found.{found_counts}
 use Rattle.phase_moves.specs.declared.look_up.Held.{Held}
 use Rattle.phase_moves.specs.declared.rows.GuardRow.TheVariants as guard
 use Rattle.phase_moves.specs.declared.rows.Rows.{Rows}
 use Rattle.phase_moves.specs.Histories.{standing}
-use Rattle.phase_moves.specs.Moves.{Clones, ClonesAs, IsFull, IsOpenReader, KeptGuards, KeptWith, MayClone, Pushes, Rests}
+use Rattle.phase_moves.specs.Moves.{Clones, ClonesAs, IsFull, IsOpenReader, KeptGuards, KeptWith, MayClone, Pushes}
 use Rattle.phase_moves.specs.Reading.{HoldsBy}
 use Rattle.phase_moves.specs.Standing.{Standing, cloned, reads_in, writes_in}
 use Rattle.phase_moves.specs.Stands.{Stands, Seen}
@@ -46,13 +46,13 @@ use Rattle.phase_acts.proofs.Releasing.{found_of}
 use Rattle.phase_acts.proofs.Stepping.{stepped}
 
 -- readers at their limit bar a reader
-full_bars : (w d : Bool) (r : ℕ) → r ≡ most_readers → is_barred (Some Reads) (record { readers = r; written = w; drained = d }) ≡ true
+full_bars : (w d : Bool) (r : ℕ) → r ≡ most_readers → is_barred nature.Read (record { readers = r; written = w; drained = d }) ≡ true
 full_bars true d r e = refl
 full_bars false true r e = grind (arith, e)
 full_bars false false r e = grind (arith, e)
 
 -- one more reader is not barred beside another, where nothing writes and the limit is not reached
-beside_reader : (w r : ℕ) (d : Bool) → w ≡ 0 → 0 < r → r < most_readers → is_barred (Some Reads) (record { readers = r; written = nat_lt 0 w; drained = d }) ≡ false
+beside_reader : (w r : ℕ) (d : Bool) → w ≡ 0 → 0 < r → r < most_readers → is_barred nature.Read (record { readers = r; written = nat_lt 0 w; drained = d }) ≡ false
 beside_reader w r true none some less = grind (arith, none, some, less)
 beside_reader w r false none some less = grind (arith, none, some, less)
 
@@ -87,8 +87,8 @@ module _ {L : Type 0} (held : L → Holders) (place : L → LockerKind) (old : R
       free : refusal cells h (step_of p (act.Clone g)) ≡ None
       free = refusal_is ∙ ap (λ b. no_reader (Some b)) w
 
-      due_is : (b : Bool) (a : _) → is_barred (Some Reads) (holding_with f.x.cell h (waits cells h)) ≡ b → (if b then answer.Borrowed else answer.ReadGuard) ≡ a → due_clone cells h (other_waits cells h (step_of p (act.Clone g))) (numbered g (guards h)) ≡ a
-      due_is b a barred e' = ap (due_clone cells h (other_waits cells h (step_of p (act.Clone g)))) is_open_reader.found ∙ ap (λ ws. if is_barred (Some Reads) (holding_with f.x.cell h ws) then answer.Borrowed else answer.ReadGuard) (others_all cells h p is.awake (act.Clone g)) ∙ ap (λ c. if c then answer.Borrowed else answer.ReadGuard) barred ∙ e'
+      due_is : (b : Bool) (a : _) → is_barred nature.Read (holding_with f.x.cell h (waits cells h)) ≡ b → (if b then answer.Borrowed else answer.ReadGuard) ≡ a → due_clone cells h (other_waits cells h (step_of p (act.Clone g))) (numbered g (guards h)) ≡ a
+      due_is b a barred e' = ap (due_clone cells h (other_waits cells h (step_of p (act.Clone g)))) is_open_reader.found ∙ ap (λ ws. if is_barred nature.Read (holding_with f.x.cell h ws) then answer.Borrowed else answer.ReadGuard) (others_all cells h p is.awake (act.Clone g)) ∙ ap (λ c. if c then answer.Borrowed else answer.ReadGuard) barred ∙ e'
 
       module _ (mid new : Rows L) (result : Option ReadTicket) (clones : Clones held place old g y.cell result mid) (between : KeptGuards old mid) (last : KeptWith 1 mid new) (line : Line) where
         all_kept : KeptWith 1 old new

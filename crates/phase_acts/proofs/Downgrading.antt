@@ -1,5 +1,5 @@
 -- A write guard is given back, and its holder reads on.
-use Rattle.std.proofs.Common.{◌≡◌, ◌≢◌, ◌≤◌, ◌∙◌, ◌+◌, ◌<◌, ℕ, List, ◌∷◌, length, ap, sym, subst, refl, arith, Bool, true, false, None, Some}
+use Rattle.std.proofs.Common.{◌≡◌, ◌≢◌, ◌∙◌, ℕ, List, length, ap, sym, subst, refl, arith, true, false, None, Some}
 use Rattle.std.specs.declared.option.Option.{Option}
 use Rattle.phase_bits.specs.declared.phase.Phase.{Phase}
 use Rattle.phase_bits.specs.declared.holders.Holders.{Holders}
@@ -12,7 +12,6 @@ use Rattle.schedule_rules.specs.declared.line.Answer.TheVariants as answer
 use Rattle.schedule_rules.specs.declared.line.Line.{Line}
 use Rattle.schedule_rules.specs.declared.line.Refusal.TheVariants as refused
 use Rattle.schedule_rules.specs.declared.plan.CellPlan.{CellPlan}
-use Rattle.schedule_rules.specs.declared.step.Act.{Act}
 use Rattle.schedule_rules.specs.declared.step.Act.TheVariants as act
 use Rattle.schedule_rules.specs.History.{Event}
 use Rattle.schedule_rules.specs.Guards.{Guard, guards, guard_of, numbered, own, without_guard}
@@ -26,7 +25,7 @@ use Rattle.phase_moves.specs.declared.rows.GuardRow.TheVariants as guard
 use Rattle.phase_moves.specs.declared.rows.Rows.{Rows}
 use Rattle.phase_moves.specs.Gifts.{GivesDown}
 use Rattle.phase_moves.specs.Histories.{standing}
-use Rattle.phase_moves.specs.Moves.{Downgrades, KeptGuards, KeptWith, MayDowngrade, Pushes, Rests, Takes}
+use Rattle.phase_moves.specs.Moves.{Downgrades, KeptGuards, KeptWith, MayDowngrade, Pushes, Takes}
 use Rattle.phase_moves.specs.Reading.{HoldsBy}
 use Rattle.phase_moves.specs.Standing.{Standing, downgraded, left}
 use Rattle.phase_moves.specs.Stands.{Stands}
@@ -38,7 +37,7 @@ use Rattle.phase_acts.proofs.Keeping.{guards_with, none_with}
 use Rattle.phase_acts.proofs.Lines.{legal_last, refusal_awake, gave_down}
 use Rattle.phase_acts.proofs.Looking.{has_none, has}
 use Rattle.phase_acts.proofs.Pushing.{pushed_reader}
-use Rattle.phase_acts.proofs.Releasing.{HasWriter, HasReader, has_writer, has_reader, found_of, no_guard_of}
+use Rattle.phase_acts.proofs.Releasing.{HasWriter, has_writer, has_reader, found_of, no_guard_of}
 use Rattle.phase_acts.proofs.Stepping.{stepped}
 
 -- a party's guard is its own

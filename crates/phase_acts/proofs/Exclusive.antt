@@ -27,7 +27,7 @@ use Rattle.phase_moves.specs.declared.rows.CellRow.{CellRow}
 use Rattle.phase_moves.specs.declared.rows.Rows.{Rows}
 use Rattle.phase_moves.specs.Histories.{standing}
 use Rattle.phase_moves.specs.Standing.{Standing, reads_in, writes_in}
-use Rattle.phase_moves.specs.Stands.{Stands, IsLocked, AreInside, seen_at}
+use Rattle.phase_moves.specs.Stands.{Stands, IsLocked, AreInside}
 
 -- what stands on a cell excludes each other
 pub record Excludes (m : Standing) (c : ℕ) : Type 0 where
@@ -174,7 +174,7 @@ module _ {L : Type 0} (held : L → Holders) (place : L → LockerKind) (hand : 
         one_writer = one_writes c m.waits v.parks t.waits.single t.waits.shows _ _ _ _ _ l;
         no_reader = λ some. (let none = (all some).1 in omega (arith, none, readers));
         no_drain = λ some. (all some).0;
-        limit = ?;
+        limit = (let most = l.limit in omega (arith, most, readers));
       }
 
   no_guard : (f : Guard → Bool) → ((x : Guard) → f x ≡ true → x.cell ≡ c) → length v.cells.items ≤ c → count f m.guards ≡ 0

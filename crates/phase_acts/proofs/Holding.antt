@@ -1,5 +1,5 @@
 -- Which guard a party has, by what it sees.
-use Rattle.std.proofs.Common.{◌≡◌, ◌∙◌, ◌+◌, ℕ, List, ◌∷◌, ap, sym, subst, refl, Bool, true, false, None, Some}
+use Rattle.std.proofs.Common.{◌≡◌, ap, refl, Bool, true, false, None, Some}
 use Rattle.std.specs.Prelude.{not, if◌then◌else◌}
 use Rattle.std.specs.declared.option.Option.{Option}
 use Rattle.schedule_rules.specs.Guards.{Guard}

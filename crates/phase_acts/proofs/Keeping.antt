@@ -1,5 +1,5 @@
 -- What several moves in a row keep.
-use Rattle.std.proofs.Common.{◌≡◌, ◌∙◌, ◌+◌, ℕ, length, ap, refl, arith}
+use Rattle.std.proofs.Common.{◌≡◌, ◌∙◌, ◌+◌, ◌<◌, ℕ, length, ap, arith}
 use Rattle.std.specs.Prelude.{vec_capacity}
 use Rattle.phase_moves.specs.declared.rows.Rows.{Rows}
 use Rattle.phase_moves.specs.Moves.{Kept, KeptGuards, KeptWith}
@@ -19,6 +19,13 @@ module _ {L : Type 0} (a b c : Rows L) where
         guards = y.guards ∙ ap (λ (v : _). length v.items + n) x.guards;
         room = y.room ∙ ap (λ (v : _). vec_capacity v) x.guards;
       }
+
+  -- there is room for a row still
+  pub guards_room : KeptGuards a b → length a.guards.items < vec_capacity a.guards → length b.guards.items < vec_capacity b.guards
+  guards_room x lt =
+      let e : length b.guards.items ≡ length a.guards.items = ap (λ (v : _). length v.items) x.guards in
+      let f : vec_capacity b.guards ≡ vec_capacity a.guards = ap (λ (v : _). vec_capacity v) x.guards in
+      omega (arith, lt, e, f)
 
   -- a guard is taken, and then a row is pushed
   pub none_with : (n : ℕ) → KeptWith 0 a b → KeptWith n b c → KeptWith n a c

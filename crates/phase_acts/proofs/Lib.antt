@@ -10,9 +10,15 @@ pub mod Trying
 pub mod Lines
 -- The acts on guards
 pub mod Holding
+pub mod Ending
 pub mod Releasing
 pub mod Looking
 pub mod Downgrading
 pub mod Cloning
 -- Attempts
 pub mod Settling
+pub mod Taking
+pub mod Tried
+pub mod TriedLegal
+pub mod Attempting
+pub mod Causes

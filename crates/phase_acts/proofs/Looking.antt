@@ -1,5 +1,5 @@
 -- A look at what the holder of a guard sees, and a value that it sets.
-use Rattle.std.proofs.Common.{◌≡◌, ◌∙◌, ◌+◌, ℕ, List, ◌∷◌, length, ap, sym, subst, refl, Bool, true, false, None, Some}
+use Rattle.std.proofs.Common.{◌≡◌, ◌∙◌, ℕ, List, length, ap, sym, subst, refl, Bool, true, false, None, Some}
 use Rattle.std.specs.Prelude.{if◌then◌else◌}
 use Rattle.std.specs.Option.{unwrap_or}
 use Rattle.std.specs.declared.option.Option.{Option}
@@ -13,7 +13,6 @@ use Rattle.schedule_rules.specs.declared.plan.CellPlan.{CellPlan}
 use Rattle.schedule_rules.specs.declared.step.Act.{Act}
 use Rattle.schedule_rules.specs.declared.step.Act.TheVariants as act
 use Rattle.schedule_rules.specs.Answers.{answer_of_value}
-use Rattle.schedule_rules.specs.Changes.{Content}
 use Rattle.schedule_rules.specs.Due.{due_look}
 use Rattle.schedule_rules.specs.History.{Event}
 use Rattle.schedule_rules.specs.Guards.{Guard, guards, guard_of, numbered}
@@ -25,9 +24,9 @@ use Rattle.phase_moves.specs.declared.look_up.Held.{Held}
 use Rattle.phase_moves.specs.declared.rows.GuardRow.TheVariants as guard
 use Rattle.phase_moves.specs.declared.rows.Rows.{Rows}
 use Rattle.phase_moves.specs.Histories.{standing}
-use Rattle.phase_moves.specs.Moves.{IsOpenWriter, KeptWith, MaySet, Pushes, Rests, Sets}
+use Rattle.phase_moves.specs.Moves.{IsOpenWriter, KeptWith, MaySet, Pushes, Sets}
 use Rattle.phase_moves.specs.Reading.{HoldsBy}
-use Rattle.phase_moves.specs.Standing.{Standing, seen_by, put}
+use Rattle.phase_moves.specs.Standing.{seen_by, put}
 use Rattle.phase_moves.proofs.Hand.{pushed_free}
 use Rattle.phase_moves.proofs.HistoryExits.{look_stays, set_puts}
 use Rattle.phase_acts.specs.Steps.{IsAwake, HasStepped, step_of}

@@ -1,5 +1,5 @@
 -- A guard is given back.
-use Rattle.std.proofs.Common.{◌≡◌, ◌∙◌, ◌+◌, ◌<◌, ℕ, List, ◌∷◌, length, ap, sym, subst, refl, arith, Bool, true, false, None, Some}
+use Rattle.std.proofs.Common.{◌≡◌, ◌∙◌, ℕ, List, length, ap, sym, subst, refl, arith, Bool, true, false, None, Some}
 use Rattle.std.specs.Prelude.{◌==◌, if◌then◌else◌}
 use Rattle.std.specs.declared.option.Option.{Option}
 use Rattle.phase_bits.specs.declared.phase.Phase.{Phase}
@@ -26,11 +26,11 @@ use Rattle.phase_moves.specs.Histories.{standing}
 use Rattle.phase_moves.specs.Moves.{IsReader, IsWriter, TakenAs, Takes, LeavesRead, LeavesWrite, MayLeaveRead, MayLeaveWrite, KeptGuards, KeptWith, Pushes, Rests}
 use Rattle.phase_moves.specs.Standing.{Standing, left}
 use Rattle.phase_moves.specs.Stands.{Stands, guard_row}
-use Rattle.phase_moves.proofs.Hand.{ReadRow, WriteRow, read_row, write_row, pushed_free, left_empty}
+use Rattle.phase_moves.proofs.Hand.{read_row, write_row, pushed_free, left_empty}
 use Rattle.phase_moves.proofs.Histories.{release_left}
 use Rattle.phase_acts.specs.Steps.{IsAwake, IsNext, HasStepped, step_of}
 use Rattle.phase_acts.proofs.Keeping.{none_with, guards_with}
-use Rattle.phase_acts.proofs.Lines.{legal_last, refusal_awake, others_all, gave_freed}
+use Rattle.phase_acts.proofs.Lines.{legal_last, refusal_awake, gave_freed}
 use Rattle.phase_acts.proofs.Stepping.{stepped, still_next}
 
 -- the row of no guard tells that there is none
@@ -115,7 +115,7 @@ module _ {L : Type 0} (held : L → Holders) (place : L → LockerKind) (old mid
   released x mine mid' new d stands empty gave push kept =
       stepped held place cells h old new (step_of p (act.Release g)) is.next (record { answer = answer.Done; given = d }) (left x d m) (release_left cells h p is.awake g x mine d) (pushed_free held place g (left x d m) mid' new stands empty push) kept
       (legal_last cells h (step_of p (act.Release g)) answer.Done d (refusal_awake cells h p is.awake (act.Release g) ∙ ap (λ o. no_guard (writes_of o)) mine) refl
-      (gave_freed cells h p is.awake (act.Release g) answer.Done x.cell (ap cell_of_guard (found_of g p (guards h) x mine)) d (subst (λ z. MayGive x.cell z d) (sym (release_left cells h p is.awake g x mine given.Nobody)) gave) (others_all cells h p is.awake (act.Release g))))
+      (gave_freed cells h p (act.Release g) answer.Done x.cell (ap cell_of_guard (found_of g p (guards h) x mine)) d (subst (λ z. MayGive x.cell z d) (sym (release_left cells h p is.awake g x mine given.Nobody)) gave) refl))
 
   module _ (mid' new : Rows L) (d : Given) (line : Line) (line_is : line ≡ record { answer = answer.Done; given = d }) (between : KeptGuards mid mid') (push : Pushes held place mid' guard.Free new) (last : KeptWith 1 mid' new) where
     abbrev all_kept : KeptWith 1 old new

@@ -1,17 +1,14 @@
 -- What an attempt took is kept, or given back.
-use Rattle.std.proofs.Common.{◌≡◌, ◌∙◌, ◌+◌, ◌<◌, ℕ, List, [], ◌∷◌, length, get_or, ap, sym, subst, refl, arith, Bool, true, false, cond, None, Some}
-use Rattle.std.specs.Prelude.{◌==◌, MatchBool, if◌then◌else◌, slice_get, vec_capacity}
-use Rattle.std.specs.declared.option.Option.{Option}
+use Rattle.std.proofs.Common.{◌≡◌, ◌∙◌, ◌<◌, ℕ, [], ◌∷◌, length, get_or, ap, sym, subst, refl, arith, Bool, true, false, None, Some}
+use Rattle.std.specs.Prelude.{◌==◌, MatchBool, if◌then◌else◌}
 use Rattle.phase_bits.specs.declared.phase.Phase.{Phase}
 use Rattle.phase_bits.specs.declared.holders.Holders.{Holders}
-use Rattle.phase_bits.specs.Number.{phase_of}
 use Rattle.phase_locker.specs.declared.tickets.ReadTicket.{ReadTicket}
 use Rattle.phase_locker.specs.declared.tickets.WriteTicket.{WriteTicket}
 use Rattle.phase_locker.specs.declared.ways.Given.{Given}
 use Rattle.phase_locker.specs.declared.ways.Given.TheVariants as given
 use Rattle.phase_locker.specs.declared.ways.How.{How}
 use Rattle.phase_locker.specs.declared.ways.LockerKind.{LockerKind}
-use Rattle.schedule_rules.specs.declared.line.Answer.{Answer}
 use Rattle.schedule_rules.specs.declared.line.Answer.TheVariants as answer
 use Rattle.schedule_rules.specs.declared.line.Line.{Line}
 use Rattle.schedule_rules.specs.declared.plan.CellPlan.{CellPlan}
@@ -28,15 +25,14 @@ use Rattle.phase_moves.specs.declared.rows.Taken.TheVariants as taken
 use Rattle.phase_moves.specs.declared.rows.Target.{Target}
 use Rattle.phase_moves.specs.Exits.{Skips}
 use Rattle.phase_moves.specs.Gifts.{MayGive, GivesRead, GivesWrite}
-use Rattle.phase_moves.specs.Moves.{IsReader, IsWriter, LeavesRead, LeavesWrite, KeptGuards, MayLeaveRead, MayLeaveWrite, Pushes, Rests}
-use Rattle.phase_moves.specs.Standing.{Standing, took, left, guarded, seen_by, changes_asked, changes_at, writer_asked}
+use Rattle.phase_moves.specs.Moves.{IsReader, IsWriter, LeavesRead, LeavesWrite, MayLeaveRead, MayLeaveWrite, Pushes, Rests}
+use Rattle.phase_moves.specs.Standing.{Standing, took, left, seen_by, changes_asked, changes_at, writer_asked}
 use Rattle.phase_moves.specs.Stands.{Stands}
-use Rattle.phase_moves.specs.Tries.{TellsPhase, phase_asked}
 use Rattle.phase_moves.proofs.Hand.{pushed_free, left_empty}
 use Rattle.phase_moves.proofs.Places.{read_at}
 use Rattle.phase_acts.specs.Steps.{given_first}
-use Rattle.phase_acts.specs.Settles.{IsSettling, IsSettled, MaySettle, is_made, answer_settled, answer_unlocked, settled, GivesSettled}
-use Rattle.phase_acts.proofs.Pushing.{opened_found, pushed_reader, pushed_writer}
+use Rattle.phase_acts.specs.Settles.{IsSettling, IsSettled, is_made, answer_settled, answer_unlocked, settled, GivesSettled}
+use Rattle.phase_acts.proofs.Pushing.{pushed_reader, pushed_writer}
 
 -- what a call was asked leaves the value
 value_asked : (x : CellPlan) (w : Want) (o : Bool) (y : Content) → (effect x (changes_asked x w o y) y).value ≡ y.value

@@ -1,5 +1,5 @@
 -- What stands open after an attempt: of a call or a turn, a first one or one more.
-use Rattle.std.proofs.Common.{◌≡◌, ◌∙◌, ◌+◌, ◌==◌, ℕ, List, [], ◌∷◌, ◌++◌, length, ap, sym, refl, arith, Bool, true, false, None, Some}
+use Rattle.std.proofs.Common.{◌≡◌, ◌∙◌, ◌==◌, ℕ, List, [], ◌∷◌, ◌++◌, length, ap, sym, refl, arith, Bool, true, false, None, Some}
 use Rattle.std.specs.Prelude.{if◌then◌else◌}
 use Rattle.std.specs.declared.option.Option.{Option}
 use Rattle.exit_registry.specs.Registry.{Registry}
@@ -10,7 +10,6 @@ use Rattle.phase_locker.specs.declared.tickets.WriteTicket.{WriteTicket}
 use Rattle.phase_locker.specs.declared.ways.Given.{Given}
 use Rattle.phase_locker.specs.declared.ways.Given.TheVariants as given
 use Rattle.phase_locker.specs.declared.ways.How.{How}
-use Rattle.schedule_rules.specs.declared.line.Answer.{Answer}
 use Rattle.schedule_rules.specs.declared.line.Answer.TheVariants as answer
 use Rattle.schedule_rules.specs.declared.plan.Call.{Call}
 use Rattle.schedule_rules.specs.declared.plan.CellPlan.{CellPlan}
@@ -18,9 +17,10 @@ use Rattle.schedule_rules.specs.declared.step.Act.{Act}
 use Rattle.schedule_rules.specs.declared.step.Act.TheVariants as act
 use Rattle.schedule_rules.specs.declared.step.Want.{Want}
 use Rattle.schedule_rules.specs.declared.step.Want.TheVariants.{Calls, Turns}
-use Rattle.schedule_rules.specs.Changes.{Content, Change, Asked, effect, is_declined}
+use Rattle.schedule_rules.specs.Changes.{Content, Asked, effect, is_declined}
+use Rattle.schedule_rules.specs.Due.{due_answer, due_tried}
 use Rattle.schedule_rules.specs.Exits.{registry, registry_taken, registry_run, registry_of_run, owner, ended_turns, first_owner}
-use Rattle.schedule_rules.specs.Guards.{Guard, guards, with_reader, with_writer, reader, writer, without_guard}
+use Rattle.schedule_rules.specs.Guards.{Guard, guards, with_reader, with_writer, reader, without_guard}
 use Rattle.schedule_rules.specs.History.{Event, act_of, accepts}
 use Rattle.schedule_rules.specs.Kinds.{cell_at, tolerance_at}
 use Rattle.schedule_rules.specs.Phases.{NoRun, phase_reached}
@@ -44,6 +44,7 @@ pub record Attempts (cells : List CellPlan) (h : List Event) (p : ℕ) (a : Act)
   pub attempted : attempt cells h (step_of p a) ≡ Some (record { cell = c; want = w })
   pub concerned : cell_concerned cells h (step_of p a) ≡ Some c
   pub does : act_of h (step_of p a) ≡ act_for c w
+  pub tries : (vs : List Wait) (chosen : Bool) → due_answer cells h (step_of p a) vs chosen ≡ due_tried cells h p (attempt cells h (step_of p a)) vs chosen
   pub calm : (ss : List Section) → sections_ended a p ss ≡ ss
   pub quiet : back_read h p a ≡ None
   pub taken : registry_taken a (registry cells h) ≡ r

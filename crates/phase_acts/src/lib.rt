@@ -3,6 +3,7 @@
 //! which follow a legal history follow the longer one.
 #![tactic(auto)]
 
+mod attempts;
 mod guards;
 mod line;
 mod machine;
