@@ -1,4 +1,2 @@
 pub mod KnownBytes
-pub mod Sizes
-pub mod Handed
-pub mod Called
+pub mod Telling

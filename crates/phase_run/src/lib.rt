@@ -2,23 +2,24 @@
 //! stands on `phase_schedule` alone; its contracts speak of what `schedule_rules` and `schedule_text` define.
 #![tactic(auto)]
 
-mod answer;
+
 mod failed;
 mod memory;
-mod program;
+
 mod read;
 mod sink;
 mod source;
 mod standard;
 mod status;
 mod stop;
-#[cfg(test)]
-mod tests;
+
+
+mod tell;
 mod write;
 
 pub use failed::Failed;
 pub use memory::{MemSink, MemSource};
-pub use program::run_program;
+
 pub use sink::Sink;
 pub use source::Source;
 pub use standard::{StdSink, StdSource};
