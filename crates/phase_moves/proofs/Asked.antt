@@ -5,7 +5,7 @@ use Rattle.phase_bits.specs.Number.{number, phase_of}
 use Rattle.phase_bits.specs.declared.phase.Phase.{Phase}
 use Rattle.exit_registry.specs.Registry.{Registry, after_register, registered, cells_of}
 use Rattle.phase_seq.specs.declared.section.Begun.{Begun}
-use Rattle.phase_seq.specs.Asks.{asks_run as seq_asks_run, shall_init as seq_shall_init, finalizes}
+use Rattle.phase_seq.specs.Asks.{asks_run as seq_asks_run, finalizes}
 use Rattle.phase_seq.specs.Exactly.{is_run}
 use Rattle.phase_seq.specs.Phases.{flags_generate, flags_refused, flags_staying}
 use Rattle.phase_seq.specs.Registers.{after_asking, is_refused}
@@ -14,8 +14,8 @@ use Rattle.schedule_rules.specs.declared.plan.CellPlan.{CellPlan}
 use Rattle.schedule_rules.specs.declared.plan.Kind.{Kind}
 use Rattle.schedule_rules.specs.declared.step.Want.{Want}
 use Rattle.schedule_rules.specs.declared.step.Want.TheVariants.{Calls, Turns}
-use Rattle.schedule_rules.specs.Kinds.{is_finalizable}
-use Rattle.schedule_rules.specs.Phases.{NoRun, phase_reached, runs_generator, shall_init, tries_registration}
+use Rattle.schedule_rules.specs.Kinds.{is_finalizable, tolerance_of}
+use Rattle.schedule_rules.specs.Phases.{NoRun, phase_reached, runs_generator, tries_registration}
 use Rattle.schedule_rules.specs.Calls.{asks}
 use Rattle.schedule_rules.specs.Changes.{Content, Asked, effect, is_declined}
 use Rattle.schedule_rules.specs.Sections.{is_turn}
@@ -25,16 +25,11 @@ use Rattle.phase_moves.specs.Stands.{stays_in, want_of}
 use Rattle.phase_moves.specs.Tries.{ask_of}
 use Rattle.phase_moves.proofs.Attempts.{declines, stays_asked, phase_told}
 
--- a run is due for the sequentializer where it is for the rules
-due_same : (r l : Bool) (p : Phase) → seq_shall_init (record { retry = r; leak = l }) p ≡ shall_init r (number p)
-due_same true l p = refl
-due_same false l p = refl
-
 -- a run is asked where the rules ask it
-pub asks_same : (x : CellPlan) (w : Want) (p : Phase) → w ≢ Calls call.Phase → seq_asks_run (ask_of x w) p ≡ asks x w (number p)
+pub asks_same : (x : CellPlan) (w : Want) (p : Phase) → w ≢ Calls call.Phase → seq_asks_run (ask_of x w) p ≡ asks (tolerance_of x) w (number p)
 asks_same x (Calls call.Phase) p ne = absurd (ne refl)
-asks_same x (Calls call.Read) p ne = due_same x.retry x.leak p
-asks_same x (Calls call.Write) p ne = due_same x.retry x.leak p
+asks_same x (Calls call.Read) p ne = refl
+asks_same x (Calls call.Write) p ne = refl
 asks_same x Turns p ne = refl
 
 -- only a call asks a run, and only a turn the finalizer
@@ -59,10 +54,10 @@ stays_same x Turns m p e = absurd (cc)
 
 -- whether it is declined
 abbrev pub declined : CellPlan → Want → Bool → ℕ → Bool
-declined x (Calls k) is_open p = is_declined x k is_open p
+declined x (Calls k) is_open p = is_declined x.kind (tolerance_of x) k is_open p
 declined x Turns is_open p = false
 
-refuses_same : (x : CellPlan) (m : Registry) (p : ℕ) → is_refused x.leak (registry_for x.kind m) (phase_of p) ≡ not (runs_generator x m.is_open p)
+refuses_same : (x : CellPlan) (m : Registry) (p : ℕ) → is_refused x.leak (registry_for x.kind m) (phase_of p) ≡ not (runs_generator x.kind (tolerance_of x) m.is_open p)
 refuses_same x m p = by (is_finalizable x.kind)
   where
     by : (b : Bool) → is_refused x.leak (if b then Some m else None) (phase_of p) ≡ not (if b then flags_generate x.leak (if b then flags_staying m.is_open p else 0) else true)
@@ -75,10 +70,10 @@ declines_same x Turns m p ne = refl
 
 -- what it leaves
 pub asked_left : (x : CellPlan) (w : Want) (o : Bool) (y : Content) → effect x (changes_asked x w o y) y ≡ record { phase = if declined x w o y.phase then flags_refused else y.phase; value = y.value }
-asked_left x (Calls k) o y = by (is_declined x k o y.phase) refl
+asked_left x (Calls k) o y = by (is_declined x.kind (tolerance_of x) k o y.phase) refl
   where
-    by : (b : Bool) → is_declined x k o y.phase ≡ b → effect x (if b then Asked o k ∷ [] else []) y ≡ record { phase = if b then flags_refused else y.phase; value = y.value }
-    by true e = ap (λ b. if b then record { phase = phase_reached x o y.phase NoRun; value = y.value } else y) e
+    by : (b : Bool) → is_declined x.kind (tolerance_of x) k o y.phase ≡ b → effect x (if b then Asked o k ∷ [] else []) y ≡ record { phase = if b then flags_refused else y.phase; value = y.value }
+    by true e = ap (λ b. if b then record { phase = phase_reached x.kind o y.phase NoRun; value = y.value } else y) e
     by false e = refl
 asked_left x Turns o y = refl
 
@@ -98,7 +93,7 @@ registry_still k c p b m e = by (is_finalizable k)
     by false = refl
 
 -- a run registers its cell as the rules do
-pub registry_run : (x : CellPlan) (c p : ℕ) (b : Begun) (m : Registry) → is_run b ≡ true → registry_begun x.kind c (phase_of p) b m ≡ (if tries_registration x p then after_register c m else m)
+pub registry_run : (x : CellPlan) (c p : ℕ) (b : Begun) (m : Registry) → is_run b ≡ true → registry_begun x.kind c (phase_of p) b m ≡ (if tries_registration x.kind p then after_register c m else m)
 registry_run x c p b m e = by (is_finalizable x.kind)
   where
     by : (f : Bool) → (if f then after_asking (is_run b) c (phase_of p) m else m) ≡ (if f && (p == 0) then after_register c m else m)

@@ -83,14 +83,14 @@ is_made None b e = e
 is_made (Some v) b e = e
 
 -- the phase that is reached is the one that the changes give
-reached_as : (x : CellPlan) (w : Want) (is_open : Bool) (y : Content) (made : Option ℕ) (b : Bool) → is_turn w ≡ false → IsMadeAs made b → reached (stays_in x w is_open y.phase) b ≡ phase_of (content_of_run x is_open made y).phase
+reached_as : (x : CellPlan) (w : Want) (is_open : Bool) (y : Content) (made : Option ℕ) (b : Bool) → is_turn w ≡ false → IsMadeAs made b → reached (stays_in x w is_open y.phase) b ≡ phase_of (content_of_run x.kind is_open made y).phase
 reached_as x (Calls k) is_open y (Some v) true e m = refl
 reached_as x (Calls k) is_open y (Some v) false e m = absurd (cc)
 reached_as x (Calls k) is_open y None true e m = absurd (cc)
 reached_as x (Calls k) is_open y None false e m = refl
 reached_as x Turns is_open y made b e m = absurd (cc)
 
-asked_run : (w : Want) → is_turn w ≡ false → initializes (want_of w) ≡ true
+pub asked_run : (w : Want) → is_turn w ≡ false → initializes (want_of w) ≡ true
 asked_run (Calls call.Phase) e = refl
 asked_run (Calls call.Read) e = refl
 asked_run (Calls call.Write) e = refl
@@ -140,7 +140,7 @@ module _ {L : Type 0} (held : L → Holders) (place : L → LockerKind) (m : Sta
       (of'_is : of' ≡ record { waiting = of.waiting; innermost = o.run.outer }) (plan : row'.plan ≡ row.plan) (run : row'.run ≡ None) (running : row'.seq.running ≡ None) (b : Bool) (made_is : IsMadeAs made b) (r : Finished × Given)
       (finishes : Finishes o.section b (held row.seq.locker) v.parks r (held row'.seq.locker) v'.parks) (stands : FinishedStands o.section.who.cell r.0 (held row'.seq.locker) v'.parks) (reads : open_reads (held row'.seq.locker) v'.parks o.section.who.cell ≡ reads_finished r.0) (k : Left held place o.section.who.cell row.seq.locker row'.seq.locker v.parks v'.parks) where
     abbrev made_as : Content
-    made_as = content_of_run (cell_at m.plans c) s.is_open made (m.content c)
+    made_as = content_of_run (cell_at m.plans c).kind s.is_open made (m.content c)
 
     left_here : Left held place c row.seq.locker row'.seq.locker v.parks v'.parks
     left_here = subst (λ (x : OpenRun). Left held place x.section.who.cell row.seq.locker row'.seq.locker v.parks v'.parks) (same o taken) k
@@ -160,14 +160,14 @@ module _ {L : Type 0} (held : L → Holders) (place : L → LockerKind) (m : Sta
     made_value : b ≡ true → made ≡ made_as.value
     made_value e = by made (subst (IsMadeAs made) e made_is)
       where
-        by : (x : Option ℕ) → IsMadeAs x true → x ≡ (content_of_run (cell_at m.plans c) s.is_open x (m.content c)).value
+        by : (x : Option ℕ) → IsMadeAs x true → x ≡ (content_of_run (cell_at m.plans c).kind s.is_open x (m.content c)).value
         by None q = absurd (cc)
         by (Some x) q = refl
 
     kept_value : b ≡ false → (m.content c).value ≡ made_as.value
     kept_value e = by made (subst (IsMadeAs made) e made_is)
       where
-        by : (x : Option ℕ) → IsMadeAs x false → (m.content c).value ≡ (content_of_run (cell_at m.plans c) s.is_open x (m.content c)).value
+        by : (x : Option ℕ) → IsMadeAs x false → (m.content c).value ≡ (content_of_run (cell_at m.plans c).kind s.is_open x (m.content c)).value
         by None q = refl
         by (Some x) q = absurd (cc)
 
@@ -180,8 +180,8 @@ module _ {L : Type 0} (held : L → Holders) (place : L → LockerKind) (m : Sta
     parties_now : (m' : Standing) → m'.sections ≡ without_innermost s.party m.sections → ((q : ℕ) → target_of (wait_of q m'.waits) ≡ target_of (wait_of q m.waits)) → HasParties held place m' v v'
     parties_now = parties_ended held place m v p c s is.inner row row_is v' of of' of_is parties o taken of'_is
 
-    told_as : (q : Phase) → q ≡ phase_of made_as.phase → q ≡ phase_of (content_of_run (cell_at m.plans s.cell) s.is_open made (m.content s.cell)).phase
-    told_as q e = e ∙ (λ i. phase_of (content_of_run (cell_at m.plans (sym is.inner.at i)) s.is_open made (m.content (sym is.inner.at i))).phase)
+    told_as : (q : Phase) → q ≡ phase_of made_as.phase → q ≡ phase_of (content_of_run (cell_at m.plans s.cell).kind s.is_open made (m.content s.cell)).phase
+    told_as q e = e ∙ (λ i. phase_of (content_of_run (cell_at m.plans (sym is.inner.at i)).kind s.is_open made (m.content (sym is.inner.at i))).phase)
 
     abbrev ok : Stands held place n m v
     ok = is.inner.rests.stands
@@ -202,7 +202,7 @@ module _ {L : Type 0} (held : L → Holders) (place : L → LockerKind) (m : Sta
           told = failing made (subst (IsMadeAs made) d.0 made_is) (told_as q (d.1 ∙ phase_is false d.0));
         }
       where
-        failing : (x : Option ℕ) → IsMadeAs x false → q ≡ phase_of (content_of_run (cell_at m.plans s.cell) s.is_open x (m.content s.cell)).phase → GoesAs s.want x (phase_of (content_of_run (cell_at m.plans s.cell) s.is_open x (m.content s.cell)).phase) (finished.Failed q) r.1
+        failing : (x : Option ℕ) → IsMadeAs x false → q ≡ phase_of (content_of_run (cell_at m.plans s.cell).kind s.is_open x (m.content s.cell)).phase → GoesAs s.want x (phase_of (content_of_run (cell_at m.plans s.cell).kind s.is_open x (m.content s.cell)).phase) (finished.Failed q) r.1
         failing None z f = f
         failing (Some x) z f = absurd (cc)
 
@@ -227,7 +227,7 @@ module _ {L : Type 0} (held : L → Holders) (place : L → LockerKind) (m : Sta
             ∙ seen_reader n s.party c (run_closed s made r.1 m)
             ∙ ap (λ (w : Seen). record { plan = w.plan; content = w.content; reads = w.reads + 1; writes = w.writes; run = w.run }) (seen_closed held place m v p c s is.inner row row_is (Ran s.is_open made ∷ []) r.1)
 
-        going : (x : Option ℕ) → IsMadeAs x true → (want_of s.want ≡ want.Read) × (q ≡ phase_of (content_of_run (cell_at m.plans s.cell) s.is_open x (m.content s.cell)).phase) → GoesAs s.want x (phase_of (content_of_run (cell_at m.plans s.cell) s.is_open x (m.content s.cell)).phase) (finished.Read l q) r.1
+        going : (x : Option ℕ) → IsMadeAs x true → (want_of s.want ≡ want.Read) × (q ≡ phase_of (content_of_run (cell_at m.plans s.cell).kind s.is_open x (m.content s.cell)).phase) → GoesAs s.want x (phase_of (content_of_run (cell_at m.plans s.cell).kind s.is_open x (m.content s.cell)).phase) (finished.Read l q) r.1
         going None z f = absurd (cc)
         going (Some x) z f = f
 
@@ -261,7 +261,7 @@ module _ {L : Type 0} (held : L → Holders) (place : L → LockerKind) (m : Sta
             let more : count (writes_cell c) m.guards + 1 + count (runs_in c) (without_innermost s.party m.sections) ≡ writes_in c gone + 1 = omega arith in
             rw e ((λ i. record { plan = cell_at m.plans c; content = m.content c; reads = reads_in c m; writes = more i; run = run_in c (without_innermost s.party m.sections) }) ∙ ap (λ (w : Seen). record { plan = w.plan; content = w.content; reads = w.reads; writes = w.writes + 1; run = w.run }) (seen_without held place m v p c s is.inner row row_is))
 
-        going : (x : Option ℕ) → IsMadeAs x true → (want_of s.want ≡ want.Write) × (q ≡ phase_of (content_of_run (cell_at m.plans s.cell) s.is_open x (m.content s.cell)).phase) × (r.1 ≡ given.Nobody) → GoesAs s.want x (phase_of (content_of_run (cell_at m.plans s.cell) s.is_open x (m.content s.cell)).phase) (finished.Write l q) r.1
+        going : (x : Option ℕ) → IsMadeAs x true → (want_of s.want ≡ want.Write) × (q ≡ phase_of (content_of_run (cell_at m.plans s.cell).kind s.is_open x (m.content s.cell)).phase) × (r.1 ≡ given.Nobody) → GoesAs s.want x (phase_of (content_of_run (cell_at m.plans s.cell).kind s.is_open x (m.content s.cell)).phase) (finished.Write l q) r.1
         going None z f = absurd (cc)
         going (Some x) z f = f
 

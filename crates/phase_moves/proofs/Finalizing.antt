@@ -33,7 +33,7 @@ use Rattle.phase_moves.proofs.Guards.{target_given}
 use Rattle.phase_moves.proofs.Innermost.{in_cells, cell_here, runs_here, o_is, its_row, write_open, seen_closed, closed_moved, cell_ended, parties_ended}
 use Rattle.phase_moves.proofs.Moved.{moved}
 
-asked_final : (w : Want) → is_turn w ≡ true → finalizes (want_of w) ≡ true
+pub asked_final : (w : Want) → is_turn w ≡ true → finalizes (want_of w) ≡ true
 asked_final (Calls k) e = absurd (cc)
 asked_final Turns e = refl
 

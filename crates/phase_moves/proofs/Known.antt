@@ -1,6 +1,6 @@
 -- The phases that a cell can have are known: they have no bit above the eight flags.
 use Rattle.std.proofs.Common.{ℕ, ◌<◌, List, [], ◌∷◌, arith, Bool, true, false, None, Some}
-use Rattle.schedule_rules.specs.Kinds.{is_finalizable}
+use Rattle.schedule_rules.specs.Kinds.{is_finalizable, tolerance_of}
 use Rattle.std.proofs.lemmas.Nat.{and_le_l, or_of_8}
 use Rattle.std.specs.Prelude.{◌==◌, ◌^◌, ◌-◌, if◌then◌else◌}
 use Rattle.phase_bits.specs.Flags.{without_flags}
@@ -25,7 +25,7 @@ staying_known is_open p k = by (p == 0)
     by true = tried is_open
     by false = let less : _ = and_le_l p (2 ^ 32 - 1 - initialization_flags) in omega (arith, less, k)
 
-kept_known : (x : CellPlan) (is_open : Bool) (p : ℕ) → p < 256 → flags_kept x is_open p < 256
+kept_known : (x : CellPlan) (is_open : Bool) (p : ℕ) → p < 256 → flags_kept x.kind is_open p < 256
 kept_known x is_open p k = by (is_finalizable x.kind)
   where
     by : (b : Bool) → (if b then flags_staying is_open p else 0) < 256
@@ -54,11 +54,11 @@ finalized_known p fine k = or_of_8 p (final_outcome fine) k (by fine)
 
 -- a change keeps it
 pub change_known : (x : CellPlan) (ch : Change) (y : Content) → IsKnown (phase_of y.phase) → IsKnown (phase_of (content_after x ch y).phase)
-change_known x (Ran is_open (Some v)) y k = record { below = reached_known (flags_kept x is_open y.phase) true (kept_known x is_open y.phase k.below) }
-change_known x (Ran is_open None) y k = record { below = reached_known (flags_kept x is_open y.phase) false (kept_known x is_open y.phase k.below) }
-change_known x (Asked is_open c) y k = by (is_declined x c is_open y.phase)
+change_known x (Ran is_open (Some v)) y k = record { below = reached_known (flags_kept x.kind is_open y.phase) true (kept_known x is_open y.phase k.below) }
+change_known x (Ran is_open None) y k = record { below = reached_known (flags_kept x.kind is_open y.phase) false (kept_known x is_open y.phase k.below) }
+change_known x (Asked is_open c) y k = by (is_declined x.kind (tolerance_of x) c is_open y.phase)
   where
-    by : (b : Bool) → IsKnown (phase_of (if b then record { phase = phase_reached x is_open y.phase NoRun; value = y.value } else y).phase)
+    by : (b : Bool) → IsKnown (phase_of (if b then record { phase = phase_reached x.kind is_open y.phase NoRun; value = y.value } else y).phase)
     by true = record { below = omega arith }
     by false = k
 change_known x (Put v) y k = k

@@ -28,3 +28,8 @@ pub mod Exiting
 pub mod Closing
 -- Histories
 pub mod Histories
+pub mod Setting
+pub mod Looking
+pub mod Starting
+pub mod HistoryCalls
+pub mod HistoryExits

@@ -556,7 +556,7 @@ module _ {L : Type 0} (held : L → Holders) (place : L → LockerKind) where
               by (Calls c) q f =
                   exit_with (registry_asked t.cell (Calls c) m)
                   (registry ∙ (λ i. registry_begun (here.planned i).kind t.cell (here.locked.phase_is i) b (is.rests.stands.exit.registry_is i)) ∙ registry_run x t.cell y.phase b m.registry (ap is_run e))
-                  (cells_stay t.cell (tries_registration x y.phase) m.registry)
+                  (cells_stay t.cell (tries_registration x.kind y.phase) m.registry)
               by Turns q f = absurd (cc)
 
       pub does_final : (s : SeqSection) → b ≡ begun.Final s → of' ≡ record { waiting = None; innermost = Some t.cell } → row'.run ≡ Some (record { run = record { party = p; want = t.want; outer = of.innermost }; section = s }) → IsTook held place m v p t taken.Runs g v'

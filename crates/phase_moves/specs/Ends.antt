@@ -57,7 +57,7 @@ module _ {L : Type 0} (held : L → Holders) (place : L → LockerKind) where
 
   pub record IsEnded (m : Standing) (v : Rows L) (s : Section) (made : Option ℕ) (f : Finished) (g : Given) (new : Rows L) : Type 0 where
     pub stands : Stands held place (length v.guards.items) (ended (length v.guards.items) s made g f m) new
-    pub told : GoesAs s.want made (phase_of (content_of_run (cell_at m.plans s.cell) s.is_open made (m.content s.cell)).phase) f g
+    pub told : GoesAs s.want made (phase_of (content_of_run (cell_at m.plans s.cell).kind s.is_open made (m.content s.cell)).phase) f g
 
   -- there is a run to end
   abbrev pub EndsAs : Standing → Rows L → Section → Option ℕ → Option (Finished × Given) → Rows L → Type 0

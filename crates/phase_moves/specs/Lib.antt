@@ -9,3 +9,4 @@ pub mod Tries
 pub mod Exits
 pub mod Closing
 pub mod Histories
+pub mod Fresh

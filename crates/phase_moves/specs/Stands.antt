@@ -49,7 +49,7 @@ want_of Turns = want.Finalize
 
 -- the flags that stay beside those of a section that runs
 abbrev pub stays_in : CellPlan → Want → Bool → ℕ → Phase
-stays_in x (Calls k) is_open p = phase_of (flags_kept x is_open p)
+stays_in x (Calls k) is_open p = phase_of (flags_kept x.kind is_open p)
 stays_in x Turns is_open p = phase_of p
 
 -- the section of the cell's sequentializer

@@ -1,7 +1,7 @@
 //! Cells whose calls park, and are handed the lock.
 
-ghost use Rattle.std.specs.Prelude.{[], ◌∷◌, ◌++◌, ◌-◌, ◌^◌, ◌≡◌, true, false, Some};
-ghost use Rattle.schedule_rules.specs.Calls.{Reads, Writes};
+ghost use Rattle.std.specs.Prelude.{[], ◌∷◌, ◌++◌, ◌-◌, ◌^◌, ◌≡◌, true, false};
+ghost use Rattle.phase_locker.specs.declared.tickets.LockNature.TheVariants as nature;
 ghost use Rattle.schedule_rules.specs.Holds.{is_barred_by_readers};
 ghost use Rattle.schedule_rules.specs.Waits.{parked_readers, parked_writers, waits as waits_of};
 ghost use Rattle.schedule_examples.specs.Examples.{Goes, row, draining, early, history_of};
@@ -149,11 +149,11 @@ pub fn cells_are_handed_over_apart()
 
 /// Only a call that wants to write, and that readers alone bar, may drain in place of parking.
 pub fn readers_alone_are_drained()
-    ensures readers { is_barred_by_readers (Some Writes) (record { readers = 1; written = false; drained = false }) ≡ true }
-    ensures nobody { is_barred_by_readers (Some Writes) (record { readers = 0; written = false; drained = false }) ≡ false }
-    ensures writer { is_barred_by_readers (Some Writes) (record { readers = 0; written = true; drained = false }) ≡ false }
-    ensures drainer { is_barred_by_readers (Some Writes) (record { readers = 1; written = false; drained = true }) ≡ false }
-    ensures reader { is_barred_by_readers (Some Reads) (record { readers = 2 ^ 20 - 1; written = false; drained = false }) ≡ false }
+    ensures readers { is_barred_by_readers nature.Write (record { readers = 1; written = false; drained = false }) ≡ true }
+    ensures nobody { is_barred_by_readers nature.Write (record { readers = 0; written = false; drained = false }) ≡ false }
+    ensures writer { is_barred_by_readers nature.Write (record { readers = 0; written = true; drained = false }) ≡ false }
+    ensures drainer { is_barred_by_readers nature.Write (record { readers = 1; written = false; drained = true }) ≡ false }
+    ensures reader { is_barred_by_readers nature.Read (record { readers = 2 ^ 20 - 1; written = false; drained = false }) ≡ false }
 {}
 
 /// A parked call that steps before it is given anything parks again, as the last of its list.

@@ -1,7 +1,7 @@
 //! Calls that wait.
 
-ghost use Rattle.std.specs.Prelude.{[], ◌∷◌, ◌++◌, ◌-◌, ◌^◌, ◌≡◌, true, false, Some};
-ghost use Rattle.schedule_rules.specs.Calls.{Reads, Writes};
+ghost use Rattle.std.specs.Prelude.{[], ◌∷◌, ◌++◌, ◌-◌, ◌^◌, ◌≡◌, true, false};
+ghost use Rattle.phase_locker.specs.declared.tickets.LockNature.TheVariants as nature;
 ghost use Rattle.schedule_rules.specs.Holds.{is_barred};
 ghost use Rattle.schedule_examples.specs.Examples.{Goes, row};
 ghost use Rattle.schedule_examples.specs.Openings.{writes_first, reads_first};
@@ -106,13 +106,13 @@ pub fn two_parties_wait_for_each_other()
 /// A read is barred by 2^20 - 1 readers and not by one fewer, and a write by a single one. A drain bars each write, and a
 /// read only where no reader is left. Beside a write hold both are barred.
 pub fn readers_bar_writes_and_too_many_bar_reads()
-    ensures most { is_barred (Some Reads) (record { readers = 2 ^ 20 - 1; written = false; drained = false }) ≡ true }
-    ensures fewer { is_barred (Some Reads) (record { readers = 2 ^ 20 - 2; written = false; drained = false }) ≡ false }
-    ensures one { is_barred (Some Writes) (record { readers = 1; written = false; drained = false }) ≡ true }
-    ensures free { is_barred (Some Writes) (record { readers = 0; written = false; drained = false }) ≡ false }
-    ensures drained { is_barred (Some Writes) (record { readers = 0; written = false; drained = true }) ≡ true }
-    ensures drained_read { is_barred (Some Reads) (record { readers = 0; written = false; drained = true }) ≡ true }
-    ensures draining_read { is_barred (Some Reads) (record { readers = 1; written = false; drained = true }) ≡ false }
-    ensures written { is_barred (Some Writes) (record { readers = 0; written = true; drained = false }) ≡ true }
-    ensures written_read { is_barred (Some Reads) (record { readers = 0; written = true; drained = false }) ≡ true }
+    ensures most { is_barred nature.Read (record { readers = 2 ^ 20 - 1; written = false; drained = false }) ≡ true }
+    ensures fewer { is_barred nature.Read (record { readers = 2 ^ 20 - 2; written = false; drained = false }) ≡ false }
+    ensures one { is_barred nature.Write (record { readers = 1; written = false; drained = false }) ≡ true }
+    ensures free { is_barred nature.Write (record { readers = 0; written = false; drained = false }) ≡ false }
+    ensures drained { is_barred nature.Write (record { readers = 0; written = false; drained = true }) ≡ true }
+    ensures drained_read { is_barred nature.Read (record { readers = 0; written = false; drained = true }) ≡ true }
+    ensures draining_read { is_barred nature.Read (record { readers = 1; written = false; drained = true }) ≡ false }
+    ensures written { is_barred nature.Write (record { readers = 0; written = true; drained = false }) ≡ true }
+    ensures written_read { is_barred nature.Read (record { readers = 0; written = true; drained = false }) ≡ true }
 {}

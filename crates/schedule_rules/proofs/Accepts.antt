@@ -49,7 +49,7 @@ length_taken _ m = refl
 module _ (cells : List CellPlan) where
   -- nor does a run
   open_run : (h : List Event) (a : Act) (m : Registry) → (registry_run cells h a m).is_open ≡ m.is_open
-  open_run h (act.Call c k) m = by (tries_registration (cell_at cells c) (phase_at cells c h))
+  open_run h (act.Call c k) m = by (tries_registration (cell_at cells c).kind (phase_at cells c h))
     where
       by : (b : Bool) → (if b then after_register c m else m).is_open ≡ m.is_open
       by true = open_registered m c
@@ -57,7 +57,7 @@ module _ (cells : List CellPlan) where
   open_run h _ m = refl
 
   length_run : (h : List Event) (a : Act) (m : Registry) → length (registry_run cells h a m).known ≡ length m.known
-  length_run h (act.Call c k) m = by (tries_registration (cell_at cells c) (phase_at cells c h))
+  length_run h (act.Call c k) m = by (tries_registration (cell_at cells c).kind (phase_at cells c h))
     where
       by : (b : Bool) → length (if b then after_register c m else m).known ≡ length m.known
       by true = length_registered m c
@@ -125,7 +125,7 @@ module _ (cells : List CellPlan) where
   closed_after_taken _ m = refl
 
   closed_after_run : (h : List Event) (a : Act) (m : Registry) → registry_run cells h a (closed m) ≡ closed m
-  closed_after_run h (act.Call c k) m = by (tries_registration (cell_at cells c) (phase_at cells c h))
+  closed_after_run h (act.Call c k) m = by (tries_registration (cell_at cells c).kind (phase_at cells c h))
     where
       by : (b : Bool) → (if b then after_register c (closed m) else closed m) ≡ closed m
       by true = refl

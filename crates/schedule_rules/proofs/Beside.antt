@@ -7,7 +7,7 @@ use Rattle.std.proofs.lemmas.Nat.{and_assoc, and_or_apart}
 use Rattle.phase_bits.specs.Flags.{has}
 use Rattle.phase_seq.specs.Phases.{final_outcome, registration}
 use Rattle.schedule_rules.specs.declared.plan.CellPlan.{CellPlan}
-use Rattle.schedule_rules.specs.Kinds.{is_finalizable}
+use Rattle.schedule_rules.specs.Kinds.{is_finalizable, tolerance_of}
 use Rattle.schedule_rules.specs.Phases.{flags_kept}
 use Rattle.schedule_rules.specs.Changes.{Content, Change, Ran, Asked, Put, Ended, is_declined, effect}
 use Rattle.schedule_rules.specs.History.{Event}
@@ -40,7 +40,7 @@ beside false = record { made = refl; failed = refl; stays = refl; nothing = refl
 
 module _ (f : ℕ) (is : IsBeside f) where
   -- it is among the flags that stay only where it was
-  kept_before : (x : CellPlan) (o : Bool) (p : ℕ) → has (flags_kept x o p) f ≡ true → has p f ≡ true
+  kept_before : (x : CellPlan) (o : Bool) (p : ℕ) → has (flags_kept x.kind o p) f ≡ true → has p f ≡ true
   kept_before x o p e = by (is_finalizable x.kind) (p == 0) o e
     where
       by : (b d o : Bool) → has (if b then (if d then registration o else bit_and p (2 ^ 32 - 1 - 7)) else 0) f ≡ true → has p f ≡ true
@@ -54,17 +54,17 @@ module _ (f : ℕ) (is : IsBeside f) where
   run_before x [] y r e = e
   run_before x (Ran o (Some v) ∷ chs) y r e =
       let p : ℕ = (effect x chs y).phase in
-      run_before x chs y r (kept_before x o p (sym (ap (λ z. z == f) (and_or_apart f (flags_kept x o p) 1 is.made)) ∙ e))
+      run_before x chs y r (kept_before x o p (sym (ap (λ z. z == f) (and_or_apart f (flags_kept x.kind o p) 1 is.made)) ∙ e))
   run_before x (Ran o None ∷ chs) y r e =
       let p : ℕ = (effect x chs y).phase in
-      run_before x chs y r (kept_before x o p (sym (ap (λ z. z == f) (and_or_apart f (flags_kept x o p) 6 is.failed)) ∙ e))
+      run_before x chs y r (kept_before x o p (sym (ap (λ z. z == f) (and_or_apart f (flags_kept x.kind o p) 6 is.failed)) ∙ e))
   run_before x (Put v ∷ chs) y r e = run_before x chs y r e
   run_before x (Asked o k ∷ chs) y r e = absurd r
   run_before x (Ended fine ∷ chs) y r e = absurd r
 
   -- so it is with a call that leaves nothing open
   pub asked_before : (x : CellPlan) (o : Bool) (k : _) (y : Content) → has (effect x (Asked o k ∷ []) y).phase f ≡ true → has y.phase f ≡ true
-  asked_before x o k y e = by (is_declined x k o y.phase) e
+  asked_before x o k y e = by (is_declined x.kind (tolerance_of x) k o y.phase) e
     where
       by : (b : Bool) → has (if b then record { phase = 36; value = y.value } else y).phase f ≡ true → has y.phase f ≡ true
       by true g = absurd (apart (sym g ∙ is.declined))

@@ -8,6 +8,12 @@ use Rattle.phase_bits.specs.Number.{phase_of}
 use Rattle.phase_bits.specs.Flags.{has, initialized}
 use Rattle.phase_locker.specs.declared.ways.How.{How}
 use Rattle.phase_seq.specs.Phases.{flags_refused}
+use Rattle.phase_locker.specs.declared.tickets.LockNature.TheVariants as nature
+use Rattle.phase_seq.specs.Asks.{shall_init}
+use Rattle.phase_seq.specs.declared.tolerance.Tolerance.{Tolerance}
+use Rattle.phase_locker.specs.declared.tickets.LockNature.{LockNature}
+use Rattle.schedule_rules.specs.declared.plan.Kind.{Kind}
+use Rattle.schedule_rules.specs.declared.plan.Call.{Call}
 use Rattle.schedule_rules.specs.declared.plan.Call.TheVariants as call
 use Rattle.schedule_rules.specs.declared.plan.CellPlan.{CellPlan}
 use Rattle.schedule_rules.specs.declared.step.Act.{Act}
@@ -19,9 +25,9 @@ use Rattle.schedule_rules.specs.declared.line.Line.{Line}
 use Rattle.schedule_rules.specs.declared.line.Answer.{Answer}
 use Rattle.schedule_rules.specs.declared.line.Answer.TheVariants as answer
 use Rattle.schedule_rules.specs.declared.line.Refusal.{Refusal}
-use Rattle.schedule_rules.specs.Kinds.{cell_at}
-use Rattle.schedule_rules.specs.Phases.{shall_init, is_accessible, runs_generator}
-use Rattle.schedule_rules.specs.Calls.{Nature, Reads, Writes, rule, asks, initializes}
+use Rattle.schedule_rules.specs.Kinds.{cell_at, tolerance_at}
+use Rattle.schedule_rules.specs.Phases.{is_accessible, runs_generator}
+use Rattle.schedule_rules.specs.Calls.{lock_wanted, asks, initializes}
 use Rattle.schedule_rules.specs.Changes.{Content}
 use Rattle.schedule_rules.specs.History.{Event, accepts}
 use Rattle.schedule_rules.specs.Sections.{innermost, is_turn, runs, sections}
@@ -31,10 +37,10 @@ use Rattle.schedule_rules.specs.Exits.{registry}
 use Rattle.schedule_rules.specs.Waits.{Attempt, attempt, Wait, wait_of, waits, attempt_of_wait, attempt_of_turn}
 use Rattle.schedule_rules.specs.Holds.{is_barred}
 use Rattle.schedule_rules.specs.Refusals.{refusal, refusal_by}
-use Rattle.schedule_rules.specs.Answers.{Meeting, answer_of_run, if_accessible, call_answer_admitted, turn_answer_admitted, answer_admitted}
+use Rattle.schedule_rules.specs.Answers.{Meeting, answer_of_run, answer_opened, answer_denied, answer_declined, answer_locked, call_answer_admitted, turn_answer_admitted, answer_admitted}
 use Rattle.schedule_rules.specs.Due.{answer_of_look, due_attempt, due_tried, due_answer, meeting}
 use Rattle.schedule_rules.specs.Legal.{IsLegalLine}
-use Rattle.schedule_rules.specs.Causes.{is_running, is_access, is_cyclic, is_finalizing, is_skipped, is_round, is_closing, is_exit, is_attempted, waits_judged, is_step_of, is_of_own_run, is_admitted, is_running_step, is_access_step, is_turn_step, is_cyclic_step, looks, is_round_step, is_closing_step}
+use Rattle.schedule_rules.specs.Causes.{is_running, is_access, is_cyclic, is_lock, is_finalizing, is_skipped, is_round, is_closing, is_exit, is_attempted, waits_judged, is_step_of, is_of_own_run, is_admitted, is_running_step, is_access_step, is_turn_step, is_cyclic_step, looks, is_round_step, is_closing_step}
 use Rattle.schedule_rules.proofs.Answered.{either, accessed, made, finished, looked, cloned, legal_by}
 
 -- a test that no answer passes of a step that is refused or attempts nothing
@@ -80,113 +86,119 @@ same_both false = refl
 -- ---- what is admitted
 
 -- a run that is asked begins where its generator runs
-runs_asked : (x : CellPlan) (o : Bool) (y : Content) → is_running (answer_of_run x o y) ≡ runs_generator x o y.phase
-runs_asked x o y = by (runs_generator x o y.phase)
+runs_asked : (q : Kind) (t : Tolerance) (o : Bool) (k : Call) (y : Content) → is_running (answer_of_run q t o k y) ≡ runs_generator q t o y.phase
+runs_asked q t o k y = by (runs_generator q t o y.phase)
   where
-    by : (b : Bool) → is_running (if b then answer.Running else answer.Access (phase_of flags_refused)) ≡ b
+    by : (b : Bool) → is_running (if b then answer.Running else answer_declined k flags_refused) ≡ b
     by true = refl
     by false = refl
 
 -- and else it may not access the value
-declines_asked : (x : CellPlan) (o : Bool) (y : Content) → is_access (answer_of_run x o y) ≡ not (runs_generator x o y.phase)
-declines_asked x o y = by (runs_generator x o y.phase)
+declines_asked : (q : Kind) (t : Tolerance) (o : Bool) (k : Call) (y : Content) → is_access (answer_of_run q t o k y) ≡ not (runs_generator q t o y.phase)
+declines_asked q t o k y = by (runs_generator q t o y.phase)
   where
-    by : (b : Bool) → is_access (if b then answer.Running else answer.Access (phase_of flags_refused)) ≡ not b
+    by : (b : Bool) → is_access (if b then answer.Running else answer_declined k flags_refused) ≡ not b
     by true = refl
     by false = refl
 
 -- nor may a call where the value may not be accessed
-keeps_out : (x : CellPlan) (y : Content) (a : Answer) → is_access a ≡ false → is_access (if_accessible x y a) ≡ not (is_accessible x.kind y.phase)
-keeps_out x y a e = by (is_accessible x.kind y.phase)
+keeps_out : (q : Kind) (k : Call) (y : Content) → is_access (answer_opened k) ≡ false → is_access (answer_locked q k y) ≡ not (is_accessible q y.phase)
+keeps_out q k y e = by (is_accessible q y.phase)
   where
-    by : (b : Bool) → is_access (if b then a else answer.Access (phase_of y.phase)) ≡ not b
+    by : (b : Bool) → is_access (if b then answer_opened k else answer_denied k y.phase) ≡ not b
     by true = e
     by false = refl
 
-module _ (x : CellPlan) (c : ℕ) (o : Bool) (y : Content) where
+module _ (q : Kind) (t : Tolerance) (c : ℕ) (o : Bool) (y : Content) where
   -- a call or a turn begins a run exactly where it asks for one, and its generator runs
-  admitted_runs : (w : Want) → is_running (answer_admitted x c o w y) ≡ (asks x w y.phase && runs_generator x o y.phase)
+  admitted_runs : (w : Want) → is_running (answer_admitted q t c o w y) ≡ (asks t w y.phase && runs_generator q t o y.phase)
   admitted_runs (Calls call.Phase) = refl
-  admitted_runs (Calls call.Read) = by (shall_init x.retry y.phase) refl
+  admitted_runs (Calls call.Read) = by (shall_init t (phase_of y.phase)) refl
     where
-      by : (b : Bool) → shall_init x.retry y.phase ≡ b
-          → is_running (call_answer_admitted (if b then Some Writes else Some Reads) x o call.Read y) ≡ (b && runs_generator x o y.phase)
-      by true e = rw e (runs_asked x o y)
-      by false e = accessed (λ a. is_running a ≡ false) x y answer.ReadGuard refl refl
-  admitted_runs (Calls call.Write) = by (shall_init x.retry y.phase)
+      by : (b : Bool) → shall_init t (phase_of y.phase) ≡ b
+          → is_running (call_answer_admitted (if b then nature.Write else nature.Read) q t o call.Read y) ≡ (b && runs_generator q t o y.phase)
+      by true e = rw e (runs_asked q t o call.Read y)
+      by false e = accessed (λ a. is_running a ≡ false) q call.Read y refl refl
+  admitted_runs (Calls call.Write) = by (shall_init t (phase_of y.phase))
     where
-      by : (b : Bool) → is_running (if b then answer_of_run x o y else if_accessible x y answer.WriteGuard) ≡ (b && runs_generator x o y.phase)
-      by true = runs_asked x o y
-      by false = accessed (λ a. is_running a ≡ false) x y answer.WriteGuard refl refl
+      by : (b : Bool) → is_running (if b then answer_of_run q t o call.Write y else answer_locked q call.Write y) ≡ (b && runs_generator q t o y.phase)
+      by true = runs_asked q t o call.Write y
+      by false = accessed (λ a. is_running a ≡ false) q call.Write y refl refl
   admitted_runs Turns = by (has y.phase initialized)
     where
-      by : (b : Bool) → is_running (turn_answer_admitted (if b then Some Writes else None) c) ≡ false
+      by : (b : Bool) → is_running (turn_answer_admitted (if b then nature.Write else nature.None) c) ≡ false
       by true = refl
       by false = refl
 
   -- the lock that is wanted is one
   abbrev wants_lock : Want → Bool
-  wants_lock w = is_some (rule x w y.phase)
+  wants_lock w = is_lock (lock_wanted t w y.phase)
 
   -- it is turned away exactly where it asks for a run and no generator runs, or asks for none and is a call for a lock that may
   -- not access the value
-  admitted_away : (w : Want) → is_access (answer_admitted x c o w y)
-      ≡ (if asks x w y.phase then not (runs_generator x o y.phase) else not (is_turn w) && (wants_lock w && not (is_accessible x.kind y.phase)))
+  admitted_away : (w : Want) → is_access (answer_admitted q t c o w y)
+      ≡ (if asks t w y.phase then not (runs_generator q t o y.phase) else not (is_turn w) && (wants_lock w && not (is_accessible q y.phase)))
   admitted_away (Calls call.Phase) = refl
-  admitted_away (Calls call.Read) = by (shall_init x.retry y.phase) refl
+  admitted_away (Calls call.Read) = by (shall_init t (phase_of y.phase)) refl
     where
-      by : (b : Bool) → shall_init x.retry y.phase ≡ b → is_access (call_answer_admitted (if b then Some Writes else Some Reads) x o call.Read y)
-          ≡ (if b then not (runs_generator x o y.phase) else true && (is_some (if b then Some Writes else Some Reads) && not (is_accessible x.kind y.phase)))
-      by true e = rw e (declines_asked x o y)
-      by false e = keeps_out x y answer.ReadGuard refl
-  admitted_away (Calls call.Write) = by (shall_init x.retry y.phase)
+      by : (b : Bool) → shall_init t (phase_of y.phase) ≡ b → is_access (call_answer_admitted (if b then nature.Write else nature.Read) q t o call.Read y)
+          ≡ (if b then not (runs_generator q t o y.phase) else true && (is_lock (if b then nature.Write else nature.Read) && not (is_accessible q y.phase)))
+      by true e = rw e (declines_asked q t o call.Read y)
+      by false e = keeps_out q call.Read y refl
+  admitted_away (Calls call.Write) = by (shall_init t (phase_of y.phase))
     where
-      by : (b : Bool) → is_access (if b then answer_of_run x o y else if_accessible x y answer.WriteGuard)
-          ≡ (if b then not (runs_generator x o y.phase) else true && (true && not (is_accessible x.kind y.phase)))
-      by true = declines_asked x o y
-      by false = keeps_out x y answer.WriteGuard refl
+      by : (b : Bool) → is_access (if b then answer_of_run q t o call.Write y else answer_locked q call.Write y)
+          ≡ (if b then not (runs_generator q t o y.phase) else true && (true && not (is_accessible q y.phase)))
+      by true = declines_asked q t o call.Write y
+      by false = keeps_out q call.Write y refl
   admitted_away Turns = by (has y.phase initialized)
     where
-      by : (b : Bool) → is_access (turn_answer_admitted (if b then Some Writes else None) c) ≡ false
+      by : (b : Bool) → is_access (turn_answer_admitted (if b then nature.Write else nature.None) c) ≡ false
       by true = refl
       by false = refl
 
   -- what holds of each answer of a call that is admitted
-  module _ (P : Answer → Type 0) (phase : (q : _) → P (answer.Phase q)) (read_guard : P answer.ReadGuard) (write_guard : P answer.WriteGuard) (running : P answer.Running) (access : (q : _) → P (answer.Access q)) where
-    ruled : (n : Option Nature) (k : _) → P (call_answer_admitted n x o k y)
-    ruled None k = phase _
-    ruled (Some Reads) k = accessed P x y answer.ReadGuard read_guard (access _)
-    ruled (Some Writes) k =
-        either P (asks x (Calls k) y.phase) (answer_of_run x o y) (if_accessible x y answer.WriteGuard)
-        (either P (runs_generator x o y.phase) answer.Running (answer.Access _) running (access _)) (accessed P x y answer.WriteGuard write_guard (access _))
+  module _ (P : Answer → Type 0) (phase : (p : _) → P (answer.Phase p)) (read_guard : P answer.ReadGuard) (write_guard : P answer.WriteGuard) (running : P answer.Running) (access : (p : _) → P (answer.Access p)) where
+    opened : (k : Call) → P (answer_opened k)
+    opened call.Phase = read_guard
+    opened call.Read = read_guard
+    opened call.Write = write_guard
+
+    ruled : (n : LockNature) (k : Call) → P (call_answer_admitted n q t o k y)
+    ruled nature.None k = phase _
+    ruled nature.Read k = accessed P q k y (opened k) (access _)
+    ruled nature.Write k =
+        either P (asks t (Calls k) y.phase) (answer_of_run q t o k y) (answer_locked q k y)
+        (either P (runs_generator q t o y.phase) answer.Running (answer.Access _) running (access _)) (accessed P q k y (opened k) (access _))
 
   -- a turn finalizes exactly where the value is there
-  admitted_finalizes : (d : ℕ) (w : Want) → is_finalizing d (answer_admitted x c o w y) ≡ (is_turn w && ((c == d) && has y.phase initialized))
-  admitted_finalizes d (Calls k) = ruled (λ a. is_finalizing d a ≡ false) (λ q. refl) refl refl refl (λ q. refl) (rule x (Calls k) y.phase) k
+  admitted_finalizes : (d : ℕ) (w : Want) → is_finalizing d (answer_admitted q t c o w y) ≡ (is_turn w && ((c == d) && has y.phase initialized))
+  admitted_finalizes d (Calls k) = ruled (λ a. is_finalizing d a ≡ false) (λ p. refl) refl refl refl (λ p. refl) (lock_wanted t (Calls k) y.phase) k
   admitted_finalizes d Turns = by (has y.phase initialized)
     where
-      by : (b : Bool) → is_finalizing d (turn_answer_admitted (if b then Some Writes else None) c) ≡ ((c == d) && b)
+      by : (b : Bool) → is_finalizing d (turn_answer_admitted (if b then nature.Write else nature.None) c) ≡ ((c == d) && b)
       by true = same_both (c == d)
       by false = sym (no_more (c == d))
 
   -- and is skipped exactly where it is not
-  admitted_skips : (d : ℕ) (w : Want) → is_skipped d (answer_admitted x c o w y) ≡ (is_turn w && ((c == d) && not (has y.phase initialized)))
-  admitted_skips d (Calls k) = ruled (λ a. is_skipped d a ≡ false) (λ q. refl) refl refl refl (λ q. refl) (rule x (Calls k) y.phase) k
+  admitted_skips : (d : ℕ) (w : Want) → is_skipped d (answer_admitted q t c o w y) ≡ (is_turn w && ((c == d) && not (has y.phase initialized)))
+  admitted_skips d (Calls k) = ruled (λ a. is_skipped d a ≡ false) (λ p. refl) refl refl refl (λ p. refl) (lock_wanted t (Calls k) y.phase) k
   admitted_skips d Turns = by (has y.phase initialized)
     where
-      by : (b : Bool) → is_skipped d (turn_answer_admitted (if b then Some Writes else None) c) ≡ ((c == d) && not b)
+      by : (b : Bool) → is_skipped d (turn_answer_admitted (if b then nature.Write else nature.None) c) ≡ ((c == d) && not b)
       by true = sym (no_more (c == d))
       by false = same_both (c == d)
 
   -- nothing else that is admitted passes a test that fails these
-  admitted_fails : (t : Answer → Bool) → IsOfTries t → t answer.Running ≡ false → ((q : _) → t (answer.Access q) ≡ false) → ((d : ℕ) → t (answer.Finalizing d) ≡ false)
-      → ((d : ℕ) → t (answer.Skipped d) ≡ false) → (w : Want) → t (answer_admitted x c o w y) ≡ false
-  admitted_fails t is running access finalizing skipped (Calls k) = ruled (λ a. t a ≡ false) is.phase is.read_guard is.write_guard running access (rule x (Calls k) y.phase) k
-  admitted_fails t is running access finalizing skipped Turns = by (rule x Turns y.phase)
+  admitted_fails : (f : Answer → Bool) → IsOfTries f → f answer.Running ≡ false → ((p : _) → f (answer.Access p) ≡ false) → ((d : ℕ) → f (answer.Finalizing d) ≡ false)
+      → ((d : ℕ) → f (answer.Skipped d) ≡ false) → (w : Want) → f (answer_admitted q t c o w y) ≡ false
+  admitted_fails f is running access finalizing skipped (Calls k) = ruled (λ a. f a ≡ false) is.phase is.read_guard is.write_guard running access (lock_wanted t (Calls k) y.phase) k
+  admitted_fails f is running access finalizing skipped Turns = by (lock_wanted t Turns y.phase)
     where
-      by : (n : Option Nature) → t (turn_answer_admitted n c) ≡ false
-      by None = skipped c
-      by (Some n) = finalizing c
+      by : (n : LockNature) → f (turn_answer_admitted n c) ≡ false
+      by nature.None = skipped c
+      by nature.Read = finalizing c
+      by nature.Write = finalizing c
 
 -- ---- legal lines
 
@@ -232,15 +244,15 @@ module _ (t : Answer → Bool) (is : IsOfTries t) (cells : List CellPlan) where
       abbrev ws : List Wait
       ws = waits_judged cells k.moment h s l.given
 
-      by_admitted : (cause : Attempt → Bool) → ((a : Attempt) → t (answer_admitted (cell_at cells a.cell) a.cell (accepts h) a.want (replay cells a.cell h)) ≡ cause a)
+      by_admitted : (cause : Attempt → Bool) → ((a : Attempt) → t (answer_admitted (cell_at cells a.cell).kind (tolerance_at cells a.cell) a.cell (accepts h) a.want (replay cells a.cell h)) ≡ cause a)
           → t l.answer ≡ is_step_of cells (λ a. is_admitted cells h s.party ws a && cause a) h s
       by_admitted cause f = legal (λ a. is_admitted cells h s.party ws a && cause a) h s l k tried
         where
           tried : (o : Option Attempt) → t (due_tried cells h s.party o ws k.chosen) ≡ is_attempted (λ a. is_admitted cells h s.party ws a && cause a) o
           tried None = told (look_at (registry cells h).pending)
           tried (Some a) =
-              let m : Meeting = meeting cells h s.party a ws in let x : CellPlan = cell_at cells a.cell in
-              in_turn (initializes a.want && m.own_run) m.kept (is_barred (rule x a.want m.content.phase) m.holding) _ (answer_admitted x a.cell m.is_open a.want m.content)
+              let m : Meeting = meeting cells h s.party a ws in let x : CellPlan = cell_at cells a.cell in let u : Tolerance = tolerance_at cells a.cell in
+              in_turn (initializes a.want && m.own_run) m.kept (is_barred (lock_wanted u a.want m.content.phase) m.holding) _ (answer_admitted x.kind u a.cell m.is_open a.want m.content)
               ∙ ap (λ b. is_admitted cells h s.party ws a && b) (f a)
 
 module _ (cells : List CellPlan) (h : List Event) (s : Step) (l : Line) (k : IsLegalLine cells h s l) where
@@ -248,25 +260,25 @@ module _ (cells : List CellPlan) (h : List Event) (s : Step) (l : Line) (k : IsL
   pub runs_where_asked : is_running l.answer ≡ is_running_step cells h s l.given k.moment
   runs_where_asked =
       by_admitted is_running of_running cells (λ n. refl) refl refl (λ w. refl) h s l k _
-      (λ a. admitted_runs (cell_at cells a.cell) a.cell (accepts h) (replay cells a.cell h) a.want)
+      (λ a. admitted_runs (cell_at cells a.cell).kind (tolerance_at cells a.cell) a.cell (accepts h) (replay cells a.cell h) a.want)
 
   -- the value may not be accessed
   pub accesses_where_turned_away : is_access l.answer ≡ is_access_step cells h s l.given k.moment
   accesses_where_turned_away =
       by_admitted is_access of_access cells (λ n. refl) refl refl (λ w. refl) h s l k _
-      (λ a. admitted_away (cell_at cells a.cell) a.cell (accepts h) (replay cells a.cell h) a.want)
+      (λ a. admitted_away (cell_at cells a.cell).kind (tolerance_at cells a.cell) a.cell (accepts h) (replay cells a.cell h) a.want)
 
   -- a finalizer begins
   pub finalizes_where_ready : (c : ℕ) → is_finalizing c l.answer ≡ is_turn_step cells c true h s l.given k.moment
   finalizes_where_ready c =
       by_admitted (is_finalizing c) (of_finalizing c) cells (λ n. refl) refl refl (λ w. refl) h s l k _
-      (λ a. admitted_finalizes (cell_at cells a.cell) a.cell (accepts h) (replay cells a.cell h) c a.want)
+      (λ a. admitted_finalizes (cell_at cells a.cell).kind (tolerance_at cells a.cell) a.cell (accepts h) (replay cells a.cell h) c a.want)
 
   -- a turn is skipped
   pub skips_where_unready : (c : ℕ) → is_skipped c l.answer ≡ is_turn_step cells c false h s l.given k.moment
   skips_where_unready c =
       by_admitted (is_skipped c) (of_skipped c) cells (λ n. refl) refl refl (λ w. refl) h s l k _
-      (λ a. admitted_skips (cell_at cells a.cell) a.cell (accepts h) (replay cells a.cell h) c a.want)
+      (λ a. admitted_skips (cell_at cells a.cell).kind (tolerance_at cells a.cell) a.cell (accepts h) (replay cells a.cell h) c a.want)
 
   -- a call is cyclic
   pub cyclic_where_own : is_cyclic l.answer ≡ is_cyclic_step cells h s
@@ -288,7 +300,7 @@ module _ (cells : List CellPlan) (h : List Event) (s : Step) (l : Line) (k : IsL
       tried None = told (look_at (registry cells h).pending)
       tried (Some a) =
           in_turn (initializes a.want && runs s.party a.cell h) _ _ _
-          (admitted_fails (cell_at cells a.cell) a.cell (accepts h) (replay cells a.cell h) is_cyclic of_cyclic refl (λ q. refl) (λ d. refl) (λ d. refl) a.want)
+          (admitted_fails (cell_at cells a.cell).kind (tolerance_at cells a.cell) a.cell (accepts h) (replay cells a.cell h) is_cyclic of_cyclic refl (λ q. refl) (λ d. refl) (λ d. refl) a.want)
 
 -- ---- looks
 
@@ -363,7 +375,7 @@ module _ (cells : List CellPlan) (h : List Event) (s : Step) (l : Line) (k : IsL
       each : (a : Attempt) → t (due_attempt cells h s.party a ws k.chosen) ≡ false
       each a =
           in_turn (initializes a.want && runs s.party a.cell h) _ _ _
-          (admitted_fails (cell_at cells a.cell) a.cell (accepts h) (replay cells a.cell h) t is.tries is.running is.access is.finalizing is.skipped a.want)
+          (admitted_fails (cell_at cells a.cell).kind (tolerance_at cells a.cell) a.cell (accepts h) (replay cells a.cell h) t is.tries is.running is.access is.finalizing is.skipped a.want)
 
   -- a look took so many cells
   pub rounds_where_registered : (n : ℕ) → is_round n l.answer ≡ is_round_step cells n h s

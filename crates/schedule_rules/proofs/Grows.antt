@@ -6,6 +6,9 @@ use Rattle.std.specs.Int.RustNames.{bit_and, bit_or}
 use Rattle.std.proofs.lemmas.Nat.{and_or_self, and_or_apart}
 use Rattle.phase_bits.specs.Flags.{has, initialized}
 use Rattle.phase_locker.specs.declared.ways.Given.{Given}
+use Rattle.phase_seq.specs.Asks.{shall_init}
+use Rattle.phase_seq.specs.declared.tolerance.Tolerance.{Tolerance}
+use Rattle.phase_bits.specs.Number.{phase_of}
 use Rattle.schedule_rules.specs.declared.plan.Call.{Call}
 use Rattle.schedule_rules.specs.declared.plan.Call.TheVariants as call
 use Rattle.schedule_rules.specs.declared.plan.CellPlan.{CellPlan}
@@ -15,8 +18,8 @@ use Rattle.schedule_rules.specs.declared.step.Want.{Want}
 use Rattle.schedule_rules.specs.declared.step.Want.TheVariants.{Calls, Turns}
 use Rattle.schedule_rules.specs.declared.line.Answer.{Answer}
 use Rattle.schedule_rules.specs.declared.line.Answer.TheVariants as answer
-use Rattle.schedule_rules.specs.Kinds.{cell_at}
-use Rattle.schedule_rules.specs.Phases.{shall_init, flags_kept, runs_generator}
+use Rattle.schedule_rules.specs.Kinds.{cell_at, tolerance_of, tolerance_at}
+use Rattle.schedule_rules.specs.Phases.{flags_kept, runs_generator}
 use Rattle.schedule_rules.specs.Changes.{Content, Change, Ran, Asked, Put, Ended, content_asked, effect}
 use Rattle.schedule_rules.specs.History.{Event, act_of, accepts, count}
 use Rattle.schedule_rules.specs.Sections.{Section, innermost, without_innermost, is_turn, runs_in, with_run, sections_ended, sections}
@@ -31,13 +34,16 @@ use Rattle.schedule_rules.proofs.Cases.{no_end, calling-tries, trying, IsCalling
 use Rattle.schedule_rules.proofs.Facts.{apart, same_number, turned_number}
 
 -- where a run is wanted, INITIALIZED is not there
-pub wanted-lacks : (retry : Bool) (p : ℕ) → shall_init retry p ≡ true → has p initialized ≡ false
-wanted-lacks true p e = by (has p initialized) e
+pub wanted-lacks : (t : Tolerance) (p : ℕ) → shall_init t (phase_of p) ≡ true → has p initialized ≡ false
+wanted-lacks t p e = by t.retry e
   where
-    by : (b : Bool) → not b ≡ true → b ≡ false
-    by false f = refl
-    by true f = absurd (cc)
-wanted-lacks false p e = let empty : p ≡ 0 = grind arith in subst (λ q. has q initialized ≡ false) (sym empty) refl
+    lacks : (b : Bool) → not b ≡ true → b ≡ false
+    lacks false f = refl
+    lacks true f = absurd (cc)
+
+    by : (b : Bool) → (if b then not (has p initialized) else (p == 0)) ≡ true → has p initialized ≡ false
+    by true f = lacks (has p initialized) f
+    by false f = let empty : p ≡ 0 = grind arith in subst (λ q. has q initialized ≡ false) (sym empty) refl
 
 -- a run that succeeds sets it
 pub has_made : (p : ℕ) → has (bit_or p initialized) initialized ≡ true
@@ -49,12 +55,12 @@ has_more p m e = ap (λ z. z == 1) (and_or_apart 1 p m e)
 
 -- what a section needs of the phase of its cell: a generator that a run is wanted, and a finalizer that there is a value
 abbrev pub Needs : Want → CellPlan → ℕ → Type 0
-Needs (Calls k) x p = shall_init x.retry p ≡ true
+Needs (Calls k) x p = shall_init (tolerance_of x) (phase_of p) ≡ true
 Needs Turns x p = has p initialized ≡ true
 
 -- a generator's section needs a phase that lacks INITIALIZED
 pub needs-lacks : (w : Want) (x : CellPlan) (p : ℕ) → is_turn w ≡ false → Needs w x p → has p initialized ≡ false
-needs-lacks (Calls k) x p d n = wanted-lacks x.retry p n
+needs-lacks (Calls k) x p d n = wanted-lacks (tolerance_of x) p n
 needs-lacks Turns x p d n = absurd (apart d)
 
 -- a generator ended in the section
@@ -154,14 +160,14 @@ module _ (cells : List CellPlan) where
     declined a c j r t q =
         changes (event a (answer.Access r)) (record { cell = c; changes = Asked (accepts h) j ∷ [] }) (ap (back_at_once h) t.does)
         k.standing (let u : _ = q.unheld (alone c) in omega (arith, u)) k.ready (let u : _ = q.unheld (alone c) in omega (arith, u))
-        (λ v. absurd (apart (sym v ∙ wanted-lacks (cell_at cells c).retry (phase_at cells c h) q.wanted)))
+        (λ v. absurd (apart (sym v ∙ wanted-lacks (tolerance_at cells c) (phase_at cells c h) q.wanted)))
 
     -- a call that may not access the value: no run is asked
     pub denied_stays : (a : Act) (c : ℕ) (j : Call) (r : _) → Calling cells h p a c j → Resting cells h p c j false → (d : ℕ) → replay cells d (event a (answer.Access r) ∷ h) ≡ replay cells d h
     denied_stays a c j r t q d = by (c == d) refl
       where
-        here : content_asked (cell_at cells c) (accepts h) j (replay cells c h) ≡ replay cells c h
-        here = ap (λ (b : Bool). if b && not (runs_generator (cell_at cells c) (accepts h) (phase_at cells c h)) then record { phase = 36; value = (replay cells c h).value } else replay cells c h) q.unasked
+        here : content_asked (cell_at cells c).kind (tolerance_at cells c) (accepts h) j (replay cells c h) ≡ replay cells c h
+        here = ap (λ (b : Bool). if b && not (runs_generator (cell_at cells c).kind (tolerance_at cells c) (accepts h) (phase_at cells c h)) then record { phase = 36; value = (replay cells c h).value } else replay cells c h) q.unasked
 
         b : Back
         b = record { cell = c; changes = Asked (accepts h) j ∷ [] }
@@ -170,7 +176,7 @@ module _ (cells : List CellPlan) where
         by true e =
             let s : c ≡ d = grind arith in
             back_here cells d (back_at_once h (act_of h (record { party = p; act = a }))) b (replay cells d h) (ap (back_at_once h) t.does) e
-            ∙ subst (λ z. content_asked (cell_at cells z) (accepts h) j (replay cells z h) ≡ replay cells z h) s here
+            ∙ subst (λ z. content_asked (cell_at cells z).kind (tolerance_at cells z) (accepts h) j (replay cells z h) ≡ replay cells z h) s here
         by false e = back_elsewhere cells d (back_at_once h (act_of h (record { party = p; act = a }))) b (replay cells d h) (ap (back_at_once h) t.does) e
 
     denied : (a : Act) (c : ℕ) (j : Call) (r : _) → Calling cells h p a c j → Resting cells h p c j false → Grows h (event a (answer.Access r))
@@ -219,13 +225,13 @@ module _ (cells : List CellPlan) where
     made_read : (v : ℕ) (t : Section) → innermost p (sections h) ≡ Some t → Grows h (event (act.Made v) answer.ReadGuard)
     made_read v t f =
         ended (event (act.Made v) answer.ReadGuard) t (Ran t.is_open (Some v)) f refl (ap (back_of_run (Some v)) f) (rw f ((λ w. absurd (cc)), k.ready)) (λ c. rw f refl)
-        (λ r. has_made (flags_kept (cell_at cells t.cell) t.is_open (phase_at cells t.cell h)))
+        (λ r. has_made (flags_kept (cell_at cells t.cell).kind t.is_open (phase_at cells t.cell h)))
 
     -- one that a write guard carries on
     made_write : (v : ℕ) (t : Section) → innermost p (sections h) ≡ Some t → is_turn t.want ≡ false → Grows h (event (act.Made v) answer.WriteGuard)
     made_write v t f d =
         keeps (event (act.Made v) answer.WriteGuard) (λ e. refl) (each_ended (IsStanding h) p (sections h) k.standing)
-        (rw f ((λ w. (has_made (flags_kept (cell_at cells t.cell) t.is_open (phase_at cells t.cell h)), λ n. lacks t f d)), k.ready))
+        (rw f ((λ w. (has_made (flags_kept (cell_at cells t.cell).kind t.is_open (phase_at cells t.cell h)), λ n. lacks t f d)), k.ready))
 
     -- a finalizer that ends
     finished : (t : Section) → innermost p (sections h) ≡ Some t → (q : _) → Grows h (event act.Finished (answer.Phase q))

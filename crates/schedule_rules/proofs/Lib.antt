@@ -37,8 +37,10 @@ mod Values
 pub mod Finishing
 pub mod Counts
 pub mod Turns
+pub mod TurnRoom
 pub mod NeverBusy
 mod Settled
+pub mod Steady
 mod Turning
 pub mod Registering
 mod Tells

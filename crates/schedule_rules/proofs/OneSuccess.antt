@@ -95,7 +95,7 @@ module _ (cells : List CellPlan) (c : ℕ) where
         made v answer.ReadGuard t f d refl (rw f (omega arith))
         (λ same. inl (subst (λ y. has y.phase initialized ≡ true)
         (sym (back_here cells c (back_of_run (Some v) (innermost p (sections h))) (record { cell = t.cell; changes = Ran t.is_open (Some v) ∷ [] }) (replay cells c h) (ap (back_of_run (Some v)) f) same))
-        (has_made (flags_kept (cell_at cells c) t.is_open (phase_at cells c h)))))
+        (has_made (flags_kept (cell_at cells c).kind t.is_open (phase_at cells c h)))))
 
     made_write : (v : ℕ) (t : Section) → innermost p (sections h) ≡ Some t → is_turn t.want ≡ false → Leaves (act.Made v) answer.WriteGuard
     made_write v t f d =

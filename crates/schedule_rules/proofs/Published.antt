@@ -12,7 +12,7 @@ use Rattle.schedule_rules.specs.declared.step.Act.TheVariants as act
 use Rattle.schedule_rules.specs.declared.step.Want.TheVariants.{Calls}
 use Rattle.schedule_rules.specs.declared.line.Answer.{Answer}
 use Rattle.schedule_rules.specs.declared.line.Answer.TheVariants as answer
-use Rattle.schedule_rules.specs.Kinds.{cell_at}
+use Rattle.schedule_rules.specs.Kinds.{cell_at, tolerance_at}
 use Rattle.schedule_rules.specs.Phases.{phase_finalized}
 use Rattle.schedule_rules.specs.Changes.{Change, Ran, Asked, Ended, is_declined}
 use Rattle.schedule_rules.specs.History.{Event, accepts, count}
@@ -101,12 +101,12 @@ module _ (cells : List CellPlan) (c : ℕ) (h : List Event) (p : ℕ) (i : Given
   declined : (a : Act) (d : ℕ) (j : Call) (q : Phase) → Calling cells h p a d j → Asking cells h p d j false → Publishes (event a (answer.Access q))
   declined a d j q t r = gives (event a (answer.Access q)) (record { cell = d; changes = Asked (accepts h) j ∷ [] }) (ap (back_at_once h) t.does) here
     where
-      declines : is_declined (cell_at cells d) j (accepts h) (phase_at cells d h) ≡ true
+      declines : is_declined (cell_at cells d).kind (tolerance_at cells d) j (accepts h) (phase_at cells d h) ≡ true
       declines = rw r.asked (ap not r.generates)
 
       here : d ≡ c → GivesBack cells h (event a (answer.Access q)) c × (read_guards c h ≡ 0)
       here at = (
-        inr (record { call = j; tried = t.tried ∙ ap (λ z. Some (record { cell = z; want = Calls j })) at; declines = subst (λ z. is_declined (cell_at cells z) j (accepts h) (phase_at cells z h) ≡ true) at declines }),
+        inr (record { call = j; tried = t.tried ∙ ap (λ z. Some (record { cell = z; want = Calls j })) at; declines = subst (λ z. is_declined (cell_at cells z).kind (tolerance_at cells z) j (accepts h) (phase_at cells z h) ≡ true) at declines }),
         subst (λ z. read_guards z h ≡ 0) at (r.unread (alone cells h legal d)),
       )
 

@@ -56,7 +56,7 @@ module _ (cells : List CellPlan) where
     -- what is known after a run by this act, was known before, or the section of the run is in the cell
     known_run : (a : Act) → is_known (registry_run cells h a (registry cells h)) c ≡ true
         → (is_known (registry cells h) c ≡ true) ⊎ (0 < count (runs_in c) (with_run a p n (accepts h) (sections h)))
-    known_run (act.Call d j) known = by (tries_registration (cell_at cells d) (phase_at cells d h)) known
+    known_run (act.Call d j) known = by (tries_registration (cell_at cells d).kind (phase_at cells d h)) known
       where
         new : ((d == c) ≡ true) ⊎ (is_known (registry cells h) c ≡ true)
             → (is_known (registry cells h) c ≡ true) ⊎ (0 < cond (d == c) (count (runs_in c) (sections h) + 1) (count (runs_in c) (sections h)))

@@ -14,7 +14,7 @@ use Rattle.schedule_rules.specs.declared.step.Act.TheVariants as act
 use Rattle.schedule_rules.specs.declared.step.Want.TheVariants.{Calls}
 use Rattle.schedule_rules.specs.declared.line.Answer.{Answer}
 use Rattle.schedule_rules.specs.declared.line.Answer.TheVariants as answer
-use Rattle.schedule_rules.specs.Kinds.{cell_at, is_finalizable}
+use Rattle.schedule_rules.specs.Kinds.{cell_at, is_finalizable, tolerance_of}
 use Rattle.schedule_rules.specs.Phases.{tries_registration, runs_generator}
 use Rattle.schedule_rules.specs.History.{Event, accepts}
 use Rattle.schedule_rules.specs.Replay.{phase_at}
@@ -41,7 +41,7 @@ and_none true = refl
 and_none false = refl
 
 -- what is declined on the empty phase was asked when no cell could be registered
-declined-closed : (x : CellPlan) (o : Bool) (p : ℕ) → tries_registration x p ≡ true → runs_generator x o p ≡ false → o ≡ false
+declined-closed : (x : CellPlan) (o : Bool) (p : ℕ) → tries_registration x.kind p ≡ true → runs_generator x.kind (tolerance_of x) o p ≡ false → o ≡ false
 declined-closed x o p e f = by (is_finalizable x.kind) (p == 0) o e f
   where
     by : (b d o : Bool) → (b && d) ≡ true
@@ -69,7 +69,7 @@ module _ (cells : List CellPlan) (c : ℕ) (h : List Event) (p : ℕ) (legal : I
       rests a ∙ ap (λ b. is_known (registry cells h) c || (b && accepts h)) (sym (ap (asks_so cells c h) t.tried ∙ none))
     where
       none : asks_so cells c h (Some (record { cell = d; want = Calls j })) ≡ false
-      none = ap (λ b. (d == c) && (b && tries_registration (cell_at cells d) (phase_at cells d h))) r.unasked ∙ and_none (d == c)
+      none = ap (λ b. (d == c) && (b && tries_registration (cell_at cells d).kind (phase_at cells d h))) r.unasked ∙ and_none (d == c)
 
   -- one that is declined
   declined : (a : Act) (d : ℕ) (j : Call) (q : Phase) → Calling cells h p a d j → Asking cells h p d j false → IsRegistering a (answer.Access q)
@@ -84,11 +84,11 @@ module _ (cells : List CellPlan) (c : ℕ) (h : List Event) (p : ℕ) (legal : I
   pub run_registers : (a : Act) (d : ℕ) (j : Call) → Calling cells h p a d j → Asking cells h p d j true → IsRegistering a answer.Running
   run_registers a d j t q =
       ap (λ b. is_known (registry_run cells h b (registry cells h)) c) t.does
-      ∙ by (tries_registration (cell_at cells d) (phase_at cells d h)) (d == c) (registry cells h).is_open refl refl refl
-      ∙ ap (λ b. is_known (registry cells h) c || (b && accepts h)) (sym (ap (asks_so cells c h) t.tried ∙ ap (λ b. (d == c) && (b && tries_registration (cell_at cells d) (phase_at cells d h))) q.asked))
+      ∙ by (tries_registration (cell_at cells d).kind (phase_at cells d h)) (d == c) (registry cells h).is_open refl refl refl
+      ∙ ap (λ b. is_known (registry cells h) c || (b && accepts h)) (sym (ap (asks_so cells c h) t.tried ∙ ap (λ b. (d == c) && (b && tries_registration (cell_at cells d).kind (phase_at cells d h))) q.asked))
     where
       -- what is known of the cell where this is so
-      known_by : (b o : Bool) → tries_registration (cell_at cells d) (phase_at cells d h) ≡ b → (registry cells h).is_open ≡ o
+      known_by : (b o : Bool) → tries_registration (cell_at cells d).kind (phase_at cells d h) ≡ b → (registry cells h).is_open ≡ o
           → is_known (registry_of_run cells d (phase_at cells d h) (registry cells h)) c ≡ is_known (if b && o then registered d (registry cells h) else registry cells h) c
       known_by true o e g =
           ap (λ (b : Bool). is_known (if b then after_register d (registry cells h) else registry cells h) c) e
@@ -96,13 +96,13 @@ module _ (cells : List CellPlan) (c : ℕ) (h : List Event) (p : ℕ) (legal : I
       known_by false o e g = ap (λ (b : Bool). is_known (if b then after_register d (registry cells h) else registry cells h) c) e
 
       -- and what is said of it
-      said_by : (b same o : Bool) → tries_registration (cell_at cells d) (phase_at cells d h) ≡ b → (d == c) ≡ same → (registry cells h).is_open ≡ o
-          → ((same && b) && o) ≡ (((d == c) && (true && tries_registration (cell_at cells d) (phase_at cells d h))) && accepts h)
+      said_by : (b same o : Bool) → tries_registration (cell_at cells d).kind (phase_at cells d h) ≡ b → (d == c) ≡ same → (registry cells h).is_open ≡ o
+          → ((same && b) && o) ≡ (((d == c) && (true && tries_registration (cell_at cells d).kind (phase_at cells d h))) && accepts h)
       said_by b same o e f g =
           ap (λ x. (x && b) && o) (sym f) ∙ ap (λ x. ((d == c) && x) && o) (sym e)
-          ∙ ap (λ x. ((d == c) && tries_registration (cell_at cells d) (phase_at cells d h)) && x) (sym g ∙ open-accepts cells h legal)
+          ∙ ap (λ x. ((d == c) && tries_registration (cell_at cells d).kind (phase_at cells d h)) && x) (sym g ∙ open-accepts cells h legal)
 
-      same_cell : (d == c) ≡ true → tries_registration (cell_at cells d) (phase_at cells d h) ≡ true → is_known (registered d (registry cells h)) c ≡ true
+      same_cell : (d == c) ≡ true → tries_registration (cell_at cells d).kind (phase_at cells d h) ≡ true → is_known (registered d (registry cells h)) c ≡ true
       same_cell same e =
           let at : d ≡ c = grind arith in
           let inside : d < length cells = finalizable-inside cells d (first _ _ e) in
@@ -114,7 +114,7 @@ module _ (cells : List CellPlan) (c : ℕ) (h : List Event) (p : ℕ) (legal : I
       other_cell other = get_or-set_other (registry cells h).known d c true false (grind arith)
 
       -- the two are the same
-      meet : (b same o : Bool) → tries_registration (cell_at cells d) (phase_at cells d h) ≡ b → (d == c) ≡ same
+      meet : (b same o : Bool) → tries_registration (cell_at cells d).kind (phase_at cells d h) ≡ b → (d == c) ≡ same
           → is_known (if b && o then registered d (registry cells h) else registry cells h) c ≡ (is_known (registry cells h) c || ((same && b) && o))
       meet true true true e f = same_cell f e ∙ sym (or_all (is_known (registry cells h) c))
       meet true false true e f = other_cell f ∙ sym (or_none (is_known (registry cells h) c))
@@ -123,9 +123,9 @@ module _ (cells : List CellPlan) (c : ℕ) (h : List Event) (p : ℕ) (legal : I
       meet false true o e f = sym (or_none (is_known (registry cells h) c))
       meet false false o e f = sym (or_none (is_known (registry cells h) c))
 
-      by : (b same o : Bool) → tries_registration (cell_at cells d) (phase_at cells d h) ≡ b → (d == c) ≡ same → (registry cells h).is_open ≡ o
+      by : (b same o : Bool) → tries_registration (cell_at cells d).kind (phase_at cells d h) ≡ b → (d == c) ≡ same → (registry cells h).is_open ≡ o
           → is_known (registry_of_run cells d (phase_at cells d h) (registry cells h)) c
-          ≡ (is_known (registry cells h) c || (((d == c) && (true && tries_registration (cell_at cells d) (phase_at cells d h))) && accepts h))
+          ≡ (is_known (registry cells h) c || (((d == c) && (true && tries_registration (cell_at cells d).kind (phase_at cells d h))) && accepts h))
       by b same o e f g = known_by b o e g ∙ meet b same o e f ∙ ap (λ x. is_known (registry cells h) c || x) (said_by b same o e f g)
 
   -- each legal step

@@ -13,7 +13,7 @@ use Rattle.schedule_rules.specs.declared.step.Want.TheVariants.{Calls}
 use Rattle.schedule_rules.specs.declared.line.Line.{Line}
 use Rattle.schedule_rules.specs.declared.line.Answer.{Answer}
 use Rattle.schedule_rules.specs.declared.line.Answer.TheVariants as answer
-use Rattle.schedule_rules.specs.Kinds.{cell_at, is_finalizable}
+use Rattle.schedule_rules.specs.Kinds.{cell_at, is_finalizable, tolerance_at}
 use Rattle.schedule_rules.specs.Calls.{asks}
 use Rattle.schedule_rules.specs.History.{Event, act_of, accepts, count}
 use Rattle.schedule_rules.specs.Sections.{runs_in, with_run, sections}
@@ -47,7 +47,7 @@ module _ (cells : List CellPlan) (c : ℕ) where
 
     -- what a call asks that tries to register the cell
     tried : (a : Act) (d : ℕ) (j : Call) → Calling cells h p a d j → asks_so cells c h (Some (record { cell = d; want = Calls j })) ≡ true
-        → (d ≡ c) × (asks (cell_at cells d) (Calls j) (phase_at cells d h) ≡ true) × (phase_at cells d h ≡ 0)
+        → (d ≡ c) × (asks (tolerance_at cells d) (Calls j) (phase_at cells d h) ≡ true) × (phase_at cells d h ≡ 0)
     tried a d j t e = (same (first _ _ e), first _ _ (second _ _ e), empty (second (is_finalizable (cell_at cells d).kind) _ (second _ _ (second _ _ e))))
       where
         same : (d == c) ≡ true → d ≡ c
@@ -60,7 +60,7 @@ module _ (cells : List CellPlan) (c : ℕ) where
         → (d ≡ c → IsHeld cells (event a r ∷ h) c) → (IsExclusive cells h d → write_holds d h ≡ 0) → IsFresh a r
     asked a d j t r same is unheld e = by (tried a d j t (sym same ∙ e))
       where
-        by : (d ≡ c) × (asks (cell_at cells d) (Calls j) (phase_at cells d h) ≡ true) × (phase_at cells d h ≡ 0) → (phase_at cells c h ≡ 0) × (write_holds c h ≡ 0) × IsHeld cells (event a r ∷ h) c
+        by : (d ≡ c) × (asks (tolerance_at cells d) (Calls j) (phase_at cells d h) ≡ true) × (phase_at cells d h ≡ 0) → (phase_at cells c h ≡ 0) × (write_holds c h ≡ 0) × IsHeld cells (event a r ∷ h) c
         by (here, n, empty) = (subst (λ z. phase_at cells z h ≡ 0) here empty, subst (λ z. IsExclusive cells h z → write_holds z h ≡ 0) here unheld only, is here)
 
     running : (a : Act) (d : ℕ) (j : Call) → Calling cells h p a d j → Asking cells h p d j true → IsFresh a answer.Running

@@ -12,7 +12,7 @@ use Rattle.schedule_rules.specs.declared.step.Act.{Act}
 use Rattle.schedule_rules.specs.declared.step.Act.TheVariants as act
 use Rattle.schedule_rules.specs.declared.line.Answer.{Answer}
 use Rattle.schedule_rules.specs.declared.line.Answer.TheVariants as answer
-use Rattle.schedule_rules.specs.Kinds.{cell_at}
+use Rattle.schedule_rules.specs.Kinds.{cell_at, tolerance_at}
 use Rattle.schedule_rules.specs.Phases.{phase_finalized}
 use Rattle.schedule_rules.specs.Changes.{Content, Change, Ran, Asked, Put, Ended, effect}
 use Rattle.schedule_rules.specs.History.{Event, accepts}
@@ -102,7 +102,7 @@ module _ (cells : List CellPlan) (c : ℕ) (h : List Event) (p : ℕ) (i : Given
   declined : (a : Act) (d : ℕ) (j : Call) (q : Phase) → Calling cells h p a d j → Asking cells h p d j false → IsSettled a (answer.Access q)
   declined a d j q t r =
       gives a (answer.Access q) (record { cell = d; changes = Asked (accepts h) j ∷ [] }) (ap (back_at_once h) t.does)
-      (λ same. absurd (apart (sym (value d same) ∙ wanted-lacks (cell_at cells d).retry (phase_at cells d h) r.wanted)))
+      (λ same. absurd (apart (sym (value d same) ∙ wanted-lacks (tolerance_at cells d) (phase_at cells d h) r.wanted)))
 
   -- one that may not access the value too
   denied : (a : Act) (d : ℕ) (j : Call) (q : Phase) → Calling cells h p a d j → Resting cells h p d j false → IsSettled a (answer.Access q)

@@ -16,7 +16,7 @@ use Rattle.schedule_rules.specs.declared.step.Act.{Act}
 use Rattle.schedule_rules.specs.declared.step.Act.TheVariants as act
 use Rattle.schedule_rules.specs.declared.line.Answer.{Answer}
 use Rattle.schedule_rules.specs.declared.line.Answer.TheVariants as answer
-use Rattle.schedule_rules.specs.Kinds.{cell_at, is_finalizable}
+use Rattle.schedule_rules.specs.Kinds.{cell_at, is_finalizable, tolerance_at}
 use Rattle.schedule_rules.specs.Phases.{tries_registration, runs_generator, phase_finalized}
 use Rattle.schedule_rules.specs.Changes.{Content, Change, Ran, Asked, Ended, is_declined, effect}
 use Rattle.schedule_rules.specs.History.{Event, accepts, count}
@@ -159,10 +159,10 @@ module _ (cells : List CellPlan) (c : ℕ) (kind : is_finalizable (cell_at cells
 
         here : d ≡ c → TellsRegistration (knows h) (effect (cell_at cells c) (Asked (accepts h) j ∷ []) (replay cells c h)).phase × (count (runs_in c) (sections h) ≡ 0) × (count (writes_cell c) (guards h) ≡ 0)
         here at =
-            let asks : is_declined (cell_at cells c) j (accepts h) (phase_at cells c h) ≡ true =
-            subst (λ z. is_declined (cell_at cells z) j (accepts h) (phase_at cells z h) ≡ true) at (rw r.asked (ap not r.generates)) in
+            let asks : is_declined (cell_at cells c).kind (tolerance_at cells c) j (accepts h) (phase_at cells c h) ≡ true =
+            subst (λ z. is_declined (cell_at cells z).kind (tolerance_at cells z) j (accepts h) (phase_at cells z h) ≡ true) at (rw r.asked (ap not r.generates)) in
             let unknown : knows h ≡ false =
-            told_declined (cell_at cells c) (accepts h) (knows h) (phase_at cells c h) kind (subst (λ z. runs_generator (cell_at cells z) (accepts h) (phase_at cells z h) ≡ false) at r.generates)
+            told_declined (cell_at cells c) (accepts h) (knows h) (phase_at cells c h) kind (subst (λ z. runs_generator (cell_at cells z).kind (tolerance_at cells z) (accepts h) (phase_at cells z h) ≡ false) at r.generates)
             (fresh d at free) k.phase in
             let none : write_holds c h ≡ 0 = subst (λ z. write_holds z h ≡ 0) at free in (
               subst (λ (b : Bool). TellsRegistration (knows h) (if b then record { phase = 36; value = (replay cells c h).value } else replay cells c h).phase) (sym asks) (refused (knows h) unknown),
@@ -179,8 +179,8 @@ module _ (cells : List CellPlan) (c : ℕ) (kind : is_finalizable (cell_at cells
       registers : knows (event a answer.Running ∷ h) ≡ (knows h || (shows_registration cells c h (record { party = p; act = a }) answer.Running && accepts h))
       registers = run_registers cells c h p legal a d j t q
 
-      asks : shows_registration cells c h (record { party = p; act = a }) answer.Running ≡ ((d == c) && (true && tries_registration (cell_at cells d) (phase_at cells d h)))
-      asks = ap (asks_so cells c h) t.tried ∙ ap (λ b. (d == c) && (b && tries_registration (cell_at cells d) (phase_at cells d h))) q.asked
+      asks : shows_registration cells c h (record { party = p; act = a }) answer.Running ≡ ((d == c) && (true && tries_registration (cell_at cells d).kind (phase_at cells d h)))
+      asks = ap (asks_so cells c h) t.tried ∙ ap (λ b. (d == c) && (b && tries_registration (cell_at cells d).kind (phase_at cells d h))) q.asked
 
       -- in another cell
       elsewhere : (d == c) ≡ false → IsTold (event a answer.Running ∷ h)
@@ -189,7 +189,7 @@ module _ (cells : List CellPlan) (c : ℕ) (kind : is_finalizable (cell_at cells
           (subst (Runs (λ b. BegunAt b (replay cells c h)) (knows h)) (sym t.does) ((λ is. absurd (apart (sym is ∙ other))), k.begun)) k.seen
         where
           known : knows (event a answer.Running ∷ h) ≡ knows h
-          known = registers ∙ ap (λ b. knows h || (b && accepts h)) (asks ∙ ap (λ b. b && (true && tries_registration (cell_at cells d) (phase_at cells d h))) other) ∙ or_none (knows h)
+          known = registers ∙ ap (λ b. knows h || (b && accepts h)) (asks ∙ ap (λ b. b && (true && tries_registration (cell_at cells d).kind (phase_at cells d h))) other) ∙ or_none (knows h)
 
       -- in this cell, which nothing else holds
       module _ (same : (d == c) ≡ true) (at : d ≡ c) where
@@ -199,8 +199,8 @@ module _ (cells : List CellPlan) (c : ℕ) (kind : is_finalizable (cell_at cells
         known : knows (event a answer.Running ∷ h) ≡ (knows h || ((phase_at cells c h == 0) && accepts h))
         known =
             registers
-            ∙ ap (λ b. knows h || (b && accepts h)) (asks ∙ ap (λ b. b && (true && tries_registration (cell_at cells d) (phase_at cells d h))) same
-            ∙ ap (λ z. tries_registration (cell_at cells z) (phase_at cells z h)) at ∙ ap (λ b. b && (phase_at cells c h == 0)) kind)
+            ∙ ap (λ b. knows h || (b && accepts h)) (asks ∙ ap (λ b. b && (true && tries_registration (cell_at cells d).kind (phase_at cells d h))) same
+            ∙ ap (λ z. tries_registration (cell_at cells z).kind (phase_at cells z h)) at ∙ ap (λ b. b && (phase_at cells c h == 0)) kind)
 
         stays : phase_at cells c h ≢ 0 → knows (event a answer.Running ∷ h) ≡ knows h
         stays ne = known ∙ ap (λ b. knows h || (b && accepts h)) (not_empty (phase_at cells c h) ne) ∙ or_none (knows h)

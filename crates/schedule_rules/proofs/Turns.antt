@@ -67,7 +67,7 @@ no_finish h p act.Again ts t = refl
 no_finish h p _ ts t = absurd t
 
 -- what has a first begins with it
-begins : (cs : List ℕ) (d : ℕ) → first_of cs ≡ Some d → cs ≡ d ∷ rest_of cs
+pub begins : (cs : List ℕ) (d : ℕ) → first_of cs ≡ Some d → cs ≡ d ∷ rest_of cs
 begins [] d e = absurd (cc)
 begins (b ∷ cs) d e = ap (λ x. x ∷ cs) (same e)
   where
@@ -78,14 +78,14 @@ begins (b ∷ cs) d e = ap (λ x. x ∷ cs) (same e)
 same_attempt : (a b : Attempt) → Some a ≡ Some b → a ≡ b
 same_attempt a b e = cc
 
-waits_so : (o : Option Wait) (d : ℕ) (v : Want) → attempt_of_wait o ≡ Some (record { cell = d; want = v }) → (w : Wait) × (o ≡ Some w) × (w.cell ≡ d) × (w.want ≡ v)
+pub waits_so : (o : Option Wait) (d : ℕ) (v : Want) → attempt_of_wait o ≡ Some (record { cell = d; want = v }) → (w : Wait) × (o ≡ Some w) × (w.cell ≡ d) × (w.want ≡ v)
 waits_so None d v e = absurd (cc)
 waits_so (Some w) d v e =
     let same : _ = same_attempt (record { cell = w.cell; want = w.want }) (record { cell = d; want = v }) e in
     (w, refl, ap (λ a. a.cell) same, ap (λ a. a.want) same)
 
 -- a turn that is attempted is the first left
-first_so : (o : Option ℕ) (d : ℕ) → attempt_of_turn o ≡ Some (record { cell = d; want = Turns }) → o ≡ Some d
+pub first_so : (o : Option ℕ) (d : ℕ) → attempt_of_turn o ≡ Some (record { cell = d; want = Turns }) → o ≡ Some d
 first_so None d e = absurd (cc)
 first_so (Some b) d e =
     let same : _ = same_attempt (record { cell = b; want = Turns }) (record { cell = d; want = Turns }) e in ap (λ (a : Attempt). Some a.cell) same
@@ -309,7 +309,7 @@ module _ (cells : List CellPlan) (c : ℕ) where
 
     -- a call that begins a run
     running : (a : Act) (d : ℕ) (j : Call) → Calling cells h p a d j → Asking cells h p d j true → IsAllowed a → HasTurn (event a answer.Running ∷ h)
-    running a d j t q f = by (tries_registration (cell_at cells d) (phase_at cells d h)) refl
+    running a d j t q f = by (tries_registration (cell_at cells d).kind (phase_at cells d h)) refl
       where
         is : registry cells (event a answer.Running ∷ h) ≡ registry_of_run cells d (phase_at cells d h) (registry cells h)
         is = ap (λ b. registry_run cells h b (registry cells h)) t.does
@@ -320,7 +320,7 @@ module _ (cells : List CellPlan) (c : ℕ) where
         on : count (finalizes_in c) (sections (event a answer.Running ∷ h)) ≡ count (finalizes_in c) (sections h)
         on = ap (λ b. count (finalizes_in c) (with_run b p (length h) (accepts h) (sections h))) t.does
 
-        by : (b : Bool) → tries_registration (cell_at cells d) (phase_at cells d h) ≡ b → HasTurn (event a answer.Running ∷ h)
+        by : (b : Bool) → tries_registration (cell_at cells d).kind (phase_at cells d h) ≡ b → HasTurn (event a answer.Running ∷ h)
         by false e =
             steady (event a answer.Running) (is ∙ ap (λ (b : Bool). if b then after_register d (registry cells h) else registry cells h) e) waiting on refl
         by true e =

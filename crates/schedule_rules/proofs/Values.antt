@@ -15,7 +15,7 @@ use Rattle.schedule_rules.specs.declared.step.Act.{Act}
 use Rattle.schedule_rules.specs.declared.step.Act.TheVariants as act
 use Rattle.schedule_rules.specs.declared.line.Answer.{Answer}
 use Rattle.schedule_rules.specs.declared.line.Answer.TheVariants as answer
-use Rattle.schedule_rules.specs.Kinds.{cell_at, is_finalizable}
+use Rattle.schedule_rules.specs.Kinds.{cell_at, is_finalizable, tolerance_of}
 use Rattle.schedule_rules.specs.Phases.{flags_kept}
 use Rattle.schedule_rules.specs.Changes.{Content, Change, Ran, Asked, Put, Ended, is_declined, content_after, effect}
 use Rattle.schedule_rules.specs.History.{Event, before}
@@ -42,7 +42,7 @@ abbrev IsTrue : Content → Type 0
 IsTrue y = has y.phase initialized ≡ true → HasValue y
 
 -- no flag that stays is INITIALIZED
-kept_lacks : (x : CellPlan) (o : Bool) (p : ℕ) → has (flags_kept x o p) initialized ≡ false
+kept_lacks : (x : CellPlan) (o : Bool) (p : ℕ) → has (flags_kept x.kind o p) initialized ≡ false
 kept_lacks x o p = by (is_finalizable x.kind) (p == 0) o
   where
     none : bit_and p 0 ≤ 0 → bit_and p 0 ≡ 0
@@ -56,14 +56,14 @@ kept_lacks x o p = by (is_finalizable x.kind) (p == 0) o
 
 module _ (x : CellPlan) where
   asked_true : (o : Bool) (k : Call) (y : Content) → IsTrue y → IsTrue (content_after x (Asked o k) y)
-  asked_true o k y t = by (is_declined x k o y.phase)
+  asked_true o k y t = by (is_declined x.kind (tolerance_of x) k o y.phase)
     where
       by : (b : Bool) → IsTrue (if b then record { phase = 36; value = y.value } else y)
       by true = λ e. absurd (cc)
       by false = t
 
   asked_stays : (o : Bool) (k : Call) (y : Content) → HasValue y → HasValue (content_after x (Asked o k) y)
-  asked_stays o k y v = by (is_declined x k o y.phase)
+  asked_stays o k y v = by (is_declined x.kind (tolerance_of x) k o y.phase)
     where
       by : (b : Bool) → HasValue (if b then record { phase = 36; value = y.value } else y)
       by true = v
@@ -73,7 +73,7 @@ module _ (x : CellPlan) where
   pub effect_true : (chs : List Change) (y : Content) → IsTrue y → IsTrue (effect x chs y)
   effect_true [] y t = t
   effect_true (Ran o (Some v) ∷ chs) y t = λ e. refl
-  effect_true (Ran o None ∷ chs) y t = λ e. absurd (apart (sym e ∙ has_more (flags_kept x o (effect x chs y).phase) 6 refl ∙ kept_lacks x o (effect x chs y).phase))
+  effect_true (Ran o None ∷ chs) y t = λ e. absurd (apart (sym e ∙ has_more (flags_kept x.kind o (effect x chs y).phase) 6 refl ∙ kept_lacks x o (effect x chs y).phase))
   effect_true (Asked o k ∷ chs) y t = asked_true o k (effect x chs y) (effect_true chs y t)
   effect_true (Put v ∷ chs) y t = λ e. refl
   effect_true (Ended true ∷ chs) y t = λ e. effect_true chs y t (sym (has_more (effect x chs y).phase 64 refl) ∙ e)

@@ -1,9 +1,11 @@
 -- Which answers a step gets, by their causes.
-use Rattle.std.specs.Prelude.{ℕ, Bool, true, false, not, List, ◌==◌, ◌&&◌, length, is_none, is_some, if◌then◌else◌}
+use Rattle.std.specs.Prelude.{ℕ, Bool, true, false, not, List, ◌==◌, ◌&&◌, length, is_none, if◌then◌else◌}
 use Rattle.std.specs.declared.option.Option.{Option}
 use Rattle.std.specs.declared.option.Option.TheVariants.{None, Some}
 use Rattle.exit_registry.specs.Registry.{is_empty, first_of}
 use Rattle.phase_bits.specs.Flags.{has, initialized}
+use Rattle.phase_locker.specs.declared.tickets.LockNature.{LockNature}
+use Rattle.phase_locker.specs.declared.tickets.LockNature.TheVariants as nature
 use Rattle.phase_locker.specs.declared.ways.Given.{Given}
 use Rattle.schedule_rules.specs.declared.plan.CellPlan.{CellPlan}
 use Rattle.schedule_rules.specs.declared.step.Act.{Act}
@@ -11,9 +13,9 @@ use Rattle.schedule_rules.specs.declared.step.Act.TheVariants as act
 use Rattle.schedule_rules.specs.declared.step.Step.{Step}
 use Rattle.schedule_rules.specs.declared.line.Answer.{Answer}
 use Rattle.schedule_rules.specs.declared.line.Answer.TheVariants as answer
-use Rattle.schedule_rules.specs.Kinds.{cell_at}
+use Rattle.schedule_rules.specs.Kinds.{cell_at, tolerance_at}
 use Rattle.schedule_rules.specs.Phases.{is_accessible, runs_generator}
-use Rattle.schedule_rules.specs.Calls.{Reads, rule, asks, initializes}
+use Rattle.schedule_rules.specs.Calls.{lock_wanted, asks, initializes}
 use Rattle.schedule_rules.specs.History.{Event, accepts}
 use Rattle.schedule_rules.specs.Sections.{is_turn, runs}
 use Rattle.schedule_rules.specs.Guards.{Guard, numbered, guards}
@@ -89,6 +91,12 @@ is_exit _ = false
 
 -- ---- what is attempted
 
+-- a lock is wanted
+abbrev pub is_lock : LockNature → Bool
+is_lock nature.None = false
+is_lock nature.Read = true
+is_lock nature.Write = true
+
 -- something is attempted, and it passes this test
 abbrev pub is_attempted : (Attempt → Bool) → Option Attempt → Bool
 is_attempted t None = false
@@ -115,17 +123,20 @@ module _ (cells : List CellPlan) where
 
     -- a run is asked
     abbrev pub asks_run : Attempt → Bool
-    asks_run a = asks (cell_at cells a.cell) a.want (phase_met a)
+    asks_run a = asks (tolerance_at cells a.cell) a.want (phase_met a)
 
     -- a run that is asked runs the generator
     abbrev pub generates : Attempt → Bool
-    generates a = runs_generator (cell_at cells a.cell) (accepts h) (phase_met a)
+    generates a = runs_generator (cell_at cells a.cell).kind (tolerance_at cells a.cell) (accepts h) (phase_met a)
+
+    -- the lock that it wants
+    abbrev pub lock_met : Attempt → LockNature
+    lock_met a = lock_wanted (tolerance_at cells a.cell) a.want (phase_met a)
 
     -- a call that wants a lock, and the value may not be accessed
     abbrev pub is_kept_out : Attempt → Bool
     is_kept_out a =
-        not (is_turn a.want)
-        && (is_some (rule (cell_at cells a.cell) a.want (phase_met a)) && not (is_accessible (cell_at cells a.cell).kind (phase_met a)))
+        not (is_turn a.want) && (is_lock (lock_met a) && not (is_accessible (cell_at cells a.cell).kind (phase_met a)))
 
     -- ---- where these calls of others wait
     module _ (ws : List Wait) where
@@ -133,7 +144,7 @@ module _ (cells : List CellPlan) where
       abbrev pub is_barred_attempt : Attempt → Bool
       is_barred_attempt a =
           not (is_of_own_run a)
-          && (not (keeps_own cells h p a) && is_barred (rule (cell_at cells a.cell) a.want (phase_met a)) (holding_with a.cell h ws))
+          && (not (keeps_own cells h p a) && is_barred (lock_met a) (holding_with a.cell h ws))
 
       -- it is neither cyclic nor barred
       abbrev pub is_admitted : Attempt → Bool
@@ -189,7 +200,7 @@ module _ (cells : List CellPlan) where
   -- a read on the cell of the guard is barred, where these calls of others wait
   abbrev pub is_barred_beside : List Event → Option Guard → List Wait → Bool
   is_barred_beside h None ws = false
-  is_barred_beside h (Some x) ws = is_barred (Some Reads) (holding_with x.cell h ws)
+  is_barred_beside h (Some x) ws = is_barred nature.Read (holding_with x.cell h ws)
 
   -- the act is a clone, and a read beside its guard is barred
   abbrev pub is_barred_clone : List Event → Act → List Wait → Bool

@@ -79,7 +79,7 @@ registry_taken _ r = r
 module _ (cells : List CellPlan) where
   -- a run of the cell at this phase registers it, where registration is tried
   abbrev pub registry_of_run : ℕ → ℕ → Registry → Registry
-  registry_of_run c p r = if tries_registration (cell_at cells c) p then after_register c r else r
+  registry_of_run c p r = if tries_registration (cell_at cells c).kind p then after_register c r else r
 
   -- a call that begins a run. No other act does
   abbrev pub registry_run : List Event → Act → Registry → Registry

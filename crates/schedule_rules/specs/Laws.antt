@@ -1,5 +1,5 @@
 -- What laws about all histories say.
-use Rattle.std.specs.Prelude.{ℕ, Bool, true, false, not, List, [], ◌∷◌, ◌≡◌, ◌≢◌, ◌==◌, ◌<◌, ◌+◌, ◌&&◌, ◌⊎◌, All, if◌then◌else◌}
+use Rattle.std.specs.Prelude.{ℕ, Bool, true, false, not, List, [], ◌∷◌, ◌≡◌, ◌≢◌, ◌==◌, ◌<◌, ◌+◌, ◌&&◌, ◌⊎◌, All, length, if◌then◌else◌}
 use Rattle.std.specs.declared.option.Option.{Option}
 use Rattle.std.specs.declared.option.Option.TheVariants.{Some}
 use Rattle.schedule_rules.specs.declared.line.Answer.{Answer}
@@ -17,11 +17,11 @@ use Rattle.exit_registry.specs.Exits.{cells_of_turns}
 use Rattle.phase_seq.specs.Phases.{registered, registration_refused, flags_refused}
 use Rattle.schedule_rules.specs.declared.plan.Call.{Call}
 use Rattle.schedule_rules.specs.declared.step.Want.TheVariants.{Calls, Turns}
-use Rattle.schedule_rules.specs.Kinds.{cell_at, is_parking}
+use Rattle.schedule_rules.specs.Kinds.{cell_at, tolerance_at, is_parking}
 use Rattle.schedule_rules.specs.Changes.{is_declined}
 use Rattle.schedule_rules.specs.Phases.{Failure, phase_reached, phase_finalized, tries_registration}
 use Rattle.schedule_rules.specs.Calls.{asks}
-use Rattle.schedule_rules.specs.History.{Event, is_closed, accepts, count}
+use Rattle.schedule_rules.specs.History.{Event, before, is_closed, accepts, count}
 use Rattle.schedule_rules.specs.Sections.{Section, innermost, is_turn, sections}
 use Rattle.schedule_rules.specs.Guards.{guards}
 use Rattle.schedule_rules.specs.Replay.{replay, phase_at}
@@ -67,7 +67,7 @@ pub record KeepsValues (cells : List CellPlan) (h : List Event) (e : Event) : Ty
 pub record DeclinesAt (cells : List CellPlan) (h : List Event) (s : Step) (c : ℕ) : Type 0 where
   pub call : Call
   pub tried : attempt cells h s ≡ Some (record { cell = c; want = Calls call })
-  pub declines : is_declined (cell_at cells c) call (accepts h) (phase_at cells c h) ≡ true
+  pub declines : is_declined (cell_at cells c).kind (tolerance_at cells c) call (accepts h) (phase_at cells c h) ≡ true
 
 -- the event gives a section of the cell back: there are fewer write holds of the cell afterwards, or it was a section at
 -- once
@@ -82,7 +82,7 @@ read_at s g = record { step = s; line = record { answer = answer.ReadGuard; give
 pub record IsDeclined (cells : List CellPlan) (h : List Event) (e : Event) (c : ℕ) (shows : Phase) : Type 0 where
   pub call : Call
   pub tried : attempt cells h e.step ≡ Some (record { cell = c; want = Calls call })
-  pub declines : is_declined (cell_at cells c) call (accepts h) (phase_at cells c h) ≡ true
+  pub declines : is_declined (cell_at cells c).kind (tolerance_at cells c) call (accepts h) (phase_at cells c h) ≡ true
   pub shown : shows ≡ phase_of flags_refused
   pub left : phase_at cells c (e ∷ h) ≡ flags_refused
 
@@ -99,7 +99,7 @@ pub record IsFailedRun (cells : List CellPlan) (h : List Event) (e : Event) (c :
   pub section : Section
   pub found : innermost e.step.party (sections h) ≡ Some section
   pub value_stays : (replay cells c (e ∷ h)).value ≡ (replay cells c h).value
-  pub fails : phase_at cells c (e ∷ h) ≡ phase_reached (cell_at cells c) section.is_open (phase_at cells c h) Failure
+  pub fails : phase_at cells c (e ∷ h) ≡ phase_reached (cell_at cells c).kind section.is_open (phase_at cells c h) Failure
   pub others_stay : (d : ℕ) → c ≢ d → replay cells d (e ∷ h) ≡ replay cells d h
 
 -- no cell parks a call
@@ -125,7 +125,7 @@ module _ (cells : List CellPlan) where
   abbrev pub asks_registration : ℕ → List Event → Attempt → Bool
   asks_registration c h a =
       (a.cell == c)
-      && (asks (cell_at cells a.cell) a.want (phase_at cells a.cell h) && tries_registration (cell_at cells a.cell) (phase_at cells a.cell h))
+      && (asks (tolerance_at cells a.cell) a.want (phase_at cells a.cell h) && tries_registration (cell_at cells a.cell).kind (phase_at cells a.cell h))
 
   -- the step tries to register the cell, where its line gives this at this moment: it is not refused, and its attempt is
   -- admitted and asks so
@@ -173,6 +173,17 @@ abbrev pub turns_of : List CellPlan → ℕ → List Event → ℕ
 turns_of cells c h =
     occurs c (due (registry cells h)) + count (waits_to_turn c) (waits cells h) + count (finalizes_in c) (sections h)
     + occurs c (cells_of_turns (ended_turns h))
+
+-- the turns that have not ended: those to come, those that wait, and those that go on
+abbrev pub turns_at_hand : List CellPlan → List Event → ℕ
+turns_at_hand cells h =
+    length (due (registry cells h)) + count (λ w. is_turn w.want) (waits cells h) + count (λ s. is_turn s.want) (sections h)
+
+-- ---- what is open
+
+-- what is published of the cell is what was published there before this step
+abbrev pub IsAsAt : List CellPlan → List Event → ℕ → ℕ → Type 0
+IsAsAt cells h c start = replay cells c h ≡ replay cells c (before start h)
 
 -- ---- what a phase tells
 

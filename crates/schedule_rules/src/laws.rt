@@ -1,6 +1,6 @@
 //! Laws of the definitions, for every history. Each is the contract of a function that does nothing.
 
-ghost use Rattle.std.specs.Prelude.{ℕ, Bool, List, ◌∷◌, ◌≡◌, ◌≢◌, ◌≤◌, ◌<◌, ◌&&◌, ◌||◌, ◌⊎◌, ◌++◌, length, is_none, is_some, true, false, if◌then◌else◌};
+ghost use Rattle.std.specs.Prelude.{ℕ, Bool, List, ◌∷◌, ◌≡◌, ◌≢◌, ◌≤◌, ◌<◌, ◌+◌, ◌&&◌, ◌||◌, ◌⊎◌, ◌++◌, length, is_none, is_some, true, false, if◌then◌else◌};
 ghost use Rattle.std.specs.declared.option.Option.TheVariants.{Some};
 ghost use Rattle.phase_bits.specs.declared.phase.Phase.{Phase};
 ghost use Rattle.phase_bits.specs.Records.{bars_read, bars_write};
@@ -12,12 +12,13 @@ ghost use Rattle.schedule_rules.specs.declared.line.Line.{Line};
 ghost use Rattle.schedule_rules.specs.declared.line.Refusal.{Refusal};
 ghost use Rattle.schedule_rules.specs.declared.line.Answer.TheVariants as answer;
 ghost use Rattle.schedule_rules.specs.declared.plan.Call.TheVariants as call;
-ghost use Rattle.schedule_rules.specs.Calls.{Reads, Writes};
-ghost use Rattle.schedule_rules.specs.declared.step.Want.TheVariants.{Calls};
+ghost use Rattle.phase_locker.specs.declared.tickets.LockNature.TheVariants as nature;
+ghost use Rattle.schedule_rules.specs.declared.step.Want.TheVariants.{Calls, Turns};
 ghost use Rattle.schedule_rules.specs.Refusals.{refusal};
 ghost use Rattle.schedule_rules.specs.History.{Event, accepts, is_closed};
 ghost use Rattle.schedule_rules.specs.Kinds.{cell_at, is_finalizable};
-ghost use Rattle.schedule_rules.specs.Sections.{runs};
+ghost use Rattle.schedule_rules.specs.Sections.{Section, innermost, is_turn, runs, sections};
+ghost use Rattle.schedule_rules.specs.Changes.{effect};
 ghost use Rattle.schedule_rules.specs.Guards.{Guard, numbered, reader, guards};
 ghost use Rattle.schedule_rules.specs.Gifts.{turns_to_read};
 ghost use Rattle.schedule_rules.specs.Waits.{Attempt, attempt, Wait, cell_concerned};
@@ -64,13 +65,15 @@ ghost use Rattle.schedule_rules.specs.Laws.{
   TurnsWhere,
   IsEndedTurn,
   turns_of,
+  turns_at_hand,
+  IsAsAt,
 };
 ghost use Rattle.schedule_rules.specs.Exits.{finishing};
 ghost use Rattle.exit_registry.specs.Registry.{is_known};
 ghost use Rattle.exit_registry.specs.Exits.{closed};
 ghost use Rattle.phase_bits.specs.Number.{phase_of};
 ghost use Rattle.phase_seq.specs.Phases.{final_outcome, flags_refused};
-ghost use Rattle.schedule_rules.specs.Exits.{registry, NoneBusy};
+ghost use Rattle.schedule_rules.specs.Exits.{registry, ended_turns, NoneBusy};
 ghost use Rattle.schedule_rules.specs.Transcripts.{Schedule, Account, IsLegalTranscript};
 
 /// A refused step leaves all sections, guards and waiting calls with their shares and drains, every published phase and
@@ -174,14 +177,14 @@ pub fn holds_exclude_each_other()
 /// its share or its drain is not barred at all.
 pub fn records_bar_what_rules_bar()
     ensures reads { (cells : List CellPlan) (h : List Event) (c : ℕ) → IsExclusive cells h c →
-        is_barred (Some Reads) (holding cells c h) ≡ bars_read (core cells c h) }
+        is_barred nature.Read (holding cells c h) ≡ bars_read (core cells c h) }
     ensures writes { (cells : List CellPlan) (h : List Event) (c : ℕ) →
-        is_barred (Some Writes) (holding cells c h) ≡ bars_write (core cells c h) }
+        is_barred nature.Write (holding cells c h) ≡ bars_write (core cells c h) }
     ensures reads_with { (cells : List CellPlan) (h : List Event) (c : ℕ) (ws : List Wait) →
         (0 < writers_with c h ws → readers_with c h ws ≡ 0) →
-        is_barred (Some Reads) (holding_with c h ws) ≡ bars_read (core_with cells c h ws) }
+        is_barred nature.Read (holding_with c h ws) ≡ bars_read (core_with cells c h ws) }
     ensures writes_with { (cells : List CellPlan) (h : List Event) (c : ℕ) (ws : List Wait) →
-        is_barred (Some Writes) (holding_with c h ws) ≡ bars_write (core_with cells c h ws) }
+        is_barred nature.Write (holding_with c h ws) ≡ bars_write (core_with cells c h ws) }
     ensures kept { (cells : List CellPlan) (h : List Event) (p : ℕ) (a : Attempt) (ws : List Wait) (chosen : Bool) →
         keeps_own cells h p a ≡ true → is_waiting (due_attempt cells h p a ws chosen) ≡ false }
 {}
@@ -321,4 +324,27 @@ pub fn registered_cells_have_one_turn()
 /// No turn of a legal transcript is Busy: each is done, skipped or failed, and has a text.
 pub fn no_turn_is_busy()
     ensures { (x : Schedule) (t : Account) → IsLegalTranscript x t → NoneBusy t.exits }
+{}
+
+/// The turns to come, those that wait, those that go on and those that ended are together at most as many as the cells.
+/// So fewer turns ended than there are cells, where a finalizer runs and where a step takes a turn or goes on with one.
+pub fn turns_have_room()
+    ensures all { (cells : List CellPlan) (h : List Event) → IsLegal cells h →
+        turns_at_hand cells h + length (ended_turns h) ≤ length cells }
+    ensures runs { (cells : List CellPlan) (h : List Event) (p : ℕ) (s : Section) → IsLegal cells h →
+        innermost p (sections h) ≡ Some s → is_turn s.want ≡ true → length (ended_turns h) < length cells }
+    ensures taken { (cells : List CellPlan) (h : List Event) (s : Step) (c : ℕ) → IsLegal cells h →
+        attempt cells h s ≡ Some (record { cell = c; want = Turns }) → length (ended_turns h) < length cells }
+{}
+
+/// What is published of a cell stays while a section of it is open: it is what was published there before the step that
+/// opened the section. So the holder of a write guard sees what happened in its section, on what is published.
+pub fn write_guards_stand_on_what_is_published()
+    ensures sections { (cells : List CellPlan) (h : List Event) (p : ℕ) (s : Section) → IsLegal cells h →
+        innermost p (sections h) ≡ Some s → IsAsAt cells h s.cell s.start }
+    ensures guards { (cells : List CellPlan) (h : List Event) (g : ℕ) (x : Guard) → IsLegal cells h →
+        numbered g (guards h) ≡ Some x → x.writes ≡ true → IsAsAt cells h x.cell x.start }
+    ensures shows { (cells : List CellPlan) (h : List Event) (g : ℕ) (x : Guard) → IsLegal cells h →
+        numbered g (guards h) ≡ Some x → x.writes ≡ true →
+        inside cells h x ≡ effect (cell_at cells x.cell) x.changes (replay cells x.cell h) }
 {}

@@ -20,7 +20,8 @@ pub use laws::{
     records_bar_what_rules_bar, refused_steps_change_nothing, registered_cells_have_one_turn,
     registration_is_tried_once, shown_values_are_there, steps_run_exactly_where_asked,
     steps_wait_exactly_where_barred, turned_back_calls_change_nothing,
-    turns_finalize_what_is_there, without_retry_one_run,
+    turns_finalize_what_is_there, turns_have_room, without_retry_one_run,
+    write_guards_stand_on_what_is_published,
 };
 pub use line::{Answer, Line, Refusal};
 pub use phase_locker::{Given, How};
