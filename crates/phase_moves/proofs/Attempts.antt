@@ -172,7 +172,7 @@ admitted_phase nature.Write h = refl
 admitted_phase nature.None h = refl
 
 -- what was got begins this
-record GotTo (who : Who) (ask : Ask) (p : Phase) (n : LockNature) (s : Parking) (b : Begun) : Type 0 where
+pub record GotTo (who : Who) (ask : Ask) (p : Phase) (n : LockNature) (s : Parking) (b : Begun) : Type 0 where
   pub rows : s ≡ rows_begun b who s
   pub wrote : writes_begun b ≡ 1 → n ≡ nature.Write
   pub told : TellsFirst who ask p b
@@ -200,7 +200,7 @@ got_write who ask p s true final r e = record { rows = refl; wrote = λ k. refl;
 got_write who ask p s false true r e = record { rows = refl; wrote = λ k. refl; told = (refl, e) }
 got_write who ask p s false false r e = record { rows = refl; wrote = λ k. refl; told = (refl, r) }
 
-got_to : (who : Who) (ask : Ask) (p : Phase) (n : LockNature) (s : Parking) → n ≡ nature_of ask p → GotTo who ask p n s (begun_by who ask p (attempt.Got (got n p)))
+pub got_to : (who : Who) (ask : Ask) (p : Phase) (n : LockNature) (s : Parking) → n ≡ nature_of ask p → GotTo who ask p n s (begun_by who ask p (attempt.Got (got n p)))
 got_to who ask p nature.Read s e = record { rows = refl; wrote = λ k. absurd (omega (arith, k)); told = (refl, no_run ask p nature.Read e (λ q. cc)) }
 got_to who ask p nature.None s e = record { rows = refl; wrote = λ k. absurd (omega (arith, k)); told = (refl, no_run ask p nature.None e (λ q. cc)) }
 got_to who ask p nature.Write s e = got_write who ask p s (asks_run ask p) (finalizes ask.want) refl refl
@@ -227,7 +227,7 @@ judged_to k fresh who wake n h s a h' s' ask ruled judged = by (bars h n) refl j
 -- ---- the calls
 
 -- the row of a party that does not wait is free already
-free_same : (p : ℕ) (s : Parking) → row_of s p ≡ free_row → freed p s ≡ s
+pub free_same : (p : ℕ) (s : Parking) → row_of s p ≡ free_row → freed p s ≡ s
 free_same p s e = ap (λ (r : Row). left r.waiting r.cell p s) e ∙ (λ i. record { rows = same i; readers = s.readers; writers = s.writers })
   where
     same : set s.rows p free_row ≡ s.rows

@@ -33,3 +33,7 @@ pub mod Looking
 pub mod Starting
 pub mod HistoryCalls
 pub mod HistoryExits
+pub mod Few
+pub mod Judged
+pub mod Settling
+pub mod Barring

@@ -10,3 +10,4 @@ pub mod Exits
 pub mod Closing
 pub mod Histories
 pub mod Fresh
+pub mod Meets

@@ -9,23 +9,27 @@ use Rattle.exit_registry.specs.Registry.{look_at}
 use Rattle.schedule_rules.specs.declared.line.Answer.{Answer}
 use Rattle.schedule_rules.specs.declared.line.Answer.TheVariants as answer
 use Rattle.schedule_rules.specs.declared.line.Line.{Line}
+use Rattle.phase_locker.specs.declared.tickets.LockNature.{LockNature}
+use Rattle.phase_locker.specs.declared.tickets.LockNature.TheVariants as nature
+use Rattle.phase_seq.specs.declared.tolerance.Tolerance.{Tolerance}
 use Rattle.schedule_rules.specs.declared.plan.Call.{Call}
+use Rattle.schedule_rules.specs.declared.plan.Kind.{Kind}
 use Rattle.schedule_rules.specs.declared.plan.CellPlan.{CellPlan}
 use Rattle.schedule_rules.specs.declared.step.Act.{Act}
 use Rattle.schedule_rules.specs.declared.step.Act.TheVariants as act
 use Rattle.schedule_rules.specs.declared.step.Step.{Step}
 use Rattle.schedule_rules.specs.declared.step.Want.{Want}
 use Rattle.schedule_rules.specs.declared.step.Want.TheVariants.{Calls, Turns}
-use Rattle.schedule_rules.specs.Answers.{Meeting, answer_admitted, answer_barred, answer_of_attempt, answer_of_run, answer_of_value, call_answer_admitted, call_answer_written, if_accessible, turn_answer_admitted}
-use Rattle.schedule_rules.specs.Calls.{Nature, Reads, Writes, asks, initializes, rule}
+use Rattle.schedule_rules.specs.Answers.{Meeting, answer_admitted, answer_barred, answer_declined, answer_denied, answer_locked, answer_of_attempt, answer_of_made, answer_of_run, answer_opened, call_answer_admitted, drains_by, turn_answer_admitted, way_parked}
+use Rattle.schedule_rules.specs.Calls.{asks, initializes, lock_wanted}
 use Rattle.schedule_rules.specs.Changes.{Content, Ended, content_after, effect}
-use Rattle.schedule_rules.specs.Due.{answer_of_look, answer_of_made, due_answer, due_attempt, due_clone, due_finished, due_look, due_made, due_tried, meeting}
+use Rattle.schedule_rules.specs.Due.{answer_of_look, due_answer, due_clone, due_finished, due_look, due_made, due_tried, meeting}
 use Rattle.schedule_rules.specs.declared.plan.Call.TheVariants as call
 use Rattle.schedule_rules.specs.Exits.{registry}
 use Rattle.schedule_rules.specs.Guards.{Guard, guards, numbered}
 use Rattle.schedule_rules.specs.History.{Event}
 use Rattle.schedule_rules.specs.Holds.{holding_with, is_barred}
-use Rattle.schedule_rules.specs.Kinds.{cell_at}
+use Rattle.schedule_rules.specs.Kinds.{cell_at, tolerance_of}
 use Rattle.schedule_rules.specs.Legal.{First, IsLegalLine, Last, Moment, answer_of, due_at}
 use Rattle.schedule_rules.specs.declared.line.Refusal.{Refusal}
 use Rattle.schedule_rules.specs.Phases.{is_accessible, phase_reached, runs_generator, NoRun}
@@ -52,47 +56,50 @@ module _ (cells : List CellPlan) where
 
   -- ---- what is told
 
-  access_known : (x : CellPlan) (y : Content) (a : Answer) → IsKnown (phase_of y.phase) → TellsKnown a → TellsKnown (if_accessible x y a)
-  access_known x y a k t = by (is_accessible x.kind y.phase)
+  locked_known : (q : Kind) (k : Call) (y : Content) → IsKnown (phase_of y.phase) → TellsKnown (answer_locked q k y)
+  locked_known q k y known = by (is_accessible q y.phase)
     where
-      by : (b : Bool) → TellsKnown (if b then a else answer.Access (phase_of y.phase))
-      by true = t
-      by false = k
+      opened : (c : Call) → TellsKnown (answer_opened c)
+      opened call.Phase = tt
+      opened call.Read = tt
+      opened call.Write = tt
 
-  run_known : (x : CellPlan) (is_open : Bool) (y : Content) → TellsKnown (answer_of_run x is_open y)
-  run_known x is_open y = by (runs_generator x is_open y.phase)
+      by : (b : Bool) → TellsKnown (if b then answer_opened k else answer_denied k y.phase)
+      by true = opened k
+      by false = known
+
+  run_known : (q : Kind) (t : Tolerance) (is_open : Bool) (k : Call) (y : Content) → TellsKnown (answer_of_run q t is_open k y)
+  run_known q t is_open k y = by (runs_generator q t is_open y.phase)
     where
-      by : (b : Bool) → TellsKnown (if b then answer.Running else answer.Access (phase_of (phase_reached x is_open y.phase NoRun)))
+      by : (b : Bool) → TellsKnown (if b then answer.Running else answer_declined k (phase_reached q is_open y.phase NoRun))
       by true = tt
       by false = record { below = omega arith }
 
-  written_known : (x : CellPlan) (is_open : Bool) (k : Call) (y : Content) → IsKnown (phase_of y.phase) → TellsKnown (call_answer_written x is_open k y)
-  written_known x is_open k y known = by (asks x (Calls k) y.phase)
+  by_lock : (n : LockNature) (q : Kind) (t : Tolerance) (is_open : Bool) (k : Call) (y : Content) → IsKnown (phase_of y.phase) → TellsKnown (call_answer_admitted n q t is_open k y)
+  by_lock nature.None q t is_open k y known = known
+  by_lock nature.Read q t is_open k y known = locked_known q k y known
+  by_lock nature.Write q t is_open k y known = by (asks t (Calls k) y.phase)
     where
-      by : (b : Bool) → TellsKnown (if b then answer_of_run x is_open y else if_accessible x y answer.WriteGuard)
-      by true = run_known x is_open y
-      by false = access_known x y answer.WriteGuard known tt
+      by : (b : Bool) → TellsKnown (if b then answer_of_run q t is_open k y else answer_locked q k y)
+      by true = run_known q t is_open k y
+      by false = locked_known q k y known
 
-  by_rule : (n : Option Nature) (x : CellPlan) (is_open : Bool) (k : Call) (y : Content) → IsKnown (phase_of y.phase) → TellsKnown (call_answer_admitted n x is_open k y)
-  by_rule None x is_open k y known = known
-  by_rule (Some Reads) x is_open k y known = access_known x y answer.ReadGuard known tt
-  by_rule (Some Writes) x is_open k y known = written_known x is_open k y known
+  turn_known : (n : LockNature) (c : ℕ) → TellsKnown (turn_answer_admitted n c)
+  turn_known nature.None c = tt
+  turn_known nature.Read c = tt
+  turn_known nature.Write c = tt
 
-  turn_known : (n : Option Nature) (c : ℕ) → TellsKnown (turn_answer_admitted n c)
-  turn_known None c = tt
-  turn_known (Some n) c = tt
-
-  admitted_known : (x : CellPlan) (c : ℕ) (is_open : Bool) (w : Want) (y : Content) → IsKnown (phase_of y.phase) → TellsKnown (answer_admitted x c is_open w y)
-  admitted_known x c is_open (Calls k) y known = by_rule (rule x (Calls k) y.phase) x is_open k y known
-  admitted_known x c is_open Turns y known = turn_known (rule x Turns y.phase) c
+  admitted_known : (q : Kind) (t : Tolerance) (c : ℕ) (is_open : Bool) (w : Want) (y : Content) → IsKnown (phase_of y.phase) → TellsKnown (answer_admitted q t c is_open w y)
+  admitted_known q t c is_open (Calls k) y known = by_lock (lock_wanted t (Calls k) y.phase) q t is_open k y known
+  admitted_known q t c is_open Turns y known = turn_known (lock_wanted t Turns y.phase) c
 
   attempt_known : (x : CellPlan) (w : Want) (m : Meeting) (chosen : Bool) → IsKnown (phase_of m.content.phase) → TellsKnown (answer_of_attempt x w m chosen)
-  attempt_known x w m chosen known = by (initializes w && m.own_run) (not m.kept && is_barred (rule x w m.content.phase) m.holding)
+  attempt_known x w m chosen known = by (initializes w && m.own_run) (not m.kept && is_barred (lock_wanted (tolerance_of x) w m.content.phase) m.holding)
     where
-      by : (a b : Bool) → TellsKnown (if a then answer.Cyclic else if b then answer_barred x w m chosen else answer_admitted x m.cell m.is_open w m.content)
+      by : (a b : Bool) → TellsKnown (if a then answer.Cyclic else if b then answer_barred x.place (way_parked w (drains_by (lock_wanted (tolerance_of x) w m.content.phase) m.holding chosen)) else answer_admitted x.kind (tolerance_of x) m.cell m.is_open w m.content)
       by true b = tt
       by false true = tt
-      by false false = admitted_known x m.cell m.is_open w m.content known
+      by false false = admitted_known x.kind (tolerance_of x) m.cell m.is_open w m.content known
 
   look_known : (l : Look) → TellsKnown (answer_of_look l)
   look_known (look.Round n) = tt
@@ -122,7 +129,7 @@ module _ (cells : List CellPlan) where
 
   clone_known : (h : List Event) (ws : List Wait) (x : Option Guard) → TellsKnown (due_clone cells h ws x)
   clone_known h ws None = tt
-  clone_known h ws (Some x) = by (is_barred (Some Reads) (holding_with x.cell h ws))
+  clone_known h ws (Some x) = by (is_barred nature.Read (holding_with x.cell h ws))
     where
       by : (b : Bool) → TellsKnown (if b then answer.Borrowed else answer.ReadGuard)
       by true = tt

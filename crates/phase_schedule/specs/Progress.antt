@@ -1,24 +1,19 @@
 -- What a run has made of the steps so far.
-use Rattle.std.specs.Prelude.{ℕ, Bool, true, List, [], ◌∷◌, ◌≡◌, ◌≤◌, ◌<◌, length, vec_capacity}
+use Rattle.std.specs.Prelude.{ℕ, List, [], ◌∷◌, ◌≡◌, ◌≤◌, ◌<◌, ◌^◌, length, vec_capacity}
 use Rattle.phase_bits.specs.declared.holders.Holders.{Holders}
 use Rattle.phase_locker.specs.declared.ways.LockerKind.{LockerKind}
 use Rattle.schedule_rules.specs.declared.plan.CellPlan.{CellPlan}
 use Rattle.schedule_rules.specs.declared.plan.Plan.{Plan}
 use Rattle.schedule_rules.specs.declared.step.Step.{Step}
 use Rattle.schedule_rules.specs.declared.line.Line.{Line}
-use Rattle.schedule_rules.specs.Kinds.{cell_at}
 use Rattle.schedule_rules.specs.Exits.{ended_turns}
 use Rattle.schedule_rules.specs.History.{Event}
 use Rattle.schedule_rules.specs.Transcripts.{AreFinals, NamesKnown}
-use Rattle.phase_moves.specs.Stands.{kind_at}
+pub use Rattle.phase_moves.specs.Fresh.{TakesPlaces}
 use Rattle.phase_acts.specs.Steps.{Follows}
 use Rattle.phase_schedule.specs.Known.{AreKnown}
 use Rattle.phase_schedule.specs.declared.ending.Ending.{Ending}
 use Rattle.phase_schedule.specs.declared.progress.Progress.{Progress}
-
--- lockers can be made for the places of all cells
-abbrev pub TakesPlaces : (LockerKind → Bool) → List CellPlan → Type 0
-TakesPlaces takes cells = (c : ℕ) → c < length cells → takes (kind_at (cell_at cells c).place) ≡ true
 
 -- what a run is of: so many parties, these cells, and room for so many steps
 pub record Frame : Type 0 where
@@ -41,6 +36,7 @@ module _ {L : Type 0} (held : L → Holders) (place : L → LockerKind) where
   pub record HasMade (f : Frame) (h : List Event) (p : Progress L) : Type 0 where
     pub follows : Follows held place f.cells h p.machine.rows
     pub parties : length p.machine.rows.parties.items ≡ f.parties
+    pub few : length f.cells < 2 ^ 32
     pub room : vec_capacity p.machine.rows.guards ≡ f.count
     pub finals : p.finals.items ≡ []
     pub final_room : length f.cells ≤ vec_capacity p.finals

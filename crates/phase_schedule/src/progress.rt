@@ -32,7 +32,7 @@ impl<L: PhaseLocker> Progress<L> {
         ensures { IfOk result (HasMade L.held L.place (frame_of_plan plan.now count) []) }
     {
         let finals = Vec::with_capacity(alloc, plan.cells.len())?;
-        let rows = phase_acts::new_rows(alloc, plan, count)?;
+        let rows = Rows::new(alloc, plan, count)?;
         let machine = Machine { rows };
         Ok(Progress { machine, finals })
     }
@@ -57,7 +57,7 @@ impl<L: PhaseLocker> Progress<L> {
         } = self;
         let Machine { rows } = machine;
         tell_finals(&rows.cells, &mut finals);
-        let exits = phase_acts::close_rows(rows);
+        let exits = rows.close();
         Ending { finals, exits }
     }
 }
