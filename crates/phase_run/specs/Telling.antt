@@ -1,8 +1,14 @@
 -- A text that is told as it is made: a page of it is written when it is full.
-use Rattle.std.specs.Prelude.{ℕ, List, [], ◌++◌, ◌≡◌, ◌≤◌, OnOk, OnErr}
+use Rattle.std.specs.Prelude.{ℕ, List, [], ◌++◌, ◌≡◌, ◌≤◌, OnOk, OnErr, length, take}
 use Rattle.std.specs.declared.option.Option.{Option}
 use Rattle.std.specs.declared.result.Result.{Result}
 use Rattle.std.specs.Io.KnownBytes.{Appends}
+use Rattle.phase_schedule.specs.declared.running.Run.{Run}
+use Rattle.phase_schedule.specs.Running.{HasMade}
+use Rattle.schedule_rules.specs.declared.line.Line.{Line}
+use Rattle.schedule_rules.specs.Transcripts.{Account, IsLegalTranscript, Schedule}
+use Rattle.schedule_text.specs.Lines.{lines_text}
+use Rattle.schedule_text.specs.TranscriptText.{step_lines, transcript_text}
 use Rattle.phase_run.specs.declared.failed.Failed.{Failed}
 use Rattle.phase_run.specs.Faults.{Rose}
 
@@ -32,3 +38,34 @@ Tells bytes old new = (given : Option (List ℕ)) (faults : ℕ) (text : List �
 -- who tells, with these
 abbrev pub teller : Option (List ℕ) → ℕ → List ℕ → Result (Unit {0}) Failed → Teller
 teller given faults page told = record { given = given; faults = faults; page = page; told = told }
+
+-- ---- a whole transcript
+
+-- the first steps of a schedule, so many, were told, whose run made them
+pub record HasToldFirst (x : Schedule) (count : ℕ) (old new : Teller) (run : Run) : Type 0 where
+  pub lines : List Line
+  pub made : HasMade x lines run
+  pub many : length lines ≡ count
+  pub tells : Tells (lines_text (step_lines 0 lines)) old new
+
+-- all steps were told, whatever the run is of
+abbrev pub TellsSteps : Run → Teller → Run → Teller → Type 0
+TellsSteps old from new to = (x : Schedule) → HasMade x [] old → HasToldFirst x (length x.steps) from to new
+
+-- the run is of some schedule, and has made no step
+pub record IsNew (run : Run) : Type 0 where
+  pub schedule : Schedule
+  pub made : HasMade schedule [] run
+
+-- a legal transcript of the schedule was told: its text was written, whole, or its front where the sink failed
+pub record IsToldOf (x : Schedule) (before after : Option (List ℕ)) (old new : ℕ) (told : Result (Unit {0}) Failed) : Type 0 where
+  pub account : Account
+  pub legal : IsLegalTranscript x account
+  pub whole : OnOk told (Appends before after (transcript_text account))
+  pub part : OnErr told ((k : ℕ) × Appends before after (take k (transcript_text account)))
+  pub failed : OnErr told (Rose old new)
+  pub steady : old ≤ new
+
+-- whatever the run is of
+abbrev pub TellsRun : Run → Option (List ℕ) → Option (List ℕ) → ℕ → ℕ → Result (Unit {0}) Failed → Type 0
+TellsRun run before after old new told = (x : Schedule) → HasMade x [] run → IsToldOf x before after old new told

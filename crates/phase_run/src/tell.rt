@@ -2,18 +2,85 @@
 //!
 //! Where the sink fails, the lines that follow are let go: `told` keeps that it failed, and nothing more is written.
 
-ghost use Rattle.std.specs.Prelude.{◌≡◌, ◌≢◌, [], true};
+ghost use Rattle.std.specs.Prelude.{◌≡◌, ◌≢◌, [], true, Ok};
+ghost use Rattle.schedule_rules.specs.Exits.{NoneBusy};
 ghost use Rattle.exit_registry.specs.declared.turns.Turn.TheVariants as turn;
-ghost use Rattle.schedule_text.specs.Lines.{line_text};
+ghost use Rattle.schedule_text.specs.Lines.{line_text, lines_text};
 ghost use Rattle.schedule_text.specs.Pages.{has_line_room};
-ghost use Rattle.schedule_text.specs.TranscriptText.{step_words, final_words, exit_words, end_words};
-ghost use Rattle.phase_run.specs.Telling.{Tells, teller};
+ghost use Rattle.schedule_text.specs.TranscriptText.{step_words, final_words, final_lines, exit_words, exit_lines, end_words};
+ghost use Rattle.phase_run.specs.Telling.{IsNew, Tells, TellsRun, TellsSteps, teller};
 
 use crate::failed::Failed;
 use crate::sink::Sink;
 use crate::write::write_text;
+use phase_schedule::{Ending, Run};
 use schedule_rules::{Final, Line, Turned};
 use schedule_text::Page;
+
+/// Runs a schedule to its end, and tells its transcript as it is made. It takes no memory. Where the sink fails the run
+/// goes on, so that what was written is the front of a whole transcript.
+pub fn tell<K: Sink>(out: &mut K, run: Run, page: Page) -> Result<(), Failed>
+    requires new { IsNew run }
+    requires clear { page ≡ [] }
+    ensures { TellsRun run (K.given out.old) (K.given out.new) (K.faults out.old) (K.faults out.new) result }
+{
+    let mut run = run;
+    let mut page = page;
+    page.put_title();
+    let told = tell_steps(out, &mut page, &mut run);
+    let Ending { finals, exits } = run.finish();
+    let told = tell_finals(out, &mut page, told, &finals);
+    let told = tell_exits(out, &mut page, told, &exits);
+    tell_end(out, &mut page, told)
+}
+
+/// Makes all steps, and tells the line of each.
+fn tell_steps<K: Sink>(out: &mut K, page: &mut Page, run: &mut Run) -> Result<(), Failed>
+    requires new { IsNew run.old }
+    ensures { TellsSteps run.old (teller (K.given out.old) (K.faults out.old) page.old (Ok tt)) run.new (teller (K.given out.new) (K.faults out.new) page.new result) }
+{
+    let mut told = Ok(());
+    for number in 0..u64::MAX {
+        let Some(line) = run.next_line() else {
+            return told;
+        };
+        told = tell_step(out, page, told, number, &line);
+    }
+    told
+}
+
+/// Tells what each cell is left with.
+fn tell_finals<K: Sink>(
+    out: &mut K,
+    page: &mut Page,
+    told: Result<(), Failed>,
+    finals: &[Final],
+) -> Result<(), Failed>
+    ensures { Tells (lines_text (final_lines 0 finals.now)) (teller (K.given out.old) (K.faults out.old) page.old told) (teller (K.given out.new) (K.faults out.new) page.new result) }
+{
+    let mut told = told;
+    for (cell, left) in finals.iter().enumerate() {
+        told = tell_final(out, page, told, cell as u64, left);
+    }
+    told
+}
+
+/// Tells the turns of the exit that ended.
+fn tell_exits<K: Sink>(
+    out: &mut K,
+    page: &mut Page,
+    told: Result<(), Failed>,
+    exits: &[Turned],
+) -> Result<(), Failed>
+    requires { NoneBusy exits.now }
+    ensures { Tells (lines_text (exit_lines exits.now)) (teller (K.given out.old) (K.faults out.old) page.old told) (teller (K.given out.new) (K.faults out.new) page.new result) }
+{
+    let mut told = told;
+    for turned in exits {
+        told = tell_exit(out, page, told, turned);
+    }
+    told
+}
 
 /// The page is written, and is clear then.
 fn hand_on<K: Sink>(
