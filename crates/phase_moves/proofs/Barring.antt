@@ -1,7 +1,7 @@
 -- A locker bars as the rules do, keeps what they keep, and a barred call waits in a way that is due.
 use Rattle.std.proofs.Common.{◌≡◌, ◌==◌, ◌<◌, ◌≤◌, ◌+◌, ◌∙◌, ℕ, List, [], ◌∷◌, ap, sym, refl, arith, Bool, true, false, None, Some, not, ◌||◌, ◌&&◌, inl, inr}
 use Rattle.std.proofs.lemmas.Bool.{cases_lt}
-use Rattle.std.specs.Prelude.{nat_lt, ◌⊎◌}
+use Rattle.std.specs.Prelude.{nat_lt}
 use Rattle.std.specs.declared.option.Option.{Option}
 use Rattle.phase_bits.specs.declared.holders.Holders.{Holders}
 use Rattle.phase_bits.specs.Records.{most_readers}
@@ -11,7 +11,7 @@ use Rattle.phase_locker.specs.declared.ways.How.{How}
 use Rattle.phase_locker.specs.declared.ways.How.TheVariants as how
 use Rattle.phase_locker.specs.declared.ways.LockerKind.{LockerKind}
 use Rattle.phase_locker.specs.Natures.{bars}
-use Rattle.phase_locker.specs.Rows.{Rows as Parking, claims, drains, drains_at, row_of, shares}
+use Rattle.phase_locker.specs.Rows.{Rows as Parking, claims, drains, drains_at, row_of}
 use Rattle.phase_locker.specs.Fits.{Fits, IsWriteOpen, is_park, open_reads}
 use Rattle.phase_locker.specs.Attempts.{MayWait, keeps as row_keeps}
 use Rattle.phase_locker.proofs.Leaving.{write_has_no_reader}

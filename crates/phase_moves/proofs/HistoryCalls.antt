@@ -6,11 +6,9 @@ use Rattle.phase_bits.specs.declared.phase.Phase.{Phase}
 use Rattle.exit_registry.specs.declared.turns.Turned.{Turned}
 use Rattle.exit_registry.specs.Registry.{Registry}
 use Rattle.phase_locker.specs.declared.ways.Given.{Given}
-use Rattle.phase_locker.specs.declared.ways.Given.TheVariants as given
 use Rattle.phase_locker.specs.declared.ways.How.{How}
 use Rattle.phase_locker.specs.declared.tickets.ReadTicket.{ReadTicket}
 use Rattle.phase_locker.specs.declared.tickets.WriteTicket.{WriteTicket}
-use Rattle.schedule_rules.specs.declared.line.Answer.{Answer}
 use Rattle.schedule_rules.specs.declared.line.Answer.TheVariants as answer
 use Rattle.schedule_rules.specs.declared.plan.Call.{Call}
 use Rattle.schedule_rules.specs.declared.plan.CellPlan.{CellPlan}
@@ -18,13 +16,13 @@ use Rattle.schedule_rules.specs.declared.step.Act.{Act}
 use Rattle.schedule_rules.specs.declared.step.Act.TheVariants as act
 use Rattle.schedule_rules.specs.declared.step.Want.TheVariants.{Calls}
 use Rattle.schedule_rules.specs.Kinds.{cell_at, tolerance_of, tolerance_at}
-use Rattle.schedule_rules.specs.Changes.{Content, Change, Asked, effect, is_declined}
-use Rattle.schedule_rules.specs.Exits.{registry, owner, ended_turns, first_owner, registry_taken, registry_run, turns_finished}
-use Rattle.schedule_rules.specs.Guards.{guards, reader, with_reader, with_writer, writer}
+use Rattle.schedule_rules.specs.Changes.{Content, Asked, effect, is_declined}
+use Rattle.schedule_rules.specs.Exits.{registry, owner, first_owner, registry_taken, registry_run, turns_finished}
+use Rattle.schedule_rules.specs.Guards.{guards, reader, with_reader, with_writer}
 use Rattle.schedule_rules.specs.History.{Event, accepts, act_by}
 use Rattle.schedule_rules.specs.Replay.{replay, content_after_back, back_at_once, back_read}
 use Rattle.schedule_rules.specs.Sections.{Section, sections, sections_ended, with_run}
-use Rattle.schedule_rules.specs.Waits.{Attempt, Wait, waits, with_wait, without_wait, waits_given_with, attempt_with, cell_concerned_with}
+use Rattle.schedule_rules.specs.Waits.{Wait, waits, with_wait, without_wait, waits_given_with, attempt_with, cell_concerned_with}
 use Rattle.waiting_rows.specs.Given.{given_on}
 use Rattle.waiting_rows.proofs.GivenOn.{given_concerned}
 use Rattle.phase_moves.specs.declared.rows.Taken.TheVariants as taken

@@ -1,30 +1,28 @@
 -- What stands open after a step of the exit, and after a step that opens and gives back nothing, is a move of what stood
 -- open.
-use Rattle.std.proofs.Common.{◌≡◌, ◌==◌, ◌∙◌, ℕ, List, [], ◌∷◌, ◌++◌, length, ap, sym, refl, arith, Bool, true, false, None, Some}
-use Rattle.std.specs.Prelude.{if◌then◌else◌, not}
+use Rattle.std.proofs.Common.{◌≡◌, ◌==◌, ◌∙◌, ℕ, List, ◌∷◌, length, ap, sym, refl, arith, Bool, true, false, None, Some}
+use Rattle.std.specs.Prelude.{not}
 use Rattle.std.specs.declared.option.Option.{Option}
 use Rattle.phase_bits.specs.declared.phase.Phase.{Phase}
 use Rattle.exit_registry.specs.declared.registry.Look.{Look}
 use Rattle.exit_registry.specs.declared.registry.Look.TheVariants as look
 use Rattle.exit_registry.specs.declared.turns.Turn.TheVariants as turn
-use Rattle.exit_registry.specs.Registry.{Registry, first_of}
+use Rattle.exit_registry.specs.Registry.{first_of}
 use Rattle.phase_locker.specs.declared.ways.Given.{Given}
 use Rattle.phase_locker.specs.declared.ways.Given.TheVariants as given
 use Rattle.phase_locker.specs.declared.ways.How.{How}
 use Rattle.schedule_rules.specs.declared.line.Answer.TheVariants as answer
-use Rattle.schedule_rules.specs.declared.line.Line.{Line}
 use Rattle.schedule_rules.specs.declared.plan.Call.{Call}
 use Rattle.schedule_rules.specs.declared.plan.CellPlan.{CellPlan}
 use Rattle.schedule_rules.specs.declared.step.Act.TheVariants as act
 use Rattle.schedule_rules.specs.declared.step.Want.TheVariants.{Turns}
 use Rattle.schedule_rules.specs.Due.{answer_of_look}
-use Rattle.schedule_rules.specs.Exits.{registry, owner, ended_turns, first_owner}
-use Rattle.schedule_rules.specs.Guards.{guards}
+use Rattle.schedule_rules.specs.Exits.{registry, owner, first_owner}
 use Rattle.schedule_rules.specs.History.{Event, accepts}
 use Rattle.schedule_rules.specs.Refusals.{is_other}
-use Rattle.schedule_rules.specs.Replay.{replay, content_after_back}
+use Rattle.schedule_rules.specs.Replay.{replay}
 use Rattle.schedule_rules.specs.Sections.{sections}
-use Rattle.schedule_rules.specs.Waits.{Wait, waits, wait_of, with_wait, without_wait, waits_given_with, attempt_with, attempt_of_turn, attempt_of_wait, cell_of_attempt, cell_concerned_with}
+use Rattle.schedule_rules.specs.Waits.{Wait, waits, wait_of, with_wait, without_wait, waits_given_with, attempt_with, attempt_of_turn, attempt_of_wait, cell_of_attempt}
 use Rattle.waiting_rows.specs.Given.{given_on}
 use Rattle.waiting_rows.proofs.Counted.{none_without}
 use Rattle.waiting_rows.proofs.GivenOn.{given_concerned}

@@ -1,11 +1,10 @@
 -- How a call was judged that was not turned back: it keeps what it has, or gives it up, and is barred or admitted by the
 -- record that this leaves.
 use Rattle.std.proofs.Common.{◌≡◌, ◌<◌, ◌≤◌, ◌+◌, ◌∙◌, ℕ, length, ap, sym, subst, refl, arith, Bool, true, false, inl, inr}
-use Rattle.std.specs.Prelude.{◌⊎◌, MatchBool, ◌||◌, ◌&&◌, ◌==◌, not, if◌then◌else◌}
+use Rattle.std.specs.Prelude.{◌⊎◌, MatchBool, ◌||◌, ◌&&◌, ◌==◌, not}
 use Rattle.std.specs.declared.option.Option.{Option}
-use Rattle.phase_bits.specs.declared.phase.Phase.{Phase}
 use Rattle.phase_bits.specs.declared.holders.Holders.{Holders}
-use Rattle.phase_bits.specs.Records.{bars_read, bars_write, most_readers}
+use Rattle.phase_bits.specs.Records.{most_readers}
 use Rattle.phase_locker.specs.declared.ways.Given.{Given}
 use Rattle.phase_locker.specs.declared.ways.Given.TheVariants as given
 use Rattle.phase_locker.specs.declared.ways.How.{How}
@@ -18,11 +17,10 @@ use Rattle.phase_locker.specs.declared.ways.Row.{Row}
 use Rattle.phase_locker.specs.declared.tickets.LockNature.{LockNature}
 use Rattle.phase_locker.specs.declared.tickets.LockNature.TheVariants as nature
 use Rattle.phase_locker.specs.declared.tickets.Attempt.{Attempt}
-use Rattle.phase_locker.specs.declared.tickets.Attempt.TheVariants as attempt
 use Rattle.phase_locker.specs.Natures.{bars, admitted, got}
 use Rattle.phase_locker.specs.Rows.{Rows as Parking, IsSound, row_of, free_row, freed, left, is_drain, readers_of}
 use Rattle.phase_locker.specs.Fits.{Fits, IsWriteOpen, flagged, open_reads}
-use Rattle.phase_locker.specs.Gifts.{Hands, MayHand, held_handed, rows_handed}
+use Rattle.phase_locker.specs.Gifts.{MayHand, held_handed, rows_handed}
 use Rattle.phase_locker.specs.Attempts.{Judged, Waits, Gets, Keeps, GivesUp, MayWait, held_waiting, given_up, keeps}
 use Rattle.phase_locker.proofs.Holding.{hands_fit}
 use Rattle.phase_locker.proofs.Judging.{by_bool}
@@ -37,7 +35,7 @@ use Rattle.phase_seq.specs.Asks.{nature_of, wake_of}
 use Rattle.phase_seq.specs.Begins.{Begins, Resumes, TurnsBack, MakesAttempt, MakesAnother, TriesLock, begun_by, begun_of, is_cyclic}
 use Rattle.phase_moves.specs.Calls.{Enters}
 use Rattle.phase_moves.proofs.Attempts.{free_same, got_to, writes_begun}
-use Rattle.phase_moves.proofs.Lockers.{hands_phase}
+use Rattle.phase_moves.proofs.Lockers.{handed_few, hands_phase}
 
 -- ---- how many read then
 
@@ -56,11 +54,6 @@ admitted_few nature.Read h e le = by (h.locked && (h.readers == 0)) (h.readers =
     by false false f e = grind (arith, f, le)
 admitted_few nature.Write h e le = le
 admitted_few nature.None h e le = le
-
-pub handed_few : (g : Given) (c : ℕ) (h : Holders) (s : Parking) → MayHand c h s g → h.readers ≤ most_readers → length (readers_of s c) ≤ most_readers → (held_handed c g s h).readers ≤ most_readers
-handed_few given.Nobody c h s may le room = le
-handed_few (given.Writer q) c h s may le room = le
-handed_few given.Readers c h s may le room = let none = may.0.readers in omega (arith, none, room)
 
 given_up_few : (w : Waiting) (h : Holders) → h.readers ≤ most_readers → (given_up w h).readers ≤ most_readers
 given_up_few waiting.ShareRead h le = omega (arith, le)

@@ -16,6 +16,7 @@ pub mod Giving
 pub mod Calling
 -- The ends of sections
 pub mod Innermost
+pub mod EndGives
 pub mod Ending
 pub mod Finalizing
 -- An attempt
@@ -37,3 +38,5 @@ pub mod Few
 pub mod Judged
 pub mod Settling
 pub mod Barring
+pub mod Admitting
+pub mod Meeting

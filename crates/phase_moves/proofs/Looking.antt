@@ -2,14 +2,13 @@
 use Rattle.std.proofs.Common.{◌≡◌, ◌==◌, ◌<◌, ◌∙◌, ℕ, List, length, get_or, ap, sym, subst, refl, arith, Bool, true, false, None, Some}
 use Rattle.std.proofs.lemmas.Option.{gets}
 use Rattle.std.proofs.lemmas.Grind.{common_steps}
-use Rattle.std.specs.Prelude.{slice_get, if◌then◌else◌}
+use Rattle.std.specs.Prelude.{slice_get}
 use Rattle.std.specs.declared.option.Option.{Option}
 use Rattle.phase_bits.specs.declared.holders.Holders.{Holders}
 use Rattle.phase_locker.specs.declared.ways.LockerKind.{LockerKind}
 use Rattle.schedule_rules.specs.Guards.{Guard, guard_of, numbered, own}
 use Rattle.schedule_rules.specs.Sections.{Section, innermost}
 use Rattle.schedule_rules.specs.Waits.{cell_of_section}
-use Rattle.phase_moves.specs.declared.look_up.Held.{Held}
 use Rattle.phase_moves.specs.declared.rows.CellRow.{CellRow}
 use Rattle.phase_moves.specs.declared.rows.GuardRow.{GuardRow}
 use Rattle.phase_moves.specs.declared.rows.PartyRow.{PartyRow}
@@ -19,7 +18,6 @@ use Rattle.phase_moves.specs.Standing.{Standing}
 use Rattle.phase_moves.specs.Stands.{guard_row, party_row}
 use Rattle.phase_moves.specs.Reading.{held_of, run_kept, shown_by, target_of_section, target_kept, value_kept}
 use Rattle.phase_moves.specs.Moves.{Rests}
-use Rattle.phase_moves.specs.Ends.{IsInnermost}
 use Rattle.phase_moves.proofs.Innermost.{row_run}
 use Rattle.phase_moves.proofs.Places.{read_at}
 use Rattle.phase_moves.proofs.Runs.{inside_found}

@@ -24,10 +24,10 @@ use Rattle.phase_seq.specs.declared.section.Finished.{Finished}
 use Rattle.phase_seq.specs.Begins.{is_cyclic, section_by}
 use Rattle.phase_seq.specs.Exactly.{is_run}
 use Rattle.phase_seq.specs.Finishes.{GoesOn}
-use Rattle.phase_seq.specs.Phases.{refused, staying, unregistered}
+use Rattle.phase_seq.specs.Phases.{refused, staying}
 use Rattle.phase_seq.specs.Registers.{Generates, HasSectionAtOnce, Settles, Stays, begun_at_once, is_refused}
 use Rattle.phase_moves.specs.Calls.{Calls, Enters}
-use Rattle.phase_moves.proofs.Attempts.{IsEntered, IsTurned, entered, rows_begun, stays_asked}
+use Rattle.phase_moves.proofs.Attempts.{IsEntered, IsTurned, entered, stays_asked}
 use Rattle.phase_moves.proofs.Judged.{IsJudged, IsKept, IsMetBy, met_by}
 
 -- what is begun with the lock to write where no generator runs. The other wants ask for no run

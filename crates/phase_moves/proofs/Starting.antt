@@ -7,8 +7,7 @@ use Rattle.std.proofs.lemmas.Grind.{common_steps}
 use Rattle.std.specs.Prelude.{slice_get, vec_capacity, ◌⊎◌}
 use Rattle.phase_bits.specs.declared.holders.Holders.{Holders}
 use Rattle.phase_bits.specs.Number.{phase_of}
-use Rattle.phase_bits.specs.Records.{unheld}
-use Rattle.exit_registry.specs.Registry.{Registry, cells_of, new_registry}
+use Rattle.exit_registry.specs.Registry.{new_registry}
 use Rattle.phase_locker.specs.declared.ways.LockerKind.{LockerKind}
 use Rattle.phase_locker.specs.Rows.{Rows as Parking, no_rows}
 use Rattle.phase_locker.specs.Fits.{Fits}
@@ -64,6 +63,7 @@ module _ {L : Type 0} (held : L → Holders) (place : L → LockerKind) where
               write_is = λ lt. absurd (omega (arith, lt));
               write_was = λ o. (let z : (held row.seq.locker).locked ≡ _ = ap (λ (h : Holders). h.locked) k.free in let y = o.locked in absurd (cc));
               one = omega arith;
+              limit = (let z : (held row.seq.locker).readers ≡ 0 = ap (λ (h : Holders). h.readers) k.free in omega (arith, z));
             };
         placed = k.placed;
         runner = k.runner;

@@ -1,13 +1,15 @@
 -- The rows stand for what is open after an attempt.
-use Rattle.std.proofs.Common.{◌≡◌, ◌≢◌, ◌==◌, ◌<◌, ◌+◌, ◌∙◌, ℕ, List, ◌∷◌, length, set, get_or, ap, sym, subst, refl, arith, Bool, true, false, None, Some, inl, inr}
+use Rattle.std.proofs.Common.{◌≡◌, ◌≢◌, ◌==◌, ◌<◌, ◌≤◌, ◌^◌, ◌+◌, ◌∙◌, ℕ, List, ◌∷◌, length, set, get_or, ap, sym, subst, refl, arith, Bool, true, false, None, Some, inl, inr}
 use Rattle.std.specs.Prelude.{◌⊎◌, MatchBool, if◌then◌else◌}
 use Rattle.std.proofs.lemmas.Bool.{cases_eq, cases_lt}
 use Rattle.std.specs.declared.option.Option.{Option}
 use Rattle.phase_bits.specs.declared.phase.Phase.{Phase}
 use Rattle.phase_bits.specs.declared.holders.Holders.{Holders}
 use Rattle.phase_bits.specs.Number.{number, phase_of, IsKnown}
+use Rattle.phase_bits.specs.Records.{most_readers}
 use Rattle.exit_registry.specs.Registry.{Registry, cells_of}
 use Rattle.phase_locker.specs.declared.ways.Given.{Given}
+use Rattle.phase_locker.specs.declared.ways.Given.TheVariants as given
 use Rattle.phase_locker.specs.declared.ways.How.{How}
 use Rattle.phase_locker.specs.declared.ways.Who.{Who}
 use Rattle.phase_locker.specs.declared.ways.LockerKind.{LockerKind}
@@ -16,7 +18,7 @@ use Rattle.phase_locker.specs.declared.ways.Waiting.TheVariants as waiting_as
 use Rattle.phase_locker.specs.declared.tickets.ReadTicket.{ReadTicket}
 use Rattle.phase_locker.specs.declared.tickets.WriteTicket.{WriteTicket}
 use Rattle.phase_locker.specs.Natures.{write_ticket}
-use Rattle.phase_locker.specs.Rows.{Rows as Parking, freed, row_of, free_row}
+use Rattle.phase_locker.specs.Rows.{Rows as Parking, IsSound, freed, readers_of, row_of, free_row}
 use Rattle.phase_locker.specs.Fits.{Fits, IsWriteOpen}
 use Rattle.phase_locker.specs.Gifts.{rows_handed}
 use Rattle.phase_locker.specs.Attempts.{rows_waiting}
@@ -58,9 +60,19 @@ use Rattle.phase_moves.specs.Calls.{Calling, Calls as CallOf, registry_for, regi
 use Rattle.phase_moves.specs.Standing.{Standing, Run, run_in, runner_of, reads_in, writes_in, changes_at, called, answered, waiting, guarded, opened, section_asked, writer_asked, registry_asked}
 use Rattle.phase_moves.specs.Stands.{Seen, seen_at, IsCell, IsExit, IsLocked, AreShown, party_row, open_run, stays_in, target_of, want_of}
 use Rattle.phase_moves.specs.Tries.{IsAttempting, IsTook, WaitsAt, ask_of, phase_asked}
+use Rattle.phase_moves.specs.declared.rows.Taken.{Taken}
+use Rattle.phase_moves.specs.Meets.{IsMet}
+use Rattle.phase_moves.proofs.Admitting.{taken_of}
 use Rattle.phase_moves.proofs.Asked.{declined, declines_same, asked_left, told_same, stays_same, run_calls, final_turns, registry_still, registry_run, cells_stay}
 use Rattle.phase_moves.proofs.Attempts.{IsBegun, IsTurned, Tells, declines, phase_left, phase_told, rows_begun, stays_asked, writes_begun, wrote, answered as begun_as}
 use Rattle.phase_moves.proofs.Calling.{answered_moved}
+use Rattle.phase_moves.proofs.Ending.{never_init}
+use Rattle.phase_moves.proofs.Few.{fewer_readers}
+use Rattle.phase_moves.proofs.Leaving.{sound}
+use Rattle.phase_moves.proofs.Meeting.{met, met_turned}
+use Rattle.phase_moves.proofs.Settling.{IsSettled, call_settled}
+use Rattle.waiting_rows.proofs.Sound.{sound_of}
+use Rattle.phase_locker.proofs.Keeping.{freed_free, freed_size}
 use Rattle.phase_moves.proofs.Guards.{target_given, writes_here}
 use Rattle.phase_moves.proofs.Known.{effect_known}
 use Rattle.phase_moves.proofs.Lockers.{handed_writers}
@@ -195,108 +207,6 @@ module _ {L : Type 0} (held : L → Holders) (place : L → LockerKind) where
           by : (j : ℕ) → (0 < j → ⊥) → j ≡ 0
           by j f = elim (cases_lt 0 j) [ inl lt ↦ absurd (f lt) | inr le ↦ omega (arith, le) ]
 
-      locked_called : (q : ℕ) → (held row'.seq.locker).phase ≡ phase_of q → IsLocked (place row'.seq.locker) (held row'.seq.locker) v'.parks t.cell (reads_in t.cell m + reads_begun b) (writes_in t.cell m + writes_begun b) q
-      locked_called q phase = by (opens_write b) refl
-        where
-          by : (o : Bool) → opens_write b ≡ o → IsLocked (place row'.seq.locker) (held row'.seq.locker) v'.parks t.cell (reads_in t.cell m + reads_begun b) (writes_in t.cell m + writes_begun b) q
-          by false e =
-              let l = cell_here.locked in
-              let z : writes_begun b ≡ 0 = as_many b false e in
-              record {
-                fits = k.fits;
-                phase_is = phase;
-                reads_are = (let a = l.reads_are in let c = op.reads in omega (arith, a, c));
-                write_is = λ lt. op.writes (l.write_is (omega (arith, z, lt)));
-                write_was = λ w. (let lt = l.write_was (op.only e w) in omega (arith, lt));
-                one = (let o = l.one in omega (arith, o, z));
-              }
-          by true e =
-              let l = cell_here.locked in
-              let z : writes_begun b ≡ 1 = as_many b true e in
-              let none = was_none (wrote_all _ b e) in
-              record {
-                fits = k.fits;
-                phase_is = phase;
-                reads_are = (let a = l.reads_are in let c = op.reads in omega (arith, a, c));
-                write_is = λ lt. opens who b _ _ _ e stands;
-                write_was = λ w. omega (arith, z);
-                one = omega (arith, z, none);
-              }
-
-      -- the row of the cell
-      cell_as : (m' : Standing) (z : Content) (o : Option Run) → seen_at t.cell m' ≡ record { plan = x; content = z; reads = reads_in t.cell m + reads_begun b; writes = writes_in t.cell m + writes_begun b; run = o }
-          → (held row'.seq.locker).phase ≡ phase_of z.phase → z.value ≡ y.value → IsKnown (phase_of z.phase) → row'.seq.running ≡ runner_of o → row'.run ≡ open_run x t.cell z.phase o → IsCell held place (seen_at t.cell m') v'.parks t.cell row'
-      cell_as m' z o e phase same known runner run =
-          let k0 = cell_here in
-          subst (λ (w : Seen). IsCell held place w v'.parks t.cell row') (sym e)
-          (record { planned = plan ∙ k0.planned; valued = value ∙ k0.valued ∙ sym same; known = known; locked = locked_called z.phase phase; placed = k.place ∙ k0.placed; runner = runner; runs = run })
-
-      -- ---- who waits
-
-      lists_called : length (rows_handed t.cell g (freed p v.parks)).writers ≡ length v.parks.writers
-      lists_called = handed_writers g t.cell (freed p v.parks) ∙ freed_writers p v.parks
-
-      called_moved : (r : Registry) → IsExit (length v.cells.items) (record m { registry = r }) v'.exit → v'.parks ≡ rows_handed t.cell g (freed p v.parks) → IsMoved held place t.cell n n m (record (called p t.cell g m) { registry = r }) v v'
-      called_moved r exit rows =
-          let st = is.rests.stands in
-          answered_moved held place t.cell n m v v' _ m.content r st k.others k.same (ap (λ (s : Parking). length s.writers) rows ∙ lists_called) guards exit
-          (subst (λ (s : Parking). AreShown (length v.cells.items) (given_on t.cell g (without_wait p m.waits)) s) (sym rows) (shown_called (length v.cells.items) who m.waits v.parks g st.waits sizes_in st.sizes.few in_parks party_in d.listed))
-          (λ d ne. refl) (λ g x e w. refl)
-
-      waiting_moved : (way : How) → IsExit (length v.cells.items) m v'.exit → v'.parks ≡ rows_waiting way who (rows_handed t.cell g (freed p v.parks)) → IsMoved held place t.cell n n m (waiting p t.cell t.want way (called p t.cell g m)) v v'
-      waiting_moved way exit rows =
-          let st = is.rests.stands in
-          answered_moved held place t.cell n m v v' _ m.content m.registry st k.others k.same (ap (λ (s : Parking). length s.writers) rows ∙ waiting_writers way who (rows_handed t.cell g (freed p v.parks)) ∙ lists_called) guards exit
-          (subst (λ (s : Parking). AreShown (length v.cells.items) (record { party = p; cell = t.cell; want = t.want; way = way; woken = false } ∷ given_on t.cell g (without_wait p m.waits)) s) (sym rows) (shown_waiting (length v.cells.items) who m.waits v.parks g st.waits sizes_in st.sizes.few in_parks party_in d.listed is.cell way t.want))
-          (λ d ne. refl) (λ g x e w. refl)
-
-      -- what is published changes where it is declined, and no write guard shows it then
-      abbrev now : ℕ → Content
-      now = (answered p t.cell g chs m).content
-
-      now_here : now t.cell ≡ effect x chs y
-      now_here = let e : (t.cell == t.cell) ≡ true = grind arith in rw e refl
-
-      now_beside : (c : ℕ) → c ≢ t.cell → now c ≡ m.content c
-      now_beside c ne = let e : (t.cell == c) ≡ false = grind (arith, ne) in rw e refl
-
-      now_calm : declined x t.want m.registry.is_open y.phase ≡ false → now t.cell ≡ y
-      now_calm e = now_here ∙ left_is ∙ ap (λ b. record { phase = if b then flags_refused else y.phase; value = y.value }) e
-
-      publishes : wrote true b ≡ true → wrote false b ≡ false → IsExit (length v.cells.items) m v'.exit → v'.parks ≡ rows_handed t.cell g (freed p v.parks) → IsMoved held place t.cell n n m (answered p t.cell g chs m) v v'
-      publishes had none_else exit rows =
-          let st = is.rests.stands in
-          answered_moved held place t.cell n m v v' _ now m.registry st k.others k.same (ap (λ (s : Parking). length s.writers) rows ∙ lists_called) guards exit
-          (subst (λ (s : Parking). AreShown (length v.cells.items) (given_on t.cell g (without_wait p m.waits)) s) (sym rows) (shown_called (length v.cells.items) who m.waits v.parks g st.waits sizes_in st.sizes.few in_parks party_in d.listed))
-          now_beside drafts
-        where
-          drafts : (j : ℕ) (z : Guard) → numbered j m.guards ≡ Some z → z.writes ≡ true → now z.cell ≡ m.content z.cell
-          drafts j z e w = elim (cases_eq z.cell t.cell) [
-            | inr ne ↦ now_beside z.cell ne
-            | inl q ↦ subst (λ c. now c ≡ m.content c) (sym q) (by (declined x t.want m.registry.is_open y.phase) refl q)
-          ]
-            where
-              by : (o : Bool) → declined x t.want m.registry.is_open y.phase ≡ o → z.cell ≡ t.cell → now t.cell ≡ y
-              by false f q = now_calm f
-              by true f q =
-                  let none = was_none (ap (λ b'. wrote b' b) (d_is ∙ f) ∙ had) in
-                  let some = found_counts (λ (a : Guard). a.number == j) (writes_cell t.cell) m.guards z e (ap (λ c. writes_cell c z) (sym q) ∙ writes_here z w) in
-                  absurd (omega (arith, none, some))
-
-      -- ---- the rows of parties
-
-      gone : wait_of p (given_on t.cell g (without_wait p m.waits)) ≡ None
-      gone = none_on p t.cell g (without_wait p m.waits) (wait_removed p m.waits)
-
-      others_wait : (q : ℕ) → q ≢ p → target_of (wait_of q (given_on t.cell g (without_wait p m.waits))) ≡ target_of (wait_of q m.waits)
-      others_wait q ne = target_given t.cell g (without_wait p m.waits) q ∙ ap target_of (wait_kept p q m.waits ne)
-
-      called_parties : (m' : Standing) → m'.waits ≡ given_on t.cell g (without_wait p m.waits) → m'.sections ≡ m.sections → of' ≡ record { waiting = None; innermost = of.innermost } → HasParties held place m' v v'
-      called_parties m' w s e =
-          parties_set held place n m m' v v' p of' is.rests.stands parties
-          (e ∙ (λ i. record { waiting = target_of (sym gone i); innermost = (of_here i).innermost }) ∙ (λ i. record { waiting = target_of (wait_of p (sym w i)); innermost = cell_of_section (innermost p (sym s i)) }))
-          (λ q ne. (λ i. record { waiting = target_of (wait_of q (w i)); innermost = cell_of_section (innermost q (s i)) }) ∙ (λ i. record { waiting = others_wait q ne i; innermost = cell_of_section (innermost q m.sections) }))
-
       -- ---- what is told
 
       abbrev d_of : Bool
@@ -311,143 +221,254 @@ module _ {L : Type 0} (held : L → Holders) (place : L → LockerKind) where
       phase_as : (b₁ : Begun) → b ≡ b₁ → (held row'.seq.locker).phase ≡ phase_left d_of b₁ (held row.seq.locker).phase
       phase_as b₁ e = d.phase ∙ ap (λ x. phase_left d_of x (held row.seq.locker).phase) e
 
-      kept_phase : (held row'.seq.locker).phase ≡ (held row.seq.locker).phase → (held row'.seq.locker).phase ≡ phase_of y.phase
-      kept_phase e = e ∙ cell_here.locked.phase_is
+      -- what holds of the number of readers, and what it met
+      module _ (few : (held row'.seq.locker).readers ≤ most_readers) (tell : (z : Taken) → taken_of b ≡ z → IsMet p t z g m) where
+        locked_called : (q : ℕ) → (held row'.seq.locker).phase ≡ phase_of q → IsLocked (place row'.seq.locker) (held row'.seq.locker) v'.parks t.cell (reads_in t.cell m + reads_begun b) (writes_in t.cell m + writes_begun b) q
+        locked_called q phase = by (opens_write b) refl
+          where
+            by : (o : Bool) → opens_write b ≡ o → IsLocked (place row'.seq.locker) (held row'.seq.locker) v'.parks t.cell (reads_in t.cell m + reads_begun b) (writes_in t.cell m + writes_begun b) q
+            by false e =
+                let l = cell_here.locked in
+                let z : writes_begun b ≡ 0 = as_many b false e in
+                record {
+                  fits = k.fits;
+                  phase_is = phase;
+                  reads_are = (let a = l.reads_are in let c = op.reads in omega (arith, a, c));
+                  write_is = λ lt. op.writes (l.write_is (omega (arith, z, lt)));
+                  write_was = λ w. (let lt = l.write_was (op.only e w) in omega (arith, lt));
+                  one = (let o = l.one in omega (arith, o, z));
+                  limit = few;
+                }
+            by true e =
+                let l = cell_here.locked in
+                let z : writes_begun b ≡ 1 = as_many b true e in
+                let none = was_none (wrote_all _ b e) in
+                record {
+                  fits = k.fits;
+                  phase_is = phase;
+                  reads_are = (let a = l.reads_are in let c = op.reads in omega (arith, a, c));
+                  write_is = λ lt. opens who b _ _ _ e stands;
+                  write_was = λ w. omega (arith, z);
+                  one = omega (arith, z, none);
+                  limit = few;
+                }
 
-      kept_runner : running_after b row.seq.running ≡ row.seq.running → row'.seq.running ≡ runner_of (run_in t.cell m.sections)
-      kept_runner e = running ∙ e ∙ cell_here.runner
+        -- the row of the cell
+        cell_as : (m' : Standing) (z : Content) (o : Option Run) → seen_at t.cell m' ≡ record { plan = x; content = z; reads = reads_in t.cell m + reads_begun b; writes = writes_in t.cell m + writes_begun b; run = o }
+            → (held row'.seq.locker).phase ≡ phase_of z.phase → z.value ≡ y.value → IsKnown (phase_of z.phase) → row'.seq.running ≡ runner_of o → row'.run ≡ open_run x t.cell z.phase o → IsCell held place (seen_at t.cell m') v'.parks t.cell row'
+        cell_as m' z o e phase same known runner run =
+            let k0 = cell_here in
+            subst (λ (w : Seen). IsCell held place w v'.parks t.cell row') (sym e)
+            (record { planned = plan ∙ k0.planned; valued = value ∙ k0.valued ∙ sym same; known = known; locked = locked_called z.phase phase; placed = k.place ∙ k0.placed; runner = runner; runs = run })
 
-      known_now : IsKnown (phase_of (effect x chs y).phase)
-      known_now = effect_known x chs y cell_here.known
+        -- ---- who waits
 
-      value_now : (effect x chs y).value ≡ y.value
-      value_now = ap (λ (z : Content). z.value) left_is
+        lists_called : length (rows_handed t.cell g (freed p v.parks)).writers ≡ length v.parks.writers
+        lists_called = handed_writers g t.cell (freed p v.parks) ∙ freed_writers p v.parks
 
-      -- the section that runs was asked at the phase that is published: where that changes none runs
-      runs_now : wrote true b ≡ true → row'.run ≡ row.run → row'.run ≡ open_run x t.cell (effect x chs y).phase (run_in t.cell m.sections)
-      runs_now had e = e ∙ cell_here.runs ∙ by (declined x t.want m.registry.is_open y.phase) refl
-        where
-          by : (o : Bool) → declined x t.want m.registry.is_open y.phase ≡ o → open_run x t.cell y.phase (run_in t.cell m.sections) ≡ open_run x t.cell (effect x chs y).phase (run_in t.cell m.sections)
-          by false f = ap (λ (z : Content). open_run x t.cell z.phase (run_in t.cell m.sections)) (sym (left_is ∙ ap (λ b. record { phase = if b then flags_refused else y.phase; value = y.value }) f))
-          by true f =
-              let none = was_none (ap (λ b'. wrote b' b) (d_is ∙ f) ∙ had) in
-              let no_run = none_runs t.cell m.sections (omega (arith, none)) in
-              ap (open_run x t.cell y.phase) no_run ∙ ap (open_run x t.cell (effect x chs y).phase) (sym no_run)
+        called_moved : (r : Registry) → IsExit (length v.cells.items) (record m { registry = r }) v'.exit → v'.parks ≡ rows_handed t.cell g (freed p v.parks) → IsMoved held place t.cell n n m (record (called p t.cell g m) { registry = r }) v v'
+        called_moved r exit rows =
+            let st = is.rests.stands in
+            answered_moved held place t.cell n m v v' _ m.content r st k.others k.same (ap (λ (s : Parking). length s.writers) rows ∙ lists_called) guards exit
+            (subst (λ (s : Parking). AreShown (length v.cells.items) (given_on t.cell g (without_wait p m.waits)) s) (sym rows) (shown_called (length v.cells.items) who m.waits v.parks g st.waits sizes_in st.sizes.few in_parks party_in d.listed))
+            (λ d ne. refl) (λ g x e w. refl)
 
-      abbrev seen_as : Content → ℕ → ℕ → Option Run → Seen
-      seen_as z r w o = record { plan = x; content = z; reads = reads_in t.cell m + r; writes = writes_in t.cell m + w; run = o }
+        waiting_moved : (way : How) → IsExit (length v.cells.items) m v'.exit → v'.parks ≡ rows_waiting way who (rows_handed t.cell g (freed p v.parks)) → IsMoved held place t.cell n n m (waiting p t.cell t.want way (called p t.cell g m)) v v'
+        waiting_moved way exit rows =
+            let st = is.rests.stands in
+            answered_moved held place t.cell n m v v' _ m.content m.registry st k.others k.same (ap (λ (s : Parking). length s.writers) rows ∙ waiting_writers way who (rows_handed t.cell g (freed p v.parks)) ∙ lists_called) guards exit
+            (subst (λ (s : Parking). AreShown (length v.cells.items) (record { party = p; cell = t.cell; want = t.want; way = way; woken = false } ∷ given_on t.cell g (without_wait p m.waits)) s) (sym rows) (shown_waiting (length v.cells.items) who m.waits v.parks g st.waits sizes_in st.sizes.few in_parks party_in d.listed is.cell way t.want))
+            (λ d ne. refl) (λ g x e w. refl)
 
-      with_holds : (z : Content) (r w : ℕ) (o : Option Run) → reads_begun b ≡ r → writes_begun b ≡ w → seen_as z r w o ≡ seen_as z (reads_begun b) (writes_begun b) o
-      with_holds z r w o e f = λ i. seen_as z (sym e i) (sym f i) o
+        -- what is published changes where it is declined, and no write guard shows it then
+        abbrev now : ℕ → Content
+        now = (answered p t.cell g chs m).content
 
-      seen_still : (z : Content) → record { plan = x; content = z; reads = reads_in t.cell m; writes = writes_in t.cell m; run = run_in t.cell m.sections } ≡ seen_as z 0 0 (run_in t.cell m.sections)
-      seen_still z = let r : reads_in t.cell m ≡ reads_in t.cell m + 0 = omega arith in let w : writes_in t.cell m ≡ writes_in t.cell m + 0 = omega arith in λ i. record { plan = x; content = z; reads = r i; writes = w i; run = run_in t.cell m.sections }
+        now_here : now t.cell ≡ effect x chs y
+        now_here = let e : (t.cell == t.cell) ≡ true = grind arith in rw e refl
 
-      seen_now : seen_at t.cell (answered p t.cell g chs m) ≡ seen_as (effect x chs y) 0 0 (run_in t.cell m.sections)
-      seen_now = ap (λ z. record { plan = x; content = z; reads = reads_in t.cell m; writes = writes_in t.cell m; run = run_in t.cell m.sections }) now_here ∙ seen_still (effect x chs y)
+        now_beside : (c : ℕ) → c ≢ t.cell → now c ≡ m.content c
+        now_beside c ne = let e : (t.cell == c) ≡ false = grind (arith, ne) in rw e refl
 
-      -- ---- the arms
+        now_calm : declined x t.want m.registry.is_open y.phase ≡ false → now t.cell ≡ y
+        now_calm e = now_here ∙ left_is ∙ ap (λ b. record { phase = if b then flags_refused else y.phase; value = y.value }) e
 
-      took_nothing : (q : Phase) → b ≡ begun.Nothing q → of' ≡ record { waiting = None; innermost = of.innermost } → row'.run ≡ row.run → IsTook held place m v p t (taken.Nothing q) g v'
-      took_nothing q e o run =
-          let had : wrote true b ≡ true = ap (wrote true) e in
-          record {
-            stands = moved held place t.cell n n m (answered p t.cell g chs m) v v' row' is.rests.stands is.cell cells
-                (cell_as (answered p t.cell g chs m) (effect x chs y) (run_in t.cell m.sections) (seen_now ∙ with_holds (effect x chs y) 0 0 (run_in t.cell m.sections) (ap reads_begun e) (ap writes_begun e)) (phase_as (begun.Nothing q) e ∙ told_phase) value_now known_now (kept_runner (ap (λ x. running_after x row.seq.running) e)) (runs_now had run))
-                (publishes had (ap (wrote false) e) (exit_still (ap is_run e)) (rows_as (begun.Nothing q) e)) (called_parties (answered p t.cell g chs m) refl refl o);
-            told = told_as (begun.Nothing q) e ∙ told_phase;
-            cyclic = cyclic_as (begun.Nothing q) e;
-          }
+        publishes : wrote true b ≡ true → wrote false b ≡ false → IsExit (length v.cells.items) m v'.exit → v'.parks ≡ rows_handed t.cell g (freed p v.parks) → IsMoved held place t.cell n n m (answered p t.cell g chs m) v v'
+        publishes had none_else exit rows =
+            let st = is.rests.stands in
+            answered_moved held place t.cell n m v v' _ now m.registry st k.others k.same (ap (λ (s : Parking). length s.writers) rows ∙ lists_called) guards exit
+            (subst (λ (s : Parking). AreShown (length v.cells.items) (given_on t.cell g (without_wait p m.waits)) s) (sym rows) (shown_called (length v.cells.items) who m.waits v.parks g st.waits sizes_in st.sizes.few in_parks party_in d.listed))
+            now_beside drafts
+          where
+            drafts : (j : ℕ) (z : Guard) → numbered j m.guards ≡ Some z → z.writes ≡ true → now z.cell ≡ m.content z.cell
+            drafts j z e w = elim (cases_eq z.cell t.cell) [
+              | inr ne ↦ now_beside z.cell ne
+              | inl q ↦ subst (λ c. now c ≡ m.content c) (sym q) (by (declined x t.want m.registry.is_open y.phase) refl q)
+            ]
+              where
+                by : (o : Bool) → declined x t.want m.registry.is_open y.phase ≡ o → z.cell ≡ t.cell → now t.cell ≡ y
+                by false f q = now_calm f
+                by true f q =
+                    let none = was_none (ap (λ b'. wrote b' b) (d_is ∙ f) ∙ had) in
+                    let some = found_counts (λ (a : Guard). a.number == j) (writes_cell t.cell) m.guards z e (ap (λ c. writes_cell c z) (sym q) ∙ writes_here z w) in
+                    absurd (omega (arith, none, some))
 
-      took_read : (l : ReadTicket) (q : Phase) → b ≡ begun.Read l q → of' ≡ record { waiting = None; innermost = of.innermost } → row'.run ≡ row.run → IsTook held place m v p t (taken.Read l q) g v'
-      took_read l q e o run =
-          let had : wrote true b ≡ true = ap (wrote true) e in
-          record {
-            stands = moved held place t.cell n n m (guarded (reader n p t.cell) (answered p t.cell g chs m)) v v' row' is.rests.stands is.cell cells
-                (cell_as (guarded (reader n p t.cell) (answered p t.cell g chs m)) (effect x chs y) (run_in t.cell m.sections) (seen ∙ with_holds (effect x chs y) 1 0 (run_in t.cell m.sections) (ap reads_begun e) (ap writes_begun e)) (phase_as (begun.Read l q) e ∙ told_phase) value_now known_now (kept_runner (ap (λ x. running_after x row.seq.running) e)) (runs_now had run))
-                (guard_opened held place t.cell n n n m (answered p t.cell g chs m) v v' (reader n p t.cell) (publishes had (ap (wrote false) e) (exit_still (ap is_run e)) (rows_as (begun.Read l q) e)) refl refl (omega arith) is.rests.empty is.rests.empty is.cell)
-                (called_parties (guarded (reader n p t.cell) (answered p t.cell g chs m)) refl refl o);
-            told = told_as (begun.Read l q) e ∙ told_phase;
-            cyclic = cyclic_as (begun.Read l q) e;
-          }
-        where
-          seen : seen_at t.cell (guarded (reader n p t.cell) (answered p t.cell g chs m)) ≡ seen_as (effect x chs y) 1 0 (run_in t.cell m.sections)
-          seen =
-              seen_reader n p t.cell (answered p t.cell g chs m)
-              ∙ (let w : writes_in t.cell m ≡ writes_in t.cell m + 0 = omega arith in λ i. record { plan = x; content = now_here i; reads = reads_in t.cell m + 1; writes = w i; run = run_in t.cell m.sections })
+        -- ---- the rows of parties
 
-      took_write : (l : WriteTicket) (q : Phase) → b ≡ begun.Write l q → of' ≡ record { waiting = None; innermost = of.innermost } → row'.run ≡ row.run → IsTook held place m v p t (taken.Write l q) g v'
-      took_write l q e o run =
-          record {
-            stands = moved held place t.cell n n m (guarded (writer_asked n p t.cell chs) (called p t.cell g m)) v v' row' is.rests.stands is.cell cells
-                (cell_as (guarded (writer_asked n p t.cell chs) (called p t.cell g m)) y (run_in t.cell m.sections) (seen ∙ with_holds y 0 1 (run_in t.cell m.sections) (ap reads_begun e) (ap writes_begun e)) (kept_phase (phase_as (begun.Write l q) e)) refl cell_here.known (kept_runner (ap (λ x. running_after x row.seq.running) e)) (run ∙ cell_here.runs))
-                (guard_opened held place t.cell n n n m (called p t.cell g m) v v' (writer_asked n p t.cell chs) (called_moved m.registry (exit_still (ap is_run e)) (rows_as (begun.Write l q) e)) refl refl (omega arith) is.rests.empty is.rests.empty is.cell)
-                (called_parties (guarded (writer_asked n p t.cell chs) (called p t.cell g m)) refl refl o);
-            told = told_as (begun.Write l q) e ∙ told_phase;
-            cyclic = cyclic_as (begun.Write l q) e;
-          }
-        where
-          seen : seen_at t.cell (guarded (writer_asked n p t.cell chs) (called p t.cell g m)) ≡ seen_as y 0 1 (run_in t.cell m.sections)
-          seen =
-              seen_writer n p t.cell chs (called p t.cell g m)
-              ∙ (let r : reads_in t.cell m ≡ reads_in t.cell m + 0 = omega arith in λ i. record { plan = x; content = y; reads = r i; writes = writes_in t.cell m + 1; run = run_in t.cell m.sections })
+        gone : wait_of p (given_on t.cell g (without_wait p m.waits)) ≡ None
+        gone = none_on p t.cell g (without_wait p m.waits) (wait_removed p m.waits)
 
-      abbrev waiting_m : How → Standing
-      waiting_m way = waiting p t.cell t.want way (called p t.cell g m)
+        others_wait : (q : ℕ) → q ≢ p → target_of (wait_of q (given_on t.cell g (without_wait p m.waits))) ≡ target_of (wait_of q m.waits)
+        others_wait q ne = target_given t.cell g (without_wait p m.waits) q ∙ ap target_of (wait_kept p q m.waits ne)
 
-      took_wait : (way : How) → b ≡ begun.Wait way → of' ≡ record { waiting = Some (record { cell = t.cell; want = t.want }); innermost = of.innermost } → row'.run ≡ row.run → IsTook held place m v p t (taken.Wait way) g v'
-      took_wait way e o run =
-          record {
-            stands = moved held place t.cell n n m (waiting_m way) v v' row' is.rests.stands is.cell cells
-                (cell_as (waiting_m way) y (run_in t.cell m.sections) (seen_still y ∙ with_holds y 0 0 (run_in t.cell m.sections) (ap reads_begun e) (ap writes_begun e)) (kept_phase (phase_as (begun.Wait way) e)) refl cell_here.known (kept_runner (ap (λ x. running_after x row.seq.running) e)) (run ∙ cell_here.runs))
-                (waiting_moved way (exit_still (ap is_run e)) (rows_as (begun.Wait way) e))
-                (parties_set held place n m (waiting_m way) v v' p of' is.rests.stands parties (o ∙ (λ i. record { waiting = Some (record { cell = t.cell; want = t.want }); innermost = (of_here i).innermost }) ∙ ap (λ w. record { waiting = target_of w; innermost = (party_row m p).innermost }) (sym itself))
-                (λ q ne. (λ i. record { waiting = target_of (beside q ne i); innermost = (party_row m q).innermost }) ∙ (λ i. record { waiting = others_wait q ne i; innermost = (party_row m q).innermost })));
-            told = tt;
-            cyclic = cyclic_as (begun.Wait way) e;
-          }
-        where
-          itself : wait_of p (waiting_m way).waits ≡ Some (record { party = p; cell = t.cell; want = t.want; way = way; woken = false })
-          itself = let q : (p == p) ≡ true = grind arith in rw q refl
+        called_parties : (m' : Standing) → m'.waits ≡ given_on t.cell g (without_wait p m.waits) → m'.sections ≡ m.sections → of' ≡ record { waiting = None; innermost = of.innermost } → HasParties held place m' v v'
+        called_parties m' w s e =
+            parties_set held place n m m' v v' p of' is.rests.stands parties
+            (e ∙ (λ i. record { waiting = target_of (sym gone i); innermost = (of_here i).innermost }) ∙ (λ i. record { waiting = target_of (wait_of p (sym w i)); innermost = cell_of_section (innermost p (sym s i)) }))
+            (λ q ne. (λ i. record { waiting = target_of (wait_of q (w i)); innermost = cell_of_section (innermost q (s i)) }) ∙ (λ i. record { waiting = others_wait q ne i; innermost = cell_of_section (innermost q m.sections) }))
 
-          beside : (q : ℕ) → q ≢ p → wait_of q (waiting_m way).waits ≡ wait_of q (called p t.cell g m).waits
-          beside q ne = let f : (p == q) ≡ false = grind (arith, ne) in rw f refl
+        kept_phase : (held row'.seq.locker).phase ≡ (held row.seq.locker).phase → (held row'.seq.locker).phase ≡ phase_of y.phase
+        kept_phase e = e ∙ cell_here.locked.phase_is
 
-      -- a section that runs
-      abbrev sec : Section
-      sec = section_asked n p t.cell t.want m
+        kept_runner : running_after b row.seq.running ≡ row.seq.running → row'.seq.running ≡ runner_of (run_in t.cell m.sections)
+        kept_runner e = running ∙ e ∙ cell_here.runner
 
-      abbrev run_r : Run
-      run_r = record { section = section_asked n p t.cell t.want m; outer = cell_of_section (innermost p m.sections) }
+        known_now : IsKnown (phase_of (effect x chs y).phase)
+        known_now = effect_known x chs y cell_here.known
 
-      took_run : (s : SeqSection) → reads_begun b ≡ 0 → writes_begun b ≡ 1 → (held row'.seq.locker).phase ≡ (held row.seq.locker).phase → v'.parks ≡ rows_handed t.cell g (freed p v.parks) → IsExit (length v.cells.items) (record m { registry = registry_asked t.cell t.want m }) v'.exit → row'.seq.running ≡ runner_of (Some run_r)
-          → s ≡ section_by who (ask_of x t.want).want (stays_in x t.want m.registry.is_open y.phase) write_ticket → false ≡ is_cyclic (want_of t.want) p (runner_of (run_in t.cell m.sections)) → of' ≡ record { waiting = None; innermost = Some t.cell } → row'.run ≡ Some (record { run = record { party = p; want = t.want; outer = of.innermost }; section = s }) → IsTook held place m v p t taken.Runs g v'
-      took_run s none one phase rows exit runner section turned o run =
-          record {
-            stands = moved held place t.cell n n m run_m v v' row' is.rests.stands is.cell cells
-                (cell_as run_m y (Some run_r) (seen ∙ with_holds y 0 1 (Some run_r) none one) (kept_phase phase) refl cell_here.known runner (run ∙ (λ i. Some (record { run = record { party = p; want = t.want; outer = (of_here i).innermost }; section = section i }))))
-                (section_opened t.cell n n m (record (called p t.cell g m) { registry = registry_asked t.cell t.want m }) v v' sec (called_moved (registry_asked t.cell t.want m) exit rows) refl is.cell)
-                (parties_set held place n m run_m v v' p of' is.rests.stands parties (o ∙ (λ i. record { waiting = target_of (sym gone i); innermost = Some t.cell }) ∙ ap (λ w. record { waiting = target_of (wait_of p (called p t.cell g m).waits); innermost = cell_of_section w }) (sym itself))
-                (λ q ne. (λ i. record { waiting = target_of (wait_of q (called p t.cell g m).waits); innermost = cell_of_section (beside q ne i) }) ∙ (λ i. record { waiting = others_wait q ne i; innermost = (party_row m q).innermost })));
-            told = tt;
-            cyclic = turned;
-          }
-        where
-          run_m : Standing
-          run_m = opened (section_asked n p t.cell t.want m) (registry_asked t.cell t.want m) (called p t.cell g m)
+        value_now : (effect x chs y).value ≡ y.value
+        value_now = ap (λ (z : Content). z.value) left_is
 
-          seen : seen_at t.cell (opened (section_asked n p t.cell t.want m) (registry_asked t.cell t.want m) (called p t.cell g m)) ≡ seen_as y 0 1 (Some run_r)
-          seen =
-              let q : (t.cell == t.cell) ≡ true = grind arith in
-              let r : reads_in t.cell m ≡ reads_in t.cell m + 0 = omega arith in
-              let w : count (writes_cell t.cell) m.guards + (count (runs_in t.cell) m.sections + 1) ≡ writes_in t.cell m + 1 = omega arith in
-              rw q (λ i. record { plan = x; content = y; reads = r i; writes = w i; run = Some run_r })
+        -- the section that runs was asked at the phase that is published: where that changes none runs
+        runs_now : wrote true b ≡ true → row'.run ≡ row.run → row'.run ≡ open_run x t.cell (effect x chs y).phase (run_in t.cell m.sections)
+        runs_now had e = e ∙ cell_here.runs ∙ by (declined x t.want m.registry.is_open y.phase) refl
+          where
+            by : (o : Bool) → declined x t.want m.registry.is_open y.phase ≡ o → open_run x t.cell y.phase (run_in t.cell m.sections) ≡ open_run x t.cell (effect x chs y).phase (run_in t.cell m.sections)
+            by false f = ap (λ (z : Content). open_run x t.cell z.phase (run_in t.cell m.sections)) (sym (left_is ∙ ap (λ b. record { phase = if b then flags_refused else y.phase; value = y.value }) f))
+            by true f =
+                let none = was_none (ap (λ b'. wrote b' b) (d_is ∙ f) ∙ had) in
+                let no_run = none_runs t.cell m.sections (omega (arith, none)) in
+                ap (open_run x t.cell y.phase) no_run ∙ ap (open_run x t.cell (effect x chs y).phase) (sym no_run)
 
-          itself : innermost p (sec ∷ m.sections) ≡ Some sec
-          itself = let q : (p == p) ≡ true = grind arith in rw q refl
+        abbrev seen_as : Content → ℕ → ℕ → Option Run → Seen
+        seen_as z r w o = record { plan = x; content = z; reads = reads_in t.cell m + r; writes = writes_in t.cell m + w; run = o }
 
-          beside : (q : ℕ) → q ≢ p → innermost q (sec ∷ m.sections) ≡ innermost q m.sections
-          beside q ne = let f : (p == q) ≡ false = grind (arith, ne) in rw f refl
+        with_holds : (z : Content) (r w : ℕ) (o : Option Run) → reads_begun b ≡ r → writes_begun b ≡ w → seen_as z r w o ≡ seen_as z (reads_begun b) (writes_begun b) o
+        with_holds z r w o e f = λ i. seen_as z (sym e i) (sym f i) o
+
+        seen_still : (z : Content) → record { plan = x; content = z; reads = reads_in t.cell m; writes = writes_in t.cell m; run = run_in t.cell m.sections } ≡ seen_as z 0 0 (run_in t.cell m.sections)
+        seen_still z = let r : reads_in t.cell m ≡ reads_in t.cell m + 0 = omega arith in let w : writes_in t.cell m ≡ writes_in t.cell m + 0 = omega arith in λ i. record { plan = x; content = z; reads = r i; writes = w i; run = run_in t.cell m.sections }
+
+        seen_now : seen_at t.cell (answered p t.cell g chs m) ≡ seen_as (effect x chs y) 0 0 (run_in t.cell m.sections)
+        seen_now = ap (λ z. record { plan = x; content = z; reads = reads_in t.cell m; writes = writes_in t.cell m; run = run_in t.cell m.sections }) now_here ∙ seen_still (effect x chs y)
+
+        -- ---- the arms
+
+        took_nothing : (q : Phase) → b ≡ begun.Nothing q → of' ≡ record { waiting = None; innermost = of.innermost } → row'.run ≡ row.run → IsTook held place m v p t (taken.Nothing q) g v'
+        took_nothing q e o run =
+            let had : wrote true b ≡ true = ap (wrote true) e in
+            record {
+              stands = moved held place t.cell n n m (answered p t.cell g chs m) v v' row' is.rests.stands is.cell cells
+                  (cell_as (answered p t.cell g chs m) (effect x chs y) (run_in t.cell m.sections) (seen_now ∙ with_holds (effect x chs y) 0 0 (run_in t.cell m.sections) (ap reads_begun e) (ap writes_begun e)) (phase_as (begun.Nothing q) e ∙ told_phase) value_now known_now (kept_runner (ap (λ x. running_after x row.seq.running) e)) (runs_now had run))
+                  (publishes had (ap (wrote false) e) (exit_still (ap is_run e)) (rows_as (begun.Nothing q) e)) (called_parties (answered p t.cell g chs m) refl refl o);
+              told = told_as (begun.Nothing q) e ∙ told_phase;
+              cyclic = cyclic_as (begun.Nothing q) e;
+              met = tell (taken.Nothing q) (ap taken_of e);
+            }
+
+        took_read : (l : ReadTicket) (q : Phase) → b ≡ begun.Read l q → of' ≡ record { waiting = None; innermost = of.innermost } → row'.run ≡ row.run → IsTook held place m v p t (taken.Read l q) g v'
+        took_read l q e o run =
+            let had : wrote true b ≡ true = ap (wrote true) e in
+            record {
+              stands = moved held place t.cell n n m (guarded (reader n p t.cell) (answered p t.cell g chs m)) v v' row' is.rests.stands is.cell cells
+                  (cell_as (guarded (reader n p t.cell) (answered p t.cell g chs m)) (effect x chs y) (run_in t.cell m.sections) (seen ∙ with_holds (effect x chs y) 1 0 (run_in t.cell m.sections) (ap reads_begun e) (ap writes_begun e)) (phase_as (begun.Read l q) e ∙ told_phase) value_now known_now (kept_runner (ap (λ x. running_after x row.seq.running) e)) (runs_now had run))
+                  (guard_opened held place t.cell n n n m (answered p t.cell g chs m) v v' (reader n p t.cell) (publishes had (ap (wrote false) e) (exit_still (ap is_run e)) (rows_as (begun.Read l q) e)) refl refl (omega arith) is.rests.empty is.rests.empty is.cell)
+                  (called_parties (guarded (reader n p t.cell) (answered p t.cell g chs m)) refl refl o);
+              told = told_as (begun.Read l q) e ∙ told_phase;
+              cyclic = cyclic_as (begun.Read l q) e;
+              met = tell (taken.Read l q) (ap taken_of e);
+            }
+          where
+            seen : seen_at t.cell (guarded (reader n p t.cell) (answered p t.cell g chs m)) ≡ seen_as (effect x chs y) 1 0 (run_in t.cell m.sections)
+            seen =
+                seen_reader n p t.cell (answered p t.cell g chs m)
+                ∙ (let w : writes_in t.cell m ≡ writes_in t.cell m + 0 = omega arith in λ i. record { plan = x; content = now_here i; reads = reads_in t.cell m + 1; writes = w i; run = run_in t.cell m.sections })
+
+        took_write : (l : WriteTicket) (q : Phase) → b ≡ begun.Write l q → of' ≡ record { waiting = None; innermost = of.innermost } → row'.run ≡ row.run → IsTook held place m v p t (taken.Write l q) g v'
+        took_write l q e o run =
+            record {
+              stands = moved held place t.cell n n m (guarded (writer_asked n p t.cell chs) (called p t.cell g m)) v v' row' is.rests.stands is.cell cells
+                  (cell_as (guarded (writer_asked n p t.cell chs) (called p t.cell g m)) y (run_in t.cell m.sections) (seen ∙ with_holds y 0 1 (run_in t.cell m.sections) (ap reads_begun e) (ap writes_begun e)) (kept_phase (phase_as (begun.Write l q) e)) refl cell_here.known (kept_runner (ap (λ x. running_after x row.seq.running) e)) (run ∙ cell_here.runs))
+                  (guard_opened held place t.cell n n n m (called p t.cell g m) v v' (writer_asked n p t.cell chs) (called_moved m.registry (exit_still (ap is_run e)) (rows_as (begun.Write l q) e)) refl refl (omega arith) is.rests.empty is.rests.empty is.cell)
+                  (called_parties (guarded (writer_asked n p t.cell chs) (called p t.cell g m)) refl refl o);
+              told = told_as (begun.Write l q) e ∙ told_phase;
+              cyclic = cyclic_as (begun.Write l q) e;
+              met = tell (taken.Write l q) (ap taken_of e);
+            }
+          where
+            seen : seen_at t.cell (guarded (writer_asked n p t.cell chs) (called p t.cell g m)) ≡ seen_as y 0 1 (run_in t.cell m.sections)
+            seen =
+                seen_writer n p t.cell chs (called p t.cell g m)
+                ∙ (let r : reads_in t.cell m ≡ reads_in t.cell m + 0 = omega arith in λ i. record { plan = x; content = y; reads = r i; writes = writes_in t.cell m + 1; run = run_in t.cell m.sections })
+
+        abbrev waiting_m : How → Standing
+        waiting_m way = waiting p t.cell t.want way (called p t.cell g m)
+
+        took_wait : (way : How) → b ≡ begun.Wait way → of' ≡ record { waiting = Some (record { cell = t.cell; want = t.want }); innermost = of.innermost } → row'.run ≡ row.run → IsTook held place m v p t (taken.Wait way) g v'
+        took_wait way e o run =
+            record {
+              stands = moved held place t.cell n n m (waiting_m way) v v' row' is.rests.stands is.cell cells
+                  (cell_as (waiting_m way) y (run_in t.cell m.sections) (seen_still y ∙ with_holds y 0 0 (run_in t.cell m.sections) (ap reads_begun e) (ap writes_begun e)) (kept_phase (phase_as (begun.Wait way) e)) refl cell_here.known (kept_runner (ap (λ x. running_after x row.seq.running) e)) (run ∙ cell_here.runs))
+                  (waiting_moved way (exit_still (ap is_run e)) (rows_as (begun.Wait way) e))
+                  (parties_set held place n m (waiting_m way) v v' p of' is.rests.stands parties (o ∙ (λ i. record { waiting = Some (record { cell = t.cell; want = t.want }); innermost = (of_here i).innermost }) ∙ ap (λ w. record { waiting = target_of w; innermost = (party_row m p).innermost }) (sym itself))
+                  (λ q ne. (λ i. record { waiting = target_of (beside q ne i); innermost = (party_row m q).innermost }) ∙ (λ i. record { waiting = others_wait q ne i; innermost = (party_row m q).innermost })));
+              told = tt;
+              cyclic = cyclic_as (begun.Wait way) e;
+              met = tell (taken.Wait way) (ap taken_of e);
+            }
+          where
+            itself : wait_of p (waiting_m way).waits ≡ Some (record { party = p; cell = t.cell; want = t.want; way = way; woken = false })
+            itself = let q : (p == p) ≡ true = grind arith in rw q refl
+
+            beside : (q : ℕ) → q ≢ p → wait_of q (waiting_m way).waits ≡ wait_of q (called p t.cell g m).waits
+            beside q ne = let f : (p == q) ≡ false = grind (arith, ne) in rw f refl
+
+        -- a section that runs
+        abbrev sec : Section
+        sec = section_asked n p t.cell t.want m
+
+        abbrev run_r : Run
+        run_r = record { section = section_asked n p t.cell t.want m; outer = cell_of_section (innermost p m.sections) }
+
+        took_run : (s : SeqSection) → reads_begun b ≡ 0 → writes_begun b ≡ 1 → (held row'.seq.locker).phase ≡ (held row.seq.locker).phase → v'.parks ≡ rows_handed t.cell g (freed p v.parks) → IsExit (length v.cells.items) (record m { registry = registry_asked t.cell t.want m }) v'.exit → row'.seq.running ≡ runner_of (Some run_r)
+            → s ≡ section_by who (ask_of x t.want).want (stays_in x t.want m.registry.is_open y.phase) write_ticket → false ≡ is_cyclic (want_of t.want) p (runner_of (run_in t.cell m.sections)) → IsMet p t taken.Runs g m → of' ≡ record { waiting = None; innermost = Some t.cell } → row'.run ≡ Some (record { run = record { party = p; want = t.want; outer = of.innermost }; section = s }) → IsTook held place m v p t taken.Runs g v'
+        took_run s none one phase rows exit runner section turned told o run =
+            record {
+              stands = moved held place t.cell n n m run_m v v' row' is.rests.stands is.cell cells
+                  (cell_as run_m y (Some run_r) (seen ∙ with_holds y 0 1 (Some run_r) none one) (kept_phase phase) refl cell_here.known runner (run ∙ (λ i. Some (record { run = record { party = p; want = t.want; outer = (of_here i).innermost }; section = section i }))))
+                  (section_opened t.cell n n m (record (called p t.cell g m) { registry = registry_asked t.cell t.want m }) v v' sec (called_moved (registry_asked t.cell t.want m) exit rows) refl is.cell)
+                  (parties_set held place n m run_m v v' p of' is.rests.stands parties (o ∙ (λ i. record { waiting = target_of (sym gone i); innermost = Some t.cell }) ∙ ap (λ w. record { waiting = target_of (wait_of p (called p t.cell g m).waits); innermost = cell_of_section w }) (sym itself))
+                  (λ q ne. (λ i. record { waiting = target_of (wait_of q (called p t.cell g m).waits); innermost = cell_of_section (beside q ne i) }) ∙ (λ i. record { waiting = others_wait q ne i; innermost = (party_row m q).innermost })));
+              told = tt;
+              cyclic = turned;
+              met = told;
+            }
+          where
+            run_m : Standing
+            run_m = opened (section_asked n p t.cell t.want m) (registry_asked t.cell t.want m) (called p t.cell g m)
+
+            seen : seen_at t.cell (opened (section_asked n p t.cell t.want m) (registry_asked t.cell t.want m) (called p t.cell g m)) ≡ seen_as y 0 1 (Some run_r)
+            seen =
+                let q : (t.cell == t.cell) ≡ true = grind arith in
+                let r : reads_in t.cell m ≡ reads_in t.cell m + 0 = omega arith in
+                let w : count (writes_cell t.cell) m.guards + (count (runs_in t.cell) m.sections + 1) ≡ writes_in t.cell m + 1 = omega arith in
+                rw q (λ i. record { plan = x; content = y; reads = r i; writes = w i; run = Some run_r })
+
+            itself : innermost p (sec ∷ m.sections) ≡ Some sec
+            itself = let q : (p == p) ≡ true = grind arith in rw q refl
+
+            beside : (q : ℕ) → q ≢ p → innermost q (sec ∷ m.sections) ≡ innermost q m.sections
+            beside q ne = let f : (p == q) ≡ false = grind (arith, ne) in rw f refl
 
     -- ---- it was turned back: nothing changed
     took_cyclic : IsTurned (held row.seq.locker) v.parks b g (held row'.seq.locker) v'.parks → of' ≡ of → row'.run ≡ row.run → IsTook held place m v p t taken.Cyclic g v'
@@ -468,6 +489,7 @@ module _ {L : Type 0} (held : L → Holders) (place : L → LockerKind) where
               (parties_set held place n m m v v' p of' is.rests.stands parties (o ∙ of_here) (λ q ne. refl));
           told = tt;
           cyclic = cyclic_as begun.Cyclic d.cyclic;
+          met = subst (λ z. IsMet p t taken.Cyclic z m) (sym d.given) (met_turned m p t is.asks (sym (cyclic_as begun.Cyclic d.cyclic)));
         }
 
     -- ---- what the locker requires
@@ -480,6 +502,10 @@ module _ {L : Type 0} (held : L → Holders) (place : L → LockerKind) where
         by (Some x) e w = ap (λ (r : _). r.cell) e ∙ w
     calling false w = is.rests.stands.waits.shows.row p ∙ ap wait_row w
 
+    waits_here : (waits : Bool) → MatchBool waits (WaitsAt t.cell (wait_of p m.waits)) (wait_of p m.waits ≡ None) → (w : Wait) → wait_of p m.waits ≡ Some w → w.cell ≡ t.cell
+    waits_here true k w e = subst (WaitsAt t.cell) e k
+    waits_here false k w e = absurd (let f : None ≡ Some w = sym k ∙ e in cc)
+
     abbrev Turned : Type 0
     Turned = IsTurned (held row.seq.locker) v.parks b g (held row'.seq.locker) v'.parks
 
@@ -490,6 +516,30 @@ module _ {L : Type 0} (held : L → Holders) (place : L → LockerKind) where
       all : Turned ⊎ Begun_
       all = begun_as (place row.seq.locker) who ask (held row.seq.locker) v.parks row.seq.running (b, g) (held row'.seq.locker) v'.parks refl reg waits (calling waits is.waited) party_in cell_here.locked.fits calls
 
+      -- who is parked after the party left its list
+      sound_freed : IsSound (freed p v.parks)
+      sound_freed =
+          let a = shown_called (length v.cells.items) who m.waits v.parks given.Nobody is.rests.stands.waits sizes_in is.rests.stands.sizes.few in_parks party_in tt in
+          let size = freed_size p v.parks in
+          sound_of (without_wait p m.waits) (freed p v.parks) a.single a.shows (freed_writers p v.parks ∙ sizes_in ∙ sym size.1) (subst (λ i. i < 2 ^ 20) (sym size.0) is.rests.stands.sizes.few)
+
+      room_freed : 1 + length (readers_of (freed p v.parks) t.cell) ≤ most_readers
+      room_freed = let size = freed_size p v.parks in fewer_readers t.cell (freed p v.parks) (let a = in_parks in omega (arith, a, size.1)) sound_freed (record { party = p; inside = (let a = party_in in omega (arith, a, size.0)); free = freed_free p v.parks party_in })
+
+      settled : is_turned_back b ≡ false → IsSettled (place row.seq.locker) who ask reg (held row.seq.locker) v.parks b g (held row'.seq.locker)
+      settled e =
+          call_settled (place row.seq.locker) who ask (held row.seq.locker) v.parks row.seq.running (b, g) (held row'.seq.locker) v'.parks refl (sym cyc ∙ e) (never_init t.want) cell_here.locked.fits waits (calling waits is.waited) in_parks party_in (sound held place n m v is.rests.stands) sound_freed room_freed reg calls
+
+      few_now : is_turned_back b ≡ false → (held row'.seq.locker).readers ≤ most_readers
+      few_now e = (settled e).few cell_here.locked.limit
+
+      told_met : is_turned_back b ≡ false → (z : Taken) → taken_of b ≡ z → IsMet p t z g m
+      told_met e z same =
+          subst (λ z. IsMet p t z g m) same
+          (met (length v.cells.items) (place row.seq.locker) (held row.seq.locker) v.parks m p t cell_here.locked cell_here.placed is.rests.stands.waits sizes_in is.rests.stands.sizes.few in_parks party_in is.asks (waits_here waits is.waited) (ap (is_cyclic (want_of t.want) p) (sym cell_here.runner) ∙ sym cyc ∙ e) b g (held row'.seq.locker)
+          (subst (λ r. IsSettled (place row.seq.locker) who (ask_of x t.want) (registry_for x.kind r) (held row.seq.locker) v.parks b g (held row'.seq.locker)) is.rests.stands.exit.registry_is
+          (subst (λ (y : CellPlan). IsSettled (place row.seq.locker) who (ask_of y t.want) (registry_for y.kind v.exit.registry) (held row.seq.locker) v.parks b g (held row'.seq.locker)) cell_here.planned (settled e))))
+
       did : (b ≡ begun.Cyclic → ⊥) → Begun_
       did ne = elim all [
         | inl d ↦ absurd (ne d.cyclic)
@@ -499,16 +549,16 @@ module _ {L : Type 0} (held : L → Holders) (place : L → LockerKind) where
       -- ---- the arms of the code
 
       pub does_nothing : (q : Phase) → b ≡ begun.Nothing q → of' ≡ record { waiting = None; innermost = of.innermost } → row'.run ≡ row.run → IsTook held place m v p t (taken.Nothing q) g v'
-      does_nothing q e o run = took_nothing (did (λ x. (let f : begun.Nothing q ≡ begun.Cyclic = sym e ∙ x in cc))) q e o run
+      does_nothing q e o run = took_nothing (did (λ x. (let f : begun.Nothing q ≡ begun.Cyclic = sym e ∙ x in cc))) (few_now (ap is_turned_back e)) (told_met (ap is_turned_back e)) q e o run
 
       pub does_read : (l : ReadTicket) (q : Phase) → b ≡ begun.Read l q → of' ≡ record { waiting = None; innermost = of.innermost } → row'.run ≡ row.run → IsTook held place m v p t (taken.Read l q) g v'
-      does_read l q e o run = took_read (did (λ x. (let f : begun.Read l q ≡ begun.Cyclic = sym e ∙ x in cc))) l q e o run
+      does_read l q e o run = took_read (did (λ x. (let f : begun.Read l q ≡ begun.Cyclic = sym e ∙ x in cc))) (few_now (ap is_turned_back e)) (told_met (ap is_turned_back e)) l q e o run
 
       pub does_write : (l : WriteTicket) (q : Phase) → b ≡ begun.Write l q → of' ≡ record { waiting = None; innermost = of.innermost } → row'.run ≡ row.run → IsTook held place m v p t (taken.Write l q) g v'
-      does_write l q e o run = took_write (did (λ x. (let f : begun.Write l q ≡ begun.Cyclic = sym e ∙ x in cc))) l q e o run
+      does_write l q e o run = took_write (did (λ x. (let f : begun.Write l q ≡ begun.Cyclic = sym e ∙ x in cc))) (few_now (ap is_turned_back e)) (told_met (ap is_turned_back e)) l q e o run
 
       pub does_wait : (way : How) → b ≡ begun.Wait way → of' ≡ record { waiting = Some (record { cell = t.cell; want = t.want }); innermost = of.innermost } → row'.run ≡ row.run → IsTook held place m v p t (taken.Wait way) g v'
-      does_wait way e o run = took_wait (did (λ x. (let f : begun.Wait way ≡ begun.Cyclic = sym e ∙ x in cc))) way e o run
+      does_wait way e o run = took_wait (did (λ x. (let f : begun.Wait way ≡ begun.Cyclic = sym e ∙ x in cc))) (few_now (ap is_turned_back e)) (told_met (ap is_turned_back e)) way e o run
 
       pub does_cyclic : b ≡ begun.Cyclic → of' ≡ of → row'.run ≡ row.run → IsTook held place m v p t taken.Cyclic g v'
       does_cyclic e o run = elim all [
@@ -542,9 +592,9 @@ module _ {L : Type 0} (held : L → Holders) (place : L → LockerKind) where
           let asked : seq_asks_run (ask_of row.plan t.want) (held row.seq.locker).phase ≡ true = tells.1 in
           let call : is_turn t.want ≡ false = run_calls row.plan t.want (held row.seq.locker).phase asked in
           let here = cell_here in
-          took_run d s (ap reads_begun e) (ap writes_begun e) (phase_as d (begun.Run s) e) (rows_as d (begun.Run s) e) (exit_run e call)
+          took_run d (few_now (ap is_turned_back e)) (told_met (ap is_turned_back e)) s (ap reads_begun e) (ap writes_begun e) (phase_as d (begun.Run s) e) (rows_as d (begun.Run s) e) (exit_run e call)
           (running ∙ ap (λ x. running_after x row.seq.running) e ∙ ap (λ (z : SeqSection). Some z.who.party) tells.0 ∙ (rw call refl))
-          (tells.0 ∙ (λ i. section_by who (ask_of (here.planned i) t.want).want (stays_asked (registry_for (here.planned i).kind (is.rests.stands.exit.registry_is i)) (here.locked.phase_is i)) write_ticket) ∙ ap (λ q. section_by who (ask_of x t.want).want q write_ticket) (stays_same x t.want m.registry y.phase call)) (cyclic_as (begun.Run s) e) o run
+          (tells.0 ∙ (λ i. section_by who (ask_of (here.planned i) t.want).want (stays_asked (registry_for (here.planned i).kind (is.rests.stands.exit.registry_is i)) (here.locked.phase_is i)) write_ticket) ∙ ap (λ q. section_by who (ask_of x t.want).want q write_ticket) (stays_same x t.want m.registry y.phase call)) (cyclic_as (begun.Run s) e) (told_met (ap is_turned_back e) taken.Runs (ap taken_of e)) o run
         where
           exit_run : b ≡ begun.Run s → is_turn t.want ≡ false → IsExit (length v.cells.items) (record m { registry = registry_asked t.cell t.want m }) v'.exit
           exit_run e call = by t.want refl call
@@ -565,10 +615,10 @@ module _ {L : Type 0} (held : L → Holders) (place : L → LockerKind) where
           let tells = told_as d (begun.Final s) e in
           let turn : t.want ≡ Turns = final_turns t.want tells.1 in
           let here = cell_here in
-          took_run d s (ap reads_begun e) (ap writes_begun e) (phase_as d (begun.Final s) e) (rows_as d (begun.Final s) e)
+          took_run d (few_now (ap is_turned_back e)) (told_met (ap is_turned_back e)) s (ap reads_begun e) (ap writes_begun e) (phase_as d (begun.Final s) e) (rows_as d (begun.Final s) e)
           (subst (λ w. IsExit (length v.cells.items) (record m { registry = registry_asked t.cell w m }) v'.exit) (sym turn) (exit_still (ap is_run e)))
           (running ∙ ap (λ x. running_after x row.seq.running) e ∙ here.runner ∙ ap runner_of (none_runs t.cell m.sections (let z = was_none d (ap (wrote _) e) in omega (arith, z))) ∙ sym (ap (λ w. if is_turn w then None else Some p) turn))
-          (tells.0 ∙ (λ i. section_by who (ask_of (here.planned i) t.want).want (here.locked.phase_is i) write_ticket) ∙ ap (λ w. section_by who (ask_of x t.want).want (stays_in x w m.registry.is_open y.phase) write_ticket) (sym turn)) (cyclic_as (begun.Final s) e) o run
+          (tells.0 ∙ (λ i. section_by who (ask_of (here.planned i) t.want).want (here.locked.phase_is i) write_ticket) ∙ ap (λ w. section_by who (ask_of x t.want).want (stays_in x w m.registry.is_open y.phase) write_ticket) (sym turn)) (cyclic_as (begun.Final s) e) (told_met (ap is_turned_back e) taken.Runs (ap taken_of e)) o run
 
 -- what the code reads of the cell
 module _ {L : Type 0} (held : L → Holders) (place : L → LockerKind) (m : Standing) (v : Rows L) (p : ℕ) (t : Target) (waits : Bool) (is : IsAttempting held place m v p t waits) (row : CellRow L) (row_is : row ≡ get_or v.cells.items t.cell row) where

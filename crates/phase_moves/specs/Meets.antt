@@ -115,24 +115,45 @@ pub record GivesFirst (p : ℕ) (t : Target) (g : Given) (m : Standing) : Type 0
   pub dropped : keeps_in p t.cell t.want m ≡ false
   pub free : readers_in t.cell (without_wait p m.waits) m + writers_in t.cell (without_wait p m.waits) m + count (drains_on t.cell) (without_wait p m.waits) ≡ 0
 
+-- a read lock was got
+abbrev pub is_read : Taken → Bool
+is_read (taken.Wait how) = false
+is_read taken.Cyclic = false
+is_read (taken.Nothing p) = false
+is_read (taken.Read lock p) = true
+is_read (taken.Write lock p) = false
+is_read taken.Runs = false
+
 -- a read that is declined has its section made a read lock
-pub record GivesDown (p : ℕ) (t : Target) (m : Standing) : Type 0 where
+pub record GivesDown (p : ℕ) (t : Target) (b : Taken) (m : Standing) : Type 0 where
   pub reaching : IsReaching p t.cell given.Readers m
   pub declined : declines_in t.cell t.want m ≡ true
+  pub reads : is_read b ≡ true
 
-abbrev pub GivesLast : ℕ → Target → Given → Standing → Type 0
-GivesLast p t given.Nobody m = Unit {0}
-GivesLast p t (given.Writer q) m = ⊥
-GivesLast p t given.Readers m = GivesDown p t m
+abbrev pub GivesLast : ℕ → Target → Taken → Given → Standing → Type 0
+GivesLast p t b given.Nobody m = Unit {0}
+GivesLast p t b (given.Writer q) m = ⊥
+GivesLast p t b given.Readers m = GivesDown p t b m
 
 -- it may give at this moment
-abbrev pub MayGiveAt : Moment → ℕ → Target → Given → Standing → Type 0
-MayGiveAt First p t g m = GivesFirst p t g m
-MayGiveAt Last p t g m = GivesLast p t g m
+abbrev pub MayGiveAt : Moment → ℕ → Target → Taken → Given → Standing → Type 0
+MayGiveAt First p t b g m = GivesFirst p t g m
+MayGiveAt Last p t b g m = GivesLast p t b g m
+
+-- what is got is of the kind that is wanted: a read a lock to read, a write the lock to write, and a turn none, but that it
+-- may run; a call that is turned back gives nothing
+abbrev pub IsOf : Want → Given → Taken → Type 0
+IsOf w g (taken.Wait how) = Unit {0}
+IsOf w g taken.Cyclic = g ≡ given.Nobody
+IsOf w g (taken.Nothing p) = w ≡ Turns
+IsOf w g (taken.Read lock p) = w ≡ Calls call.Read
+IsOf w g (taken.Write lock p) = w ≡ Calls call.Write
+IsOf w g taken.Runs = Unit {0}
 
 -- the answer is due where it gave at one of the two moments, and drains by choice
 pub record IsMet (p : ℕ) (t : Target) (b : Taken) (g : Given) (m : Standing) : Type 0 where
   pub moment : Moment
   pub chosen : Bool
   pub answered : answer_taken (cell_at m.plans t.cell).kind t b ≡ answer_of_attempt (cell_at m.plans t.cell) t.want (meets p t.cell t.want (waits_at moment p t.cell g m) m) chosen
-  pub gives : MayGiveAt moment p t g m
+  pub gives : MayGiveAt moment p t b g m
+  pub wanted : IsOf t.want g b

@@ -5,6 +5,7 @@ use Rattle.std.specs.declared.option.Option.TheVariants.{None, Some}
 use Rattle.phase_bits.specs.declared.phase.Phase.{Phase}
 use Rattle.phase_bits.specs.declared.holders.Holders.{Holders}
 use Rattle.phase_bits.specs.Number.{IsKnown, phase_of}
+use Rattle.phase_bits.specs.Records.{most_readers}
 use Rattle.exit_registry.specs.Registry.{cells_of}
 use Rattle.phase_locker.specs.declared.ways.LockerKind.{LockerKind}
 use Rattle.phase_locker.specs.declared.ways.LockerKind.TheVariants as kind
@@ -91,7 +92,8 @@ kind_at place_of.Spin = kind.Spin
 
 -- ---- the locker of a cell
 
--- it has so many read holds, and a write hold where there is one: shares and claims the rows of who is parked tell
+-- it has so many read holds, and a write hold where there is one, and its readers are within the limit: shares and claims
+-- the rows of who is parked tell
 pub record IsLocked (k : LockerKind) (h : Holders) (s : Parking) (c reads writes phase : ℕ) : Type 0 where
   pub fits : Fits k h s c
   pub phase_is : h.phase ≡ phase_of phase
@@ -99,6 +101,7 @@ pub record IsLocked (k : LockerKind) (h : Holders) (s : Parking) (c reads writes
   pub write_is : 0 < writes → IsWriteOpen h s c
   pub write_was : IsWriteOpen h s c → 0 < writes
   pub one : writes ≤ 1
+  pub limit : h.readers ≤ most_readers
 
 -- what stands open says of a cell
 pub record Seen : Type 0 where

@@ -21,6 +21,7 @@ use Rattle.phase_moves.specs.declared.rows.Rows.{Rows}
 use Rattle.phase_moves.specs.declared.rows.Taken.{Taken}
 use Rattle.phase_moves.specs.declared.rows.Taken.TheVariants as taken
 use Rattle.phase_moves.specs.declared.rows.Target.{Target}
+use Rattle.phase_moves.specs.Meets.{IsMet}
 use Rattle.phase_moves.specs.Moves.{Rests}
 use Rattle.phase_moves.specs.Standing.{Standing, changes_at, run_in, runner_of, took, writes_in}
 use Rattle.phase_moves.specs.Stands.{Stands, want_of}
@@ -75,11 +76,12 @@ module _ {L : Type 0} (held : L → Holders) (place : L → LockerKind) where
     pub is : IsAttempting m v p t waits
 
   -- what an attempt that was answered so tells: it is turned back exactly where it asks for a run of the generator that
-  -- its own party is running
+  -- its own party is running, and its answer is the one that is due of what it met
   pub record IsTook (m : Standing) (v : Rows L) (p : ℕ) (t : Target) (b : Taken) (g : Given) (new : Rows L) : Type 0 where
     pub stands : Stands held place (length v.guards.items) (took (length v.guards.items) p t.cell t.want g b m) new
     pub told : TellsPhase (phase_asked t.cell t.want m) b
     pub cyclic : is_turned b ≡ is_cyclic (want_of t.want) p (runner_of (run_in t.cell m.sections))
+    pub met : IsMet p t b g m
 
   abbrev pub Attempts : Rows L → ℕ → Target → Bool → Taken × Given → Rows L → Type 0
   Attempts old p t waits r new = (m : Standing) → IsAttempting m old p t waits → IsTook m old p t r.0 r.1 new

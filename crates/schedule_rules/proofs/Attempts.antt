@@ -22,7 +22,7 @@ use Rattle.schedule_rules.specs.declared.step.Want.{Want}
 use Rattle.schedule_rules.specs.declared.step.Want.TheVariants.{Calls, Turns}
 use Rattle.schedule_rules.specs.declared.line.Answer.{Answer}
 use Rattle.schedule_rules.specs.declared.line.Answer.TheVariants as answer
-use Rattle.schedule_rules.specs.Kinds.{cell_at, tolerance_of, tolerance_at}
+use Rattle.schedule_rules.specs.Kinds.{cell_at, tolerance_at}
 use Rattle.schedule_rules.specs.Phases.{runs_generator}
 use Rattle.schedule_rules.specs.Calls.{lock_wanted, asks, initializes}
 use Rattle.schedule_rules.specs.Changes.{Content}

@@ -1,5 +1,5 @@
 -- What the record of a cell's holders bars is what the rule bars.
-use Rattle.std.proofs.Common.{◌≡◌, ℕ, ◌<◌, List, refl, arith, Bool, true, false, ◌&&◌, ◌||◌, not, Some}
+use Rattle.std.proofs.Common.{◌≡◌, ℕ, ◌<◌, List, refl, arith, Bool, true, false, ◌&&◌, ◌||◌, not}
 use Rattle.std.specs.Prelude.{◌==◌, nat_lt}
 use Rattle.phase_bits.specs.Records.{most_readers, bars_read, bars_write}
 use Rattle.phase_locker.specs.declared.tickets.LockNature.TheVariants as nature

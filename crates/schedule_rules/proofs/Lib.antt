@@ -21,6 +21,8 @@ pub mod OneSuccess
 pub mod Bars
 mod OneTranscript
 mod Waiting
+pub mod NotCyclic
+pub mod WaitsToLock
 pub mod Access
 pub mod Answered
 pub mod Causes

@@ -1,5 +1,5 @@
 -- What is published of a cell stays while a section of it is open.
-use Rattle.std.proofs.Common.{◌≡◌, ◌<◌, ◌≤◌, ◌+◌, ℕ, List, [], ◌∷◌, length, refl, sym, ◌∙◌, ap, subst, arith, Bool, true, false, not, cond, None, Some, ◌⊎◌, inl, inr}
+use Rattle.std.proofs.Common.{◌≡◌, ◌<◌, ◌≤◌, ◌+◌, ℕ, List, [], ◌∷◌, length, refl, sym, ◌∙◌, ap, subst, arith, Bool, true, false, cond, None, Some, ◌⊎◌, inl, inr}
 use Rattle.std.specs.Prelude.{◌==◌, if◌then◌else◌}
 use Rattle.std.specs.List.{AllByRecursion}
 use Rattle.std.specs.declared.option.Option.{Option}
@@ -17,15 +17,15 @@ use Rattle.schedule_rules.specs.declared.line.Answer.TheVariants as answer
 use Rattle.schedule_rules.specs.Kinds.{cell_at}
 use Rattle.schedule_rules.specs.Phases.{phase_finalized}
 use Rattle.schedule_rules.specs.Changes.{Change, Ran, Asked, Ended, effect}
-use Rattle.schedule_rules.specs.History.{Event, before, act_of, accepts, count}
-use Rattle.schedule_rules.specs.Sections.{Section, innermost, without_innermost, runs_in, with_run, with_turn, sections_ended, sections_after, sections}
-use Rattle.schedule_rules.specs.Guards.{Guard, numbered, without_guard, put_in, reader_made, writer_made, reader_beside, with_reader, with_writer, guards_done, guards_after, guards}
+use Rattle.schedule_rules.specs.History.{Event, act_of, accepts, count}
+use Rattle.schedule_rules.specs.Sections.{Section, innermost, without_innermost, runs_in, with_run, sections_ended, sections_after, sections}
+use Rattle.schedule_rules.specs.Guards.{Guard, numbered, without_guard, reader_made, writer_made, reader_beside, with_reader, with_writer, guards_done, guards_after, guards}
 use Rattle.schedule_rules.specs.Replay.{Back, back_of_run, back_of_turn, back_of_guard, back_at_once, back_of_step, content_after_back, replay, phase_at, inside}
 use Rattle.schedule_rules.specs.Holds.{writes_cell, write_holds}
-use Rattle.schedule_rules.specs.Legal.{IsLegal, IsLegalLine, IsExclusive}
+use Rattle.schedule_rules.specs.Legal.{IsLegal, IsLegalLine}
 use Rattle.schedule_rules.specs.Laws.{IsAsAt}
 use Rattle.schedule_rules.proofs.Alone.{alone}
-use Rattle.schedule_rules.proofs.Each.{each_mapped, each_found, each_ended, each_removed, each_put}
+use Rattle.schedule_rules.proofs.Each.{each_found, each_ended, each_removed, each_put}
 use Rattle.schedule_rules.proofs.Earlier.{before_more, before_now}
 use Rattle.schedule_rules.proofs.Exclusion.{no_writer_beside, no_run_left, no_run_beside, no_writer_left}
 use Rattle.schedule_rules.proofs.Backs.{back_elsewhere, no_phase_back, no_read_back}

@@ -1,6 +1,6 @@
 -- The call table: what a call asks of the sequentializer. The lock that it wants at a phase, whether it asks for a run
 -- there, and as what it is woken, are the sequentializer's own rules of what is asked.
-use Rattle.std.specs.Prelude.{ℕ, Bool, true, false, ◌&&◌}
+use Rattle.std.specs.Prelude.{ℕ, Bool, false}
 use Rattle.std.specs.declared.option.Option.{Option}
 use Rattle.std.specs.declared.option.Option.TheVariants.{None, Some}
 use Rattle.phase_bits.specs.Number.{phase_of}

@@ -21,7 +21,9 @@ ghost use Rattle.schedule_rules.specs.Sections.{Section, innermost, is_turn, run
 ghost use Rattle.schedule_rules.specs.Changes.{effect};
 ghost use Rattle.schedule_rules.specs.Guards.{Guard, numbered, reader, guards};
 ghost use Rattle.schedule_rules.specs.Gifts.{turns_to_read};
-ghost use Rattle.schedule_rules.specs.Waits.{Attempt, attempt, Wait, cell_concerned};
+ghost use Rattle.schedule_rules.specs.Waits.{Attempt, attempt, Wait, wait_of, waits, cell_concerned};
+ghost use Rattle.schedule_rules.specs.Calls.{initializes};
+ghost use Rattle.schedule_rules.specs.declared.step.Act.TheVariants as act;
 ghost use Rattle.schedule_rules.specs.Holds.{read_guards, write_holds, readers_with, writers_with, holding, holding_with, is_barred};
 ghost use Rattle.schedule_rules.specs.Core.{core, core_with};
 ghost use Rattle.schedule_rules.specs.Due.{keeps_own, due_attempt};
@@ -347,4 +349,19 @@ pub fn write_guards_stand_on_what_is_published()
     ensures shows { (cells : List CellPlan) (h : List Event) (g : ℕ) (x : Guard) → IsLegal cells h →
         numbered g (guards h) ≡ Some x → x.writes ≡ true →
         inside cells h x ≡ effect (cell_at cells x.cell) x.changes (replay cells x.cell h) }
+{}
+
+/// A call that waits asks for no run of a generator that its own party is running. So an Again is never turned back as
+/// cyclic.
+pub fn waiting_calls_are_not_cyclic()
+    ensures waits { (cells : List CellPlan) (h : List Event) (p : ℕ) (w : Wait) → IsLegal cells h →
+        wait_of p (waits cells h) ≡ Some w → (initializes w.want && runs p w.cell h) ≡ false }
+    ensures again { (cells : List CellPlan) (h : List Event) (s : Step) (l : Line) → IsLegal cells h →
+        IsLegalLine cells h s l → s.act ≡ act.Again → l.answer ≢ answer.Cyclic }
+{}
+
+/// What waits is a call for a lock or a turn: a call for the phase never waits.
+pub fn phase_calls_do_not_wait()
+    ensures { (cells : List CellPlan) (h : List Event) (p : ℕ) (w : Wait) → IsLegal cells h →
+        wait_of p (waits cells h) ≡ Some w → w.want ≢ Calls call.Phase }
 {}

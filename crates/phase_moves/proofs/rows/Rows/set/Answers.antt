@@ -1,5 +1,5 @@
 use Rattle.std.proofs.Common.{ap, refl, set}
-use Rattle.phase_moves.proofs.Setting.{set_inside, puts}
+use Rattle.phase_moves.proofs.Setting.{puts}
 use Rattle.phase_moves.proofs.rows.Rows.set.Goals as goal
 
 pub returns-clause-sets : goal.returns-clause-sets
