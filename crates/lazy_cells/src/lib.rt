@@ -5,9 +5,12 @@
 
 mod access;
 mod call;
+mod fast;
 mod fill;
 mod generic;
+mod guarded;
 mod kind;
+mod locked;
 mod markers;
 mod policy;
 
