@@ -11,7 +11,7 @@ use Rattle.lazy_cells.specs.Locked.{Locked, bars_read, bars_write, releases, pub
 use Rattle.lazy_cells.specs.Access.{say_read, say_write, say_init, say_primed_read, say_primed_write, left_read, left_write, left_init, left_primed_read, left_primed_write}
 use Rattle.lazy_cells.specs.Guards.{to_read, to_write, in_to_read, in_to_write, kept, kept_phase, kept_primed, kept_primed_write, left_kept, left_published}
 use Rattle.lazy_cells.specs.Sound.{IsSound}
-use Rattle.lazy_cells.proofs.Kept.{then_calls, then_tries, says_read, says_write, says_init, says_primed_read, says_primed_write, leaves_read, leaves_write, leaves_init, leaves_primed_read, leaves_primed_write}
+use Rattle.lazy_cells.proofs.Keeping.{then_calls, then_tries, says_read, says_write, says_init, says_primed_read, says_primed_write, leaves_read, leaves_write, leaves_init, leaves_primed_read, leaves_primed_write}
 use Rattle.lazy_cells.proofs.Sound.{IsFresh, StayFresh, sound_calls, sound_tries, read_quiet, write_quiet, keeps_read, keeps_write, keeps_init, keeps_primed_read, keeps_primed_write}
 
 -- the cell stays

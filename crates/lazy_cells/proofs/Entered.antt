@@ -140,14 +140,14 @@ module _ {T G P : Type 0} (att : G → Result T InitFault → G → Type 0) (t :
   module _ (i : IsGuarded h next) (r : Result (ReadTicket × Phase × Option T) InitError) (h' : Holders) (left : G) where
     runs_read : shall_init t h.phase ≡ true → MatchBool (record_of.bars_write h) (direct.HasNone (Err Borrowed) h g r h' left) (direct.HasRun att direct.told_read Read s h g r h' left) → Reads next r h' left
     runs_read due c = both_cases (record_of.bars_write h) c
-      (λ e none. moved_read next r _ h' _ left _ none.same none.held none.generator (barred_run_read e due))
-      (λ e run. subst (λ (n : Option Phase). Reads n r h' left) (sym (no_next i (left_false _ _ e)))
+        (λ e none. moved_read next r _ h' _ left _ none.same none.held none.generator (barred_run_read e due))
+        (λ e run. subst (λ (n : Option Phase). Reads n r h' left) (sym (no_next i (left_false _ _ e)))
         (moved_read None r _ h' _ left left run.answer run.held refl (ran_read run.ran left run.came e due)))
 
     rests_read : shall_init t h.phase ≡ false → MatchBool (record_of.bars_read h) (direct.HasNone (Err Borrowed) h g r h' left) (direct.HasNone (Ok (direct.told_read h.phase None)) (record_of.admit_read h) g r h' left) → Reads next r h' left
     rests_read due c = both_cases (record_of.bars_read h) c
-      (λ e none. moved_read next r _ h' _ left _ none.same none.held none.generator (barred_read (sym (same_bars h i.alone) ∙ e) due))
-      (λ e none. moved_read next r _ h' _ left _ none.same none.held none.generator (rested_read i (sym (same_bars h i.alone) ∙ e) due))
+        (λ e none. moved_read next r _ h' _ left _ none.same none.held none.generator (barred_read (sym (same_bars h i.alone) ∙ e) due))
+        (λ e none. moved_read next r _ h' _ left _ none.same none.held none.generator (rested_read i (sym (same_bars h i.alone) ∙ e) due))
 
     by_read : (d : Bool) → shall_init t h.phase ≡ d
         → MatchBool (bars h (if d then nature.Write else nature.Read)) (direct.HasNone (Err Borrowed) h g r h' left)
@@ -234,14 +234,14 @@ module _ {T G P : Type 0} (att : G → Result T InitFault → G → Type 0) (t :
   module _ (i : IsGuarded h next) (r : Result (WriteTicket × Phase × Option T) InitError) (h' : Holders) (left : G) where
     runs_write : shall_init t h.phase ≡ true → MatchBool (record_of.bars_write h) (direct.HasNone (Err Borrowed) h g r h' left) (direct.HasRun att direct.told_write Write s h g r h' left) → Writes next r h' left
     runs_write due c = both_cases (record_of.bars_write h) c
-      (λ e none. moved_write next r _ h' _ left _ none.same none.held none.generator (barred_run_write e due))
-      (λ e run. subst (λ (n : Option Phase). Writes n r h' left) (sym (no_next i (left_false _ _ e)))
+        (λ e none. moved_write next r _ h' _ left _ none.same none.held none.generator (barred_run_write e due))
+        (λ e run. subst (λ (n : Option Phase). Writes n r h' left) (sym (no_next i (left_false _ _ e)))
         (moved_write None r _ h' _ left left run.answer run.held refl (ran_write run.ran left run.came e due)))
 
     rests_write : shall_init t h.phase ≡ false → MatchBool (record_of.bars_write h) (direct.HasNone (Err Borrowed) h g r h' left) (direct.HasNone (Ok (direct.told_write h.phase None)) (record_of.admit_write h) g r h' left) → Writes next r h' left
     rests_write due c = both_cases (record_of.bars_write h) c
-      (λ e none. moved_write next r _ h' _ left _ none.same none.held none.generator (barred_write e due))
-      (λ e none. moved_write next r _ h' _ left _ none.same none.held none.generator (rested_write e due))
+        (λ e none. moved_write next r _ h' _ left _ none.same none.held none.generator (barred_write e due))
+        (λ e none. moved_write next r _ h' _ left _ none.same none.held none.generator (rested_write e due))
 
     by_write : (d : Bool) → shall_init t h.phase ≡ d
         → MatchBool (bars h nature.Write) (direct.HasNone (Err Borrowed) h g r h' left)

@@ -149,8 +149,8 @@ module _ {T G P : Type 0} (hard primed : Bool) (old : Locked T G P) (k : IsSound
 
     pub ready : (bars : Locked T G P → Bool) → (bars old ≡ false → old.writing ≡ false) → (e : Entry) (made : Locked T G P) → Comes att t s bars old e made → ReadyAt hard primed e made
     ready bars f e made c = both_cases (shall_init t old.phase) c
-      (λ due x. both_cases (bars_write old) x (λ _ none. here Barred none k) (λ free run. ran_so run (run_ready free (due_lacks t old.phase due) run.ran run.left run.came)))
-      (λ _ none. here (tried bars old) none (tried_ready bars f))
+        (λ due x. both_cases (bars_write old) x (λ _ none. here Barred none k) (λ free run. ran_so run (run_ready free (due_lacks t old.phase due) run.ran run.left run.came)))
+        (λ _ none. here (tried bars old) none (tried_ready bars f))
       where
         here : (x : Entry) → HasNone x old e made → ReadyAt hard primed x old → ReadyAt hard primed e made
         here x none r =

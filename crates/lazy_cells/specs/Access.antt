@@ -1,15 +1,18 @@
 -- What the calls on a locked cell answer and leave. `hard` says whether a finalizer takes the value out of reach.
-use Rattle.std.specs.Prelude.{Bool, if◌then◌else◌, Option, Some, None, Result, Ok, Err}
+use Rattle.std.specs.Prelude.{◌≡◌, Bool, false, if◌then◌else◌, Option, Some, None, Result, Ok, Err}
 use Rattle.phase_bits.specs.declared.phase.Phase.{Phase}
 use Rattle.phase_bits.specs.declared.access_error.AccessError.{AccessError}
 use Rattle.phase_locker.specs.declared.tickets.ReadTicket.{ReadTicket}
 use Rattle.phase_locker.specs.declared.tickets.WriteTicket.{WriteTicket}
 use Rattle.phase_locker.specs.Natures.{read_ticket, write_ticket}
+use Rattle.phase_seq.specs.declared.generator.InitFault.{InitFault}
 use Rattle.phase_seq.specs.declared.init_error.InitError.{InitError}
 use Rattle.phase_seq.specs.declared.init_error.InitError.TheVariants.{Access, Failed, Cyclic, Borrowed}
+use Rattle.phase_seq.specs.declared.tolerance.Tolerance.{Tolerance}
 use Rattle.phase_seq.specs.Direct.{unless_borrowed}
 use Rattle.lazy_cells.specs.Kinds.{is_within_reach}
-use Rattle.lazy_cells.specs.Locked.{Locked, reads, writes, rests, Entry, Barred, Fails, Enters}
+use Rattle.lazy_cells.specs.Cells.{value_shown}
+use Rattle.lazy_cells.specs.Locked.{Locked, bars_write, reads, writes, rests, Entry, Barred, Fails, Enters, Calls}
 
 -- ---- what is answered
 
@@ -100,3 +103,23 @@ abbrev pub left_primed_write : {T G P : Type 0} → Bool → Entry → Locked T 
 left_primed_write hard Barred c = c
 left_primed_write hard (Fails p) c = rests p c
 left_primed_write hard (Enters p) c = if is_within_reach hard p then writes p c else reads p c
+
+-- ---- the value lent to the owner of a cell of which no ticket is open
+
+-- the value, where the cell is initialized
+abbrev pub lent : {T : Type 0} → Result Phase InitError → Option T → Result T InitError
+lent (Ok p) (Some v) = Ok v
+lent (Ok p) None = Err (Access (record { phase = p }))
+lent (Err e) o = Err e
+
+-- the cell is initialized, and this shown
+pub record Shows {T G P : Type 0} (attempts : G → Result T InitFault → G → Type 0) (t : Tolerance) (stays : Option Phase) (old : Locked T G P) (r : Result T InitError) (new : Locked T G P) : Type 0 where
+  pub told : Result Phase InitError
+  pub calls : Calls attempts t stays bars_write (say_init false) left_init old told new
+  pub shown : r ≡ lent told new.value
+
+-- a cell whose value was lent ends with what was then written, and besides as the call left it, with the value that it
+-- showed
+pub record EndsWith {T G P : Type 0} (attempts : G → Result T InitFault → G → Type 0) (t : Tolerance) (stays : Option Phase) (old : Locked T G P) (r : Result T InitError) (w : T) (n : Locked T G P) : Type 0 where
+  pub shows : Shows attempts t stays old r (record n { value = value_shown r })
+  pub written : n.value ≡ Some w

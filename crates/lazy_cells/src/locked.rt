@@ -5,6 +5,7 @@ use crate::markers::Reach;
 use std::marker::Model;
 
 mod finalize;
+mod lending;
 mod making;
 mod no_exit;
 mod primed;

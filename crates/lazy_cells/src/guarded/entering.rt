@@ -78,11 +78,9 @@ impl<T: Drop, G: Generator<T>, Q> Guarded<T, G, WithExit<Q>> {
         ensures again { G.may_call self.new.generator }
     {
         let cell = self.marker.cell;
-        let told = self.sequentializer.generate_registered_then_read(
-            cell,
-            registry,
-            &mut self.generator,
-        );
+        let told = self
+            .sequentializer
+            .generate_registered_then_read(cell, registry, &mut self.generator);
         put_in(&mut self.body, told)
     }
 
@@ -98,11 +96,9 @@ impl<T: Drop, G: Generator<T>, Q> Guarded<T, G, WithExit<Q>> {
         ensures again { G.may_call self.new.generator }
     {
         let cell = self.marker.cell;
-        let told = self.sequentializer.generate_registered_then_write(
-            cell,
-            registry,
-            &mut self.generator,
-        );
+        let told = self
+            .sequentializer
+            .generate_registered_then_write(cell, registry, &mut self.generator);
         let entered = put_in(&mut self.body, told);
         self.next = next_after(&entered, self.next);
         entered

@@ -31,9 +31,7 @@ impl<T: Drop, G: GeneratorTolerance, P> Guarded<T, G, P> {
     {
         let fine = || -> Result<(), FinalFault>
             ensures { result ≡ Ok tt }
-        {
-            Ok(())
-        };
+        { Ok(()) };
         let turn = self.sequentializer.finalize_callback(fine);
         if turn == Turn::Done {
             self.body = None;
@@ -57,9 +55,7 @@ impl<T: Uninit, G: GeneratorTolerance, P> Guarded<T, G, P> {
         let ended = self.body.as_mut().unwrap().uninit();
         let told = move || -> Result<(), FinalFault>
             ensures { result ≡ ended }
-        {
-            ended
-        };
+        { ended };
         self.sequentializer.finalize_callback(told)
     }
 }

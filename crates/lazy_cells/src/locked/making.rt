@@ -67,8 +67,11 @@ impl<T, G, Q> GenericLockedLazy<T, G, WithExit<Primed<Q>>> {
     }
 }
 
-impl<T: Drop, F: FnOnce() -> Result<T, InitFault>>
-    GenericLockedLazy<T, OnceGenerator<F>, NoExit<Kept<Full>>> {
+impl<T: Drop, F: FnOnce() -> Result<T, InitFault>> GenericLockedLazy<
+    T,
+    OnceGenerator<F>,
+    NoExit<Kept<Full>>,
+> {
     /// An empty cell whose generator is this function, which is called once.
     pub fn new(f: F) -> Self
         requires { F.IsAlwaysCallable f }

@@ -1,7 +1,7 @@
 use Rattle.std.proofs.Common.{refl}
 use Rattle.lazy_cells.specs.Locked.{bars_read}
 use Rattle.lazy_cells.specs.Access.{say_read, left_read, say_fast_try_read, unless_barred}
-use Rattle.lazy_cells.proofs.Kept.{then_tries}
+use Rattle.lazy_cells.proofs.Keeping.{then_tries}
 use Rattle.lazy_cells.proofs.locked.GenericLockedLazy.fast_try_read.Goals as goal
 
 pub returns : goal.returns

@@ -1,7 +1,7 @@
 use Rattle.std.proofs.Common.{refl}
 use Rattle.lazy_cells.specs.Locked.{bars_write}
 use Rattle.lazy_cells.specs.Access.{say_write, left_write, say_fast_try_write, unless_barred}
-use Rattle.lazy_cells.proofs.Kept.{then_tries}
+use Rattle.lazy_cells.proofs.Keeping.{then_tries}
 use Rattle.lazy_cells.proofs.locked.GenericLockedLazy.fast_try_write.Goals as goal
 
 pub returns : goal.returns

@@ -3,7 +3,7 @@ use Rattle.phase_seq.specs.Phases.{unregistered}
 use Rattle.phase_seq.specs.Direct.{tolerance, unless_borrowed}
 use Rattle.lazy_cells.specs.Locked.{bars_read}
 use Rattle.lazy_cells.specs.Access.{say_read, left_read, say_fast_read}
-use Rattle.lazy_cells.proofs.Kept.{then_calls}
+use Rattle.lazy_cells.proofs.Keeping.{then_calls}
 use Rattle.lazy_cells.proofs.locked.no_exit.GenericLockedLazy+T+G+NoExit+C.fast_read.Goals as goal
 
 pub returns-clause-calls : goal.returns-clause-calls

@@ -3,7 +3,7 @@ use Rattle.phase_seq.specs.Phases.{unregistered}
 use Rattle.phase_seq.specs.Direct.{tolerance, unless_borrowed}
 use Rattle.lazy_cells.specs.Locked.{bars_write}
 use Rattle.lazy_cells.specs.Access.{say_write, left_write, say_fast_write}
-use Rattle.lazy_cells.proofs.Kept.{then_calls}
+use Rattle.lazy_cells.proofs.Keeping.{then_calls}
 use Rattle.lazy_cells.proofs.locked.no_exit.GenericLockedLazy+T+G+NoExit+C.fast_write.Goals as goal
 
 pub returns-clause-calls : goal.returns-clause-calls

@@ -2,7 +2,7 @@ use Rattle.std.proofs.Common.{Some, false, refl}
 use Rattle.phase_seq.specs.Direct.{tolerance, enlisted, unless_borrowed}
 use Rattle.lazy_cells.specs.Locked.{bars_read}
 use Rattle.lazy_cells.specs.Access.{say_read, left_read, say_fast_read}
-use Rattle.lazy_cells.proofs.Kept.{then_calls}
+use Rattle.lazy_cells.proofs.Keeping.{then_calls}
 use Rattle.lazy_cells.proofs.locked.with_exit.GenericLockedLazy+T+G+WithExit+C.fast_read.Goals as goal
 
 pub returns-clause-calls : goal.returns-clause-calls

@@ -2,7 +2,7 @@ use Rattle.std.proofs.Common.{Some, false, refl}
 use Rattle.phase_seq.specs.Direct.{tolerance, enlisted, unless_borrowed}
 use Rattle.lazy_cells.specs.Locked.{bars_write}
 use Rattle.lazy_cells.specs.Access.{say_write, left_write, say_fast_write}
-use Rattle.lazy_cells.proofs.Kept.{then_calls}
+use Rattle.lazy_cells.proofs.Keeping.{then_calls}
 use Rattle.lazy_cells.proofs.locked.with_exit.GenericLockedLazy+T+G+WithExit+C.fast_write.Goals as goal
 
 pub returns-clause-calls : goal.returns-clause-calls
