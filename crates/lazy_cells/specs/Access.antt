@@ -1,5 +1,5 @@
 -- What the calls on a locked cell answer and leave. `hard` says whether a finalizer takes the value out of reach.
-use Rattle.std.specs.Prelude.{◌≡◌, Bool, false, if◌then◌else◌, Option, Some, None, Result, Ok, Err}
+use Rattle.std.specs.Prelude.{◌≡◌, ◌<◌, Bool, true, false, if◌then◌else◌, Option, Some, None, Result, Ok, Err}
 use Rattle.phase_bits.specs.declared.phase.Phase.{Phase}
 use Rattle.phase_bits.specs.declared.access_error.AccessError.{AccessError}
 use Rattle.phase_locker.specs.declared.tickets.ReadTicket.{ReadTicket}
@@ -103,6 +103,14 @@ abbrev pub left_primed_write : {T G P : Type 0} → Bool → Entry → Locked T 
 left_primed_write hard Barred c = c
 left_primed_write hard (Fails p) c = rests p c
 left_primed_write hard (Enters p) c = if is_within_reach hard p then writes p c else reads p c
+
+-- ---- which ticket an answer opens
+
+-- a write ticket, or a read ticket in an Err
+abbrev pub OpensEither : {T G P : Type 0} → Result (Result WriteTicket ReadTicket) InitError → Locked T G P → Type 0
+OpensEither (Ok (Ok t)) c = c.writing ≡ true
+OpensEither (Ok (Err t)) c = 0 < c.readers
+OpensEither (Err e) c = Unit {0}
 
 -- ---- the value lent to the owner of a cell of which no ticket is open
 

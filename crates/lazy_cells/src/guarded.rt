@@ -14,7 +14,6 @@ mod finalizing;
 mod keeping;
 mod tickets;
 
-pub(crate) use keeping::keep_primed_read;
 
 /// A value behind the lock of one party. What its kind adds stands above.
 ///

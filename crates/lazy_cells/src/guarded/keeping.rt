@@ -3,6 +3,7 @@
 
 ghost use Rattle.std.specs.Prelude.{◌≡◌, ◌<◌, true, IfOk};
 ghost use Rattle.lazy_cells.specs.Locked.{releases, publishes, downgrades};
+ghost use Rattle.lazy_cells.specs.Access.{OpensEither};
 ghost use Rattle.lazy_cells.specs.Guards.{kept, kept_phase, kept_primed, kept_primed_write, left_kept, left_published};
 
 use crate::guarded::Guarded;
@@ -11,22 +12,25 @@ use phase_bits::{AccessError, Phase};
 use phase_locker::{ReadTicket, WriteTicket};
 use phase_seq::InitError;
 
-/// Keeps a read ticket, in an `Err` where the value is not in reach.
-pub(crate) fn keep_primed_read(
-    entered: Result<(ReadTicket, Phase), InitError>,
-    hard: bool,
-) -> Result<Result<ReadTicket, ReadTicket>, InitError>
-    ensures { result ≡ kept_primed hard entered }
-{
-    let (ticket, phase) = entered?;
-    if within_reach(hard, phase) {
-        Ok(Ok(ticket))
-    } else {
-        Ok(Err(ticket))
-    }
-}
-
 impl<T, G, P> Guarded<T, G, P> {
+    /// Keeps a read ticket, in an `Err` where the value is not in reach.
+    pub(crate) fn keep_primed_read(
+        &self,
+        entered: Result<(ReadTicket, Phase), InitError>,
+        hard: bool,
+    ) -> Result<Result<ReadTicket, ReadTicket>, InitError>
+        requires { IfOk entered (λ _. 0 < self.now.readers) }
+        ensures answer { result ≡ kept_primed hard entered }
+        ensures opens { IfOk result (λ _. 0 < self.now.readers) }
+    {
+        let (ticket, phase) = entered?;
+        if within_reach(hard, phase) {
+            Ok(Ok(ticket))
+        } else {
+            Ok(Err(ticket))
+        }
+    }
+
     /// Keeps a read ticket where the value is in reach, else gives it back.
     pub(crate) fn keep_read(
         &mut self,
@@ -36,6 +40,7 @@ impl<T, G, P> Guarded<T, G, P> {
         requires { IfOk entered (λ _. 0 < self.old.readers) }
         ensures answer { result ≡ kept hard entered }
         ensures left { self.new ≡ left_kept releases hard entered self.old }
+        ensures opens { IfOk result (λ _. 0 < self.new.readers) }
         ensures generator { self.new.generator ≡ self.old.generator }
     {
         let (ticket, phase) = entered?;
@@ -55,6 +60,7 @@ impl<T, G, P> Guarded<T, G, P> {
         requires { IfOk entered (λ _. self.old.writing ≡ true) }
         ensures answer { result ≡ kept hard entered }
         ensures left { self.new ≡ left_kept publishes hard entered self.old }
+        ensures opens { IfOk result (λ _. self.new.writing ≡ true) }
         ensures generator { self.new.generator ≡ self.old.generator }
     {
         let (ticket, phase) = entered?;
@@ -94,6 +100,7 @@ impl<T, G, P> Guarded<T, G, P> {
         requires { IfOk entered (λ _. self.old.writing ≡ true) }
         ensures answer { result ≡ kept_primed_write hard entered }
         ensures left { self.new ≡ left_kept downgrades hard entered self.old }
+        ensures opens { OpensEither result self.new }
         ensures generator { self.new.generator ≡ self.old.generator }
     {
         let (ticket, phase) = entered?;

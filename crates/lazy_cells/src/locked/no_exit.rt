@@ -1,6 +1,7 @@
 //! Locked lazies that are not registered for the exit.
 
-ghost use Rattle.std.specs.Prelude.{◌≡◌, Some, false};
+ghost use Rattle.std.specs.Prelude.{◌≡◌, ◌<◌, Some, IfOk, true, false};
+ghost use Rattle.std.specs.Option.{IfSome};
 ghost use Rattle.phase_seq.specs.Phases.{unregistered};
 ghost use Rattle.phase_seq.specs.Direct.{tolerance};
 ghost use Rattle.lazy_cells.specs.Locked.{Calls, bars_read, bars_write};
@@ -23,6 +24,7 @@ impl<T: Drop, G: Generator<T>, C: Content> GenericLockedLazy<T, G, NoExit<C>> {
     pub fn read(&mut self) -> Result<ReadTicket, InitError>
         requires { G.may_call self.old.generator }
         ensures calls { Calls G.attempts (tolerance G.INIT_FAILURE G.FINAL_REGISTRATION_FAILURE) (Some unregistered) bars_read (say_read false) (left_read false) self.old result self.new }
+        ensures opens { IfOk result (λ _. 0 < self.new.readers) }
         ensures again { G.may_call self.new.generator }
     {
         let entered = self.cell.enter_read();
@@ -37,6 +39,7 @@ impl<T: Drop, G: Generator<T>, C: Content> GenericLockedLazy<T, G, NoExit<C>> {
     pub fn write(&mut self) -> Result<WriteTicket, InitError>
         requires { G.may_call self.old.generator }
         ensures calls { Calls G.attempts (tolerance G.INIT_FAILURE G.FINAL_REGISTRATION_FAILURE) (Some unregistered) bars_write (say_write false) (left_write false) self.old result self.new }
+        ensures opens { IfOk result (λ _. self.new.writing ≡ true) }
         ensures again { G.may_call self.new.generator }
     {
         let entered = self.cell.enter_write();
@@ -65,6 +68,7 @@ impl<T: Drop, G: Generator<T>, C: Content> GenericLockedLazy<T, G, NoExit<C>> {
     pub fn fast_read(&mut self) -> Option<Result<ReadTicket, InitError>>
         requires { G.may_call self.old.generator }
         ensures calls { Calls G.attempts (tolerance G.INIT_FAILURE G.FINAL_REGISTRATION_FAILURE) (Some unregistered) bars_read (say_fast_read false) (left_read false) self.old result self.new }
+        ensures opens { IfSome result (λ r. IfOk r (λ _. 0 < self.new.readers)) }
         ensures again { G.may_call self.new.generator }
     {
         unless_borrowed(self.read())
@@ -78,6 +82,7 @@ impl<T: Drop, G: Generator<T>, C: Content> GenericLockedLazy<T, G, NoExit<C>> {
     pub fn fast_write(&mut self) -> Option<Result<WriteTicket, InitError>>
         requires { G.may_call self.old.generator }
         ensures calls { Calls G.attempts (tolerance G.INIT_FAILURE G.FINAL_REGISTRATION_FAILURE) (Some unregistered) bars_write (say_fast_write false) (left_write false) self.old result self.new }
+        ensures opens { IfSome result (λ r. IfOk r (λ _. self.new.writing ≡ true)) }
         ensures again { G.may_call self.new.generator }
     {
         unless_borrowed(self.write())

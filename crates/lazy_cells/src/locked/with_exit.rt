@@ -1,6 +1,7 @@
 //! Locked lazies that are registered for the exit.
 
-ghost use Rattle.std.specs.Prelude.{◌≡◌, Some};
+ghost use Rattle.std.specs.Prelude.{◌≡◌, ◌<◌, Some, IfOk, true};
+ghost use Rattle.std.specs.Option.{IfSome};
 ghost use Rattle.phase_seq.specs.Registers.{after_asking};
 ghost use Rattle.phase_seq.specs.Direct.{tolerance, enlisted};
 ghost use Rattle.lazy_cells.specs.Locked.{Calls, MayEnlist, bars_read, bars_write, is_due};
@@ -25,6 +26,7 @@ impl<T: Drop, G: Generator<T>, C: Content> GenericLockedLazy<T, G, WithExit<C>> 
         requires callable { G.may_call self.old.generator }
         requires exit { MayEnlist self.old.marker.cell self.old registry.old }
         ensures calls { Calls G.attempts (tolerance G.INIT_FAILURE G.FINAL_REGISTRATION_FAILURE) (enlisted G.FINAL_REGISTRATION_FAILURE (Some registry.old) self.old.phase) bars_read (say_read C.is_taken) (left_read C.is_taken) self.old result self.new }
+        ensures opens { IfOk result (λ _. 0 < self.new.readers) }
         ensures registry { registry.new ≡ after_asking (is_due (tolerance G.INIT_FAILURE G.FINAL_REGISTRATION_FAILURE) self.old) self.old.marker.cell self.old.phase registry.old }
         ensures again { G.may_call self.new.generator }
     {
@@ -41,6 +43,7 @@ impl<T: Drop, G: Generator<T>, C: Content> GenericLockedLazy<T, G, WithExit<C>> 
         requires callable { G.may_call self.old.generator }
         requires exit { MayEnlist self.old.marker.cell self.old registry.old }
         ensures calls { Calls G.attempts (tolerance G.INIT_FAILURE G.FINAL_REGISTRATION_FAILURE) (enlisted G.FINAL_REGISTRATION_FAILURE (Some registry.old) self.old.phase) bars_write (say_write C.is_taken) (left_write C.is_taken) self.old result self.new }
+        ensures opens { IfOk result (λ _. self.new.writing ≡ true) }
         ensures registry { registry.new ≡ after_asking (is_due (tolerance G.INIT_FAILURE G.FINAL_REGISTRATION_FAILURE) self.old) self.old.marker.cell self.old.phase registry.old }
         ensures again { G.may_call self.new.generator }
     {
@@ -76,6 +79,7 @@ impl<T: Drop, G: Generator<T>, C: Content> GenericLockedLazy<T, G, WithExit<C>> 
         requires callable { G.may_call self.old.generator }
         requires exit { MayEnlist self.old.marker.cell self.old registry.old }
         ensures calls { Calls G.attempts (tolerance G.INIT_FAILURE G.FINAL_REGISTRATION_FAILURE) (enlisted G.FINAL_REGISTRATION_FAILURE (Some registry.old) self.old.phase) bars_read (say_fast_read C.is_taken) (left_read C.is_taken) self.old result self.new }
+        ensures opens { IfSome result (λ r. IfOk r (λ _. 0 < self.new.readers)) }
         ensures registry { registry.new ≡ after_asking (is_due (tolerance G.INIT_FAILURE G.FINAL_REGISTRATION_FAILURE) self.old) self.old.marker.cell self.old.phase registry.old }
         ensures again { G.may_call self.new.generator }
     {
@@ -94,6 +98,7 @@ impl<T: Drop, G: Generator<T>, C: Content> GenericLockedLazy<T, G, WithExit<C>> 
         requires callable { G.may_call self.old.generator }
         requires exit { MayEnlist self.old.marker.cell self.old registry.old }
         ensures calls { Calls G.attempts (tolerance G.INIT_FAILURE G.FINAL_REGISTRATION_FAILURE) (enlisted G.FINAL_REGISTRATION_FAILURE (Some registry.old) self.old.phase) bars_write (say_fast_write C.is_taken) (left_write C.is_taken) self.old result self.new }
+        ensures opens { IfSome result (λ r. IfOk r (λ _. self.new.writing ≡ true)) }
         ensures registry { registry.new ≡ after_asking (is_due (tolerance G.INIT_FAILURE G.FINAL_REGISTRATION_FAILURE) self.old) self.old.marker.cell self.old.phase registry.old }
         ensures again { G.may_call self.new.generator }
     {

@@ -1,12 +1,12 @@
 //! Primed lazies that are not registered for the exit.
 
-ghost use Rattle.std.specs.Prelude.{◌≡◌, Some, false};
+ghost use Rattle.std.specs.Prelude.{◌≡◌, ◌<◌, Some, IfOk, true, false};
+ghost use Rattle.std.specs.Option.{IfSome};
 ghost use Rattle.phase_seq.specs.Phases.{unregistered};
 ghost use Rattle.phase_seq.specs.Direct.{tolerance};
 ghost use Rattle.lazy_cells.specs.Locked.{Calls, bars_read, bars_write};
-ghost use Rattle.lazy_cells.specs.Access.{say_primed_read, say_primed_write, left_primed_read, left_primed_write};
+ghost use Rattle.lazy_cells.specs.Access.{OpensEither, say_primed_read, say_primed_write, left_primed_read, left_primed_write};
 
-use crate::guarded::keep_primed_read;
 use crate::locked::GenericLockedLazy;
 use crate::markers::{NoExit, Primed};
 use phase_locker::{ReadTicket, WriteTicket};
@@ -23,10 +23,11 @@ impl<T: Drop, G: Generator<T>, Q> GenericLockedLazy<T, G, NoExit<Primed<Q>>> {
     pub fn primed_read(&mut self) -> Result<Result<ReadTicket, ReadTicket>, InitError>
         requires { G.may_call self.old.generator }
         ensures calls { Calls G.attempts (tolerance G.INIT_FAILURE G.FINAL_REGISTRATION_FAILURE) (Some unregistered) bars_read (say_primed_read false) left_primed_read self.old result self.new }
+        ensures opens { IfOk result (λ _. 0 < self.new.readers) }
         ensures again { G.may_call self.new.generator }
     {
         let entered = self.cell.enter_read();
-        keep_primed_read(entered, false)
+        self.cell.keep_primed_read(entered, false)
     }
 
     /// The write ticket, after a run of the generator where one is due. Where the value is the primed one, or that which a
@@ -38,6 +39,7 @@ impl<T: Drop, G: Generator<T>, Q> GenericLockedLazy<T, G, NoExit<Primed<Q>>> {
     pub fn primed_write(&mut self) -> Result<Result<WriteTicket, ReadTicket>, InitError>
         requires { G.may_call self.old.generator }
         ensures calls { Calls G.attempts (tolerance G.INIT_FAILURE G.FINAL_REGISTRATION_FAILURE) (Some unregistered) bars_write (say_primed_write false) (left_primed_write false) self.old result self.new }
+        ensures opens { OpensEither result self.new }
         ensures again { G.may_call self.new.generator }
     {
         let entered = self.cell.enter_write();

@@ -1,12 +1,12 @@
 //! Primed lazies that are registered for the exit.
 
-ghost use Rattle.std.specs.Prelude.{◌≡◌, Some, true};
+ghost use Rattle.std.specs.Prelude.{◌≡◌, ◌<◌, Some, IfOk, true};
+ghost use Rattle.std.specs.Option.{IfSome};
 ghost use Rattle.phase_seq.specs.Registers.{after_asking};
 ghost use Rattle.phase_seq.specs.Direct.{tolerance, enlisted};
 ghost use Rattle.lazy_cells.specs.Locked.{Calls, MayEnlist, bars_read, bars_write, is_due};
-ghost use Rattle.lazy_cells.specs.Access.{say_primed_read, say_primed_write, left_primed_read, left_primed_write};
+ghost use Rattle.lazy_cells.specs.Access.{OpensEither, say_primed_read, say_primed_write, left_primed_read, left_primed_write};
 
-use crate::guarded::keep_primed_read;
 use crate::locked::GenericLockedLazy;
 use crate::markers::{Primed, WithExit};
 use exit_registry::ExitRegistry;
@@ -28,11 +28,12 @@ impl<T: Drop, G: Generator<T>, Q> GenericLockedLazy<T, G, WithExit<Primed<Q>>> {
         requires callable { G.may_call self.old.generator }
         requires exit { MayEnlist self.old.marker.cell self.old registry.old }
         ensures calls { Calls G.attempts (tolerance G.INIT_FAILURE G.FINAL_REGISTRATION_FAILURE) (enlisted G.FINAL_REGISTRATION_FAILURE (Some registry.old) self.old.phase) bars_read (say_primed_read true) left_primed_read self.old result self.new }
+        ensures opens { IfOk result (λ _. 0 < self.new.readers) }
         ensures registry { registry.new ≡ after_asking (is_due (tolerance G.INIT_FAILURE G.FINAL_REGISTRATION_FAILURE) self.old) self.old.marker.cell self.old.phase registry.old }
         ensures again { G.may_call self.new.generator }
     {
         let entered = self.cell.enter_read_registered(registry);
-        keep_primed_read(entered, true)
+        self.cell.keep_primed_read(entered, true)
     }
 
     /// The write ticket, after a run of the generator where one is due. Where the value is the primed one, or that which a
@@ -48,6 +49,7 @@ impl<T: Drop, G: Generator<T>, Q> GenericLockedLazy<T, G, WithExit<Primed<Q>>> {
         requires callable { G.may_call self.old.generator }
         requires exit { MayEnlist self.old.marker.cell self.old registry.old }
         ensures calls { Calls G.attempts (tolerance G.INIT_FAILURE G.FINAL_REGISTRATION_FAILURE) (enlisted G.FINAL_REGISTRATION_FAILURE (Some registry.old) self.old.phase) bars_write (say_primed_write true) (left_primed_write true) self.old result self.new }
+        ensures opens { OpensEither result self.new }
         ensures registry { registry.new ≡ after_asking (is_due (tolerance G.INIT_FAILURE G.FINAL_REGISTRATION_FAILURE) self.old) self.old.marker.cell self.old.phase registry.old }
         ensures again { G.may_call self.new.generator }
     {
