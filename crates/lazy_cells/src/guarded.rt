@@ -14,7 +14,6 @@ mod finalizing;
 mod keeping;
 mod tickets;
 
-
 /// A value behind the lock of one party. What its kind adds stands above.
 ///
 /// A contract sees the cell as one value.

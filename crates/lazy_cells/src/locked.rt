@@ -9,6 +9,8 @@ mod lending;
 mod making;
 mod no_exit;
 mod primed;
+#[cfg(test)]
+mod tests;
 mod tickets;
 mod trying;
 mod with_exit;

@@ -8,7 +8,7 @@ invariant_of-self g c =
     let came = c.enter_read_only-entered in
     let out = c.keep_primed_read in
     primed_read_rests g.P.Reach.hard g.P.Reach.primed old c.self.invariant g.met.P.IsPrimed.always out.result came.new.self
-      (primed_read_tries g.P.Reach.hard g.P.Reach.primed c.is_hard.result c.is_hard.ensures old came.result came.new.self out.result came.new.self out.ensures.answer refl came.ensures)
+    (primed_read_tries g.P.Reach.hard g.P.Reach.primed c.is_hard.result c.is_hard.ensures old came.result came.new.self out.result came.new.self out.ensures.answer refl came.ensures)
 
 pub returns-clause-tries : goal.returns-clause-tries
 returns-clause-tries g c =

@@ -8,7 +8,7 @@ invariant_of-self g c =
     let came = c.enter_write_only-entered in
     let out = c.keep_primed_write in
     primed_write_rests g.P.Reach.hard g.P.Reach.primed old c.self.invariant g.met.P.IsPrimed.always out.result out.new.self
-      (primed_write_tries g.P.Reach.hard g.P.Reach.primed c.is_hard.result c.is_hard.ensures old came.result came.new.self out.result out.new.self out.ensures.answer out.ensures.left came.ensures)
+    (primed_write_tries g.P.Reach.hard g.P.Reach.primed c.is_hard.result c.is_hard.ensures old came.result came.new.self out.result out.new.self out.ensures.answer out.ensures.left came.ensures)
 
 pub returns-clause-tries : goal.returns-clause-tries
 returns-clause-tries g c =

@@ -13,7 +13,7 @@ invariant_of-self g c =
     let came = c.enter_write-entered in
     let out = c.keep_none in
     init_sound false g.C.Content.is_primed old c.self.invariant g.G.Generator.attempts t (Some unregistered) unregistered_fresh out.result out.new.self
-      (init_calls false g.C.Content.is_primed false refl old g.G.Generator.attempts t (Some unregistered) came.result came.new.self out.result out.new.self out.ensures.answer out.ensures.left came.ensures.calls)
+    (init_calls false g.C.Content.is_primed false refl old g.G.Generator.attempts t (Some unregistered) came.result came.new.self out.result out.new.self out.ensures.answer out.ensures.left came.ensures.calls)
 
 pub returns-clause-calls : goal.returns-clause-calls
 returns-clause-calls g c =

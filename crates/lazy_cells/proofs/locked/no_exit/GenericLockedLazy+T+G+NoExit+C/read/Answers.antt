@@ -13,7 +13,7 @@ invariant_of-self g c =
     let came = c.enter_read-entered in
     let out = c.keep_read in
     read_sound false g.C.Content.is_primed old c.self.invariant g.G.Generator.attempts t (Some unregistered) unregistered_fresh out.result out.new.self
-      (read_calls false g.C.Content.is_primed false refl old g.G.Generator.attempts t (Some unregistered) came.result came.new.self out.result out.new.self out.ensures.answer out.ensures.left came.ensures.calls)
+    (read_calls false g.C.Content.is_primed false refl old g.G.Generator.attempts t (Some unregistered) came.result came.new.self out.result out.new.self out.ensures.answer out.ensures.left came.ensures.calls)
 
 pub returns-clause-calls : goal.returns-clause-calls
 returns-clause-calls g c =

@@ -13,7 +13,7 @@ invariant_of-self g c =
     let came = c.enter_read_registered-entered in
     let out = c.keep_read in
     read_sound g.C.Content.is_taken g.C.Content.is_primed old c.self.invariant g.G.Generator.attempts t (enlisted leak (Some m) old.phase) (enlisted_fresh leak m old.phase) out.result out.new.self
-      (read_calls g.C.Content.is_taken g.C.Content.is_primed c.is_taken.result c.is_taken.ensures old g.G.Generator.attempts t (enlisted leak (Some m) old.phase) came.result came.new.self out.result out.new.self out.ensures.answer out.ensures.left came.ensures.calls)
+    (read_calls g.C.Content.is_taken g.C.Content.is_primed c.is_taken.result c.is_taken.ensures old g.G.Generator.attempts t (enlisted leak (Some m) old.phase) came.result came.new.self out.result out.new.self out.ensures.answer out.ensures.left came.ensures.calls)
 
 pub returns-clause-calls : goal.returns-clause-calls
 returns-clause-calls g c =

@@ -13,7 +13,7 @@ invariant_of-self g c =
     let came = c.enter_read-entered in
     let out = c.keep_primed_read in
     primed_read_sound false true old c.self.invariant g.G.Generator.attempts t (Some unregistered) unregistered_fresh refl out.result came.new.self
-      (primed_read_calls false true false refl old g.G.Generator.attempts t (Some unregistered) came.result came.new.self out.result came.new.self out.ensures.answer refl came.ensures.calls)
+    (primed_read_calls false true false refl old g.G.Generator.attempts t (Some unregistered) came.result came.new.self out.result came.new.self out.ensures.answer refl came.ensures.calls)
 
 pub returns-clause-calls : goal.returns-clause-calls
 returns-clause-calls g c =

@@ -13,7 +13,7 @@ invariant_of-self g c =
     let came = c.enter_write-entered in
     let out = c.keep_primed_write in
     primed_write_sound false true old c.self.invariant g.G.Generator.attempts t (Some unregistered) unregistered_fresh refl out.result out.new.self
-      (primed_write_calls false true false refl old g.G.Generator.attempts t (Some unregistered) came.result came.new.self out.result out.new.self out.ensures.answer out.ensures.left came.ensures.calls)
+    (primed_write_calls false true false refl old g.G.Generator.attempts t (Some unregistered) came.result came.new.self out.result out.new.self out.ensures.answer out.ensures.left came.ensures.calls)
 
 pub returns-clause-calls : goal.returns-clause-calls
 returns-clause-calls g c =

@@ -13,7 +13,7 @@ invariant_of-self g c =
     let came = c.enter_write_registered-entered in
     let out = c.keep_primed_write in
     primed_write_sound true true old c.self.invariant g.G.Generator.attempts t (enlisted leak (Some m) old.phase) (enlisted_fresh leak m old.phase) refl out.result out.new.self
-      (primed_write_calls true true true refl old g.G.Generator.attempts t (enlisted leak (Some m) old.phase) came.result came.new.self out.result out.new.self out.ensures.answer out.ensures.left came.ensures.calls)
+    (primed_write_calls true true true refl old g.G.Generator.attempts t (enlisted leak (Some m) old.phase) came.result came.new.self out.result out.new.self out.ensures.answer out.ensures.left came.ensures.calls)
 
 pub returns-clause-calls : goal.returns-clause-calls
 returns-clause-calls g c =
