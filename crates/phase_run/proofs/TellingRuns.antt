@@ -96,6 +96,7 @@ told_part given faults text t h = by t.told
   where
     front : h.written ≡ take (length h.written) text
     front = sym (take-append_seam h.written h.rest) ∙ ap (take (length h.written)) h.parts
+
     by : (r : Result (Unit {0}) Failed) → OnErr r ((k : ℕ) × Appends given t.given (take k text))
     by (Ok x) = tt
     by (Err x) = (length h.written, subst (λ bytes. Appends given t.given bytes) front h.appended)

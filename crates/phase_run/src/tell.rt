@@ -83,11 +83,7 @@ fn tell_exits<K: Sink>(
 }
 
 /// The page is written, and is clear then.
-fn hand_on<K: Sink>(
-    out: &mut K,
-    page: &mut Page,
-    told: Result<(), Failed>,
-) -> Result<(), Failed>
+fn hand_on<K: Sink>(out: &mut K, page: &mut Page, told: Result<(), Failed>) -> Result<(), Failed>
     ensures tells { Tells [] (teller (K.given out.old) (K.faults out.old) page.old told) (teller (K.given out.new) (K.faults out.new) page.new result) }
     ensures clear { page.new ≡ [] }
 {
@@ -105,11 +101,7 @@ fn hand_on<K: Sink>(
 }
 
 /// Makes room for a line: a page that is full is written.
-fn turn<K: Sink>(
-    out: &mut K,
-    page: &mut Page,
-    told: Result<(), Failed>,
-) -> Result<(), Failed>
+fn turn<K: Sink>(out: &mut K, page: &mut Page, told: Result<(), Failed>) -> Result<(), Failed>
     ensures tells { Tells [] (teller (K.given out.old) (K.faults out.old) page.old told) (teller (K.given out.new) (K.faults out.new) page.new result) }
     ensures room { has_line_room page.new ≡ true }
 {
@@ -166,11 +158,7 @@ fn tell_exit<K: Sink>(
 }
 
 /// Tells the last line, and writes what is left on the page.
-fn tell_end<K: Sink>(
-    out: &mut K,
-    page: &mut Page,
-    told: Result<(), Failed>,
-) -> Result<(), Failed>
+fn tell_end<K: Sink>(out: &mut K, page: &mut Page, told: Result<(), Failed>) -> Result<(), Failed>
     ensures tells { Tells (line_text end_words) (teller (K.given out.old) (K.faults out.old) page.old told) (teller (K.given out.new) (K.faults out.new) page.new result) }
     ensures clear { page.new ≡ [] }
 {

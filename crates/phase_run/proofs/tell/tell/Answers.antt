@@ -3,7 +3,6 @@ use Rattle.phase_schedule.specs.Running.{account_with}
 use Rattle.phase_run.proofs.TellingRuns.{told_all, end_of}
 use Rattle.phase_run.proofs.tell.tell.Goals as goal
 
-
 pub tell_exits-told-requires : goal.tell_exits-told-requires
 tell_exits-told-requires g c =
     rw c.deref-2.ensures.value (none_busy c.requires.new.schedule _ (end_of _ _ _ _ _ (c.tell_steps-told.ensures c.requires.new.schedule c.requires.new.made) c.finish-finals.ensures))
