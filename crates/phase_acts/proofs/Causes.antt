@@ -51,7 +51,7 @@ call_no_turn k e = cc
 turn_no_call : (k : Call) → Turns ≡ Calls k → ⊥
 turn_no_call k e = cc
 
-below : (n m : ℕ) → IsTrue (nat_lt n m) → n < m
+pub below : (n m : ℕ) → IsTrue (nat_lt n m) → n < m
 below n m e = grind (arith, e)
 
 module _ {L : Type 0} (held : L → Holders) (place : L → LockerKind) (cells : List CellPlan) (h : List Event) (old : Rows L) (p : ℕ) where

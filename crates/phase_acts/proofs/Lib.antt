@@ -11,6 +11,7 @@ pub mod Lines
 -- The acts on guards
 pub mod Holding
 pub mod Ending
+pub mod Exiting
 pub mod Releasing
 pub mod Looking
 pub mod Downgrading
@@ -22,3 +23,5 @@ pub mod Tried
 pub mod TriedLegal
 pub mod Attempting
 pub mod Causes
+pub mod Telling
+pub mod Performing

@@ -4,9 +4,11 @@
 #![tactic(auto)]
 
 mod attempts;
+mod exit;
 mod guards;
 mod line;
 mod machine;
+mod perform;
 mod sections;
 mod settle;
 mod values;
