@@ -34,7 +34,7 @@ use Rattle.phase_acts.specs.Tries.{IsTried, IsTrying}
 use Rattle.phase_acts.proofs.Attempting.{tried_steps}
 use Rattle.phase_acts.proofs.Keeping.{guards_with}
 use Rattle.phase_acts.proofs.Lines.{refusal_awake}
-use Rattle.phase_acts.proofs.Trying.{Attempts, standing_at}
+use Rattle.phase_acts.proofs.Trying.{IsAttempt, standing_at}
 
 -- the exit stays whose it is where no Exit is made
 owner_called : (c p : ℕ) (k : Call) (o : Option ℕ) → first_owner (act.Call c k) p o ≡ o
@@ -62,7 +62,7 @@ module _ {L : Type 0} (held : L → Holders) (place : L → LockerKind) (cells :
   -- ---- a call
 
   module _ (c : ℕ) (k : Call) (is : IsAwake held place cells h old p (act.Call c k)) where
-    call_attempts : Attempts cells h p (act.Call c k) c (Calls k) (registry cells h) (owner h)
+    call_attempts : IsAttempt cells h p (act.Call c k) c (Calls k) (registry cells h) (owner h)
     call_attempts = record { attempted = refl; concerned = refl; does = refl; tries = λ vs chosen. refl; calm = λ ss. refl; quiet = refl; taken = refl; owned = owner_called c p k (owner h) }
 
     pub call_trying : k ≢ call.Phase → IsTrying held place (standing cells h) old p (record { cell = c; want = Calls k }) false
@@ -102,7 +102,7 @@ module _ {L : Type 0} (held : L → Holders) (place : L → LockerKind) (cells :
     attempted : attempt cells h (step_of p act.Again) ≡ Some (record { cell = t.cell; want = t.want })
     attempted = ap attempt_of_wait waiting.found ∙ ap (λ (x : Target). Some (record { cell = x.cell; want = x.want })) (sym waiting.is)
 
-    again_attempts : Attempts cells h p act.Again t.cell t.want (registry cells h) (owner h)
+    again_attempts : IsAttempt cells h p act.Again t.cell t.want (registry cells h) (owner h)
     again_attempts =
         record {
           attempted = attempted;
@@ -149,7 +149,7 @@ module _ {L : Type 0} (held : L → Holders) (place : L → LockerKind) (cells :
     abbrev taken_so : Standing
     taken_so = standing_at cells h (after_turn (registry cells h)) (Some p)
 
-    turn_attempts : Attempts cells h p act.Exit c Turns (after_turn (registry cells h)) (Some p)
+    turn_attempts : IsAttempt cells h p act.Exit c Turns (after_turn (registry cells h)) (Some p)
     turn_attempts = record { attempted = ap attempt_of_turn first; concerned = first; does = refl; tries = λ vs chosen. refl; calm = λ ss. refl; quiet = refl; taken = refl; owned = mine }
 
     module _ (mid : Rows L) (between : KeptGuards old mid) (stands : Stands held place (length old.guards.items) (standing_at cells h (after_turn (registry cells h)) (Some p)) mid) (inside : c < length old.cells.items) where

@@ -25,13 +25,14 @@ use Rattle.phase_moves.specs.declared.rows.Taken.TheVariants as taken
 use Rattle.phase_moves.specs.declared.rows.Target.{Target}
 use Rattle.phase_moves.specs.Exits.{Skips}
 use Rattle.phase_moves.specs.Gifts.{MayGive, GivesRead, GivesWrite}
+use Rattle.phase_moves.specs.Meets.{answer_nothing}
 use Rattle.phase_moves.specs.Moves.{IsReader, IsWriter, LeavesRead, LeavesWrite, MayLeaveRead, MayLeaveWrite, Pushes, Rests}
 use Rattle.phase_moves.specs.Standing.{Standing, took, left, seen_by, changes_asked, changes_at, writer_asked}
 use Rattle.phase_moves.specs.Stands.{Stands}
 use Rattle.phase_moves.proofs.Hand.{pushed_free, left_empty}
 use Rattle.phase_moves.proofs.Places.{read_at}
 use Rattle.phase_acts.specs.Steps.{given_first}
-use Rattle.phase_acts.specs.Settles.{IsSettling, IsSettled, is_made, answer_settled, answer_unlocked, settled, GivesSettled}
+use Rattle.phase_acts.specs.Settles.{IsSettling, IsSettled, is_made, answer_settled, settled, GivesSettled}
 use Rattle.phase_acts.proofs.Pushing.{pushed_reader, pushed_writer}
 
 -- what a call was asked leaves the value
@@ -78,11 +79,11 @@ module _ {L : Type 0} (held : L → Holders) (place : L → LockerKind) (m : Sta
   -- ---- nothing was wanted
 
   module _ (q : Phase) (is : IsSettling held place m old p t (taken.Nothing q) g) where
-    settled_nothing : (w : Want) → t.want ≡ w → Rests held place (settled n p t.cell w g given.Nobody (taken.Nothing q) m) new → line ≡ record { answer = answer_unlocked t.cell w q; given = g } → IsSettled held place n m p t (taken.Nothing q) g line new
+    settled_nothing : (w : Want) → t.want ≡ w → Rests held place (settled n p t.cell w g given.Nobody (taken.Nothing q) m) new → line ≡ record { answer = answer_nothing t.cell w q; given = g } → IsSettled held place n m p t (taken.Nothing q) g line new
     settled_nothing w e rests line_is =
         record {
           last = given.Nobody;
-          line = line_is ∙ ap (λ v. record { answer = answer_unlocked t.cell v q; given = g }) (sym e) ∙ ap (λ d. record { answer = answer_unlocked t.cell t.want q; given = d }) (sym (first_alone g));
+          line = line_is ∙ ap (λ v. record { answer = answer_nothing t.cell v q; given = g }) (sym e) ∙ ap (λ d. record { answer = answer_nothing t.cell t.want q; given = d }) (sym (first_alone g));
           rests = subst (λ v. Rests held place (settled n p t.cell v g given.Nobody (taken.Nothing q) m) new) (sym e) rests;
           gave = refl;
         }

@@ -32,13 +32,13 @@ use Rattle.phase_moves.specs.declared.rows.Taken.{Taken}
 use Rattle.phase_moves.specs.declared.rows.Taken.TheVariants as taken
 use Rattle.phase_moves.specs.Gifts.{MayGive}
 use Rattle.phase_moves.specs.Histories.{standing, event}
-use Rattle.phase_moves.specs.Meets.{IsOf}
+use Rattle.phase_moves.specs.Meets.{IsOf, answer_nothing, answer_running}
 use Rattle.phase_moves.specs.Standing.{Standing, took, left, changes_at, writer_asked}
 use Rattle.phase_moves.specs.Tries.{TellsPhase, phase_asked}
-use Rattle.phase_acts.specs.Settles.{is_made, answer_settled, answer_opened, answer_unlocked, unlocked, settled, GivesSettled}
+use Rattle.phase_acts.specs.Settles.{is_made, answer_settled, unlocked, settled, GivesSettled}
 use Rattle.phase_acts.specs.Steps.{given_first}
 use Rattle.phase_acts.proofs.Settling.{first_alone}
-use Rattle.phase_acts.proofs.Trying.{Attempts, standing_at, try_waits, try_cyclic, try_skips, try_finalizes, try_runs, try_reads, try_writes, try_denied_read, try_denied_write}
+use Rattle.phase_acts.proofs.Trying.{IsAttempt, standing_at, try_waits, try_cyclic, try_skips, try_finalizes, try_runs, try_reads, try_writes, try_denied_read, try_denied_write}
 
 -- ---- one gift of two
 
@@ -107,7 +107,7 @@ module _ (c : ℕ) (w : Want) (m : Standing) (j : Call) (calls : w ≡ Calls j) 
 
 -- ---- what stands open
 
-module _ (cells : List CellPlan) (h : List Event) (p : ℕ) (a : Act) (c : ℕ) (w : Want) (r : Registry) (o : Option ℕ) (k : Attempts cells h p a c w r o) (accepted : accepts h ≡ r.is_open) (same : (j : Call) → w ≡ Calls j → r ≡ registry cells h) where
+module _ (cells : List CellPlan) (h : List Event) (p : ℕ) (a : Act) (c : ℕ) (w : Want) (r : Registry) (o : Option ℕ) (k : IsAttempt cells h p a c w r o) (accepted : accepts h ≡ r.is_open) (same : (j : Call) → w ≡ Calls j → r ≡ registry cells h) where
   abbrev m : Standing
   m = standing_at cells h r o
 
@@ -128,11 +128,11 @@ module _ (cells : List CellPlan) (h : List Event) (p : ℕ) (a : Act) (c : ℕ) 
 
     after_nothing : (q : Phase) → w ≡ Turns → d ≡ given.Nobody → after (taken.Nothing q) g d ≡ settled n p c w g d (taken.Nothing q) m
     after_nothing q turns e =
-        quiet (answer_settled c w (taken.Nothing q)) e ∙ ap (λ v. standing cells (event p a (record { answer = answer_unlocked c v q; given = g }) ∷ h)) turns ∙ try_skips cells h p a c w r o k turns q g ∙ ap (λ v. unlocked c v (took n p c w g (taken.Nothing q) m)) (sym turns)
+        quiet (answer_settled c w (taken.Nothing q)) e ∙ ap (λ v. standing cells (event p a (record { answer = answer_nothing c v q; given = g }) ∷ h)) turns ∙ try_skips cells h p a c w r o k turns q g ∙ ap (λ v. unlocked c v (took n p c w g (taken.Nothing q) m)) (sym turns)
 
     after_runs : (v : Want) → w ≡ v → d ≡ given.Nobody → after taken.Runs g d ≡ settled n p c w g d taken.Runs m
-    after_runs (Calls j) e none = quiet (answer_settled c w taken.Runs) none ∙ ap (λ v. standing cells (event p a (record { answer = answer_opened c v; given = g }) ∷ h)) e ∙ try_runs cells h p a c w r o k j e (same j e) accepted g
-    after_runs Turns e none = quiet (answer_settled c w taken.Runs) none ∙ ap (λ v. standing cells (event p a (record { answer = answer_opened c v; given = g }) ∷ h)) e ∙ try_finalizes cells h p a c w r o k accepted e g
+    after_runs (Calls j) e none = quiet (answer_settled c w taken.Runs) none ∙ ap (λ v. standing cells (event p a (record { answer = answer_running c v; given = g }) ∷ h)) e ∙ try_runs cells h p a c w r o k j e (same j e) accepted g
+    after_runs Turns e none = quiet (answer_settled c w taken.Runs) none ∙ ap (λ v. standing cells (event p a (record { answer = answer_running c v; given = g }) ∷ h)) e ∙ try_finalizes cells h p a c w r o k accepted e g
 
     after_read : (t : ReadTicket) (q : Phase) → w ≡ Calls call.Read → q ≡ phase_asked c w m → GivesSettled n p c w g d (taken.Read t q) m → after (taken.Read t q) g d ≡ settled n p c w g d (taken.Read t q) m
     after_read t q reads told gives = by (is_made q) refl gives

@@ -40,7 +40,7 @@ use Rattle.phase_acts.specs.Steps.{step_of, given_first}
 use Rattle.phase_acts.proofs.Lines.{gave_freed, gave_readers}
 use Rattle.phase_acts.proofs.Settling.{first_alone}
 use Rattle.phase_acts.proofs.Tried.{denied, last_none}
-use Rattle.phase_acts.proofs.Trying.{Attempts, standing_at, try_denied_read, try_denied_write}
+use Rattle.phase_acts.proofs.Trying.{IsAttempt, standing_at, try_denied_read, try_denied_write}
 
 and_if : (x y : Bool) → (if x then y else false) ≡ true → (x && y) ≡ true
 and_if true y e = e
@@ -56,7 +56,7 @@ settled_taken cells c w g (taken.Write t q) of = ap (λ v. answer_taken (cell_at
 settled_taken cells c (Calls k) g taken.Runs of = refl
 settled_taken cells c Turns g taken.Runs of = refl
 
-module _ (cells : List CellPlan) (h : List Event) (p : ℕ) (a : Act) (c : ℕ) (w : Want) (r : Registry) (o : Option ℕ) (k : Attempts cells h p a c w r o) (accepted : accepts h ≡ r.is_open) (same : (j : Call) → w ≡ Calls j → r ≡ registry cells h) (free : refusal cells h (step_of p a) ≡ None) where
+module _ (cells : List CellPlan) (h : List Event) (p : ℕ) (a : Act) (c : ℕ) (w : Want) (r : Registry) (o : Option ℕ) (k : IsAttempt cells h p a c w r o) (accepted : accepts h ≡ r.is_open) (same : (j : Call) → w ≡ Calls j → r ≡ registry cells h) (free : refusal cells h (step_of p a) ≡ None) where
   abbrev m : Standing
   m = standing_at cells h r o
 

@@ -40,7 +40,7 @@ abbrev pub standing_at : List CellPlan → List Event → Registry → Option �
 standing_at cells h r o = record (standing cells h) { registry = r; owner = o }
 
 -- the act attempts this at the cell: a call, a turn, or one more attempt
-pub record Attempts (cells : List CellPlan) (h : List Event) (p : ℕ) (a : Act) (c : ℕ) (w : Want) (r : Registry) (o : Option ℕ) : Type 0 where
+pub record IsAttempt (cells : List CellPlan) (h : List Event) (p : ℕ) (a : Act) (c : ℕ) (w : Want) (r : Registry) (o : Option ℕ) : Type 0 where
   pub attempted : attempt cells h (step_of p a) ≡ Some (record { cell = c; want = w })
   pub concerned : cell_concerned cells h (step_of p a) ≡ Some c
   pub does : act_of h (step_of p a) ≡ act_for c w
@@ -58,7 +58,7 @@ same_content cells c d y = by (c == d)
     by true = refl
     by false = refl
 
-module _ (cells : List CellPlan) (h : List Event) (p : ℕ) (a : Act) (c : ℕ) (w : Want) (r : Registry) (o : Option ℕ) (k : Attempts cells h p a c w r o) where
+module _ (cells : List CellPlan) (h : List Event) (p : ℕ) (a : Act) (c : ℕ) (w : Want) (r : Registry) (o : Option ℕ) (k : IsAttempt cells h p a c w r o) where
   abbrev ws : List Wait
   ws = waits cells h
 

@@ -20,6 +20,7 @@ use Rattle.phase_moves.specs.declared.rows.Taken.{Taken}
 use Rattle.phase_moves.specs.declared.rows.Taken.TheVariants as taken
 use Rattle.phase_moves.specs.declared.rows.Target.{Target}
 use Rattle.phase_moves.specs.Gifts.{MayGive}
+use Rattle.phase_moves.specs.Meets.{answer_nothing, answer_running}
 use Rattle.phase_moves.specs.Moves.{Rests}
 use Rattle.phase_moves.specs.Standing.{Standing, took, left, turn_ended, changes_at, writer_asked}
 use Rattle.phase_moves.specs.Stands.{Stands}
@@ -30,24 +31,14 @@ use Rattle.phase_acts.specs.Steps.{given_first}
 abbrev pub is_made : Phase → Bool
 is_made q = has (number q) initialized
 
--- the answer of what opens a section that runs
-abbrev pub answer_opened : ℕ → Want → Answer
-answer_opened c (Calls k) = answer.Running
-answer_opened c Turns = answer.Finalizing c
-
--- the answer of what wants no lock
-abbrev pub answer_unlocked : ℕ → Want → Phase → Answer
-answer_unlocked c (Calls k) q = answer.Phase q
-answer_unlocked c Turns q = answer.Skipped c
-
 -- the answer of what was taken
 abbrev pub answer_settled : ℕ → Want → Taken → Answer
 answer_settled c w (taken.Wait how) = answer.Waiting how
 answer_settled c w taken.Cyclic = answer.Cyclic
-answer_settled c w (taken.Nothing q) = answer_unlocked c w q
+answer_settled c w (taken.Nothing q) = answer_nothing c w q
 answer_settled c w (taken.Read t q) = if is_made q then answer.ReadGuard else answer.Access q
 answer_settled c w (taken.Write t q) = if is_made q then answer.WriteGuard else answer.Access q
-answer_settled c w taken.Runs = answer_opened c w
+answer_settled c w taken.Runs = answer_running c w
 
 -- a turn that wants no lock has ended
 abbrev pub unlocked : ℕ → Want → Standing → Standing

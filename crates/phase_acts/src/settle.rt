@@ -3,7 +3,8 @@
 ghost use Rattle.std.specs.Prelude.{◌≡◌};
 ghost use Rattle.phase_moves.specs.Moves.{KeptWith};
 ghost use Rattle.phase_moves.specs.declared.rows.Taken.TheVariants as taken;
-ghost use Rattle.phase_acts.specs.Settles.{MaySettle, Settles, answer_opened};
+ghost use Rattle.phase_acts.specs.Settles.{MaySettle, Settles};
+ghost use Rattle.phase_moves.specs.Meets.{answer_running};
 
 use crate::line::given_first;
 use crate::machine::Machine;
@@ -14,7 +15,7 @@ use schedule_rules::{Answer, Line, Want};
 
 /// The answer of an attempt that opens a section which runs.
 fn opened(target: Target) -> Answer
-    ensures { result ≡ answer_opened target.cell target.want }
+    ensures { result ≡ answer_running target.cell target.want }
 {
     match target.want {
         Want::Calls(_) => Answer::Running,
