@@ -47,7 +47,8 @@ use Rattle.phase_moves.specs.Tries.{IsAttempting, IsTook, WaitsAt, ask_of, opens
 use Rattle.phase_moves.specs.declared.rows.Taken.{Taken}
 use Rattle.phase_moves.specs.Meets.{IsMet}
 use Rattle.phase_moves.proofs.Asked.{stays_same, run_calls, final_turns, registry_run, cells_stay}
-use Rattle.phase_moves.proofs.Attempts.{IsBegun, IsTurned, Tells, declines, phase_left, rows_begun, stays_asked, writes_begun, wrote, answered as begun_as}
+use Rattle.phase_moves.proofs.Attempts.{IsBegun, IsTurned, Tells, declines, phase_left, rows_begun, stays_asked, writes_begun, wrote}
+use Rattle.phase_moves.proofs.Answered.{answered as begun_as}
 use Rattle.phase_moves.proofs.Calling.{answered_moved}
 use Rattle.phase_moves.proofs.Ending.{never_init}
 use Rattle.phase_moves.proofs.Few.{fewer_readers}
@@ -139,6 +140,7 @@ module _ {L : Type 0} (held : L → Holders) (place : L → LockerKind) where
 
     took_run : (d : IsBegun who ask reg (held row.seq.locker) v.parks b g (held row'.seq.locker) v'.parks) (few : (held row'.seq.locker).readers ≤ most_readers) (tell : (z : Taken) → taken_of b ≡ z → IsMet p t z g m) → (s : SeqSection) → reads_begun b ≡ 0 → writes_begun b ≡ 1 → (held row'.seq.locker).phase ≡ (held row.seq.locker).phase → v'.parks ≡ rows_handed t.cell g (freed p v.parks) → IsExit (length v.cells.items) (record m { registry = registry_asked t.cell t.want m }) v'.exit → row'.seq.running ≡ runner_of (Some (record { section = section_asked n p t.cell t.want m; outer = cell_of_section (innermost p m.sections) })) → s ≡ section_by who (ask_of x t.want).want (stays_in x t.want m.registry.is_open y.phase) write_ticket → false ≡ is_cyclic (want_of t.want) p (runner_of (run_in t.cell m.sections)) → IsMet p t taken.Runs g m → of' ≡ record { waiting = None; innermost = Some t.cell } → row'.run ≡ Some (record { run = record { party = p; want = t.want; outer = of.innermost }; section = s }) → IsTook held place m v p t taken.Runs g v'
     took_run d few tell = took_run_of held place m v v' p t waits is row row' row_is of of' of_is cells guards parties plan value owner turns b g registry running stands op k cyc d few tell
+
     -- ---- it was turned back: nothing changed
     took_cyclic : IsTurned (held row.seq.locker) v.parks b g (held row'.seq.locker) v'.parks → of' ≡ of → row'.run ≡ row.run → IsTook held place m v p t taken.Cyclic g v'
     took_cyclic d o run =

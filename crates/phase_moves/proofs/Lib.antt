@@ -21,6 +21,7 @@ pub mod Ending
 pub mod Finalizing
 -- An attempt
 pub mod Attempts
+pub mod Answered
 pub mod Parking
 pub mod Asked
 pub mod OpeningRuns
@@ -42,4 +43,5 @@ pub mod Judged
 pub mod Settling
 pub mod Barring
 pub mod Admitting
+pub mod GivenUp
 pub mod Meeting

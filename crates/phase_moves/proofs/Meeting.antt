@@ -4,37 +4,29 @@ use Rattle.std.proofs.lemmas.Bool.{cases_lt}
 use Rattle.std.specs.Prelude.{◌⊎◌, MatchBool, if◌then◌else◌, nat_lt}
 use Rattle.std.specs.List.{find}
 use Rattle.std.specs.declared.option.Option.{Option}
-use Rattle.phase_bits.specs.declared.phase.Phase.{Phase}
 use Rattle.phase_bits.specs.declared.holders.Holders.{Holders}
 use Rattle.exit_registry.specs.Registry.{Registry}
 use Rattle.phase_locker.specs.declared.ways.Given.{Given}
 use Rattle.phase_locker.specs.declared.ways.Given.TheVariants as given
-use Rattle.phase_locker.specs.declared.ways.How.{How}
-use Rattle.phase_locker.specs.declared.ways.How.TheVariants as how
 use Rattle.phase_locker.specs.declared.ways.Row.{Row}
 use Rattle.phase_locker.specs.declared.ways.Who.{Who}
-use Rattle.phase_locker.specs.declared.ways.Waiting.{Waiting}
-use Rattle.phase_locker.specs.declared.ways.Waiting.TheVariants as waiting
 use Rattle.phase_locker.specs.declared.ways.LockerKind.{LockerKind}
 use Rattle.phase_locker.specs.declared.tickets.LockNature.{LockNature}
-use Rattle.phase_locker.specs.declared.tickets.LockNature.TheVariants as nature
-use Rattle.phase_locker.specs.Natures.{bars, got, write_ticket}
-use Rattle.phase_locker.specs.Rows.{Rows as Parking, row_of, freed, left, writers_of}
+use Rattle.phase_locker.specs.Natures.{bars, got}
+use Rattle.phase_locker.specs.Rows.{Rows as Parking, row_of, freed, left}
 use Rattle.phase_locker.specs.Fits.{IsIdle, NobodyParked, is_park, open_reads}
 use Rattle.phase_locker.specs.Gifts.{MayHand, rows_handed}
 use Rattle.phase_locker.specs.Attempts.{MayWait, given_up, keeps as row_keeps}
-use Rattle.phase_locker.proofs.Holding.{Holds, listed_in}
-use Rattle.phase_locker.proofs.Keeping.{gives_up_freed, still_empty}
+use Rattle.phase_locker.proofs.Holding.{Holds}
+use Rattle.phase_locker.proofs.Keeping.{gives_up_freed}
 use Rattle.phase_locker.proofs.Standing.{given_up_reads, left_writes}
 use Rattle.phase_seq.specs.declared.ask.Ask.{Ask}
 use Rattle.phase_seq.specs.declared.ask.Want.TheVariants as want
-use Rattle.phase_seq.specs.declared.section.Section.{Section as SeqSection}
 use Rattle.phase_seq.specs.declared.section.Begun.{Begun}
 use Rattle.phase_seq.specs.declared.section.Begun.TheVariants as begun
-use Rattle.phase_seq.specs.Asks.{asks_run, finalizes, nature_of, wake_of}
-use Rattle.phase_seq.specs.Begins.{begun_of, begun_write, is_cyclic, section_by}
+use Rattle.phase_seq.specs.Asks.{asks_run, nature_of, wake_of}
+use Rattle.phase_seq.specs.Begins.{begun_of, is_cyclic, section_by}
 use Rattle.phase_seq.specs.Exactly.{is_run}
-use Rattle.phase_seq.specs.Phases.{unregistered}
 use Rattle.phase_seq.specs.Registers.{is_refused}
 use Rattle.schedule_rules.specs.declared.line.Answer.TheVariants as answer
 use Rattle.schedule_rules.specs.declared.plan.Call.TheVariants as call
@@ -71,59 +63,7 @@ use Rattle.phase_moves.proofs.Judged.{IsJudged, IsKept, IsWaiting}
 use Rattle.phase_moves.proofs.Parking.{shown_called}
 use Rattle.phase_moves.proofs.Settling.{IsDeclined, IsSettled, begun_declined, begun_settled}
 use Rattle.phase_moves.proofs.Admitting.{admitted_due, admitted_of, judged_no, own_same, runs_same, turned_no, turned_so, wakes_same, wanted_same}
-
--- ---- what is given up
-
--- a party that leaves its list leaves empty lists empty
-nobody_left : (v : Waiting) (c p : ℕ) (s : Parking) → c < length s.readers → length s.writers ≡ length s.readers → NobodyParked s c → NobodyParked (left v c p s) c
-nobody_left waiting.Free c p s inside same e = e
-nobody_left waiting.Spin c p s inside same e = e
-nobody_left waiting.ShareRead c p s inside same e = e
-nobody_left waiting.ShareWrite c p s inside same e = e
-nobody_left waiting.Drain c p s inside same e = e
-nobody_left waiting.ParkedRead c p s inside same e = (still_empty s.readers c p inside e.0, e.1)
-nobody_left waiting.ParkedWrite c p s inside same e = (e.0, still_empty s.writers c p (omega (arith, inside, same)) e.1)
-
-not_listed : (c : ℕ) (s : Parking) (g : Given) → NobodyParked s c → IsListed c s g → g ≢ given.Nobody → ⊥
-not_listed c s given.Nobody e l ne = ne refl
-not_listed c s (given.Writer q) e l ne = listed_in q (writers_of s c) l e.1
-not_listed c s given.Readers e l ne = let b : false ≡ true = sym l ∙ e.0 in cc
-
--- what has no share and no drain gives nothing up
-own_or_not : (way : How) (woken : Bool) (h : Holders) → ((woken || is_drain way) ≡ true) ⊎ (given_up (waiting_of way woken) h ≡ h)
-own_or_not how.Spin true h = inl refl
-own_or_not how.Spin false h = inr refl
-own_or_not how.ParkedRead true h = inl refl
-own_or_not how.ParkedRead false h = inr refl
-own_or_not how.ParkedWrite true h = inl refl
-own_or_not how.ParkedWrite false h = inr refl
-own_or_not how.Drain true h = inl refl
-own_or_not how.Drain false h = inl refl
-
--- the way that it waits
-abbrev waits_by : Begun → Bool
-waits_by (begun.Wait way) = is_drain way
-waits_by begun.Missed = false
-waits_by begun.Cyclic = false
-waits_by (begun.Nothing q) = false
-waits_by (begun.Read l q) = false
-waits_by (begun.Write l q) = false
-waits_by (begun.Run z) = false
-waits_by (begun.Final z) = false
-
--- what is run was asked
-ran_asked : (who : Who) (ask : Ask) (p : Phase) (n : LockNature) → is_run (begun_of who ask p (got n p)) ≡ true → asks_run ask p ≡ true
-ran_asked who ask p nature.None e = absurd (cc)
-ran_asked who ask p nature.Read e = absurd (cc)
-ran_asked who ask p nature.Write e = by (asks_run ask p) refl e
-  where
-    final : (b : Bool) (s : SeqSection) → is_run (if b then begun.Final s else begun.Write write_ticket p) ≡ false
-    final true s = refl
-    final false s = refl
-
-    by : (b : Bool) → asks_run ask p ≡ b → is_run (if b then begun.Run (section_by who ask.want unregistered write_ticket) else begun_write who ask.want p write_ticket) ≡ true → b ≡ true
-    by true f g = refl
-    by false f g = absurd (let z : false ≡ true = sym (final (finalizes ask.want) (section_by who ask.want p write_ticket)) ∙ g in cc)
+use Rattle.phase_moves.proofs.GivenUp.{nobody_left, not_listed, own_or_not, ran_asked, waits_by}
 
 module _ (n : ℕ) (k : LockerKind) (h : Holders) (s : Parking) (m : Standing) (p : ℕ) (t : Target) (locked : IsLocked k h s t.cell (reads_in t.cell m) (writes_in t.cell m) (m.content t.cell).phase) (placed : k ≡ kind_at (cell_at m.plans t.cell).place) (shown : AreShown n m.waits s) (sizes : length s.writers ≡ length s.readers) (few : length s.rows < 2 ^ 20)
     (cell_in : t.cell < length s.readers) (party_in : p < length s.rows) (asks : t.want ≢ Calls call.Phase) (waited : (w : Wait) → wait_of p m.waits ≡ Some w → w.cell ≡ t.cell) where

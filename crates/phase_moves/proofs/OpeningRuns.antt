@@ -1,5 +1,6 @@
 -- What is opened by what was begun, and a section more.
-use Rattle.std.proofs.Common.{◌≡◌, ◌≢◌, ◌==◌, ◌<◌, ◌∙◌, ℕ, length, ap, sym, subst, refl, arith, Bool, true, false}
+use Rattle.std.proofs.Common.{◌≡◌, ◌≢◌, ◌==◌, ◌<◌, ◌∙◌, ℕ, length, ap, sym, subst, refl, arith, Bool, true, false, inl, inr}
+use Rattle.std.proofs.lemmas.Bool.{cases_lt}
 use Rattle.std.specs.Prelude.{if◌then◌else◌}
 use Rattle.std.specs.declared.option.Option.{Option}
 use Rattle.phase_bits.specs.declared.holders.Holders.{Holders}
@@ -16,6 +17,10 @@ use Rattle.phase_moves.specs.Standing.{Standing, opened}
 use Rattle.phase_moves.specs.Stands.{seen_at}
 use Rattle.phase_moves.proofs.Attempts.{writes_begun, wrote}
 use Rattle.phase_moves.proofs.Moved.{IsMoved}
+
+-- what is not positive is nothing
+pub no_more : (j : ℕ) → (0 < j → ⊥) → j ≡ 0
+no_more j f = elim (cases_lt 0 j) [ inl lt ↦ absurd (f lt) | inr le ↦ omega (arith, le) ]
 
 -- what opens a write hold leaves it open
 pub opens : (who : Who) (b : Begun) (running : Option ℕ) (h : Holders) (s : Parking) → opens_write b ≡ true → BegunStands who b running h s → IsWriteOpen h s who.cell

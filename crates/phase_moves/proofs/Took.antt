@@ -1,7 +1,7 @@
 -- The rows stand for what is open after an attempt.
 use Rattle.std.proofs.Common.{◌≡◌, ◌≢◌, ◌==◌, ◌<◌, ◌≤◌, ◌+◌, ◌∙◌, ℕ, List, ◌∷◌, length, set, get_or, ap, sym, subst, refl, arith, Bool, true, false, None, Some, inl, inr}
 use Rattle.std.specs.Prelude.{if◌then◌else◌}
-use Rattle.std.proofs.lemmas.Bool.{cases_eq, cases_lt}
+use Rattle.std.proofs.lemmas.Bool.{cases_eq}
 use Rattle.std.specs.declared.option.Option.{Option}
 use Rattle.phase_bits.specs.declared.phase.Phase.{Phase}
 use Rattle.phase_bits.specs.declared.holders.Holders.{Holders}
@@ -62,7 +62,7 @@ use Rattle.phase_moves.proofs.Opening.{guard_opened, seen_reader, seen_writer}
 use Rattle.phase_moves.proofs.Parking.{shown_called, shown_waiting, freed_writers, waiting_writers}
 use Rattle.phase_moves.proofs.Places.{read_at}
 use Rattle.phase_moves.proofs.Runs.{none_runs}
-use Rattle.phase_moves.proofs.OpeningRuns.{as_many, opens, section_opened, wrote_all}
+use Rattle.phase_moves.proofs.OpeningRuns.{as_many, no_more, opens, section_opened, wrote_all}
 
 module _ {L : Type 0} (held : L → Holders) (place : L → LockerKind) where
   module _ (m : Standing) (v v' : Rows L) (p : ℕ) (t : Target) (waits : Bool) (is : IsAttempting held place m v p t waits) (row row' : CellRow L) (row_is : row ≡ get_or v.cells.items t.cell row) (of of' : PartyRow) (of_is : of ≡ get_or v.parties.items p of)
@@ -133,10 +133,7 @@ module _ {L : Type 0} (held : L → Holders) (place : L → LockerKind) where
     module _ (d : IsBegun who ask reg (held row.seq.locker) v.parks b g (held row'.seq.locker) v'.parks) where
       -- where it had the lock to write there was no write hold
       pub was_none : wrote (declines ask reg (held row.seq.locker).phase) b ≡ true → writes_in t.cell m ≡ 0
-      was_none e = by (writes_in t.cell m) (λ lt. d.alone e (cell_here.locked.write_is lt))
-        where
-          by : (j : ℕ) → (0 < j → ⊥) → j ≡ 0
-          by j f = elim (cases_lt 0 j) [ inl lt ↦ absurd (f lt) | inr le ↦ omega (arith, le) ]
+      was_none e = no_more (writes_in t.cell m) (λ lt. d.alone e (cell_here.locked.write_is lt))
 
       -- ---- what is told
 
