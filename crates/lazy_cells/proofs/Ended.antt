@@ -7,7 +7,9 @@ use Rattle.phase_locker.specs.declared.tickets.WriteTicket.{WriteTicket}
 use Rattle.phase_seq.specs.declared.generator.InitFault.{InitFault}
 use Rattle.phase_seq.specs.declared.init_error.InitError.{InitError}
 use Rattle.phase_seq.specs.declared.tolerance.Tolerance.{Tolerance}
-use Rattle.lazy_cells.specs.Locked.{Locked, bars_read, bars_write, releases, publishes, downgrades, Entry, Calls, Tries}
+use Rattle.std.specs.Prelude.{if◌then◌else◌}
+use Rattle.lazy_cells.specs.Kinds.{is_within_reach}
+use Rattle.lazy_cells.specs.Locked.{Locked, bars_read, bars_write, releases, publishes, downgrades, Entry, Barred, Enters, Calls, Tries}
 use Rattle.lazy_cells.specs.Access.{say_read, say_write, say_init, say_primed_read, say_primed_write, left_read, left_write, left_init, left_primed_read, left_primed_write}
 use Rattle.lazy_cells.specs.Guards.{to_read, to_write, in_to_read, in_to_write, kept, kept_phase, kept_primed, kept_primed_write, left_kept, left_published}
 use Rattle.lazy_cells.specs.Sound.{IsSound}
@@ -78,3 +80,26 @@ module _ {T G P : Type 0} (hard primed : Bool) (old : Locked T G P) (k : IsSound
 
   pub primed_write_rests : (always : primed ≡ true) → (r : Result (Result WriteTicket ReadTicket) InitError) (new : Locked T G P) → Tries bars_write (say_primed_write hard) (left_primed_write hard) old r new → IsSound hard primed new
   primed_write_rests always r new c = sound_tries hard primed bars_write write_quiet (say_primed_write hard) (left_primed_write hard) (keeps_primed_write hard primed always) old k r new c
+
+-- ---- a call that takes the cell as it is leaves its phase
+
+phase_if : {T G P : Type 0} (p : Phase) (b : Bool) (x y : Locked T G P) → x.phase ≡ p → y.phase ≡ p → (if b then x else y).phase ≡ p
+phase_if p true x y ex ey = ex
+phase_if p false x y ex ey = ey
+
+module _ {T G P : Type 0} (hard : Bool) (old : Locked T G P) where
+  same_phase : (leave : Entry → Locked T G P → Locked T G P) → leave Barred old ≡ old → (leave (Enters old.phase) old).phase ≡ old.phase → (b : Bool) → (leave (if b then Barred else Enters old.phase) old).phase ≡ old.phase
+  same_phase leave eb ee true = ap (λ (c : Locked T G P). c.phase) eb
+  same_phase leave eb ee false = ee
+
+  pub read_stays : (r : Result ReadTicket InitError) (new : Locked T G P) → Tries bars_read (say_read hard) (left_read hard) old r new → new.phase ≡ old.phase
+  read_stays r new c = ap (λ (x : Locked T G P). x.phase) c.left ∙ same_phase (left_read hard) refl (phase_if old.phase (is_within_reach hard old.phase) _ _ refl refl) (bars_read old)
+
+  pub write_stays : (r : Result WriteTicket InitError) (new : Locked T G P) → Tries bars_write (say_write hard) (left_write hard) old r new → new.phase ≡ old.phase
+  write_stays r new c = ap (λ (x : Locked T G P). x.phase) c.left ∙ same_phase (left_write hard) refl (phase_if old.phase (is_within_reach hard old.phase) _ _ refl refl) (bars_write old)
+
+  pub primed_read_stays : (r : Result (Result ReadTicket ReadTicket) InitError) (new : Locked T G P) → Tries bars_read (say_primed_read hard) left_primed_read old r new → new.phase ≡ old.phase
+  primed_read_stays r new c = ap (λ (x : Locked T G P). x.phase) c.left ∙ same_phase left_primed_read refl refl (bars_read old)
+
+  pub primed_write_stays : (r : Result (Result WriteTicket ReadTicket) InitError) (new : Locked T G P) → Tries bars_write (say_primed_write hard) (left_primed_write hard) old r new → new.phase ≡ old.phase
+  primed_write_stays r new c = ap (λ (x : Locked T G P). x.phase) c.left ∙ same_phase (left_primed_write hard) refl (phase_if old.phase (is_within_reach hard old.phase) _ _ refl refl) (bars_write old)

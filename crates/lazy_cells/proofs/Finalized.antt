@@ -70,6 +70,7 @@ module _ {T G P : Type 0} (gave : Option T → Result (Unit {0}) FinalFault → 
       held = held;
       fresh = fresh;
       shown = λ _. refl;
+      same = λ _. refl;
     })
       where
         none : (A : Type 0) (b : Bool) → b ≡ false → b ≡ true → A

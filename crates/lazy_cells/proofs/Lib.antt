@@ -6,3 +6,4 @@ pub mod Sound
 pub mod Ended
 pub mod Finalized
 pub mod Lent
+pub mod Starting

@@ -95,6 +95,7 @@ pub record IsReady {T G P : Type 0} (hard primed : Bool) (p : Phase) (c : Locked
   pub there : is_there c.value ≡ primed || is_within_reach hard p
   pub beside : not (c.readers == 0) ≡ true → is_there c.value ≡ true
   pub fresh : has (number p) initialized ≡ false → is_finalized p ≡ false
+  pub same : has (number c.phase) initialized ≡ true → p ≡ c.phase
 
 abbrev pub ReadyAt : {T G P : Type 0} → Bool → Bool → Entry → Locked T G P → Type 0
 ReadyAt hard primed Barred c = IsSound hard primed c
@@ -108,6 +109,7 @@ module _ {T G P : Type 0} (hard primed : Bool) (old : Locked T G P) (k : IsSound
     there = subst (λ (p : Phase). is_there old.value ≡ primed || is_within_reach hard p) (k.shown e) k.there;
     beside = λ f. k.held (right_true old.writing _ f);
     fresh = subst (λ (p : Phase). has (number p) initialized ≡ false → is_finalized p ≡ false) (k.shown e) k.fresh;
+    same = λ _. refl;
   }
 
   pub tried_ready : (bars : Locked T G P → Bool) → (bars old ≡ false → old.writing ≡ false) → ReadyAt hard primed (tried bars old) old
@@ -132,7 +134,7 @@ module _ {T G P : Type 0} (hard primed : Bool) (old : Locked T G P) (k : IsSound
         out n e = ready.there ∙ ap (λ (z : Bool). primed || z) (no_reach hard (number old.phase) lacks ∙ sym (no_reach hard n e))
 
         by : (s' : Option Phase) → StayFresh s' → (ran' : Result (Option T) InitFault) → Came att s' old.generator ran' left → ReadyAt hard primed (entry_by (reached_by s' ran') ran') (made_by ran' left old)
-        by None f (Ok None) c = record { there = out 36 refl; beside = no_reader _ _ (right_false _ _ free); fresh = λ _. refl }
+        by None f (Ok None) c = record { there = out 36 refl; beside = no_reader _ _ (right_false _ _ free); fresh = λ _. refl; same = no_reader _ _ lacks }
         by None f (Ok (Some v)) c = let none : Result (Option T) InitFault = Ok None in let x : Ok (Some v) ≡ none = c.0 in absurd (cc)
         by None f (Err e) c = let none : Result (Option T) InitFault = Ok None in let x : Err e ≡ none = c.0 in absurd (cc)
         by (Some st) f (Ok None) c = absurd c
@@ -140,11 +142,13 @@ module _ {T G P : Type 0} (hard primed : Bool) (old : Locked T G P) (k : IsSound
           there = sym (ap (λ (z : Bool). primed || z) (made_reach hard (number st) f) ∙ or_true primed);
           beside = λ _. refl;
           fresh = λ e. no_reader _ _ e (made_has (number st));
+          same = no_reader _ _ lacks;
         }
         by (Some st) f (Err e) c = record {
           there = out (flags_reached (number st) false) (failed_lacks (number st) f.lacks);
           beside = no_reader _ _ (right_false _ _ free);
           fresh = λ _. run_ends (number st) false ∙ f.quiet;
+          same = no_reader _ _ lacks;
         }
 
     pub ready : (bars : Locked T G P → Bool) → (bars old ≡ false → old.writing ≡ false) → (e : Entry) (made : Locked T G P) → Comes att t s bars old e made → ReadyAt hard primed e made
@@ -169,13 +173,13 @@ module _ {T G P : Type 0} (hard primed : Bool) (p : Phase) (c : Locked T G P) (r
   in_reach e = r.there ∙ ap (λ (z : Bool). primed || z) e ∙ or_true primed
 
   pub sound_rests : IsSound hard primed (rests p c)
-  sound_rests = record { there = r.there; held = r.beside; fresh = r.fresh; shown = λ _. refl }
+  sound_rests = record { there = r.there; held = r.beside; fresh = r.fresh; shown = λ _. refl; same = λ _. refl }
 
   sound_reads : is_there c.value ≡ true → IsSound hard primed (reads p c)
-  sound_reads e = record { there = r.there; held = λ _. e; fresh = r.fresh; shown = λ _. refl }
+  sound_reads e = record { there = r.there; held = λ _. e; fresh = r.fresh; shown = λ _. refl; same = λ _. refl }
 
   sound_writes : is_there c.value ≡ true → IsSound hard primed (writes p c)
-  sound_writes e = record { there = r.there; held = λ _. e; fresh = r.fresh; shown = λ f. absurd (cc) }
+  sound_writes e = record { there = r.there; held = λ _. e; fresh = r.fresh; shown = λ f. absurd (cc); same = r.same }
 
   pub reads_or_rests : IsSound hard primed (if is_within_reach hard p then reads p c else rests p c)
   reads_or_rests = both_so (IsSound hard primed) _ (reads p c) (rests p c) (λ e. sound_reads (in_reach e)) sound_rests
@@ -238,32 +242,3 @@ write_quiet c e = left_false _ _ e
 -- the flags of a cell without a registry
 pub unregistered_fresh : {p : ℕ} → IsFresh p → IsFresh 0
 unregistered_fresh f = record { lacks = refl; quiet = refl }
-
--- ---- tickets
-
-module _ {T G P : Type 0} (hard primed : Bool) (c : Locked T G P) (k : IsSound hard primed c) where
-  some_reader : (n : ℕ) → 0 < n → not (n == 0) ≡ true
-  some_reader n e = grind arith
-
-  -- while a ticket is open the value is there
-  pub there_to_read : 0 < c.readers → is_there c.value ≡ true
-  there_to_read e = k.held (right_true c.writing _ (some_reader c.readers e))
-
-  pub there_to_write : c.writing ≡ true → is_there c.value ≡ true
-  there_to_write e = k.held (ap (λ (b : Bool). b || not (c.readers == 0)) e)
-
-  pub sound_releases : 0 < c.readers → IsSound hard primed (releases c)
-  sound_releases e = record { there = k.there; held = λ _. there_to_read e; fresh = k.fresh; shown = k.shown }
-
-  pub sound_publishes : c.writing ≡ true → IsSound hard primed (publishes c)
-  sound_publishes e = record { there = k.there; held = λ _. there_to_write e; fresh = k.fresh; shown = λ _. refl }
-
-  pub sound_downgrades : c.writing ≡ true → IsSound hard primed (downgrades c)
-  sound_downgrades e = record { there = k.there; held = λ _. there_to_write e; fresh = k.fresh; shown = λ _. refl }
-
-  pub sound_clones : 0 < c.readers → (b : Bool) → IsSound hard primed (if b then c else record c { readers = c.readers + 1 })
-  sound_clones e true = k
-  sound_clones e false = record { there = k.there; held = λ _. there_to_read e; fresh = k.fresh; shown = k.shown }
-
-  pub sound_sets : c.writing ≡ true → (v : T) → IsSound hard primed (record c { value = Some v })
-  sound_sets e v = record { there = sym (there_to_write e) ∙ k.there; held = λ _. refl; fresh = k.fresh; shown = k.shown }

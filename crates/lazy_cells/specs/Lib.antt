@@ -8,3 +8,4 @@ pub mod Access
 pub mod Guards
 pub mod Sound
 pub mod Finalizers
+pub mod Startup

@@ -10,6 +10,7 @@ mod fill;
 mod generic;
 mod guarded;
 mod kind;
+mod lesser;
 mod locked;
 mod markers;
 mod names;
@@ -19,9 +20,10 @@ pub use access::{Lazy, LazyAccess, LazyFinalize, UnSyncLazy};
 pub use call::{Call, ask_of, has_call};
 pub use generic::GenericLazy;
 pub use kind::{Kind, accessible, finalizable, primed};
+pub use lesser::Lesser;
 pub use locked::GenericLockedLazy;
 pub use markers::{
-    Content, Dropped, Full, IsPrimed, Kept, Lesser, NoExit, Primed, Reach, WithExit,
+    Content, Dropped, Full, IsLesser, IsPrimed, Kept, LesserForm, NoExit, Primed, Reach, WithExit,
 };
 pub use names::{
     LockedLazy, LockedLazyDroped, LockedLazyFinalize, PrimedLockedLazy, PrimedLockedLazyDroped,

@@ -10,7 +10,7 @@ pub struct Full;
 
 /// The form for cells that a program starts before it uses them. It has no call that needs the cell alone.
 #[derive(Drop)]
-pub struct Lesser;
+pub struct LesserForm;
 
 /// The marker of cells that are not registered for the exit, of the form `Q`. Their calls are passed no registry.
 #[derive(Drop)]
@@ -106,6 +106,15 @@ impl<Q> Content for Primed<Q> {
         true
     }
 }
+
+/// The content of a locked cell of a Lesser form.
+pub trait IsLesser: Content + Drop {}
+
+impl IsLesser for Kept<LesserForm> {}
+
+impl IsLesser for Dropped<LesserForm> {}
+
+impl IsLesser for Primed<LesserForm> {}
 
 /// What the marker of a locked cell says of its value, by its content and by whether the exit finalizes it.
 pub trait Reach {

@@ -1,6 +1,6 @@
 //! Calls of primed lazies, whose value is there before any run.
 
-ghost use Rattle.std.specs.Prelude.{◌<◌, IfOk};
+ghost use Rattle.std.specs.Prelude.{◌≡◌, ◌<◌, IfOk};
 ghost use Rattle.lazy_cells.specs.Locked.{Tries, bars_read, bars_write};
 ghost use Rattle.lazy_cells.specs.Access.{OpensEither, say_primed_read, say_primed_write, left_primed_read, left_primed_write};
 
@@ -24,6 +24,7 @@ impl<T, G, P: IsPrimed> GenericLockedLazy<T, G, P> {
     ) -> Result<Result<ReadTicket, ReadTicket>, InitError>
         ensures tries { Tries bars_read (say_primed_read P.hard) left_primed_read self.old result self.new }
         ensures opens { IfOk result (λ _. 0 < self.new.readers) }
+        ensures phase { self.new.phase ≡ self.old.phase }
     {
         let entered = self.cell.enter_read_only();
         self.cell.keep_primed_read(entered, P::is_hard())
@@ -40,6 +41,7 @@ impl<T, G, P: IsPrimed> GenericLockedLazy<T, G, P> {
     ) -> Result<Result<WriteTicket, ReadTicket>, InitError>
         ensures tries { Tries bars_write (say_primed_write P.hard) (left_primed_write P.hard) self.old result self.new }
         ensures opens { OpensEither result self.new }
+        ensures phase { self.new.phase ≡ self.old.phase }
     {
         let entered = self.cell.enter_write_only();
         self.cell.keep_primed_write(entered, P::is_hard())

@@ -3,7 +3,8 @@
 ghost use Rattle.std.specs.Prelude.{◌≡◌, ◌<◌, ◌+◌, ◌==◌, true, Some, Ok, Err, if◌then◌else◌};
 ghost use Rattle.std.specs.Borrow.{sem, Lends};
 ghost use Rattle.phase_bits.specs.Records.{most_readers};
-ghost use Rattle.phase_bits.specs.Number.{IsKnown};
+ghost use Rattle.phase_bits.specs.Flags.{has, initialized};
+ghost use Rattle.phase_bits.specs.Number.{number, IsKnown};
 ghost use Rattle.phase_locker.specs.Natures.{read_ticket};
 ghost use Rattle.phase_seq.specs.declared.init_error.InitError.TheVariants.{Borrowed};
 ghost use Rattle.lazy_cells.specs.Locked.{releases, publishes, downgrades};
@@ -70,7 +71,8 @@ impl<T, G, P: Reach> GenericLockedLazy<T, G, P> {
     /// Makes the write ticket a read ticket, which publishes the phase.
     pub fn downgrade(&mut self, t: WriteTicket) -> ReadTicket
         requires { self.old.writing ≡ true }
-        ensures { self.new ≡ downgrades self.old }
+        ensures left { self.new ≡ downgrades self.old }
+        ensures made { has (number self.old.phase) initialized ≡ true → self.new.phase ≡ self.old.phase }
     {
         self.cell.downgrade(t)
     }
@@ -99,7 +101,8 @@ impl<T, G, P: Reach> GenericLockedLazy<T, G, P> {
     /// Gives the write ticket back, which publishes the phase.
     pub fn release_write(&mut self, t: WriteTicket)
         requires { self.old.writing ≡ true }
-        ensures { self.new ≡ publishes self.old }
+        ensures left { self.new ≡ publishes self.old }
+        ensures made { has (number self.old.phase) initialized ≡ true → self.new.phase ≡ self.old.phase }
     {
         self.cell.release_write(t);
     }

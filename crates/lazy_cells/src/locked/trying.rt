@@ -21,6 +21,7 @@ impl<T, G, P: Reach> GenericLockedLazy<T, G, P> {
     pub fn try_read(&mut self) -> Result<ReadTicket, InitError>
         ensures tries { Tries bars_read (say_read P.hard) (left_read P.hard) self.old result self.new }
         ensures opens { IfOk result (λ _. 0 < self.new.readers) }
+        ensures phase { self.new.phase ≡ self.old.phase }
     {
         let entered = self.cell.enter_read_only();
         self.cell.keep_read(entered, P::is_hard())
@@ -34,6 +35,7 @@ impl<T, G, P: Reach> GenericLockedLazy<T, G, P> {
     pub fn try_write(&mut self) -> Result<WriteTicket, InitError>
         ensures tries { Tries bars_write (say_write P.hard) (left_write P.hard) self.old result self.new }
         ensures opens { IfOk result (λ _. self.new.writing ≡ true) }
+        ensures phase { self.new.phase ≡ self.old.phase }
     {
         let entered = self.cell.enter_write_only();
         self.cell.keep_write(entered, P::is_hard())
@@ -47,6 +49,7 @@ impl<T, G, P: Reach> GenericLockedLazy<T, G, P> {
     pub fn fast_try_read(&mut self) -> Option<Result<ReadTicket, AccessError>>
         ensures tries { Tries bars_read (say_fast_try_read P.hard) (left_read P.hard) self.old result self.new }
         ensures opens { IfSome result (λ r. IfOk r (λ _. 0 < self.new.readers)) }
+        ensures phase { self.new.phase ≡ self.old.phase }
     {
         unless_barred(self.try_read())
     }
@@ -59,6 +62,7 @@ impl<T, G, P: Reach> GenericLockedLazy<T, G, P> {
     pub fn fast_try_write(&mut self) -> Option<Result<WriteTicket, AccessError>>
         ensures tries { Tries bars_write (say_fast_try_write P.hard) (left_write P.hard) self.old result self.new }
         ensures opens { IfSome result (λ r. IfOk r (λ _. self.new.writing ≡ true)) }
+        ensures phase { self.new.phase ≡ self.old.phase }
     {
         unless_barred(self.try_write())
     }
