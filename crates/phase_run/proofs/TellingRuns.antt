@@ -44,6 +44,12 @@ told_next x count old now new before after line l so_far goes is tells =
           (tells-two (lines_text (step_lines 0 so_far.lines)) (line_text (step_words count l)) old now new so_far.tells tells);
     }
 
+-- no step was left
+pub told_last : (x : Schedule) (count : ℕ) (old now : Teller) (before after : Run) (line : Option Line) → HasToldFirst x count old now before → GoesOn before line after → line ≡ None → HasToldFirst x (length x.steps) old now after
+told_last x count old now before after line so_far goes is =
+    let made = subst (λ o. GoesOn before o after) is goes x so_far.lines so_far.made in
+    record { lines = so_far.lines; made = made.0; many = made.1; tells = so_far.tells }
+
 -- the line of one cell more
 final_lines_more : (n k : ℕ) (fs : List Final) (d : Final) → k < length fs → lines_text (final_lines n (take (suc k) fs)) ≡ lines_text (final_lines n (take k fs)) ++ line_text (final_words (n + k) (get_or fs k d))
 final_lines_more n k [] d inside = absurd (omega (arith, inside))
