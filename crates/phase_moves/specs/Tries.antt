@@ -18,7 +18,7 @@ use Rattle.schedule_rules.specs.declared.plan.CellPlan.{CellPlan}
 use Rattle.schedule_rules.specs.declared.step.Want.{Want}
 use Rattle.schedule_rules.specs.declared.step.Want.TheVariants.{Calls}
 use Rattle.schedule_rules.specs.Changes.{effect}
-use Rattle.schedule_rules.specs.Kinds.{cell_at, is_finalizable}
+use Rattle.schedule_rules.specs.Kinds.{cell_at, is_finalizable, tolerance_of}
 use Rattle.schedule_rules.specs.Waits.{Wait, wait_of}
 use Rattle.phase_moves.specs.declared.rows.OpenRun.{OpenRun}
 use Rattle.phase_moves.specs.declared.rows.PartyRow.{PartyRow}
@@ -33,7 +33,7 @@ use Rattle.phase_moves.specs.Stands.{Stands, want_of}
 
 -- what an attempt asks of its cell
 abbrev pub ask_of : CellPlan → Want → Ask
-ask_of x w = record { want = want_of w; fast = false; tol = record { retry = x.retry; leak = x.leak } }
+ask_of x w = record { want = want_of w; fast = false; tol = tolerance_of x }
 
 -- ---- what is taken of what was begun
 
