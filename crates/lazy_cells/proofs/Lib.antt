@@ -7,3 +7,4 @@ pub mod Ended
 pub mod Finalized
 pub mod Lent
 pub mod Starting
+pub mod Lists

@@ -9,3 +9,4 @@ pub mod Guards
 pub mod Sound
 pub mod Finalizers
 pub mod Startup
+pub mod StartAll

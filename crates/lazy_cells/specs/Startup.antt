@@ -38,8 +38,8 @@ pub record MayBeNew (s : Standing) (m : Registry) (c : ℕ) : Type 0 where
   pub unknown : number s.phase ≡ 0 → s.writing ≡ false → is_known m c ≡ false
 
 -- a cell that is registered for the exit may be started beside this registry
-abbrev pub MayStart : Standing → Registry → Type 0
-MayStart s m = ForSome s.cell (MayBeNew s m)
+pub record MayStart (s : Standing) (m : Registry) : Type 0 where
+  pub may : ForSome s.cell (MayBeNew s m)
 
 -- ---- what a start does
 
@@ -80,3 +80,20 @@ pub record Starts (old : Standing) (r : Result Phase InitError) (new : Standing)
 abbrev pub accessed : Result Phase InitError → Result Phase InitError
 accessed (Ok p) = reached false p p
 accessed (Err e) = Err e
+
+-- ---- a cell that is handed over
+
+-- the cell, in an Err where it is not initialized
+abbrev pub started_where : {C : Type 0} → Bool → C → Result C C
+started_where true c = Ok c
+started_where false c = Err c
+
+-- the start of a cell that is handed over, and handed back where it fails
+abbrev pub StartsOwn : {C : Type 0} → (C → Standing) → C → Result C (C × InitError) → Registry → Registry → Type 0
+StartsOwn st old (Ok new) m m' = Starts (st old) (Ok (st new).phase) (st new) m m'
+StartsOwn st old (Err (new, e)) m m' = Starts (st old) (Err e) (st new) m m'
+
+-- this is so of the cell that is left
+abbrev pub IsLeft : {C : Type 0} → (C → Type 0) → Result C (C × InitError) → Type 0
+IsLeft P (Ok new) = P new
+IsLeft P (Err (new, e)) = P new

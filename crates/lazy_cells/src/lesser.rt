@@ -1,6 +1,6 @@
 //! Cells that a program starts before it uses them. All of it is this project's own: static_init starts them by a hint.
 
-ghost use Rattle.std.specs.Prelude.{◌≡◌, true, Some, None};
+ghost use Rattle.std.specs.Prelude.{◌≡◌, true, Some, None, IfOk};
 ghost use Rattle.phase_bits.specs.Flags.{has, initialized};
 ghost use Rattle.phase_bits.specs.Number.{number};
 ghost use Rattle.lazy_cells.specs.Startup.{Standing, MayStart, Starts, accessed, standing_plain, standing_locked};
@@ -10,7 +10,7 @@ use crate::kind::within_reach;
 use crate::locked::GenericLockedLazy;
 use crate::markers::{IsLesser, LesserForm, NoExit, WithExit};
 use exit_registry::ExitRegistry;
-use phase_bits::{AccessError, Phase};
+use phase_bits::{AccessError, Phase, Phased};
 use phase_seq::{Generator, InitError};
 
 /// A cell of a Lesser form. A contract sees its phase, whether the value is in reach, whether a ticket is open and whether
@@ -38,7 +38,14 @@ pub trait Lesser: Drop {
         requires callable { may_run self.old }
         requires exit { MayStart (standing self.old) reg.old }
         ensures starts { Starts (standing self.old) result (standing self.new) reg.old reg.new }
+        ensures made { IfOk result (λ p. has (number p) initialized ≡ true) }
         ensures again { may_run self.new };
+}
+
+/// A cell of a Lesser form that is not boxed.
+pub trait Startable: Lesser + Phased {
+    // The phase is one.
+    ghost agrees: { (c : Self) → Self.phase c ≡ (Self.standing c).phase };
 }
 
 /// The answer of a plain lazy's `init`, where the value is in reach.
@@ -109,4 +116,30 @@ impl<T: Drop, G: Generator<T> + Drop, C: IsLesser> Lesser for GenericLockedLazy<
     fn start(&mut self, reg: &mut ExitRegistry) -> Result<Phase, InitError> {
         self.init(reg)
     }
+}
+
+impl<T: Drop, G: Generator<T> + Drop> Startable for GenericLazy<T, G, NoExit<LesserForm>> {
+    ghost use Rattle.std.specs.Prelude.{refl};
+
+    ghost agrees = { λ c. refl };
+}
+
+impl<T: Drop, G: Generator<T> + Drop> Startable for GenericLazy<T, G, WithExit<LesserForm>> {
+    ghost use Rattle.std.specs.Prelude.{refl};
+
+    ghost agrees = { λ c. refl };
+}
+
+impl<T: Drop, G: Generator<T> + Drop, C: IsLesser> Startable
+    for GenericLockedLazy<T, G, NoExit<C>> {
+    ghost use Rattle.std.specs.Prelude.{refl};
+
+    ghost agrees = { λ c. refl };
+}
+
+impl<T: Drop, G: Generator<T> + Drop, C: IsLesser> Startable
+    for GenericLockedLazy<T, G, WithExit<C>> {
+    ghost use Rattle.std.specs.Prelude.{refl};
+
+    ghost agrees = { λ c. refl };
 }

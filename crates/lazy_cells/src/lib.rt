@@ -15,21 +15,26 @@ mod locked;
 mod markers;
 mod names;
 mod policy;
+mod start_all;
+mod started;
 
 pub use access::{Lazy, LazyAccess, LazyFinalize, UnSyncLazy};
 pub use call::{Call, ask_of, has_call};
 pub use generic::GenericLazy;
 pub use kind::{Kind, accessible, finalizable, primed};
-pub use lesser::Lesser;
+pub use lesser::{Lesser, Startable};
 pub use locked::GenericLockedLazy;
 pub use markers::{
     Content, Dropped, Full, IsLesser, IsPrimed, Kept, LesserForm, NoExit, Primed, Reach, WithExit,
 };
 pub use names::{
-    LockedLazy, LockedLazyDroped, LockedLazyFinalize, PrimedLockedLazy, PrimedLockedLazyDroped,
+    LesserLazy, LesserLazyFinalize, LesserLockedLazy, LesserLockedLazyDroped,
+    LesserLockedLazyFinalize, LockedLazy, LockedLazyDroped, LockedLazyFinalize,
+    PrimedLesserLockedLazy, PrimedLesserLockedLazyDroped, PrimedLockedLazy, PrimedLockedLazyDroped,
     UnSyncLockedLazy,
 };
 pub use policy::{
     InitializedChecker, InitializedHardFinalizedChecker, InitializedSoftFinalizedChecker,
     LazyPolicy,
 };
+pub use started::{Started, start};

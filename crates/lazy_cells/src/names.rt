@@ -1,7 +1,8 @@
-//! The names of the locked lazies.
+//! The names of the locked lazies, and of the Lesser forms.
 
+use crate::generic::GenericLazy;
 use crate::locked::GenericLockedLazy;
-use crate::markers::{Dropped, Full, Kept, NoExit, Primed, WithExit};
+use crate::markers::{Dropped, Full, Kept, LesserForm, NoExit, Primed, WithExit};
 
 /// A value behind a lock, which a read or a write initializes. It is static_init's `LockedLazy`, for one thread.
 pub type LockedLazy<T, G> = GenericLockedLazy<T, G, NoExit<Kept<Full>>>;
@@ -21,3 +22,24 @@ pub type PrimedLockedLazyDroped<T, G> = GenericLockedLazy<T, G, WithExit<Primed<
 
 /// The name that static_init gives the locked lazy of one thread.
 pub type UnSyncLockedLazy<T, G> = LockedLazy<T, G>;
+
+/// The Lesser form of `Lazy`, which a program starts before it uses it.
+pub type LesserLazy<T, G> = GenericLazy<T, G, NoExit<LesserForm>>;
+
+/// The Lesser form of `LazyFinalize`.
+pub type LesserLazyFinalize<T, G> = GenericLazy<T, G, WithExit<LesserForm>>;
+
+/// The Lesser form of `LockedLazy`.
+pub type LesserLockedLazy<T, G> = GenericLockedLazy<T, G, NoExit<Kept<LesserForm>>>;
+
+/// The Lesser form of `LockedLazyFinalize`.
+pub type LesserLockedLazyFinalize<T, G> = GenericLockedLazy<T, G, WithExit<Kept<LesserForm>>>;
+
+/// The Lesser form of `LockedLazyDroped`.
+pub type LesserLockedLazyDroped<T, G> = GenericLockedLazy<T, G, WithExit<Dropped<LesserForm>>>;
+
+/// The Lesser form of `PrimedLockedLazy`.
+pub type PrimedLesserLockedLazy<T, G> = GenericLockedLazy<T, G, NoExit<Primed<LesserForm>>>;
+
+/// The Lesser form of `PrimedLockedLazyDroped`.
+pub type PrimedLesserLockedLazyDroped<T, G> = GenericLockedLazy<T, G, WithExit<Primed<LesserForm>>>;

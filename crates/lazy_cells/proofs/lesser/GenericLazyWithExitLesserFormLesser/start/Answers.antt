@@ -8,7 +8,7 @@ use Rattle.lazy_cells.proofs.lesser.GenericLazyWithExitLesserFormLesser.start.Go
 
 pub init-requires-clause-exit : goal.init-requires-clause-exit
 init-requires-clause-exit g c =
-    let may = c.requires.exit c.args.self.now.marker.cell refl in
+    let may = c.requires.exit.may c.args.self.now.marker.cell refl in
     record { inside = may.inside; unknown = λ e. may.unknown e refl }
 
 pub returns-clause-starts : goal.returns-clause-starts
@@ -17,7 +17,7 @@ returns-clause-starts g c =
     let t = tolerance g.G.GeneratorTolerance.INIT_FAILURE leak in
     let m = c.args.reg.now in
     let old = c.args.self.now in
-    let may = c.requires.exit old.marker.cell refl in
+    let may = c.requires.exit.may old.marker.cell refl in
     let done = stands_plain (λ x. Some x.cell) g.G.Generator.attempts t (enlisted leak (Some m) old.phase) (enlisted_lack leak m old.phase) old c.init.result c.init.new.this c.init.ensures.asks in
     record {
       answers = rw c.accessed.ensures done.answers;

@@ -7,7 +7,7 @@ use Rattle.lazy_cells.proofs.lesser.GenericLockedLazyWithExitLesser.start.Goals 
 
 pub init-requires-clause-exit : goal.init-requires-clause-exit
 init-requires-clause-exit g c =
-    let may = c.requires.exit c.args.self.now.marker.cell refl in
+    let may = c.requires.exit.may c.args.self.now.marker.cell refl in
     record { inside = may.inside; unknown = may.unknown }
 
 pub returns-clause-starts : goal.returns-clause-starts
@@ -16,7 +16,7 @@ returns-clause-starts g c =
     let t = tolerance g.G.GeneratorTolerance.INIT_FAILURE leak in
     let m = c.args.reg.now in
     let old = c.args.self.now in
-    let may = c.requires.exit old.marker.cell refl in
+    let may = c.requires.exit.may old.marker.cell refl in
     let done = stands g.C.Content.is_taken (λ x. Some x.cell) g.G.Generator.attempts t (enlisted leak (Some m) old.phase) (enlisted_lack leak m old.phase) old c.init.result c.init.new.self c.init.ensures.calls in
     record {
       answers = done.answers;
