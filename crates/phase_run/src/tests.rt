@@ -292,37 +292,36 @@ fn long_transcript(alloc: Global) -> Result<Vec<u8>, AllocError> {
     Ok(text)
 }
 
+/// Runs the long schedule into a sink with so much room, whose listed calls fail.
+fn run_long(alloc: Global, room: usize, fails: Vec<u64>) -> Result<(Status, MemSink), AllocError> {
+    let mut source = MemSource::new(long_schedule(alloc)?, Vec::new(alloc));
+    let mut sink = MemSink::new(alloc, room, fails)?;
+    let status = run_program(alloc, &[], &mut source, &mut sink);
+    Ok((status, sink))
+}
+
 #[test]
 fn writes_page_by_page(rt: HostRuntime) -> Result<(), Fail> {
     let alloc = rt.alloc();
-    let text = long_schedule(alloc)?;
     let transcript = long_transcript(alloc)?;
-    let all = transcript.len();
-    for room in [
-        0,
-        1,
-        65_000,
-        65_536,
-        66_000,
-        131_071,
-        all.saturating_sub(1),
-        all,
-    ] {
-        let mut source = MemSource::new(text.to_vec(alloc)?, Vec::new(alloc));
-        let mut sink = MemSink::new(alloc, room, Vec::new(alloc))?;
-        let status = run_program(alloc, &[], &mut source, &mut sink);
-        let want = if room < all {
-            Status::WriteFault
-        } else {
-            Status::Done
-        };
-        assert_eq!(rt; status, want, "with {room}");
-        assert_eq!(rt; sink.given(), &transcript[..room], "with {room}");
+    for room in [0, 1, 65_000, 65_536, 66_000, 131_071] {
+        let (status, sink) = run_long(alloc, room, Vec::new(alloc))?;
+        assert_eq!(rt; status, Status::WriteFault, "with {room}");
+        assert_eq!(rt; sink.given().len(), room, "with {room}");
+        assert!(rt; transcript.starts_with(sink.given()), "with {room}");
     }
+    let (status, sink) = run_long(alloc, transcript.len(), Vec::new(alloc))?;
+    assert_eq!(rt; status, Status::Done);
+    assert_eq!(rt; sink.given(), transcript.as_slice());
+    Ok(())
+}
+
+#[test]
+fn stops_at_the_page_that_fails(rt: HostRuntime) -> Result<(), Fail> {
+    let alloc = rt.alloc();
+    let transcript = long_transcript(alloc)?;
     for call in 0..3 {
-        let mut source = MemSource::new(text.to_vec(alloc)?, Vec::new(alloc));
-        let mut sink = MemSink::new(alloc, all, vec![in alloc; call]?)?;
-        let status = run_program(alloc, &[], &mut source, &mut sink);
+        let (status, sink) = run_long(alloc, transcript.len(), vec![in alloc; call]?)?;
         assert_eq!(rt; status, Status::WriteFault, "at {call}");
         assert_eq!(rt; sink.given().is_empty(), call == 0, "at {call}");
         assert!(rt; transcript.starts_with(sink.given()), "at {call}");
