@@ -1,24 +1,25 @@
 -- What runs and calls leave of the flags that finalizers set.
-use Rattle.std.proofs.Common.{◌≡◌, ℕ, List, [], ◌∷◌, length, refl, sym, ◌∙◌, ap, Bool, true, false, None, Some}
+use Rattle.std.proofs.Common.{◌≡◌, ℕ, List, [], ◌∷◌, refl, sym, ◌∙◌, ap, Bool, true, false, None, Some}
 use Rattle.std.specs.Prelude.{◌==◌, ◌^◌, ◌-◌, if◌then◌else◌}
 use Rattle.std.specs.List.{AllByRecursion}
 use Rattle.std.specs.Int.RustNames.{bit_and}
 use Rattle.std.proofs.lemmas.Nat.{and_assoc, and_or_apart}
-use Rattle.std.specs.declared.option.Option.{Option}
 use Rattle.phase_bits.specs.Flags.{has}
 use Rattle.phase_seq.specs.Phases.{final_outcome, registration}
 use Rattle.schedule_rules.specs.declared.plan.CellPlan.{CellPlan}
-use Rattle.schedule_rules.specs.declared.step.Act.{Act}
-use Rattle.schedule_rules.specs.declared.step.Act.TheVariants as act
-use Rattle.schedule_rules.specs.declared.line.Answer.{Answer}
-use Rattle.schedule_rules.specs.declared.line.Answer.TheVariants as answer
 use Rattle.schedule_rules.specs.Kinds.{is_finalizable}
 use Rattle.schedule_rules.specs.Phases.{flags_kept}
 use Rattle.schedule_rules.specs.Changes.{Content, Change, Ran, Asked, Put, Ended, is_declined, effect}
-use Rattle.schedule_rules.specs.History.{Event, act_of}
-use Rattle.schedule_rules.specs.Sections.{Section, innermost, sections}
-use Rattle.schedule_rules.specs.Guards.{Guard, numbered, without_guard, reader_made, reader_beside, writer_made, with_reader, with_writer, guards_done, guards_after, guards}
-use Rattle.schedule_rules.proofs.Each.{each_removed, each_put}
+use Rattle.schedule_rules.specs.Deeds.{Deed, Holds, EndsToWrite}
+use Rattle.schedule_rules.specs.History.{Event, deed_of}
+use Rattle.schedule_rules.specs.Sections.{Section, sections}
+use Rattle.schedule_rules.specs.Guards.{Guard, guards}
+use Rattle.schedule_rules.specs.Replay.{replay}
+use Rattle.schedule_rules.specs.Legal.{IsLegal, IsExclusive}
+use Rattle.schedule_rules.proofs.Alone.{alone}
+use Rattle.schedule_rules.proofs.Each.{each_of}
+use Rattle.schedule_rules.proofs.Finds.{Finds, finds}
+use Rattle.schedule_rules.proofs.Leaves.{NewOf, guards_say}
 use Rattle.schedule_rules.proofs.Facts.{apart}
 
 -- a generator ran in the section, or values were set, and no more
@@ -33,49 +34,26 @@ IsOfRun (Ended fine ∷ chs) = ⊥
 abbrev pub IsRunning : Guard → Type 0
 IsRunning x = IsOfRun x.changes
 
-module _ (h : List Event) (p : ℕ) where
-  runs_with_reader : (a : Act) (gs : List Guard) → AllByRecursion IsRunning gs → AllByRecursion IsRunning (with_reader h p a gs)
-  runs_with_reader (act.Call c k) gs ks = (tt, ks)
-  runs_with_reader (act.Made v) gs ks = by (innermost p (sections h))
-    where
-      by : (o : Option Section) → AllByRecursion IsRunning (reader_made (length h) p o gs)
-      by None = ks
-      by (Some s) = (tt, ks)
-  runs_with_reader (act.Downgrade g) gs ks = by (numbered g gs)
-    where
-      by : (o : Option Guard) → AllByRecursion IsRunning (reader_beside (length h) p o (without_guard g gs))
-      by None = each_removed IsRunning g gs ks
-      by (Some x) = (tt, each_removed IsRunning g gs ks)
-  runs_with_reader (act.Clone g) gs ks = by (numbered g gs)
-    where
-      by : (o : Option Guard) → AllByRecursion IsRunning (reader_beside (length h) p o gs)
-      by None = ks
-      by (Some x) = (tt, ks)
-  runs_with_reader _ gs ks = ks
+module _ (cells : List CellPlan) where
+  abbrev IsAny : Content → Section → Type 0
+  IsAny y s = Unit {0}
 
-  runs_with_writer : (a : Act) (gs : List Guard) → AllByRecursion IsRunning gs → AllByRecursion IsRunning (with_writer h p a gs)
-  runs_with_writer (act.Call c k) gs ks = (tt, ks)
-  runs_with_writer (act.Made v) gs ks = by (innermost p (sections h))
-    where
-      by : (o : Option Section) → AllByRecursion IsRunning (writer_made (length h) p v o gs)
-      by None = ks
-      by (Some s) = (tt, ks)
-  runs_with_writer _ gs ks = ks
+  abbrev Of : Content → Guard → Type 0
+  Of y x = IsRunning x
 
-runs_done : (a : Act) (gs : List Guard) → AllByRecursion IsRunning gs → AllByRecursion IsRunning (guards_done a gs)
-runs_done (act.Release g) gs ks = each_removed IsRunning g gs ks
-runs_done (act.Set g v) gs ks = each_put IsRunning g v gs (λ x r. r) ks
-runs_done _ gs ks = ks
+  new : (h : List Event) (p : ℕ) (alone : (c : ℕ) → IsExclusive cells h c) (d : Deed) (f : Finds cells h p d) → NewOf cells h p alone IsAny IsAny Of Of d f
+  new h p alone (Holds c true) f = tt
+  new h p alone (EndsToWrite v) f = λ u. tt
+  new h p alone _ f = tt
 
-pub guards-run : (h : List Event) → AllByRecursion IsRunning (guards h)
-guards-run [] = tt
-guards-run (e ∷ h) = by e.line.answer (guards-run h)
-  where
-    by : (r : Answer) → AllByRecursion IsRunning (guards h) → AllByRecursion IsRunning (guards_after h e.step r (guards h))
-    by answer.ReadGuard ks = runs_with_reader h e.step.party (act_of h e.step) (guards h) ks
-    by answer.WriteGuard ks = runs_with_writer h e.step.party (act_of h e.step) (guards h) ks
-    by answer.Done ks = runs_done e.step.act (guards h) ks
-    by _ ks = ks
+  pub guards-run : (h : List Event) → IsLegal cells h → AllByRecursion IsRunning (guards h)
+  guards-run [] k = tt
+  guards-run (e ∷ h) k =
+      let d : Deed = deed_of h e.step e.line.answer in
+      let f : Finds cells h e.step.party d = finds cells h e.step e.line k.0 in
+      guards_say cells h e.step.party (alone cells h k.2) IsAny IsAny Of Of d f
+      (record { section = λ s u. u; guard = λ x u. u; beside = λ y x w u. u; reads = λ y c. tt; sets = λ v y x u. u; new = new h e.step.party (alone cells h k.2) d f })
+      (each_of (λ s. IsAny (replay cells s.cell h) s) (sections h) (λ s. tt)) (guards-run h k.2)
 
 -- a flag that no run sets, and that no registration sets
 pub record IsBeside (f : ℕ) : Type 0 where

@@ -11,12 +11,16 @@ pub mod Cases
 pub mod Backs
 mod Attempts
 pub mod Steps
+pub mod Finds
+pub mod Leaves
+pub mod Means
 pub mod Touched
 pub mod Held
 pub mod Registered
 pub mod Accepts
 pub mod Grows
 pub mod Initialized
+pub mod Steady
 pub mod OneSuccess
 pub mod Bars
 mod OneTranscript

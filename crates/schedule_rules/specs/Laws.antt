@@ -1,5 +1,6 @@
 -- What laws about all histories say.
-use Rattle.std.specs.Prelude.{ℕ, Bool, true, false, not, List, [], ◌∷◌, ◌≡◌, ◌≢◌, ◌==◌, ◌+◌, ◌&&◌, ◌⊎◌, All, is_none, if◌then◌else◌}
+use Rattle.std.specs.Prelude.{ℕ, Bool, true, false, not, List, [], ◌∷◌, ◌≡◌, ◌≢◌, ◌<◌, ◌==◌, ◌+◌, ◌&&◌, ◌⊎◌, All, length, is_none, if◌then◌else◌}
+use Rattle.std.specs.List.{AllByRecursion}
 use Rattle.std.specs.declared.option.Option.{Option}
 use Rattle.std.specs.declared.option.Option.TheVariants.{None, Some}
 use Rattle.schedule_rules.specs.declared.line.Answer.{Answer}
@@ -18,10 +19,11 @@ use Rattle.phase_seq.specs.Phases.{registered, registration_refused, flags_refus
 use Rattle.schedule_rules.specs.declared.plan.Call.{Call}
 use Rattle.schedule_rules.specs.declared.step.Want.TheVariants.{Calls, Turns}
 use Rattle.schedule_rules.specs.Kinds.{cell_at, is_parking}
-use Rattle.schedule_rules.specs.Changes.{is_declined}
+use Rattle.schedule_rules.specs.Changes.{Content, Change, Asked, is_declined}
 use Rattle.schedule_rules.specs.Phases.{Failure, phase_reached, phase_finalized, runs_generator, tries_registration}
 use Rattle.schedule_rules.specs.Calls.{Reads, rule, asks, initializes}
-use Rattle.schedule_rules.specs.History.{Event, accepts, count}
+use Rattle.schedule_rules.specs.Deeds.{Deed, Opens, EndsToRead, EndsToWrite, Visits}
+use Rattle.schedule_rules.specs.History.{Event, accepts, deed_of, before, count}
 use Rattle.schedule_rules.specs.Sections.{Section, innermost, is_turn, runs, sections}
 use Rattle.schedule_rules.specs.Guards.{Guard, numbered, guards}
 use Rattle.schedule_rules.specs.Replay.{replay, phase_at}
@@ -82,6 +84,28 @@ pub record IsFailedRun (cells : List CellPlan) (h : List Event) (e : Event) (c :
   pub value_stays : (replay cells c (e ∷ h)).value ≡ (replay cells c h).value
   pub fails : phase_at cells c (e ∷ h) ≡ phase_reached (cell_at cells c) section.is_open (phase_at cells c h) Failure
   pub others_stay : (d : ℕ) → c ≢ d → replay cells d (e ∷ h) ≡ replay cells d h
+
+-- ---- what is open
+
+-- the numbers of the guards fall, from below n
+abbrev pub NumbersBelow : ℕ → List Guard → Type 0
+NumbersBelow n [] = Unit {0}
+NumbersBelow n (x ∷ gs) = (x.number < n) × NumbersBelow x.number gs
+
+module _ (cells : List CellPlan) (h : List Event) where
+  -- the section was opened before now, and nothing of its cell was given back since: this is still published there
+  abbrev pub SteadySection : Content → Section → Type 0
+  SteadySection y s = (s.start < length h) × (replay cells s.cell (before s.start h) ≡ y)
+
+  -- so was the section of a guard that writes
+  abbrev pub SteadyGuard : Content → Guard → Type 0
+  SteadyGuard y x = x.writes ≡ true → (x.start < length h) × (replay cells x.cell (before x.start h) ≡ y)
+
+  -- and the guards were opened before now, each after those behind it
+  pub record IsSteady : Type 0 where
+    pub numbers : NumbersBelow (length h) (guards h)
+    pub sections : AllByRecursion (λ s. SteadySection (replay cells s.cell h) s) (sections h)
+    pub guards : AllByRecursion (λ x. SteadyGuard (replay cells x.cell h) x) (guards h)
 
 -- the answer says that a call waits
 abbrev pub is_waiting : Answer → Bool
@@ -161,17 +185,17 @@ module _ (cells : List CellPlan) where
 abbrev pub NoneParks : List CellPlan → Type 0
 NoneParks cells = All (λ x. is_parking x.place ≡ false) cells
 
--- a generator of the cell ends by a value: a made that is not refused ends this section
-abbrev pub is_success : ℕ → Act → Answer → Option Section → Bool
-is_success c (act.Made v) (answer.Refused r) s = false
-is_success c (act.Made v) a (Some s) = s.cell == c
-is_success c _ a s = false
+-- a generator of the cell ends by a value, where its party is in this section
+abbrev pub is_success : ℕ → Deed → Option Section → Bool
+is_success c (EndsToRead v) (Some s) = s.cell == c
+is_success c (EndsToWrite v) (Some s) = s.cell == c
+is_success c _ s = false
 
 -- how many generators of the cell ended by a value
 abbrev pub successes : ℕ → List Event → ℕ
 successes c [] = 0
 successes c (e ∷ h) =
-    if is_success c e.step.act e.line.answer (innermost e.step.party (sections h)) then successes c h + 1 else successes c h
+    if is_success c (deed_of h e.step e.line.answer) (innermost e.step.party (sections h)) then successes c h + 1 else successes c h
 
 -- ---- registration
 
@@ -183,11 +207,20 @@ module _ (cells : List CellPlan) where
       (a.cell == c)
       && (asks (cell_at cells a.cell) a.want (phase_at cells a.cell h) && tries_registration (cell_at cells a.cell) (phase_at cells a.cell h))
 
-  -- the step with this answer tries to register the cell: it begins such a run, or its call is declined
+  -- what happens in a section at once tries to register the cell: its call is asked for a run
+  abbrev pub visit_registers : ℕ → List Event → ℕ → List Change → Bool
+  visit_registers c h d (Asked o k ∷ chs) = asks_registration c h (Some (record { cell = d; want = Calls k }))
+  visit_registers c h d _ = false
+
+  -- the deed tries to register the cell: it begins such a run, or its call is declined
+  abbrev pub deed_registers : ℕ → List Event → Deed → Bool
+  deed_registers c h (Opens d (Calls k) taken) = asks_registration c h (Some (record { cell = d; want = Calls k }))
+  deed_registers c h (Visits d chs) = visit_registers c h d chs
+  deed_registers c h _ = false
+
+  -- the step with this answer does
   abbrev pub tries_to_register : ℕ → List Event → Step → Answer → Bool
-  tries_to_register c h s answer.Running = asks_registration c h (attempt cells h s)
-  tries_to_register c h s (answer.Access p) = asks_registration c h (attempt cells h s)
-  tries_to_register c h s _ = false
+  tries_to_register c h s r = deed_registers c h (deed_of h s r)
 
   -- how many steps tried to register the cell
   abbrev pub registrations : ℕ → List Event → ℕ

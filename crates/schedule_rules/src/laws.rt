@@ -31,6 +31,7 @@ ghost use Rattle.schedule_rules.specs.Laws.{
   KeepsValues,
   IsTurnedAway,
   IsFailedRun,
+  IsSteady,
   is_waiting,
   is_borrowed,
   is_failed,
@@ -142,6 +143,11 @@ pub fn records_bar_what_rules_bar()
         is_barred (Some Writes) (holding_with c h ws) ≡ bars_write (core_with cells c h ws) }
     ensures kept { (cells : List CellPlan) (h : List Event) (p : ℕ) (a : Attempt) (ws : List Wait) (chosen : Bool) →
         keeps_own cells h p a ≡ true → is_waiting (due_attempt cells h p a ws chosen) ≡ false }
+{}
+
+/// What is open was opened before now, and nothing of its cell was given back since. The latest guard stands first.
+pub fn open_things_are_steady()
+    ensures { (cells : List CellPlan) (h : List Event) → IsLegal cells h → IsSteady cells h }
 {}
 
 /// INITIALIZED is never cleared.

@@ -15,10 +15,11 @@ pub use laws::{
     access_changes_no_value, closed_registries_stay, failed_runs_keep_the_value,
     finalizers_mark_initialized_cells, generators_succeed_once, holds_exclude_each_other,
     initialized_phases_change_by_finalizers, initialized_stays, no_turn_is_busy,
-    one_transcript_is_legal, phase_calls_run_nothing, phases_tell_registration,
-    records_bar_what_rules_bar, refused_steps_change_nothing, registered_cells_have_one_turn,
-    registration_is_tried_once, steps_run_exactly_where_asked, steps_wait_exactly_where_barred,
-    turned_back_calls_change_nothing, turns_finalize_what_is_there, without_retry_one_run,
+    one_transcript_is_legal, open_things_are_steady, phase_calls_run_nothing,
+    phases_tell_registration, records_bar_what_rules_bar, refused_steps_change_nothing,
+    registered_cells_have_one_turn, registration_is_tried_once, steps_run_exactly_where_asked,
+    steps_wait_exactly_where_barred, turned_back_calls_change_nothing,
+    turns_finalize_what_is_there, without_retry_one_run,
 };
 pub use line::{Answer, Line, Refusal};
 pub use phase_locker::{Given, How};
