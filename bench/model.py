@@ -4,48 +4,84 @@ It shares nothing with the proved code. bench/compare runs both on random schedu
 """
 
 import random
+from collections import OrderedDict, namedtuple
 
-EMPTY, INITIALIZED, FAILED = 0, 1, 6
-PHASES = {
-    EMPTY: "Phase (not initialized)",
-    INITIALIZED: "Phase (Initialized)",
-    FAILED: "Phase (Initialization panicked | Initialization skiped)",
-}
+FLAGS = (
+    "Initialized",
+    "Initialization panicked",
+    "Initialization skiped",
+    "Registered",
+    "Registration panicked",
+    "Registration refused",
+    "Finalized",
+    "Finalization panicked",
+)
+EMPTY = 0
+INITIALIZED, PANICKED, SKIPED, REGISTERED, _, REFUSED, FINALIZED, FINALIZATION_PANICKED = (1 << n for n in range(8))
+FAILED = PANICKED | SKIPED
+PHASES = [
+    f"Phase ({' | '.join(name for n, name in enumerate(FLAGS) if phase >> n & 1) or 'not initialized'})"
+    for phase in range(256)
+]
 MOST_READERS = 2**20 - 1
+
+# What the plan says of a cell: whether the exit finalizes it, whether its calls park, whether its generator runs once, and
+# whether it also runs where registration is refused.
+Plan = namedtuple("Plan", "finalized parks once leak")
+
+# A section that runs: its cell, what the party is in it for, and the phase that its generator adds the outcome to.
+Section = namedtuple("Section", "cell call base")
 
 
 class Cell:
-    def __init__(self, parks, once):
-        self.parks, self.once = parks, once
+    def __init__(self, plan):
+        self.plan = plan
         self.phase, self.value = EMPTY, None
         self.guards = 0  # open read guards
         self.runner = None  # the party whose generator runs
+        self.finalizer = None  # the party whose finalizer runs
         self.writer = None  # the open write guard
         self.shares = {}  # party -> "read" or "write": locks given to parked calls that made no step since
-        self.parked = []  # parties with the nature to which they are woken, in order of parking
+        self.shared = {"read": 0, "write": 0}  # how many shares there are of each nature
+        self.parked = {"read": OrderedDict(), "write": OrderedDict()}  # by the nature they are woken to, in order of parking
 
     def wants_run(self):
-        return self.phase == EMPTY if self.once else self.phase != INITIALIZED
+        return self.phase == EMPTY if self.plan.once else not self.phase & INITIALIZED
 
     def readers(self):
-        return self.guards + sum(nature == "read" for nature in self.shares.values())
+        return self.guards + self.shared["read"]
 
     def is_held_to_write(self):
-        return self.runner is not None or self.writer is not None or "write" in self.shares.values()
+        holders = (self.runner, self.finalizer, self.writer)
+        return any(holder is not None for holder in holders) or self.shared["write"] > 0
+
+    def share(self, party, nature):
+        self.shares[party] = nature
+        self.shared[nature] += 1
+
+    def leave(self, party):
+        """The party is parked no longer, and has no share. Answers the share that it had."""
+        share = self.shares.pop(party, None)
+        if share is not None:
+            self.shared[share] -= 1
+        for parked in self.parked.values():
+            parked.pop(party, None)
+        return share
 
     def hand_over(self):
         """Gives the cell to parked calls where nothing holds it: to all readers where there is one, else to the first writer."""
         if self.readers() or self.is_held_to_write():
             return ""
-        readers = [party for party, nature in self.parked if nature == "read"]
+        readers, writers = self.parked["read"], self.parked["write"]
         if readers:
-            self.shares.update((party, "read") for party in readers)
-            self.parked = [(party, nature) for party, nature in self.parked if nature != "read"]
+            for party in readers:
+                self.share(party, "read")
+            readers.clear()
             return " gives readers"
-        if not self.parked:
+        if not writers:
             return ""
-        party, _ = self.parked.pop(0)
-        self.shares[party] = "write"
+        party, _ = writers.popitem(last=False)
+        self.share(party, "write")
         return f" gives writer {party}"
 
 
@@ -59,10 +95,15 @@ class Model:
     """Cells that park or spin. On a parking cell each barred call parks, and a downgrade gives nothing."""
 
     def __init__(self, parties, plan):
-        self.cells = [Cell(parks, once) for parks, once in plan]
-        self.waiting = [None] * parties  # the call that waits
+        self.cells = [Cell(cell) for cell in plan]
+        self.waiting = [None] * parties  # the call that waits, or the turn
         self.running = [[] for _ in range(parties)]  # the sections that run, innermost last
         self.guards = {}
+        self.owner = None  # the party of the first exit
+        self.registered = []  # the cells registered since the last look
+        self.round = []  # the cells of the last look that had no turn yet, the next one first
+        self.is_closed = False
+        self.exits = []  # the turns that ended
         self.steps = 0
 
     def step(self, party, act, *args):
@@ -82,8 +123,16 @@ class Model:
                 return "refused 5 NoGuard"
             if act in ("set", "downgrade") and not guard.writes:
                 return "refused 6 NotWriter"
-        if act in ("made", "made_failed") and not self.running[party]:
-            return "refused 7 NoSection"
+        if act in ("made", "made_failed", "finished", "finish_failed"):
+            if not self.running[party]:
+                return "refused 7 NoSection"
+            if (self.running[party][-1].call == "turn") != (act in ("finished", "finish_failed")):
+                return "refused 8 NoOutcome"
+        if act == "exit":
+            if self.is_closed or self.owner not in (None, party):
+                return "refused 10 ExitBegun"
+            if self.running[party]:
+                return "refused 11 Inside"
         return None
 
     def answer(self, party, act, args):
@@ -93,6 +142,10 @@ class Model:
             return self.call(party, act, args[0])
         if act in ("made", "made_failed"):
             return self.outcome(party, args)
+        if act in ("finished", "finish_failed"):
+            return self.end_turn(party, act == "finished")
+        if act == "exit":
+            return self.exit(party)
         return self.use(party, act, args)
 
     def use(self, party, act, args):
@@ -114,17 +167,35 @@ class Model:
             return self.read_guard(party, guard.cell)
         return "done" + cell.hand_over()
 
+    def exit(self, party):
+        """The turn of the next cell of the round, or, where none is left, a look: it takes the cells registered since the
+        last one, the latest first, and closes registration where there is none."""
+        self.owner = party
+        if self.round:
+            return self.call(party, "turn", self.round.pop(0))
+        self.round, self.registered = self.registered[::-1], []
+        if self.round:
+            return f"round {len(self.round)}"
+        self.is_closed = True
+        return "closed"
+
+    def nature(self, cell, call):
+        """The lock that the call wants, judged at the published phase."""
+        if call == "phase":
+            return None
+        if call == "turn":
+            return "write" if cell.phase & INITIALIZED else None
+        return "write" if call == "write" or cell.wants_run() else "read"
+
     def call(self, party, call, number):
         cell = self.cells[number]
-        writes = call == "write" or cell.wants_run()
-        nature = None if call == "phase" else "write" if writes else "read"
+        nature = self.nature(cell, call)
         self.waiting[party] = None
-        share = cell.shares.pop(party, None)
-        cell.parked = [(other, woken) for other, woken in cell.parked if other != party]
+        share = cell.leave(party)
         given = ""
         if share is None or share != nature:
             given = cell.hand_over() if share is not None else ""
-            if call != "phase" and cell.runner == party:
+            if call in ("read", "write") and cell.runner == party:
                 return "cyclic"
             if self.bars(cell, nature):
                 return self.wait(party, call, number) + given
@@ -140,36 +211,69 @@ class Model:
     def wait(self, party, call, number):
         cell = self.cells[number]
         self.waiting[party] = (call, number)
-        if not cell.parks:
+        if not cell.plan.parks:
             return "waiting spin"
-        cell.parked.append((party, call))
-        return f"waiting {call}"
+        woken = "read" if call == "read" else "write"
+        cell.parked[woken][party] = None
+        return f"waiting {woken}"
 
     def admit(self, party, call, number, nature):
         cell = self.cells[number]
-        if nature is None:
+        if call == "phase":
             return "phase " + PHASES[cell.phase]
+        if call == "turn":
+            return self.begin_turn(party, number, nature)
         if nature == "write" and cell.wants_run():
-            cell.runner = party
-            self.running[party].append((number, call))
-            return "running"
-        if cell.phase != INITIALIZED:
+            return self.run(party, call, number)
+        if not cell.phase & INITIALIZED:
             return "access " + PHASES[cell.phase] + cell.hand_over()
         if nature == "read":
             return self.read_guard(party, number)
         return self.write_guard(party, number, cell.phase, cell.value)
 
-    def outcome(self, party, args):
-        number, call = self.running[party].pop()
+    def run(self, party, call, number):
+        """A run that is asked for, of a cell that nobody else holds. A cell that is to be finalized is registered first,
+        once; where that is refused its generator runs only if it puts up with the leak."""
         cell = self.cells[number]
+        base = cell.phase & ~(INITIALIZED | FAILED)
+        if cell.plan.finalized and cell.phase == EMPTY:
+            base = REFUSED if self.is_closed else REGISTERED
+            if not self.is_closed:
+                self.registered.append(number)
+        if cell.plan.finalized and not base & REGISTERED and not cell.plan.leak:
+            cell.phase = REFUSED | SKIPED
+            return "access " + PHASES[cell.phase] + cell.hand_over()
+        cell.runner = party
+        self.running[party].append(Section(number, call, base))
+        return "running"
+
+    def outcome(self, party, args):
+        section = self.running[party].pop()
+        cell = self.cells[section.cell]
         cell.runner = None
         if not args:
-            cell.phase = FAILED
+            cell.phase = section.base | FAILED
             return "failed" + cell.hand_over()
-        if call == "write":
-            return self.write_guard(party, number, INITIALIZED, args[0])
-        cell.phase, cell.value = INITIALIZED, args[0]
-        return self.read_guard(party, number)
+        if section.call == "write":
+            return self.write_guard(party, section.cell, section.base | INITIALIZED, args[0])
+        cell.phase, cell.value = section.base | INITIALIZED, args[0]
+        return self.read_guard(party, section.cell)
+
+    def begin_turn(self, party, number, nature):
+        if nature is None:
+            self.exits.append((number, "skipped"))
+            return f"skipped {number}"
+        self.cells[number].finalizer = party
+        self.running[party].append(Section(number, "turn", None))
+        return f"finalizing {number}"
+
+    def end_turn(self, party, succeeds):
+        number = self.running[party].pop().cell
+        cell = self.cells[number]
+        cell.finalizer = None
+        cell.phase |= FINALIZED if succeeds else FINALIZATION_PANICKED
+        self.exits.append((number, "done" if succeeds else "failed"))
+        return "phase " + PHASES[cell.phase] + cell.hand_over()
 
     def read_guard(self, party, number):
         self.cells[number].guards += 1
@@ -181,36 +285,50 @@ class Model:
         self.guards[self.steps] = Guard(party, number, True, phase, value)
         return "write-guard"
 
-    def finals(self):
+    def ends(self):
+        """The lines behind those of the steps."""
         for number, cell in enumerate(self.cells):
             value = "none" if cell.value is None else cell.value
             yield f"cell {number} {PHASES[cell.phase]} {value}"
+        for number, turn in self.exits:
+            yield f"exit {number} {turn}"
 
 
 class Player:
-    """Chooses steps that mostly do something, with some that are refused or wait."""
+    """Chooses steps that mostly do something, with some that are refused or wait. Where cells are to be finalized one
+    party exits, from some step on, and all are quicker to give back what they hold."""
 
-    def __init__(self, parties, cells, seed, greatest, parking, once):
+    def __init__(self, parties, cells, steps, seed, greatest, parking, once, finalized, leak):
         self.random = random.Random(seed)
-        self.plan = [(self.random.random() < parking, self.random.random() < once) for _ in range(cells)]
+        draw = self.random.random
+        self.plan = [Plan(draw() < finalized, draw() < parking, draw() < once, draw() < leak) for _ in range(cells)]
         self.model = Model(parties, self.plan)
         self.parties, self.cells, self.greatest = parties, cells, greatest
         self.own = [[] for _ in range(parties)]  # the numbers of each party's guards
+        self.exiting = self.random.randrange(parties) if finalized else None
+        self.exits_from = int(steps * draw() ** 2)
+        self.care = 0.95 if finalized else 0.75  # how often a party goes on with what it holds
 
     def choose(self, party):
         draw = self.random.random
         model, number = self.model, self.random.randrange
         if draw() < 0.03:
             return self.random.choice(
-                [("again",), ("made", 1), ("made_failed",)]
+                [("again",), ("made", 1), ("made_failed",), ("finished",), ("finish_failed",)]
                 + [(act, number(model.steps + 1)) for act in ("look", "release", "downgrade", "clone")]
                 + [("set", number(model.steps + 1), 7)]
+                + [("exit",)] * (3 if model.owner is not None else 0)
             )
         if model.waiting[party] is not None:
             return ("again",)
-        if model.running[party] and draw() < 0.7:
-            return ("made_failed",) if draw() < 0.15 else ("made", number(self.greatest))
-        if self.own[party] and draw() < 0.75:
+        if party == self.exiting and self.is_exit_time(party):
+            return ("exit",)
+        if model.running[party] and draw() < self.care - 0.05:
+            fails = draw() < 0.15
+            if model.running[party][-1].call == "turn":
+                return ("finish_failed",) if fails else ("finished",)
+            return ("made_failed",) if fails else ("made", number(self.greatest))
+        if self.own[party] and draw() < self.care:
             guard = self.random.choice(self.own[party])
             if draw() < 0.6:
                 return ("release", guard)
@@ -221,6 +339,14 @@ class Player:
             return ("downgrade", guard) if draw() < 0.3 else ("set", guard, number(self.greatest))
         call = "phase" if draw() < 0.1 else "read" if draw() < 0.6 else "write"
         return (call, number(self.cells))
+
+    def is_exit_time(self, party):
+        """Whether the party that exits does so now: rarely inside a section, where it is refused, and rarely beside guards of
+        its own, which may bar a turn for good."""
+        model = self.model
+        if model.steps < self.exits_from or model.is_closed:
+            return False
+        return self.random.random() < (0.02 if self.own[party] or model.running[party] else 0.5)
 
     def step(self):
         party = self.random.randrange(self.parties)
@@ -233,17 +359,32 @@ class Player:
         return f"{party} {' '.join(map(str, act))}", answer
 
 
-def schedule(parties, cells, steps, seed, greatest=10**6, parking=0.0, once=0.0):
-    """The text of a random schedule, and the text of its transcript. These shares of its cells park, and have no retry."""
-    player = Player(parties, cells, seed, greatest, parking, once)
-    text = ["schedule 1", f"parties {parties}"]
-    text += [f"cell LockedLazy {'park' if parks else 'spin'}{' once' if once else ''}" for parks, once in player.plan]
-    text.append("steps")
+def cell_line(plan):
+    kind = "LockedLazyFinalize" if plan.finalized else "LockedLazy"
+    place = "park" if plan.parks else "spin"
+    return f"cell {kind} {place}{' once' if plan.once else ''}{' leak' if plan.leak else ''}"
+
+
+def schedule(parties, cells, steps, seed, greatest=10**6, parking=0.0, once=0.0, finalized=0.0, leak=0.0):
+    """The text of a random schedule, and the text of its transcript. These shares of its cells park, have no retry, are
+    registered for the exit, and put up with a leak."""
+    player = Player(parties, cells, steps, seed, greatest, parking, once, finalized, leak)
+    text = ["schedule 1", f"parties {parties}"] + [cell_line(plan) for plan in player.plan] + ["steps"]
     lines = ["transcript 1"]
     for n in range(steps):
         step, answer = player.step()
         text.append(step)
         lines.append(f"{n} {answer}")
     text.append("end")
-    lines += list(player.model.finals()) + ["end"]
+    lines += list(player.model.ends()) + ["end"]
+    return "\n".join(text) + "\n", "\n".join(lines) + "\n"
+
+
+def crowd(parties):
+    """The text of a schedule in which these parties park as readers beside a run, and then each step once, and the text of
+    its transcript: each waits, leaves its place in the list, and waits again."""
+    calls = [f"{party} {act}" for act in ("read 0", "again") for party in range(1, parties + 1)]
+    text = ["schedule 1", f"parties {parties + 1}", "cell LockedLazy park", "steps", "0 write 0"] + calls + ["end"]
+    waits = [f"{n} waiting read" for n in range(1, 2 * parties + 1)]
+    lines = ["transcript 1", "0 running"] + waits + [f"cell 0 {PHASES[EMPTY]} none", "end"]
     return "\n".join(text) + "\n", "\n".join(lines) + "\n"

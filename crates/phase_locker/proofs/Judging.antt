@@ -14,7 +14,7 @@ use Rattle.phase_locker.specs.declared.ways.How.{How}
 use Rattle.phase_locker.specs.declared.ways.How.TheVariants.{Spin, ParkedRead, ParkedWrite, Drain}
 use Rattle.phase_locker.specs.declared.ways.Who.{Who}
 use Rattle.phase_locker.specs.Natures.{bars, admitted}
-use Rattle.phase_locker.specs.Fits.{Fits, KeepsFit, NobodyParked, is_park, flagged}
+use Rattle.phase_locker.specs.Fits.{Fits, KeepsFit, NobodyParked, ParkedOnPark, is_park, flagged}
 use Rattle.phase_locker.specs.Attempts.{ParksBy, Judged, MayWait, rows_waiting, held_waiting}
 use Rattle.phase_locker.proofs.Counts.{count-set, drain_is, free_is}
 use Rattle.phase_locker.proofs.Holding.{Fits-flagged, holds_of, Holds}
@@ -149,3 +149,16 @@ parked_way k wake Spin fresh n h may = (may, refl)
 parked_way k wake ParkedRead fresh n h may = (may, refl)
 parked_way k wake ParkedWrite fresh n h may = (may, refl)
 parked_way k wake Drain fresh n h may = absurd may
+
+-- ---- where calls do not park
+
+-- the waiter flags of a cell at which nobody is parked
+pub unparked_flags : (c : ℕ) (s : Rows) (h : Holders) → NobodyParked s c → record h { read_waiters = false; write_waiters = false } ≡ flagged c s h
+unparked_flags c s h none = rw (none.0, none.1) refl
+
+-- a call that waits where calls do not park is not parked
+pub waits_unparked : (how : How) (k : LockerKind) (wake : LockNature) (w : Who) (s : Rows) → ParksBy k wake how → ParkedOnPark k s w.cell → ParkedOnPark k (rows_waiting how w s) w.cell
+waits_unparked Spin k wake w s may parked = parked
+waits_unparked ParkedRead k wake w s may parked = λ e. let park = may.0 in absurd (cc)
+waits_unparked ParkedWrite k wake w s may parked = λ e. let park = may.0 in absurd (cc)
+waits_unparked Drain k wake w s may parked = absurd may

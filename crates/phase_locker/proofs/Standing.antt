@@ -3,6 +3,7 @@ use Rattle.std.proofs.Common.{inl, inr, ◌≡◌, ℕ, ◌+◌, ◌-◌, ◌<�
 use Rattle.std.proofs.lemmas.List.{get_or-set_same}
 use Rattle.phase_bits.specs.declared.holders.Holders.{Holders}
 use Rattle.phase_bits.specs.declared.phase.Phase.{Phase}
+use Rattle.phase_bits.specs.Number.{IsKnown}
 use Rattle.phase_bits.specs.Records.{leave_read, leave_write, downgrade}
 use Rattle.phase_locker.specs.declared.ways.Waiting.{Waiting}
 use Rattle.phase_locker.specs.declared.ways.Waiting.TheVariants as way
@@ -45,21 +46,21 @@ waiting_reads ParkedWrite w h s inside free = ap (λ n. h.readers - n) (same_row
 waiting_reads Drain w h s inside free = ap (λ n. h.readers - n) (same_row (shares_at w.cell) s.rows w.party (record { waiting = way.Drain; cell = w.cell }) inside (free_is w.cell _ free).0 refl)
 
 -- an admitted call
-pub admitted_open : (n : LockNature) (k : LockerKind) (c : ℕ) (h : Holders) (s : Rows) → Fits k h s c → bars h n ≡ false → IsOpen (got n h.phase) (flagged c s (admitted h n)) s c
-admitted_open nature.Read k c h s fits free = omega (arith, fits.shared)
-admitted_open nature.Write k c h s fits free = record { locked = refl; unclaimed = fits.locked (unheld h free).0 }
-admitted_open nature.None k c h s fits free = tt
+pub admitted_open : (n : LockNature) (k : LockerKind) (c : ℕ) (h : Holders) (s : Rows) → Fits k h s c → IsKnown h.phase → bars h n ≡ false → IsOpen (got n h.phase) (flagged c s (admitted h n)) s c
+admitted_open nature.Read k c h s fits known free = omega (arith, fits.shared)
+admitted_open nature.Write k c h s fits known free = record { locked = refl; unclaimed = fits.locked (unheld h free).0 }
+admitted_open nature.None k c h s fits known free = known
 
 pub admitted_reads : (n : LockNature) (k : LockerKind) (c : ℕ) (h : Holders) (s : Rows) → Fits k h s c → open_reads (admitted h n) s c ≡ open_reads h s c + reads_got (got n h.phase)
 admitted_reads nature.Read k c h s fits = omega (arith, fits.shared)
 admitted_reads nature.Write k c h s fits = omega arith
 admitted_reads nature.None k c h s fits = omega arith
 
-pub judged_stands : (k : LockerKind) (fresh : Bool) (w : Who) (wake n : LockNature) (h : Holders) (s : Rows) (a : Attempt) (h' : Holders) (s' : Rows) → w.party < length s.rows → (row_of s w.party).waiting ≡ way.Free → Fits k h s w.cell → Judged k fresh w wake n h s a h' s' → Stands w a h' s'
-judged_stands k fresh w wake n h s a h' s' inside free fits judged =
+pub judged_stands : (k : LockerKind) (fresh : Bool) (w : Who) (wake n : LockNature) (h : Holders) (s : Rows) (a : Attempt) (h' : Holders) (s' : Rows) → w.party < length s.rows → (row_of s w.party).waiting ≡ way.Free → Fits k h s w.cell → IsKnown h.phase → Judged k fresh w wake n h s a h' s' → Stands w a h' s'
+judged_stands k fresh w wake n h s a h' s' inside free fits known judged =
     elim (by_bool (bars h n) judged) as (λ x. Stands w a h' s') [
       | inl j ↦ rw (j.1.answer, j.1.rows) (waiting_here j.1.how w s inside)
-      | inr j ↦ rw (j.1.answer, j.1.held, j.1.rows) (free, admitted_open n k w.cell h s fits j.0)
+      | inr j ↦ rw (j.1.answer, j.1.held, j.1.rows) (free, admitted_open n k w.cell h s fits known j.0)
     ]
 
 pub judged_reads : (k : LockerKind) (fresh : Bool) (w : Who) (wake n : LockNature) (h : Holders) (s : Rows) (a : Attempt) (h' : Holders) (s' : Rows) → w.party < length s.rows → (row_of s w.party).waiting ≡ way.Free → Fits k h s w.cell → Judged k fresh w wake n h s a h' s' → open_reads h' s' w.cell ≡ open_reads h s w.cell + reads_opened a
@@ -221,8 +222,8 @@ between k k₁ w h h₁ s s₁ g h₂ s₂ inside party here sound fits ek eh es
       writes = λ held. hands_writes g w.cell h₁ s₁ h₂ s₂ hands (rw (eh, es, here) (left_writes (row_of s w.party).waiting k h s w.cell w.party party (rw (sym here) refl) fits held));
     }
 
-pub again_stands : (k : LockerKind) (fresh : Bool) (w : Who) (wake n : LockNature) (h : Holders) (s : Rows) (h₂ : Holders) (s₂ : Rows) (a : Attempt) (h₃ : Holders) (s₃ : Rows) → Between k w h s h₂ s₂ → Judged k fresh w wake n h₂ s₂ a h₃ s₃ → Stands w a h₃ s₃
-again_stands k fresh w wake n h s h₂ s₂ a h₃ s₃ b judged = judged_stands k fresh w wake n h₂ s₂ a h₃ s₃ b.party b.free b.fits judged
+pub again_stands : (k : LockerKind) (fresh : Bool) (w : Who) (wake n : LockNature) (h : Holders) (s : Rows) (h₂ : Holders) (s₂ : Rows) (a : Attempt) (h₃ : Holders) (s₃ : Rows) → Between k w h s h₂ s₂ → IsKnown h₂.phase → Judged k fresh w wake n h₂ s₂ a h₃ s₃ → Stands w a h₃ s₃
+again_stands k fresh w wake n h s h₂ s₂ a h₃ s₃ b known judged = judged_stands k fresh w wake n h₂ s₂ a h₃ s₃ b.party b.free b.fits known judged
 
 pub again_reads : (k : LockerKind) (fresh : Bool) (w : Who) (wake n : LockNature) (h : Holders) (s : Rows) (h₂ : Holders) (s₂ : Rows) (a : Attempt) (h₃ : Holders) (s₃ : Rows) → Between k w h s h₂ s₂ → Judged k fresh w wake n h₂ s₂ a h₃ s₃ → open_reads h₃ s₃ w.cell ≡ open_reads h s w.cell + reads_opened a
 again_reads k fresh w wake n h s h₂ s₂ a h₃ s₃ b judged = judged_reads k fresh w wake n h₂ s₂ a h₃ s₃ b.party b.free b.fits judged ∙ ap (λ m. m + reads_opened a) b.reads

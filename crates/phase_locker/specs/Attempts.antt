@@ -111,3 +111,17 @@ pub record Again (post : Phase → LockNature → Type 0) (k : LockerKind) (w : 
   pub nature : LockNature
   pub allowed : post h.phase nature
   pub steps : MatchBool (keeps (row_of s w.party).waiting nature h) (Keeps w nature h s r h' s') (GivesUp k w wake nature h s r h' s')
+
+-- ---- what a locker chooses
+
+-- no call drains
+abbrev pub NeverDrains : How → Type 0
+NeverDrains Spin = Unit {0}
+NeverDrains ParkedRead = Unit {0}
+NeverDrains ParkedWrite = Unit {0}
+NeverDrains Drain = ⊥
+
+-- a call that waits does it in one of these ways
+abbrev pub WaitsBy : (How → Type 0) → Attempt → Type 0
+WaitsBy ways (Got r) = Unit {0}
+WaitsBy ways (Wait how) = ways how

@@ -11,15 +11,13 @@ is_park Park = true
 is_park Spin = false
 is_park Own = false
 
--- the kinds on which parties share a cell
-abbrev pub is_shared : LockerKind → Bool
-is_shared Park = true
-is_shared Spin = true
-is_shared Own = false
-
 -- nobody is parked at this cell
 abbrev pub NobodyParked : Rows → ℕ → Type 0
 NobodyParked s c = (is_empty (readers_of s c) ≡ true) × (is_empty (writers_of s c) ≡ true)
+
+-- calls are parked only on a kind that parks
+abbrev pub ParkedOnPark : LockerKind → Rows → ℕ → Type 0
+ParkedOnPark k s c = is_park k ≡ false → NobodyParked s c
 
 -- the record of a cell and the rows go together:
 -- the waiter flags say that the lists are not empty;

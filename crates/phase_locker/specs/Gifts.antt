@@ -1,12 +1,12 @@
 -- What is given to the parked calls of a cell, and what record and rows then are.
-use Rattle.std.specs.Prelude.{◌≡◌, ℕ, false, length}
+use Rattle.std.specs.Prelude.{◌≡◌, ℕ, true, false, length, Some}
 use Rattle.phase_bits.specs.declared.phase.Phase.{Phase}
 use Rattle.phase_bits.specs.declared.holders.Holders.{Holders}
 use Rattle.phase_bits.specs.Records.{downgrade, give_writer, give_readers}
 use Rattle.phase_locker.specs.declared.ways.Given.{Given}
 use Rattle.phase_locker.specs.declared.ways.Given.TheVariants.{Nobody, Writer, Readers}
 use Rattle.phase_locker.specs.declared.ways.Waiting.TheVariants.{Free}
-use Rattle.phase_locker.specs.Rows.{Rows, row_of, readers_of, writers_of, is_empty, occurs, rows_to_readers, rows_to_writer}
+use Rattle.phase_locker.specs.Rows.{Rows, row_of, readers_of, writers_of, is_empty, first_of, occurs, rows_to_readers, rows_to_writer}
 use Rattle.phase_locker.specs.Fits.{flagged, IsIdle, NobodyParked}
 
 -- this may be given: the lock to a parked writer, or to the parked readers, where no hold, share or claim is left
@@ -55,3 +55,15 @@ pub record Downgrades (c : ℕ) (q : Phase) (h : Holders) (s : Rows) (g : Given)
 -- a party that does not wait is given nothing
 abbrev pub StayFree : Rows → Rows → Type 0
 StayFree old new = (p : ℕ) → (row_of old p).waiting ≡ Free → (row_of new p).waiting ≡ Free
+
+-- ---- what a locker chooses
+
+-- the parked readers come first, else the writer that has been parked for longest
+abbrev pub ReadersFirst : ℕ → Rows → Given → Type 0
+ReadersFirst c s Nobody = Unit {0}
+ReadersFirst c s (Writer p) = (is_empty (readers_of s c) ≡ true) × (first_of (writers_of s c) ≡ Some p)
+ReadersFirst c s Readers = Unit {0}
+
+-- nothing is given
+abbrev pub GivesNothing : ℕ → Rows → Given → Type 0
+GivesNothing c s g = g ≡ Nobody

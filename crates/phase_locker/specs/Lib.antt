@@ -1,8 +1,10 @@
 pub mod Natures
 pub mod Rows
-pub mod Order
+pub mod Links
 pub mod Fits
 pub mod Gifts
 pub mod Attempts
 pub mod Others
 pub mod Stands
+pub mod Owned
+pub mod Left

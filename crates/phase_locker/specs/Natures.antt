@@ -45,9 +45,11 @@ got Read p = GotRead read_ticket
 got Write p = GotWrite write_ticket
 got None p = GotNone p
 
--- a call that does not wait: it gets nothing exactly where the nature that its rule gives is barred
+-- a call that does not wait: it gets nothing exactly where the nature that its rule gives is barred. A phase that it gets
+-- has no bit above the eight flags
 pub record Tries (post : Phase → LockNature → Type 0) (h : Holders) (result : Option (LockResult ReadTicket WriteTicket)) (h' : Holders) : Type 0 where
   pub nature : LockNature
   pub allowed : post h.phase nature
   pub answer : result ≡ (if bars h nature then Nothing else Some (got nature h.phase))
   pub held : h' ≡ (if bars h nature then h else admitted h nature)
+  pub known : IsKnown h.phase

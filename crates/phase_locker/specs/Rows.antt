@@ -1,5 +1,5 @@
 -- The rows of the parties, the lists of the parked parties of each cell, and how they change.
-use Rattle.std.specs.Prelude.{◌≡◌, ℕ, ◌+◌, ◌^◌, ◌<◌, ◌==◌, Bool, true, false, ◌&&◌, ◌||◌, not, if◌then◌else◌, List, [], ◌∷◌, ◌++◌, length, filter, count_by, slice_index_or, slice_set, replicate}
+use Rattle.std.specs.Prelude.{◌≡◌, ℕ, ◌+◌, ◌^◌, ◌<◌, ◌==◌, Bool, true, false, ◌&&◌, ◌||◌, not, if◌then◌else◌, List, [], ◌∷◌, ◌++◌, length, filter, count_by, slice_index_or, slice_set, replicate, Option, Some, None}
 use Rattle.phase_locker.specs.declared.ways.Waiting.{Waiting}
 use Rattle.phase_locker.specs.declared.ways.Waiting.TheVariants.{Free, ParkedRead, ParkedWrite, Drain, ShareRead, ShareWrite}
 use Rattle.phase_locker.specs.declared.ways.Row.{Row}
@@ -100,6 +100,11 @@ claims s c = count_by (claims_at c) s.rows
 abbrev pub is_empty : List ℕ → Bool
 is_empty [] = true
 is_empty (p ∷ ps) = false
+
+-- the first of a list
+abbrev pub first_of : List ℕ → Option ℕ
+first_of [] = None
+first_of (p ∷ ps) = Some p
 
 -- how often a party is in a list
 abbrev pub occurs : ℕ → List ℕ → ℕ

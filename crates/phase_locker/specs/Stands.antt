@@ -1,6 +1,7 @@
 -- How a party stands after its call, and which holds are open then.
-use Rattle.std.specs.Prelude.{◌≡◌, ℕ, ◌<◌}
+use Rattle.std.specs.Prelude.{◌≡◌, ◌≢◌, ℕ, ◌+◌, ◌<◌, Bool, true, false, length}
 use Rattle.phase_bits.specs.declared.holders.Holders.{Holders}
+use Rattle.phase_bits.specs.Number.{IsKnown}
 use Rattle.phase_locker.specs.declared.tickets.LockResult.{LockResult}
 use Rattle.phase_locker.specs.declared.tickets.LockResult.TheVariants.{Read, Write, None}
 use Rattle.phase_locker.specs.declared.tickets.ReadTicket.{ReadTicket}
@@ -15,11 +16,28 @@ use Rattle.phase_locker.specs.declared.ways.Waiting.TheVariants as waiting
 use Rattle.phase_locker.specs.Rows.{Rows, row_of}
 use Rattle.phase_locker.specs.Fits.{IsWriteOpen, open_reads}
 
--- the lock that was got is open
+-- ---- before the call
+
+-- cell and party are there, and the party does not wait
+pub record MayCall (w : Who) (s : Rows) : Type 0 where
+  pub cell : w.cell < length s.readers
+  pub party : w.party < length s.rows
+  pub free : (row_of s w.party).waiting ≡ waiting.Free
+
+-- cell and party are there, and the party waits at this cell
+pub record MayCallAgain (w : Who) (s : Rows) : Type 0 where
+  pub cell : w.cell < length s.readers
+  pub party : w.party < length s.rows
+  pub waits : (row_of s w.party).waiting ≢ waiting.Free
+  pub here : (row_of s w.party).cell ≡ w.cell
+
+-- ---- after the call
+
+-- the lock that was got is open; a phase that was got has no bit above the eight flags
 abbrev pub IsOpen : LockResult ReadTicket WriteTicket → Holders → Rows → ℕ → Type 0
 IsOpen (Read t) h s c = 0 < open_reads h s c
 IsOpen (Write t) h s c = IsWriteOpen h s c
-IsOpen (None p) h s c = Unit {0}
+IsOpen (None p) h s c = IsKnown p
 
 -- how the row of a party that waits so says it
 abbrev pub way_of : How → Waiting
@@ -43,3 +61,21 @@ reads_got (None p) = 0
 abbrev pub reads_opened : Attempt → ℕ
 reads_opened (Got r) = reads_got r
 reads_opened (Wait how) = 0
+
+-- what was got is the lock to write
+abbrev pub is_write : LockResult ReadTicket WriteTicket → Bool
+is_write (Read t) = false
+is_write (Write t) = true
+is_write (None p) = false
+
+-- an answer gives the lock to write
+abbrev pub opens_write : Attempt → Bool
+opens_write (Got r) = is_write r
+opens_write (Wait how) = false
+
+-- the holds of the cell that are open after a call, which opens so many read holds, and a write hold or none: those that
+-- were open before, and these
+pub record Opens (c opened : ℕ) (write : Bool) (h : Holders) (s : Rows) (h' : Holders) (s' : Rows) : Type 0 where
+  pub reads : open_reads h' s' c ≡ open_reads h s c + opened
+  pub writes : IsWriteOpen h s c → IsWriteOpen h' s' c
+  pub only : write ≡ false → IsWriteOpen h' s' c → IsWriteOpen h s c

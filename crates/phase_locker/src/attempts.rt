@@ -1,15 +1,18 @@
 //! The calls that ask for a lock.
 
 ghost use Rattle.std.specs.Prelude.{◌≡◌, ◌≢◌, ◌==◌, ◌+◌, ◌-◌, ◌<◌, ◌↔◌, IsNone, OnSome, true, false, length};
+ghost use Rattle.phase_bits.specs.Number.{IsKnown};
 ghost use Rattle.phase_bits.specs.Records.{IsValid, admit_read, most_readers};
 ghost use Rattle.phase_locker.specs.declared.ways.Waiting.TheVariants.{Free};
 ghost use Rattle.phase_locker.specs.declared.ways.Given.TheVariants.{Nobody};
 ghost use Rattle.phase_locker.specs.Natures.{MayJudge, bars, admitted, got, Tries};
 ghost use Rattle.phase_locker.specs.Rows.{row_of, freed, SameSize};
-ghost use Rattle.phase_locker.specs.Fits.{Fits, KeepsFit, IsWriteOpen, open_reads};
-ghost use Rattle.phase_locker.specs.Attempts.{ParksBy, rows_waiting, Judged, Locks, keeps, given_up, Keeps, Again};
-ghost use Rattle.phase_locker.specs.Others.{OthersStay, RowsStayBeside};
-ghost use Rattle.phase_locker.specs.Stands.{Stands, reads_opened};
+ghost use Rattle.phase_locker.specs.Fits.{Fits, KeepsFit, ParkedOnPark};
+ghost use Rattle.phase_locker.specs.Gifts.{ReadersFirst};
+ghost use Rattle.phase_locker.specs.Attempts.{ParksBy, rows_waiting, Judged, Locks, keeps, given_up, Keeps, Again, NeverDrains, WaitsBy};
+ghost use Rattle.phase_locker.specs.Others.{RowsStayBeside};
+ghost use Rattle.phase_locker.specs.Stands.{MayCall, MayCallAgain, Stands, Opens, reads_opened, opens_write};
+ghost use Rattle.phase_locker.specs.Left.{Left};
 
 use crate::gifts::{flag, hand_over};
 use crate::parks::Parks;
@@ -27,21 +30,16 @@ pub(crate) fn lock<S: Store, F: Fn(Phase) -> LockNature>(
     wake: LockNature,
     how: &F,
 ) -> (Attempt, Given)
-    requires cell { who.cell < length parks.old.readers }
-    requires party { who.party < length parks.old.rows }
-    requires free { (row_of parks.old who.party).waiting ≡ Free }
+    requires calls { MayCall who parks.old }
     requires wake { wake ≢ LockNature.None }
     requires callable { MayJudge (F.pre how.now) }
     requires fits { Fits (S.place store.old) (S.kept store.old) parks.old who.cell }
-    ensures fits { Fits (S.place store.new) (S.kept store.new) parks.new who.cell }
     ensures locks { Locks (F.post how.now) (S.place store.old) who wake (S.kept store.old) parks.old result (S.kept store.new) parks.new }
-    ensures others { OthersStay who.cell parks.old parks.new }
     ensures rows { RowsStayBeside who.party who.cell parks.old parks.new }
     ensures stands { Stands who result.0 (S.kept store.new) parks.new }
-    ensures reads { open_reads (S.kept store.new) parks.new who.cell ≡ open_reads (S.kept store.old) parks.old who.cell + reads_opened result.0 }
-    ensures writes { IsWriteOpen (S.kept store.old) parks.old who.cell → IsWriteOpen (S.kept store.new) parks.new who.cell }
-    ensures place { S.place store.new ≡ S.place store.old }
-    ensures same { SameSize parks.old parks.new }
+    ensures opens { Opens who.cell (reads_opened result.0) (opens_write result.0) (S.kept store.old) parks.old (S.kept store.new) parks.new }
+    ensures left { Left S.kept S.place who.cell store.old store.new parks.old parks.new }
+    ensures waits { WaitsBy NeverDrains result.0 }
 {
     let nature = how(store.stored_phase());
     (judge(store, parks, who, wake, nature, true), Given::Nobody)
@@ -56,21 +54,17 @@ pub(crate) fn again<S: Store, F: Fn(Phase) -> LockNature>(
     wake: LockNature,
     how: &F,
 ) -> (Attempt, Given)
-    requires cell { who.cell < length parks.old.readers }
-    requires party { who.party < length parks.old.rows }
-    requires here { (row_of parks.old who.party).cell ≡ who.cell }
+    requires calls { MayCallAgain who parks.old }
     requires wake { wake ≢ LockNature.None }
     requires callable { MayJudge (F.pre how.now) }
     requires fits { Fits (S.place store.old) (S.kept store.old) parks.old who.cell }
-    ensures fits { Fits (S.place store.new) (S.kept store.new) parks.new who.cell }
     ensures again { Again (F.post how.now) (S.place store.old) who wake (S.kept store.old) parks.old result (S.kept store.new) parks.new }
-    ensures others { OthersStay who.cell parks.old parks.new }
     ensures rows { RowsStayBeside who.party who.cell parks.old parks.new }
     ensures stands { Stands who result.0 (S.kept store.new) parks.new }
-    ensures reads { open_reads (S.kept store.new) parks.new who.cell ≡ open_reads (S.kept store.old) parks.old who.cell + reads_opened result.0 }
-    ensures writes { IsWriteOpen (S.kept store.old) parks.old who.cell → IsWriteOpen (S.kept store.new) parks.new who.cell }
-    ensures place { S.place store.new ≡ S.place store.old }
-    ensures same { SameSize parks.old parks.new }
+    ensures opens { Opens who.cell (reads_opened result.0) (opens_write result.0) (S.kept store.old) parks.old (S.kept store.new) parks.new }
+    ensures left { Left S.kept S.place who.cell store.old store.new parks.old parks.new }
+    ensures waits { WaitsBy NeverDrains result.0 }
+    ensures gives { ReadersFirst who.cell (freed who.party parks.old) result.1 }
 {
     let nature = how(store.stored_phase());
     let waiting = parks.waiting(who.party);
@@ -126,11 +120,12 @@ fn judge<S: Store>(
     nature: LockNature,
     fresh: bool,
 ) -> Attempt
-    requires cell { who.cell < length parks.old.readers }
-    requires party { who.party < length parks.old.rows }
-    requires free { (row_of parks.old who.party).waiting ≡ Free }
+    requires calls { MayCall who parks.old }
     requires wake { wake ≢ LockNature.None }
+    requires parked { ParkedOnPark (S.place store.old) parks.old who.cell }
     ensures judged { Judged (S.place store.old) fresh who wake nature (S.kept store.old) parks.old result (S.kept store.new) parks.new }
+    ensures waits { WaitsBy NeverDrains result }
+    ensures known { IsKnown (S.kept store.old).phase }
     ensures place { S.place store.new ≡ S.place store.old }
     ensures same { SameSize parks.old parks.new }
 {
@@ -167,9 +162,7 @@ fn admit<S: Store>(store: &mut S, nature: LockNature) -> LockResult<ReadTicket, 
 
 /// A barred call waits, where it parks by its waking nature.
 fn wait<S: Store>(store: &S, parks: &mut Parks, who: Who, wake: LockNature) -> How
-    requires cell { who.cell < length parks.old.readers }
-    requires party { who.party < length parks.old.rows }
-    requires free { (row_of parks.old who.party).waiting ≡ Free }
+    requires calls { MayCall who parks.old }
     requires wake { wake ≢ LockNature.None }
     ensures may { ParksBy (S.place store.now) wake result }
     ensures rows { parks.new ≡ rows_waiting result who parks.old }

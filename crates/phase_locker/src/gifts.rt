@@ -4,36 +4,56 @@ ghost use Rattle.std.specs.Prelude.{◌≡◌, ◌+◌, ◌-◌, ◌<◌, true, 
 ghost use Rattle.phase_bits.specs.Number.{IsKnown};
 ghost use Rattle.phase_bits.specs.Records.{leave_read, leave_write};
 ghost use Rattle.phase_locker.specs.Rows.{SameSize, IsSound};
-ghost use Rattle.phase_locker.specs.Fits.{Fits, IsIdle, IsWriteOpen, open_reads, flagged};
+ghost use Rattle.phase_locker.specs.Fits.{Fits, IsIdle, IsWriteOpen, ParkedOnPark, is_park, open_reads, flagged};
 ghost use Rattle.phase_locker.specs.declared.ways.Given.TheVariants.{Nobody};
-ghost use Rattle.phase_locker.specs.Gifts.{Hands, MayHand, MustHand, rows_handed, held_handed, Downgrades, StayFree};
-ghost use Rattle.phase_locker.specs.Others.{OthersStay, RowsStay};
+ghost use Rattle.phase_locker.specs.Gifts.{Hands, MayHand, MustHand, rows_handed, held_handed, Downgrades, StayFree, ReadersFirst};
+ghost use Rattle.phase_locker.specs.Others.{RowsStay};
+ghost use Rattle.phase_locker.specs.Left.{Left};
 
 use crate::parks::Parks;
 use crate::store::Store;
 use crate::tickets::{ReadTicket, WriteTicket};
-use crate::ways::Given;
+use crate::ways::{Given, LockerKind};
 use phase_bits::Phase;
 
-/// Sets the waiter flags to say which lists of the cell are not empty.
+/// Whether the calls of this locker park.
+fn calls_park<S: Store>(store: &S) -> bool
+    ensures { result ≡ is_park (S.place store.now) }
+{
+    store.place() == LockerKind::Park
+}
+
+/// Sets the waiter flags to say which lists of the cell are not empty. Where calls do not park, it looks at no list.
 pub(crate) fn flag<S: Store>(store: &mut S, parks: &Parks, cell: u32)
-    requires { cell < length parks.now.readers }
+    requires cell { cell < length parks.now.readers }
+    requires parked { ParkedOnPark (S.place store.old) parks.now cell }
     ensures kept { S.kept store.new ≡ flagged cell parks.now (S.kept store.old) }
     ensures place { S.place store.new ≡ S.place store.old }
     ensures sound { IsSound parks.now }
 {
-    store.set_waiters(parks.has_readers(cell), parks.has_writers(cell));
+    parks.be_sound();
+    if calls_park(store) {
+        store.set_waiters(parks.has_readers(cell), parks.has_writers(cell));
+        return;
+    }
+    store.set_waiters(false, false);
 }
 
 /// Gives the lock to the parked calls of the cell where no hold, share or claim is left.
 pub(crate) fn hand_over<S: Store>(store: &mut S, parks: &mut Parks, cell: u32) -> Given
-    requires { cell < length parks.old.readers }
+    requires cell { cell < length parks.old.readers }
+    requires parked { ParkedOnPark (S.place store.old) parks.old cell }
     ensures hands { Hands cell (S.kept store.old) parks.old result (S.kept store.new) parks.new }
+    ensures gives { ReadersFirst cell parks.old result }
     ensures place { S.place store.new ≡ S.place store.old }
     ensures free { StayFree parks.old parks.new }
     ensures sound { IsSound parks.old }
     ensures same { SameSize parks.old parks.new }
 {
+    if !calls_park(store) {
+        flag(store, parks, cell);
+        return Given::Nobody;
+    }
     if store.is_locked() || store.has_readers() {
         flag(store, parks, cell);
         return Given::Nobody;
@@ -50,6 +70,7 @@ fn give<S: Store>(store: &mut S, parks: &mut Parks, cell: u32) -> Given
     requires idle { IsIdle (S.kept store.old) }
     ensures may { MayHand cell (S.kept store.old) parks.old result }
     ensures must { MustHand cell (S.kept store.old) parks.old result }
+    ensures gives { ReadersFirst cell parks.old result }
     ensures rows { parks.new ≡ rows_handed cell result parks.old }
     ensures kept { S.kept store.new ≡ held_handed cell result parks.old (S.kept store.old) }
     ensures place { S.place store.new ≡ S.place store.old }
@@ -82,13 +103,12 @@ pub(crate) fn release_read<S: Store>(
     requires cell { cell < length parks.old.readers }
     requires fits { Fits (S.place store.old) (S.kept store.old) parks.old cell }
     requires open { 0 < open_reads (S.kept store.old) parks.old cell }
-    ensures fits { Fits (S.place store.new) (S.kept store.new) parks.new cell }
     ensures hands { Hands cell (leave_read (S.kept store.old)) parks.old result (S.kept store.new) parks.new }
-    ensures others { OthersStay cell parks.old parks.new }
     ensures rows { RowsStay cell parks.old parks.new }
     ensures reads { open_reads (S.kept store.new) parks.new cell + 1 ≡ open_reads (S.kept store.old) parks.old cell }
-    ensures place { S.place store.new ≡ S.place store.old }
-    ensures same { SameSize parks.old parks.new }
+    ensures closed { ¬ IsWriteOpen (S.kept store.new) parks.new cell }
+    ensures left { Left S.kept S.place cell store.old store.new parks.old parks.new }
+    ensures gives { ReadersFirst cell parks.old result }
 {
     t.close();
     store.drop_reader();
@@ -107,14 +127,12 @@ pub(crate) fn release_write<S: Store>(
     requires known { IsKnown phase }
     requires fits { Fits (S.place store.old) (S.kept store.old) parks.old cell }
     requires open { IsWriteOpen (S.kept store.old) parks.old cell }
-    ensures fits { Fits (S.place store.new) (S.kept store.new) parks.new cell }
     ensures hands { Hands cell (leave_write phase (S.kept store.old)) parks.old result (S.kept store.new) parks.new }
-    ensures others { OthersStay cell parks.old parks.new }
     ensures rows { RowsStay cell parks.old parks.new }
     ensures reads { open_reads (S.kept store.new) parks.new cell ≡ 0 }
     ensures closed { ¬ IsWriteOpen (S.kept store.new) parks.new cell }
-    ensures place { S.place store.new ≡ S.place store.old }
-    ensures same { SameSize parks.old parks.new }
+    ensures left { Left S.kept S.place cell store.old store.new parks.old parks.new }
+    ensures gives { ReadersFirst cell parks.old result }
 {
     t.close();
     store.store_phase(phase);
@@ -134,10 +152,10 @@ pub(crate) fn downgrade<S: Store>(
     requires known { IsKnown phase }
     requires fits { Fits (S.place store.old) (S.kept store.old) parks.now cell }
     requires open { IsWriteOpen (S.kept store.old) parks.now cell }
-    ensures fits { Fits (S.place store.new) (S.kept store.new) parks.now cell }
     ensures downgrades { Downgrades cell phase (S.kept store.old) parks.now Nobody (S.kept store.new) parks.now }
     ensures reads { open_reads (S.kept store.new) parks.now cell ≡ 1 }
-    ensures place { S.place store.new ≡ S.place store.old }
+    ensures closed { ¬ IsWriteOpen (S.kept store.new) parks.now cell }
+    ensures left { Left S.kept S.place cell store.old store.new parks.now parks.now }
 {
     t.close();
     store.store_phase(phase);

@@ -1,12 +1,9 @@
 //! A locker that keeps the plain record.
 
-ghost use Rattle.std.specs.Prelude.{◌≡◌, ◌<◌, true, false, length};
-ghost use Rattle.phase_bits.specs.Number.{IsKnown};
+ghost use Rattle.std.specs.Prelude.{◌≡◌, true, false};
 ghost use Rattle.phase_bits.specs.Records.{IsValid};
-ghost use Rattle.phase_locker.specs.Rows.{HasFree, SameSize};
-ghost use Rattle.phase_locker.specs.Fits.{Fits, IsWriteOpen, is_shared, open_reads};
-ghost use Rattle.phase_locker.specs.Gifts.{Downgrades};
-ghost use Rattle.phase_locker.specs.Others.{OthersStay, RowsStay};
+ghost use Rattle.phase_locker.specs.Gifts.{ReadersFirst, GivesNothing};
+ghost use Rattle.phase_locker.specs.Attempts.{NeverDrains};
 
 use crate::locker::PhaseLocker;
 use crate::parks::Parks;
@@ -19,7 +16,7 @@ use phase_bits::{Holders, MOST_READERS, Phase};
 #[cfg(test)]
 mod tests;
 
-/// A locker that keeps the plain record, for cells that park and for cells that spin. This project's own.
+/// A locker that keeps the plain record, for cells of each kind. This project's own.
 ///
 /// Where calls park, each barred call parks. A lock that nobody holds any more goes to all parked readers where there
 /// is one, else to the writer that has been parked for longest. A downgrade gives nothing.
@@ -89,10 +86,16 @@ impl PhaseLocker for HolderLocker {
 
     ghost place = { λ l. l.kind };
 
-    ghost takes = { is_shared };
+    ghost takes = { λ k. true };
 
-    fn takes(kind: LockerKind) -> bool {
-        kind != LockerKind::Own
+    ghost waits = { NeverDrains };
+
+    ghost gives = { ReadersFirst };
+
+    ghost shares = { GivesNothing };
+
+    fn takes(_kind: LockerKind) -> bool {
+        true
     }
 
     fn new(kind: LockerKind, phase: Phase) -> HolderLocker {
@@ -161,21 +164,7 @@ impl PhaseLocker for HolderLocker {
         cell: u32,
         t: WriteTicket,
         phase: Phase,
-    ) -> (ReadTicket, Given)
-        requires cell { cell < length parks.old.readers }
-        requires room { HasFree parks.old }
-        requires known { IsKnown phase }
-        requires fits { Fits self.old.kind self.old.holders parks.old cell }
-        requires open { IsWriteOpen self.old.holders parks.old cell }
-        ensures nobody { result.1 ≡ Given.Nobody }
-        ensures downgrades { Downgrades cell phase self.old.holders parks.old result.1 self.new.holders parks.new }
-        ensures others { OthersStay cell parks.old parks.new }
-        ensures rows { RowsStay cell parks.old parks.new }
-        ensures reads { open_reads self.new.holders parks.new cell ≡ 1 }
-        ensures fits { Fits self.new.kind self.new.holders parks.new cell }
-        ensures place { self.new.kind ≡ self.old.kind }
-        ensures same { SameSize parks.old parks.new }
-    {
+    ) -> (ReadTicket, Given) {
         (gifts::downgrade(self, parks, cell, t, phase), Given::Nobody)
     }
 

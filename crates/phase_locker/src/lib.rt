@@ -5,14 +5,17 @@
 mod attempts;
 mod gifts;
 mod holder;
+mod links;
 mod locker;
 mod parks;
 mod store;
 mod tickets;
+mod unsync;
 mod ways;
 
 pub use holder::HolderLocker;
 pub use locker::PhaseLocker;
 pub use parks::Parks;
 pub use tickets::{Attempt, LockNature, LockResult, ReadTicket, WriteTicket};
+pub use unsync::UnSyncPhaseLocker;
 pub use ways::{Given, How, LockerKind, Waiting, Who};

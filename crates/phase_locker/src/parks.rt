@@ -1,87 +1,43 @@
 //! The rows of the parties, and who is parked.
 
-ghost use Rattle.std.specs.Prelude.{◌≡◌, ◌≢◌, ◌+◌, ◌^◌, ◌<◌, ◌↔◌, IfOk, IfSome, IsNone, not, true, false, length, find};
-ghost use Rattle.std.specs.List.{list_any};
-ghost use Rattle.phase_locker.specs.declared.ways.Row.{Row};
+ghost use Rattle.std.specs.Prelude.{◌≡◌, ◌≢◌, ◌^◌, ◌<◌, ◌↔◌, IfOk, IfSome, IsNone, not, true, false, length};
 ghost use Rattle.phase_locker.specs.declared.ways.Waiting.{Waiting};
-ghost use Rattle.phase_locker.specs.declared.ways.Waiting.TheVariants.{Free};
-ghost use Rattle.phase_locker.specs.Rows.{Rows, IsSound, no_rows, row_of, readers_of, writers_of, is_empty, is_parked, occurs, reads_at, writes_at, put, park_reader, park_writer, freed, rows_to_readers, rows_to_writer};
-ghost use Rattle.phase_locker.specs.Order.{at, first_of, shared_by, count_reads};
+ghost use Rattle.phase_locker.specs.declared.ways.Waiting.TheVariants.{Free, ParkedRead};
+ghost use Rattle.phase_locker.specs.Rows.{Rows, IsSound, no_rows, row_of, readers_of, writers_of, is_empty, is_parked, first_of, occurs, put, park_reader, park_writer, freed, left, rows_to_readers, rows_to_writer};
+ghost use Rattle.phase_locker.specs.Links.{writer_left};
 
+use crate::links::{EMPTY, Link, Queues, UNLINKED, append, share, unlink};
 use crate::ways::{FREE, Row, Waiting};
 use std::alloc::{AllocError, Global};
 use std::marker::Model;
+
+#[cfg(test)]
+mod tests;
 
 /// How each party waits, and which calls of each cell are parked, in order of parking. This project's own: static_init
 /// parks threads in queues of the platform.
 ///
 /// A contract sees a row for each party, and for each cell the list of its parked readers and that of its parked
 /// writers. Only `new` takes memory.
+///
+/// A party is in one list at most, so that it has one link, beside its row: a call that does not park reads and writes
+/// rows alone.
 #[derive(Drop)]
 pub struct Parks {
     rows: Vec<Row>,
-    order: Vec<u32>,
-    cells: u32,
+    links: Vec<Link>,
+    queues: Vec<Queues>,
 }
 
 impl Model for Parks {
-    ghost use Rattle.std.specs.Vec.{vec_capacity};
     ghost use Rattle.phase_locker.specs.Rows.{Rows};
-    ghost use Rattle.phase_locker.specs.Order.{seen, IsKept};
+    ghost use Rattle.phase_locker.specs.Links.{seen, IsShown};
 
     ghost Value = { Rows };
 
-    ghost view = { λ p. seen p.rows.items p.order.items p.cells };
+    ghost view = { λ p. seen p.rows.items p.links.items p.queues.items };
 
-    ghost invariant = { λ p. IsKept p.rows.items p.order.items (vec_capacity p.order) };
-}
-
-/// The row of this party, or that of a party that does not wait.
-fn row_at(rows: &[Row], party: u32) -> Row
-    ensures { result ≡ at rows.now party }
-{
-    match rows.get(party as usize) {
-        Some(row) => *row,
-        None => FREE,
-    }
-}
-
-/// Whether a reader of this cell is in the order.
-fn any_reader(rows: &[Row], order: &[u32], cell: u32) -> bool
-    ensures { result ≡ list_any (λ q. reads_at cell (at rows.now q)) order.now }
-{
-    order
-        .iter()
-        .any(|party| row_at(rows, *party).reads_at(cell))
-}
-
-/// The writer of this cell that is first in the order.
-fn find_writer(rows: &[Row], order: &[u32], cell: u32) -> Option<u32>
-    ensures { result ≡ find (λ q. writes_at cell (at rows.now q)) order.now }
-{
-    order
-        .iter()
-        .copied()
-        .find(|party| row_at(rows, *party).writes_at(cell))
-}
-
-/// Gives a read share to each reader of this cell in the order. Answers how many there were.
-fn share(rows: &mut [Row], order: &[u32], cell: u32) -> u32
-    requires { length order.now < 2 ^ 20 }
-    ensures rows { rows.new ≡ shared_by cell order.now rows.old }
-    ensures count { result ≡ count_reads cell order.now rows.old }
-{
-    let mut count = 0;
-    for party in order {
-        if row_at(rows, *party).reads_at(cell) {
-            rows[*party as usize] = Row {
-                waiting: Waiting::ShareRead,
-                cell,
-            };
-            count += 1;
-        }
-    }
-    count
+    ghost invariant = { λ p. IsShown p.links.items p.queues.items (seen p.rows.items p.links.items p.queues.items) };
 }
 
 impl Parks {
@@ -95,8 +51,17 @@ impl Parks {
         ensures { IfOk result (λ p. p ≡ no_rows cells parties) }
     {
         let rows = Vec::from_elem(alloc, FREE, parties as usize)?;
-        let order = Vec::with_capacity(alloc, parties as usize)?;
-        Ok(Parks { rows, order, cells })
+        let links = Vec::from_elem(alloc, UNLINKED, parties as usize)?;
+        let empty = Queues {
+            readers: EMPTY,
+            writers: EMPTY,
+        };
+        let queues = Vec::from_elem(alloc, empty, cells as usize)?;
+        Ok(Parks {
+            rows,
+            links,
+            queues,
+        })
     }
 
     /// How this party waits.
@@ -117,6 +82,14 @@ impl Parks {
         self.rows[party as usize].cell
     }
 
+    /// How many cells there are.
+    #[cfg(test)]
+    pub(crate) fn cells(&self) -> usize
+        ensures { result ≡ length self.now.readers }
+    {
+        self.queues.len()
+    }
+
     /// The rows of the parties.
     #[cfg(test)]
     pub(crate) fn rows(&self) -> &[Row]
@@ -125,13 +98,20 @@ impl Parks {
         &self.rows
     }
 
+    /// Says that the lists go with the rows, and does nothing.
+    pub(crate) fn be_sound(&self)
+        ensures { IsSound self.now }
+    {
+        let _rows = &self.rows;
+    }
+
     /// Whether a reader is parked at this cell.
     pub(crate) fn has_readers(&self, cell: u32) -> bool
         requires { cell < length self.now.readers }
         ensures readers { result ≡ not (is_empty (readers_of self.now cell)) }
         ensures sound { IsSound self.now }
     {
-        any_reader(&self.rows, &self.order, cell)
+        self.queues[cell as usize].readers.count != 0
     }
 
     /// The writer that has been parked at this cell for longest.
@@ -141,7 +121,8 @@ impl Parks {
         ensures writer { IfSome result (λ p. occurs p (writers_of self.now cell) ≡ 1) }
         ensures nobody { IsNone result ↔ (is_empty (writers_of self.now cell) ≡ true) }
     {
-        find_writer(&self.rows, &self.order, cell)
+        let writers = self.queues[cell as usize].writers;
+        (writers.count != 0).then_some(writers.first)
     }
 
     /// Whether a writer is parked at this cell.
@@ -149,7 +130,7 @@ impl Parks {
         requires { cell < length self.now.readers }
         ensures { result ≡ not (is_empty (writers_of self.now cell)) }
     {
-        self.first_writer(cell).is_some()
+        self.queues[cell as usize].writers.count != 0
     }
 
     /// The party waits at this cell without being parked.
@@ -173,7 +154,8 @@ impl Parks {
             waiting: Waiting::ParkedRead,
             cell,
         };
-        self.order.push_reserved(party);
+        let queue = &mut self.queues[cell as usize].readers;
+        append(&mut self.links, queue, party);
     }
 
     /// The party parks at this cell as a writer.
@@ -187,7 +169,31 @@ impl Parks {
             waiting: Waiting::ParkedWrite,
             cell,
         };
-        self.order.push_reserved(party);
+        let queue = &mut self.queues[cell as usize].writers;
+        append(&mut self.links, queue, party);
+    }
+
+    /// The party leaves the parked readers of this cell, and waits no longer.
+    fn leave_readers(&mut self, cell: u32, party: u32)
+        requires cell { cell < length self.old.readers }
+        requires parked { occurs party (readers_of self.old cell) ≡ 1 }
+        ensures { self.new ≡ left ParkedRead cell party self.old }
+    {
+        self.rows[party as usize] = FREE;
+        let queue = &mut self.queues[cell as usize].readers;
+        unlink(&mut self.links, queue, party);
+    }
+
+    /// The party leaves the parked writers of this cell, and its row becomes this one.
+    fn leave_writers(&mut self, cell: u32, party: u32, row: Row)
+        requires cell { cell < length self.old.readers }
+        requires parked { occurs party (writers_of self.old cell) ≡ 1 }
+        requires row { is_parked row.waiting ≡ false }
+        ensures { self.new ≡ writer_left row cell party self.old }
+    {
+        self.rows[party as usize] = row;
+        let queue = &mut self.queues[cell as usize].writers;
+        unlink(&mut self.links, queue, party);
     }
 
     /// The party waits no longer.
@@ -195,8 +201,12 @@ impl Parks {
         requires { party < length self.old.rows }
         ensures { self.new ≡ freed party self.old }
     {
-        self.rows[party as usize] = FREE;
-        self.order.retain(|parked| *parked != party);
+        let row = self.rows[party as usize];
+        match row.waiting {
+            Waiting::ParkedRead => self.leave_readers(row.cell, party),
+            Waiting::ParkedWrite => self.leave_writers(row.cell, party, FREE),
+            _ => self.rows[party as usize] = FREE,
+        }
     }
 
     /// Gives a write share to a parked writer of this cell.
@@ -205,11 +215,11 @@ impl Parks {
         requires parked { occurs party (writers_of self.old cell) ≡ 1 }
         ensures { self.new ≡ rows_to_writer cell party self.old }
     {
-        self.rows[party as usize] = Row {
+        let share = Row {
             waiting: Waiting::ShareWrite,
             cell,
         };
-        self.order.retain(|parked| *parked != party);
+        self.leave_writers(cell, party, share);
     }
 
     /// Gives a read share to each parked reader of this cell. Answers how many there were.
@@ -219,9 +229,9 @@ impl Parks {
         ensures count { result ≡ length (readers_of self.old cell) }
         ensures few { result < 2 ^ 20 }
     {
-        let count = share(&mut self.rows, &self.order, cell);
-        let rows = self.rows.as_slice();
-        self.order.retain(|party| row_at(rows, *party).is_parked());
-        count
+        let queue = self.queues[cell as usize].readers;
+        share(&mut self.rows, &self.links, queue, cell);
+        self.queues[cell as usize].readers = EMPTY;
+        queue.count
     }
 }

@@ -15,6 +15,7 @@ pub enum LockNature {
 }
 
 /// What a call got of a cell. It is static_init's `LockResult`, with a ticket in place of a guard.
+#[derive(Drop)]
 pub enum LockResult<R, W> {
     /// A read lock.
     Read(R),

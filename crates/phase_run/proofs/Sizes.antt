@@ -4,8 +4,7 @@ use Rattle.std.proofs.lemmas.List.{length-map}
 use Rattle.std.specs.Fmt.{decimal}
 use Rattle.schedule_rules.specs.Transcripts.{Schedule}
 use Rattle.schedule_text.specs.Lines.{Word, line_rest, line_text, lines_text}
-use Rattle.schedule_text.specs.ScheduleText.{Spells, schedule_lines, cell_words, step_words}
-use Rattle.phase_run.specs.Runs.{most_bytes}
+use Rattle.schedule_text.specs.ScheduleText.{Spells, schedule_lines, cell_words, step_words, most_bytes}
 
 -- the rest of a line has a byte
 length-line_rest : (ws : List Word) → 1 ≤ length (line_rest ws)

@@ -1,5 +1,5 @@
 -- Facts for one status.
-use Rattle.std.specs.Prelude.{ℕ, ⊤}
+use Rattle.std.specs.Prelude.{ℕ, ◌≤◌, ⊤}
 use Rattle.phase_run.specs.declared.status.Status.{Status}
 use Rattle.phase_run.specs.declared.status.Status.TheVariants as status
 
@@ -42,6 +42,11 @@ abbrev pub OnNothingWritten : Status → Type 0 → Type 0
 OnNothingWritten status.Done P = ⊤
 OnNothingWritten status.WriteFault P = ⊤
 OnNothingWritten _ P = P
+
+-- the counts of faults of a source and of a sink did not fall
+pub record IsSteady (source_old source_new sink_old sink_new : ℕ) : Type 0 where
+  pub source : source_old ≤ source_new
+  pub sink : sink_old ≤ sink_new
 
 -- all was written, or memory ran out
 abbrev pub IsDoneUnlessMemory : Status → Type 0

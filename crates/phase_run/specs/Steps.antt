@@ -5,7 +5,6 @@ use Rattle.std.specs.declared.option.Option.TheVariants.{Some}
 use Rattle.schedule_rules.specs.Transcripts.{Schedule, Account, IsValid, IsLegalTranscript}
 use Rattle.schedule_text.specs.ScheduleText.{Spells}
 use Rattle.schedule_text.specs.TranscriptText.{transcript_text}
-use Rattle.phase_run.specs.Runs.{Due}
 
 -- the text is all that the source had
 pub record IsAll (input : List ℕ) (rest : Option (List ℕ)) (text : List ℕ) : Type 0 where
@@ -24,13 +23,8 @@ pub record SpellsOnly (text : List ℕ) (x : Schedule) : Type 0 where
 -- the answer is the text of a legal transcript of the valid schedule that the text spells
 pub record IsAnswer (text answer : List ℕ) : Type 0 where
   pub schedule : Schedule
-  pub spelled : Spells text schedule
+  pub spells : SpellsOnly text schedule
   pub valid : IsValid schedule
   pub account : Account
   pub legal : IsLegalTranscript schedule account
   pub answer_is : answer ≡ transcript_text account
-
--- the text is that of what is due
-pub record IsDue (input rest : Option (List ℕ)) (text : List ℕ) : Type 0 where
-  pub due : Due input rest
-  pub text_is : text ≡ transcript_text due.account

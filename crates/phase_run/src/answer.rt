@@ -2,7 +2,7 @@
 
 ghost use Rattle.std.specs.Prelude.{◌≡◌, ◌≤◌, ◌<◌, ◌^◌, length, IfOk, IfErr};
 ghost use Rattle.schedule_rules.specs.Transcripts.{Schedule, schedule_of, account_of, IsValid, IsLegalTranscript};
-ghost use Rattle.phase_run.specs.Runs.{most_bytes};
+ghost use Rattle.schedule_text.specs.ScheduleText.{most_bytes};
 ghost use Rattle.phase_run.specs.Steps.{SpellsOnly, IsAnswer};
 ghost use Rattle.phase_run.specs.Stops.{StopsRun, StopsAnswer};
 
@@ -36,7 +36,7 @@ fn run_plan(alloc: Global, plan: Plan, steps: Vec<Step>) -> Result<Transcript, S
     match run_schedule(alloc, &plan, &steps) {
         Ok(transcript) => Ok(transcript),
         Err(RunError::Memory) => Err(Stop::Memory),
-        Err(_) => Err(Stop::BadLine),
+        Err(_) => Err(Stop::Refused),
     }
 }
 

@@ -3,10 +3,10 @@
 ghost use Rattle.std.specs.Prelude.{◌≡◌, ◌≤◌, ◌+◌, ◌↔◌, map, string_bytes, IfOk, IfErr, IfSome, IsSomeAnd, IsTrue};
 ghost use Rattle.phase_run.specs.Faults.{Rose};
 ghost use Rattle.phase_run.specs.Words.{IsScheduleCall};
-ghost use Rattle.phase_run.specs.Runs.{TakesAtMost, most_bytes, Accepted, Answered, AnsweredInPart};
-ghost use Rattle.phase_run.specs.Steps.{IsDue};
+ghost use Rattle.schedule_text.specs.ScheduleText.{most_bytes};
+ghost use Rattle.phase_run.specs.Runs.{TakesAtMost, Accepted, IsRefused, IsDue, IsWritten, IsWrittenInPart};
 ghost use Rattle.phase_run.specs.Stops.{StopsBeforeWriting};
-ghost use Rattle.phase_run.specs.Statuses.{OnDone, OnUsage, OnBadLine, OnReadFault, OnWriteFault, OnNothingWritten, IsDoneUnlessMemory, IsBadLineUnlessMemory};
+ghost use Rattle.phase_run.specs.Statuses.{OnDone, OnUsage, OnBadLine, OnReadFault, OnWriteFault, OnNothingWritten, IsSteady, IsDoneUnlessMemory, IsBadLineUnlessMemory};
 
 use crate::answer::answer;
 use crate::read::read_text;
@@ -50,45 +50,46 @@ pub fn run_program<S: Source, K: Sink>(
     src: &mut S,
     out: &mut K,
 ) -> Status
-    // All that was read is the text of a valid schedule, and all that was written that of a legal transcript of it.
-    ensures done { OnDone result
-        (Answered (S.remaining src.old) (S.remaining src.new) (K.given out.old) (K.given out.new)) }
+    // What is due is written whole: all that was read is the text of a valid schedule, and what was written that of a legal
+    // transcript of it.
+    ensures whole { OnDone result (IsWritten (map string_bytes words.now) (S.remaining src.old) (S.remaining src.new)
+        Status.Done (K.given out.old) (K.given out.new)) }
+    // Where the sink fails, the first bytes of what is due are written.
+    ensures part { OnWriteFault result (IsWrittenInPart (map string_bytes words.now) (S.remaining src.old) (S.remaining src.new)
+        Status.Done (K.given out.old) (K.given out.new)) }
+    // Under every other status nothing is written.
+    ensures unwritten { OnNothingWritten result (out.new ≡ out.old) }
     // Other words are refused, and nothing is read.
     ensures usage { (result ≡ Status.Usage) ↔ (¬ (IsScheduleCall (map string_bytes words.now))) }
     ensures unread { OnUsage result (src.new ≡ src.old) }
-    // The source failed.
+    // The source failed, the sink failed.
     ensures read_fault { OnReadFault result (Rose (S.faults src.old) (S.faults src.new)) }
-    // The bytes are no text of a schedule that can be run. Such bytes are refused where the source does not fail, unless
-    // memory runs out.
-    ensures bad_line { OnBadLine result (IfSome (S.remaining src.old) (λ input. ¬ (Accepted input))) }
+    ensures write_fault { OnWriteFault result (Rose (K.faults out.old) (K.faults out.new)) }
+    // There are too many bytes, they are no text of a schedule, or its schedule cannot be run.
+    ensures bad_line { OnBadLine result (IfSome (S.remaining src.old) IsRefused) }
+    // Such bytes are refused where the source does not fail, unless memory runs out.
     ensures refused { IsScheduleCall (map string_bytes words.now)
-        → IsSomeAnd (S.remaining src.old) (λ input. ¬ (Accepted input))
+        → IsSomeAnd (S.remaining src.old) IsRefused
         → ¬ (Rose (S.faults src.old) (S.faults src.new))
         → IsBadLineUnlessMemory result }
-    // The sink failed, and has the first bytes of the text that is due.
-    ensures write_fault { OnWriteFault result (Rose (K.faults out.old) (K.faults out.new)) }
-    ensures part { OnWriteFault result
-        (AnsweredInPart (S.remaining src.old) (S.remaining src.new) (K.given out.old) (K.given out.new)) }
-    // Under every other status nothing is written.
-    ensures unwritten { OnNothingWritten result (out.new ≡ out.old) }
     // The text of a valid schedule is answered where nothing fails, unless memory runs out.
     ensures complete { IsScheduleCall (map string_bytes words.now)
         → IsSomeAnd (S.remaining src.old) Accepted
         → ¬ (Rose (S.faults src.old) (S.faults src.new))
         → ¬ (Rose (K.faults out.old) (K.faults out.new))
         → IsDoneUnlessMemory result }
-    // How much is read, whatever comes out.
+    // How much is read, whatever comes out, and that the counts of faults do not fall.
     ensures taken { TakesAtMost (most_bytes + 1) (S.remaining src.old) (S.remaining src.new) }
-    // The counts of faults do not fall.
-    ensures steady_source { S.faults src.old ≤ S.faults src.new }
-    ensures steady_sink { K.faults out.old ≤ K.faults out.new }
+    ensures steady { IsSteady (S.faults src.old) (S.faults src.new) (K.faults out.old) (K.faults out.new) }
 {
     if !is_schedule_call(words) {
         return Status::Usage;
     }
     match prepare(alloc, src) {
         Err(Stop::Fault) => Status::ReadFault,
+        Err(Stop::TooLong) => Status::BadLine,
         Err(Stop::BadLine) => Status::BadLine,
+        Err(Stop::Refused) => Status::BadLine,
         Err(Stop::Memory) => Status::Memory,
         Ok(text) => match write_text(out, &text) {
             Ok(()) => Status::Done,

@@ -1,7 +1,8 @@
 //! Reads a source to its end.
 
 ghost use Rattle.std.specs.Prelude.{◌≤◌, ◌+◌, ◌^◌, length, IfOk, IfErr};
-ghost use Rattle.phase_run.specs.Runs.{TakesAtMost, most_bytes};
+ghost use Rattle.schedule_text.specs.ScheduleText.{most_bytes};
+ghost use Rattle.phase_run.specs.Runs.{TakesAtMost};
 ghost use Rattle.phase_run.specs.Steps.{IsWhole};
 ghost use Rattle.phase_run.specs.Stops.{StopsReading};
 
@@ -40,5 +41,5 @@ pub fn read_text<S: Source>(alloc: Global, src: &mut S) -> Result<Vec<u8>, Stop>
             return Err(Stop::Memory);
         }
     }
-    Err(Stop::BadLine)
+    Err(Stop::TooLong)
 }

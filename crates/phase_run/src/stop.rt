@@ -5,8 +5,12 @@
 pub enum Stop {
     /// The source failed.
     Fault,
-    /// The text is not that of a schedule that can be run.
+    /// There are more bytes than a text may have.
+    TooLong,
+    /// The text is not that of a schedule.
     BadLine,
+    /// The schedule cannot be run.
+    Refused,
     /// Memory ran out.
     Memory,
 }

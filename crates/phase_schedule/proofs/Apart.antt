@@ -15,13 +15,14 @@ use Rattle.schedule_rules.specs.Guards.{Guard}
 use Rattle.schedule_rules.specs.Waits.{Wait, wake_reader, wake_writer}
 use Rattle.schedule_rules.specs.Holds.{readers_with, writers_with, drains_with}
 use Rattle.phase_schedule.specs.Kept.{Open, readers_in, writers_in, drains_in}
-use Rattle.phase_schedule.specs.Shown.{Shows, IsSingle, Agrees}
+use Rattle.waiting_rows.specs.Shown.{Shows, IsSingle}
+use Rattle.phase_schedule.specs.Agrees.{Agrees}
 use Rattle.phase_schedule.specs.Tracks.{IsApart}
 use Rattle.phase_schedule.proofs.Numbers.{no_claims}
-use Rattle.phase_schedule.proofs.Counted.{read_shares_woken, read_shares_woken_other, write_shares_beside_readers, drains_beside_readers}
-use Rattle.phase_schedule.proofs.Members.{write_shares_woken, write_shares_woken_other, read_shares_beside_writer, drains_beside_writer}
-use Rattle.phase_schedule.proofs.Reaching.{parked_writer}
-use Rattle.phase_schedule.proofs.GivenOn.{given_on, IsListed}
+use Rattle.waiting_rows.proofs.Counted.{read_shares_woken, read_shares_woken_other, write_shares_beside_readers, drains_beside_readers}
+use Rattle.waiting_rows.proofs.Members.{write_shares_woken, write_shares_woken_other, read_shares_beside_writer, drains_beside_writer}
+use Rattle.waiting_rows.proofs.Reaching.{parked_writer}
+use Rattle.waiting_rows.specs.Given.{given_on, IsListed}
 use Rattle.phase_schedule.proofs.Few.{few_readers}
 
 -- what a gift on the cell needs of what stands there

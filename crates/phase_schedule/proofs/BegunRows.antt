@@ -44,7 +44,7 @@ use Rattle.phase_schedule.proofs.Places.{inside_plan, set_there}
 use Rattle.phase_schedule.proofs.LockAgain.{calm}
 use Rattle.phase_schedule.proofs.LockFirst.{view_with}
 use Rattle.phase_schedule.proofs.LockView.{held_seen, place_seen, running_seen}
-use Rattle.phase_schedule.proofs.RowCounts.{claims_shown}
+use Rattle.waiting_rows.proofs.RowCounts.{claims_shown}
 use Rattle.phase_schedule.proofs.BegunAsks.{AsksAs, asks_as}
 use Rattle.phase_schedule.proofs.BegunRuns.{who_of}
 use Rattle.phase_schedule.proofs.BegunSettled.{begun_on, exits_with}

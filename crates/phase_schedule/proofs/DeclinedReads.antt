@@ -32,18 +32,19 @@ use Rattle.phase_schedule.specs.declared.rows.Target.{Target}
 use Rattle.phase_schedule.specs.View.{View}
 use Rattle.phase_schedule.specs.Exiting.{HasTaken}
 use Rattle.phase_schedule.specs.Kept.{Open, kind_at, record_in, readers_in, writers_in, drains_in}
-use Rattle.phase_schedule.specs.Shown.{Shows}
+use Rattle.waiting_rows.specs.Shown.{Shows}
 use Rattle.phase_schedule.specs.Tracks.{IsApart, Locked, RunBy, plans}
 use Rattle.phase_schedule.specs.Ready.{answer_to_run, still_open, waits_left, with_guard, with_section}
 use Rattle.phase_schedule.specs.Answered.{IsDeniedRead, IsOpening, content_denied}
 use Rattle.phase_schedule.proofs.Places.{inside_plan, read_once, slice_get_set_same}
-use Rattle.phase_schedule.proofs.Counted.{read_shares_woken, write_shares_beside_readers, drains_beside_readers}
-use Rattle.phase_schedule.proofs.Reaching.{flag_readers, flag_writers}
+use Rattle.waiting_rows.proofs.Counted.{read_shares_woken, write_shares_beside_readers, drains_beside_readers}
+use Rattle.waiting_rows.proofs.Reaching.{flag_readers, flag_writers}
 use Rattle.phase_schedule.proofs.Few.{fewer_readers}
-use Rattle.phase_schedule.proofs.GivenOn.{given_on, IsListed, listed_share, shows_on, single_on}
+use Rattle.waiting_rows.specs.Given.{given_on, IsListed}
+use Rattle.waiting_rows.proofs.GivenOn.{listed_share, shows_on, single_on}
 use Rattle.phase_schedule.proofs.Hands.{sound_of, handed_writers}
 use Rattle.phase_schedule.proofs.Apart.{MayAdd, apart_given}
-use Rattle.phase_schedule.proofs.RowCounts.{free_party}
+use Rattle.waiting_rows.proofs.RowCounts.{free_party}
 use Rattle.phase_schedule.proofs.RowKept.{own_gone}
 use Rattle.phase_schedule.proofs.LockCells.{AsBefore, apart_before, before_reader, before_section, before_then, locked_publishing, reader_more, section_more}
 use Rattle.phase_schedule.proofs.LockLeft.{before_given, handed_readers, handed_rows}

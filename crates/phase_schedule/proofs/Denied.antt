@@ -30,17 +30,17 @@ use Rattle.phase_schedule.specs.declared.rows.Target.{Target}
 use Rattle.phase_schedule.specs.View.{View}
 use Rattle.phase_schedule.specs.Kept.{cell_row, kind_at, open_after, record_in, readers_in, writers_in, drains_in}
 use Rattle.phase_schedule.specs.Meets.{given_first}
-use Rattle.phase_schedule.specs.Shown.{Agrees}
+use Rattle.phase_schedule.specs.Agrees.{Agrees}
 use Rattle.phase_schedule.specs.Tracks.{FollowsStep, Locked, event, plans}
 use Rattle.phase_schedule.specs.Ready.{still_open, waits_left, with_guard}
 use Rattle.phase_schedule.specs.Answered.{IsDenied, IsDeniedRead, IsDeniedWrite, content_denied}
 use Rattle.phase_schedule.proofs.Numbers.{lt_more}
 use Rattle.phase_schedule.proofs.Places.{inside_plan, set_there, read_once}
 use Rattle.phase_schedule.proofs.After.{IsSteadyWith, tracks_after}
-use Rattle.phase_schedule.proofs.GivenOn.{given_on}
+use Rattle.waiting_rows.specs.Given.{given_on}
 use Rattle.phase_schedule.proofs.RowTries.{steady_same}
 use Rattle.phase_schedule.proofs.RowKept.{inner_is, party_got, within_left}
-use Rattle.phase_schedule.proofs.RowCounts.{shares_shown, claims_shown}
+use Rattle.waiting_rows.proofs.RowCounts.{shares_shown, claims_shown}
 use Rattle.phase_schedule.proofs.Same.{unlocked}
 use Rattle.phase_schedule.proofs.GuardPhase.{phase_known}
 use Rattle.phase_schedule.proofs.LockCells.{reader_more, writer_more}

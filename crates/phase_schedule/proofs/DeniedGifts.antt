@@ -12,11 +12,11 @@ use Rattle.schedule_rules.specs.declared.plan.CellPlan.{CellPlan}
 use Rattle.schedule_rules.specs.History.{Event, count}
 use Rattle.schedule_rules.specs.Waits.{Wait, parks_to_read, parks_to_write, parked_readers, shares_read, shares_write, is_parked_writer, wait_woken, wake_reader, wake_writer}
 use Rattle.schedule_rules.specs.Gifts.{reaches}
-use Rattle.phase_schedule.specs.Shown.{Agrees}
-use Rattle.phase_schedule.proofs.Each.{woken_to_write}
-use Rattle.phase_schedule.proofs.Lists.{any_readers}
-use Rattle.phase_schedule.proofs.Counted.{read_shares_woken}
-use Rattle.phase_schedule.proofs.GivenOn.{given_on}
+use Rattle.phase_schedule.specs.Agrees.{Agrees}
+use Rattle.waiting_rows.proofs.Each.{woken_to_write}
+use Rattle.waiting_rows.proofs.Lists.{any_readers}
+use Rattle.waiting_rows.proofs.Counted.{read_shares_woken}
+use Rattle.waiting_rows.specs.Given.{given_on}
 use Rattle.phase_schedule.proofs.Apart.{idle_counts}
 
 -- ---- a share that is given is left on its cell

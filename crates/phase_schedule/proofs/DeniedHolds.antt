@@ -22,10 +22,12 @@ use Rattle.schedule_rules.specs.Waits.{Wait, shares_read, shares_write}
 use Rattle.schedule_rules.specs.Holds.{reads_cell, writes_cell}
 use Rattle.phase_schedule.specs.declared.rows.Target.{Target}
 use Rattle.phase_schedule.specs.Kept.{kind_at}
-use Rattle.phase_schedule.specs.Shown.{Agrees}
+use Rattle.phase_schedule.specs.Agrees.{Agrees}
 use Rattle.phase_schedule.specs.Tracks.{IsApart, Locked, event}
 use Rattle.phase_schedule.specs.Ready.{still_open, with_guard}
-use Rattle.phase_schedule.proofs.GivenOn.{given_on, IsListed, listed_hand, single_on, shows_on, core_on}
+use Rattle.waiting_rows.specs.Given.{given_on, IsListed}
+use Rattle.waiting_rows.proofs.GivenOn.{listed_hand, single_on, shows_on}
+use Rattle.phase_schedule.proofs.GivenOn.{core_on}
 use Rattle.phase_schedule.proofs.Hands.{sound_of, handed_writers}
 use Rattle.phase_schedule.proofs.Apart.{apart_less, apart_given, hand_adds}
 use Rattle.phase_schedule.proofs.GuardGone.{reads_here, reads_not_there, writes_here, writes_not_there}

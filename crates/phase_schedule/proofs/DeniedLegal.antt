@@ -23,10 +23,13 @@ use Rattle.schedule_rules.specs.Legal.{Moment, First, Last, IsLegalLine, answer_
 use Rattle.phase_schedule.specs.declared.rows.Target.{Target}
 use Rattle.phase_schedule.specs.Kept.{kind_at}
 use Rattle.phase_schedule.specs.Meets.{given_first}
-use Rattle.phase_schedule.specs.Shown.{Agrees, Shows}
+use Rattle.phase_schedule.specs.Agrees.{Agrees}
+use Rattle.waiting_rows.specs.Shown.{Shows}
 use Rattle.phase_schedule.specs.Ready.{Tries, waits_left}
 use Rattle.phase_schedule.proofs.Numbers.{none_stands}
-use Rattle.phase_schedule.proofs.GivenOn.{given_on, given_concerned, IsListed, listed_hand, reaches_given}
+use Rattle.waiting_rows.specs.Given.{given_on, IsListed}
+use Rattle.waiting_rows.proofs.GivenOn.{given_concerned}
+use Rattle.waiting_rows.proofs.GivenOn.{listed_hand, reaches_given}
 use Rattle.phase_schedule.proofs.Apart.{idle_counts}
 use Rattle.phase_schedule.proofs.Lines.{may_last, parks_there}
 use Rattle.phase_schedule.proofs.LockAgain.{concerned}

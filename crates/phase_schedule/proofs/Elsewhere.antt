@@ -7,10 +7,10 @@ use Rattle.schedule_rules.specs.declared.plan.CellPlan.{CellPlan}
 use Rattle.schedule_rules.specs.History.{Event, count}
 use Rattle.schedule_rules.specs.Waits.{Wait, Attempt, wait_of, without_wait, with_wait, parks_to_read, parks_to_write, shares_read, shares_write, drains_on, wake_reader, wake_writer}
 use Rattle.schedule_rules.specs.Core.{core_with}
-use Rattle.phase_schedule.specs.Shown.{IsSingle}
-use Rattle.phase_schedule.proofs.Each.{woken_to_read, woken_to_write, writer_reads}
-use Rattle.phase_schedule.proofs.Counted.{count_without_wait, any_map, count_woken, read_shares_woken_other, write_shares_beside_readers, drains_beside_readers}
-use Rattle.phase_schedule.proofs.Members.{write_shares_woken_other, read_shares_beside_writer, drains_beside_writer}
+use Rattle.waiting_rows.specs.Shown.{IsSingle}
+use Rattle.waiting_rows.proofs.Each.{woken_to_read, woken_to_write, writer_reads}
+use Rattle.waiting_rows.proofs.Counted.{count_without_wait, any_map, count_woken, read_shares_woken_other, write_shares_beside_readers, drains_beside_readers}
+use Rattle.waiting_rows.proofs.Members.{write_shares_woken_other, read_shares_beside_writer, drains_beside_writer}
 use Rattle.phase_schedule.proofs.Same.{core_same, any_same}
 
 -- a call at another cell passes no test of this one

@@ -29,7 +29,7 @@ use Rattle.phase_schedule.specs.Tracks.{FollowsStep, Tracks, event, plans}
 use Rattle.phase_schedule.specs.Ready.{IsActing, IsFirst, IsLooking, IsNumbered, IsReady, Tries, is_try}
 use Rattle.phase_schedule.proofs.After.{tracks_after}
 use Rattle.phase_schedule.proofs.BegunSettled.{exits_with}
-use Rattle.phase_schedule.proofs.Counted.{none_without}
+use Rattle.waiting_rows.proofs.Counted.{none_without}
 use Rattle.phase_schedule.proofs.Lines.{legal_quiet}
 use Rattle.phase_schedule.proofs.Places.{planned_length}
 use Rattle.phase_schedule.proofs.RowRefused.{refusal_idle}

@@ -26,10 +26,10 @@ use Rattle.schedule_rules.specs.Due.{due_act, due_answer, due_clone}
 use Rattle.phase_schedule.specs.declared.rows.GuardRow.TheVariants as guard
 use Rattle.phase_schedule.specs.View.{View}
 use Rattle.phase_schedule.specs.Kept.{Open, kind_at, open_after}
-use Rattle.phase_schedule.specs.Shown.{Agrees}
+use Rattle.phase_schedule.specs.Agrees.{Agrees}
 use Rattle.phase_schedule.specs.Tracks.{IsApart, Tracks}
 use Rattle.phase_schedule.specs.Ready.{IsHeld}
-use Rattle.phase_schedule.proofs.Counted.{none_without}
+use Rattle.waiting_rows.proofs.Counted.{none_without}
 use Rattle.phase_schedule.proofs.Lines.{legal_quiet}
 use Rattle.phase_schedule.proofs.Apart.{apart_less}
 use Rattle.phase_schedule.proofs.GuardGone.{some_reader}

@@ -22,7 +22,7 @@ use Rattle.phase_schedule.specs.declared.rows.CellRow.{CellRow}
 use Rattle.phase_schedule.specs.declared.rows.GuardRow.{GuardRow}
 use Rattle.phase_schedule.specs.View.{View}
 use Rattle.phase_schedule.specs.Kept.{Open, cell_row, guard_row, kind_at, open_after, plans_in}
-use Rattle.phase_schedule.specs.Shown.{Agrees}
+use Rattle.phase_schedule.specs.Agrees.{Agrees}
 use Rattle.phase_schedule.specs.Tracks.{IsApart, Tracks}
 use Rattle.phase_schedule.proofs.Places.{set_there}
 use Rattle.phase_schedule.proofs.After.{IsSteadyWith}

@@ -31,12 +31,12 @@ use Rattle.phase_schedule.specs.declared.rows.Draft.{Draft}
 use Rattle.phase_schedule.specs.declared.rows.GuardRow.TheVariants as guard
 use Rattle.phase_schedule.specs.View.{View}
 use Rattle.phase_schedule.specs.Kept.{Open, open_after, cell_row, draft_of, kind_at}
-use Rattle.phase_schedule.specs.Shown.{Agrees}
+use Rattle.phase_schedule.specs.Agrees.{Agrees}
 use Rattle.phase_schedule.specs.Tracks.{IsApart, Tracks}
 use Rattle.phase_schedule.specs.Ready.{IsHeld}
 use Rattle.phase_schedule.proofs.Places.{set_view}
 use Rattle.phase_schedule.proofs.Same.{unlocked}
-use Rattle.phase_schedule.proofs.GivenOn.{listed_hand}
+use Rattle.waiting_rows.proofs.GivenOn.{listed_hand}
 use Rattle.phase_schedule.proofs.Hands.{locked_sound}
 use Rattle.phase_schedule.proofs.Lines.{may_hand_there, legal_last}
 use Rattle.phase_schedule.proofs.Apart.{MayAdd, apart_less, hand_adds}

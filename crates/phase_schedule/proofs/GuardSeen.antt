@@ -29,7 +29,8 @@ use Rattle.phase_schedule.specs.Tracks.{plans}
 use Rattle.phase_schedule.specs.Ready.{HasWriter, IsDraft, IsHolding, IsHoldingNumbered}
 use Rattle.phase_schedule.proofs.Places.{row_at, slice_get_set_other, inside_plan, mapped_at}
 use Rattle.phase_schedule.proofs.Same.{agrees_core}
-use Rattle.phase_schedule.proofs.RowCounts.{open_reads_shown, write_open_shown, free_party}
+use Rattle.phase_schedule.proofs.OpenHolds.{open_reads_shown, write_open_shown}
+use Rattle.waiting_rows.proofs.RowCounts.{free_party}
 use Rattle.phase_schedule.proofs.RowOpens.{found_below, next_slot}
 use Rattle.phase_schedule.proofs.RowInner.{cell_seen}
 use Rattle.phase_schedule.proofs.GuardPhase.{inside_known}

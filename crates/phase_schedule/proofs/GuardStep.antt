@@ -23,10 +23,12 @@ use Rattle.phase_schedule.specs.declared.rows.CellRow.{CellRow}
 use Rattle.phase_schedule.specs.declared.rows.GuardRow.{GuardRow}
 use Rattle.phase_schedule.specs.View.{View}
 use Rattle.phase_schedule.specs.Kept.{Open, open_after, cell_row, guard_row, party_row, plans_in, kind_at, target_of}
-use Rattle.phase_schedule.specs.Shown.{Agrees}
+use Rattle.phase_schedule.specs.Agrees.{Agrees}
 use Rattle.phase_schedule.specs.Tracks.{IsApart, Kept, Locked, Tracks, event}
 use Rattle.phase_schedule.proofs.Places.{same_view}
-use Rattle.phase_schedule.proofs.GivenOn.{given_on, IsListed, within_on, target_given}
+use Rattle.waiting_rows.specs.Given.{given_on, IsListed}
+use Rattle.waiting_rows.proofs.GivenOn.{within_on}
+use Rattle.phase_schedule.proofs.GivenOn.{target_given}
 use Rattle.phase_schedule.proofs.After.{Becomes, IsSteadyWith, content_with, tracks_after}
 use Rattle.phase_schedule.proofs.Hands.{locked_sound, waits_then, hands_locked, handed_writers}
 use Rattle.phase_schedule.proofs.Apart.{MayAdd, apart_given}

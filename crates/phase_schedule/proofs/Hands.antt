@@ -20,13 +20,17 @@ use Rattle.schedule_rules.specs.Replay.{replay}
 use Rattle.schedule_rules.specs.Core.{core, core_with}
 use Rattle.schedule_rules.specs.Waits.{Wait, wait_of, waits, waits_given, other_waits, cell_concerned}
 use Rattle.phase_schedule.specs.Kept.{open_after, kind_at}
-use Rattle.phase_schedule.specs.Shown.{Shows, IsSingle, Agrees}
+use Rattle.waiting_rows.specs.Shown.{Shows, IsSingle}
+use Rattle.phase_schedule.specs.Agrees.{Agrees}
 use Rattle.phase_schedule.specs.Tracks.{IsApart, Locked}
 use Rattle.phase_schedule.proofs.Places.{set_kept}
-use Rattle.phase_schedule.proofs.Counted.{one_of, none_without}
-use Rattle.phase_schedule.proofs.Members.{occurs_readers, occurs_writers}
-use Rattle.phase_schedule.proofs.Reaching.{passes, row_reads, row_writes}
-use Rattle.phase_schedule.proofs.GivenOn.{given_on, IsListed, given_concerned, single_on, shows_on, core_on, core_on_other}
+use Rattle.waiting_rows.proofs.Counted.{one_of, none_without}
+use Rattle.waiting_rows.proofs.Members.{occurs_readers, occurs_writers}
+use Rattle.waiting_rows.proofs.Reaching.{passes, row_reads, row_writes}
+use Rattle.waiting_rows.specs.Given.{given_on, IsListed}
+use Rattle.waiting_rows.proofs.GivenOn.{given_concerned}
+use Rattle.phase_schedule.proofs.GivenOn.{core_on, core_on_other}
+use Rattle.waiting_rows.proofs.GivenOn.{single_on, shows_on}
 
 one_passes : (t : Wait → Bool) (o : Option Wait) (b : Bool) → b ≡ passes t o → one_of t o ≡ (if b then 1 else 0)
 one_passes t None b e = rw e refl

@@ -6,8 +6,8 @@ use Rattle.schedule_rules.specs.declared.step.Want.{Want}
 use Rattle.schedule_rules.specs.History.{Event}
 use Rattle.schedule_rules.specs.Waits.{Wait, wait_of, without_wait, shares_read, shares_write, drains_on}
 use Rattle.schedule_rules.specs.Holds.{readers_with, writers_with, drains_with}
-use Rattle.phase_schedule.specs.Shown.{IsSingle}
-use Rattle.phase_schedule.proofs.Counted.{count_without_wait}
+use Rattle.waiting_rows.specs.Shown.{IsSingle}
+use Rattle.waiting_rows.proofs.Counted.{count_without_wait}
 
 -- what a call has of the cell, it has alone
 pub read_share_alone : (c : ℕ) (w : Wait) → shares_read c w ≡ true → (shares_write c w ≡ false) × (drains_on c w ≡ false)

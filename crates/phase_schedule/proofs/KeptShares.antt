@@ -9,7 +9,7 @@ use Rattle.phase_locker.specs.Rows.{Rows, row_of}
 use Rattle.schedule_rules.specs.Calls.{Nature, Reads, Writes}
 use Rattle.schedule_rules.specs.Waits.{Wait, wait_of}
 use Rattle.schedule_rules.specs.Holds.{keeps, keeps_way}
-use Rattle.phase_schedule.specs.Shown.{Shows, waiting_of, wait_row}
+use Rattle.waiting_rows.specs.Shown.{Shows, waiting_of, wait_row}
 use Rattle.phase_schedule.specs.Meets.{lock_nature}
 
 -- by the way of waiting

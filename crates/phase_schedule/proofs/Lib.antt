@@ -1,22 +1,6 @@
 -- Numbers, and places of lists
 pub mod Numbers
 pub mod Places
-pub mod Slots
-pub mod Passing
--- The calls that wait: what becomes of one, and who waits, in which order, and how many
-pub mod Each
-pub mod Finding
-pub mod Single
-pub mod Lists
-pub mod Counted
-pub mod Members
-pub mod Added
--- The rows show who waits
-pub mod Reaching
-pub mod ShowsFreed
-pub mod ShowsWaiting
-pub mod ShowsHanded
-pub mod Within
 -- The records of the lockers
 pub mod Same
 pub mod Records
@@ -24,7 +8,7 @@ pub mod Keeping
 pub mod Elsewhere
 pub mod GivenOn
 pub mod KeptShares
-pub mod RowCounts
+pub mod OpenHolds
 pub mod Few
 -- What stands open, and rows that stand for a history with one event more
 pub mod RowOpens

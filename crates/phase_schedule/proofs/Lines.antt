@@ -24,11 +24,13 @@ use Rattle.schedule_rules.specs.Gifts.{reaches, is_readers, downgrades, is_freed
 use Rattle.schedule_rules.specs.Legal.{IsLegalLine, Last, answer_of, may_give}
 use Rattle.schedule_rules.specs.declared.line.Line.{Line}
 use Rattle.phase_schedule.specs.Kept.{kind_at}
-use Rattle.phase_schedule.specs.Shown.{Shows, Agrees}
+use Rattle.waiting_rows.specs.Shown.{Shows}
+use Rattle.phase_schedule.specs.Agrees.{Agrees}
 use Rattle.phase_schedule.specs.Tracks.{event}
 use Rattle.phase_schedule.proofs.Numbers.{none_stands}
-use Rattle.phase_schedule.proofs.Counted.{none_without}
-use Rattle.phase_schedule.proofs.GivenOn.{IsListed, reaches_given}
+use Rattle.waiting_rows.proofs.Counted.{none_without}
+use Rattle.waiting_rows.specs.Given.{IsListed}
+use Rattle.waiting_rows.proofs.GivenOn.{reaches_given}
 use Rattle.phase_schedule.proofs.Apart.{idle_counts}
 
 -- where somebody is given the lock, calls park

@@ -41,7 +41,9 @@ use Rattle.phase_schedule.specs.Meets.{some_nature, lock_nature}
 use Rattle.phase_schedule.specs.Tracks.{IsApart, Locked, RunBy, Tracks, plans}
 use Rattle.phase_schedule.specs.Ready.{Tries, is_try, IsAgain, IsAnswered, answer_by, opened_by, waits_left}
 use Rattle.phase_schedule.proofs.KeptShares.{row_kept}
-use Rattle.phase_schedule.proofs.GivenOn.{given_on, given_concerned, listed_hand, reaches_given}
+use Rattle.waiting_rows.specs.Given.{given_on}
+use Rattle.waiting_rows.proofs.GivenOn.{given_concerned}
+use Rattle.waiting_rows.proofs.GivenOn.{listed_hand, reaches_given}
 use Rattle.phase_schedule.proofs.Places.{inside_plan}
 use Rattle.phase_schedule.proofs.Hands.{sound_of}
 use Rattle.phase_schedule.proofs.LockBarred.{open_with}

@@ -21,12 +21,12 @@ use Rattle.schedule_rules.specs.Guards.{Guard, reader, writer}
 use Rattle.schedule_rules.specs.Waits.{Wait, Attempt, with_wait, parks_to_read, parks_to_write, shares_read, shares_write, is_drain}
 use Rattle.schedule_rules.specs.Holds.{reads_cell, writes_cell}
 use Rattle.phase_schedule.specs.Kept.{Open, readers_in, writers_in, drains_in, record_in, kind_at}
-use Rattle.phase_schedule.specs.Shown.{Shows, IsSingle}
+use Rattle.waiting_rows.specs.Shown.{Shows, IsSingle}
 use Rattle.phase_schedule.specs.Tracks.{IsApart, Locked}
 use Rattle.phase_schedule.proofs.Numbers.{lt_more}
 use Rattle.phase_schedule.proofs.Places.{slice_get_set_same, slice_get_set_other}
-use Rattle.phase_schedule.proofs.Reaching.{flag_readers, flag_writers}
-use Rattle.phase_schedule.proofs.Added.{read_shares_added, write_shares_added, drains_added, drains_added_other}
+use Rattle.waiting_rows.proofs.Reaching.{flag_readers, flag_writers}
+use Rattle.waiting_rows.proofs.Added.{read_shares_added, write_shares_added, drains_added, drains_added_other}
 use Rattle.phase_schedule.proofs.Elsewhere.{any_added_reads, any_added_writes}
 
 -- ---- a cell that stands as before

@@ -43,7 +43,7 @@ use Rattle.phase_schedule.proofs.Places.{inside_plan}
 use Rattle.phase_schedule.proofs.After.{tracks_after}
 use Rattle.phase_schedule.proofs.RowTries.{try_ends, try_shows, steady_same}
 use Rattle.phase_schedule.proofs.ExitStays.{exit_told}
-use Rattle.phase_schedule.proofs.Counted.{none_without}
+use Rattle.waiting_rows.proofs.Counted.{none_without}
 use Rattle.phase_schedule.proofs.LockBarred.{open_with}
 use Rattle.phase_schedule.proofs.LockDue.{chosen_by, tried, judged_due, is_cyclic}
 use Rattle.phase_schedule.proofs.LockRun.{due_try}

@@ -28,19 +28,22 @@ use Rattle.schedule_rules.specs.Holds.{readers_with, writers_with, drains_with, 
 use Rattle.schedule_rules.proofs.Opened.{wait_removed}
 use Rattle.phase_schedule.specs.declared.rows.Target.{Target}
 use Rattle.phase_schedule.specs.Kept.{readers_in, writers_in, drains_in, record_in, kind_at}
-use Rattle.phase_schedule.specs.Shown.{Shows, IsSingle, Agrees, waiting_of}
+use Rattle.waiting_rows.specs.Shown.{Shows, IsSingle, waiting_of}
+use Rattle.phase_schedule.specs.Agrees.{Agrees}
 use Rattle.phase_schedule.specs.Tracks.{IsApart}
 use Rattle.phase_schedule.proofs.Numbers.{none_stands}
-use Rattle.phase_schedule.proofs.Single.{single_without}
-use Rattle.phase_schedule.proofs.Lists.{readers_without, writers_without}
-use Rattle.phase_schedule.proofs.Counted.{count_without, write_shares_beside_readers, drains_beside_readers}
-use Rattle.phase_schedule.proofs.Members.{write_shares_woken, read_shares_beside_writer, drains_beside_writer}
-use Rattle.phase_schedule.proofs.Reaching.{parked_writer}
-use Rattle.phase_schedule.proofs.ShowsFreed.{shows_freed}
+use Rattle.waiting_rows.proofs.Single.{single_without}
+use Rattle.waiting_rows.proofs.Lists.{readers_without, writers_without}
+use Rattle.waiting_rows.proofs.Counted.{count_without, write_shares_beside_readers, drains_beside_readers}
+use Rattle.waiting_rows.proofs.Members.{write_shares_woken, read_shares_beside_writer, drains_beside_writer}
+use Rattle.waiting_rows.proofs.Reaching.{parked_writer}
+use Rattle.waiting_rows.proofs.ShowsFreed.{shows_freed}
 use Rattle.phase_schedule.proofs.Same.{agrees_core}
 use Rattle.phase_schedule.proofs.Records.{row_waits, agrees_row_given_up}
-use Rattle.phase_schedule.proofs.RowCounts.{shares_shown}
-use Rattle.phase_schedule.proofs.GivenOn.{given_on, IsListed, listed_hand, single_on, none_on, shows_on, core_on}
+use Rattle.waiting_rows.proofs.RowCounts.{shares_shown}
+use Rattle.waiting_rows.specs.Given.{given_on, IsListed}
+use Rattle.waiting_rows.proofs.GivenOn.{listed_hand, single_on, none_on, shows_on}
+use Rattle.phase_schedule.proofs.GivenOn.{core_on}
 use Rattle.phase_schedule.proofs.Hands.{sound_of, handed_writers}
 use Rattle.phase_schedule.proofs.LockBarred.{open_with}
 use Rattle.phase_schedule.proofs.LockCells.{before_then}

@@ -23,13 +23,13 @@ use Rattle.schedule_rules.specs.Holds.{keeps_way}
 use Rattle.phase_schedule.specs.declared.rows.Target.{Target}
 use Rattle.phase_schedule.specs.Kept.{Open, readers_in, writers_in, drains_in, record_in}
 use Rattle.phase_schedule.specs.Meets.{lock_nature}
-use Rattle.phase_schedule.specs.Shown.{Shows, IsSingle}
+use Rattle.waiting_rows.specs.Shown.{Shows, IsSingle}
 use Rattle.phase_schedule.specs.Tracks.{IsApart}
 use Rattle.phase_schedule.specs.Ready.{asks_run}
 use Rattle.phase_schedule.proofs.Numbers.{lt_more}
-use Rattle.phase_schedule.proofs.Single.{single_without}
-use Rattle.phase_schedule.proofs.ShowsFreed.{shows_freed}
-use Rattle.phase_schedule.proofs.Reaching.{flag_readers, flag_writers}
+use Rattle.waiting_rows.proofs.Single.{single_without}
+use Rattle.waiting_rows.proofs.ShowsFreed.{shows_freed}
+use Rattle.waiting_rows.proofs.Reaching.{flag_readers, flag_writers}
 use Rattle.phase_schedule.proofs.Keeping.{Fewer, fewer_reads, fewer_writes, fewer_drains}
 use Rattle.phase_schedule.proofs.LockBarred.{open_with}
 use Rattle.phase_schedule.proofs.LockCells.{AsBefore, before_then, before_reader, before_writer, before_section, guarded, sectioned, reader_more, writer_more, section_more}

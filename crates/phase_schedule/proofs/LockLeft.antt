@@ -12,14 +12,14 @@ use Rattle.schedule_rules.specs.Sections.{runs_in}
 use Rattle.schedule_rules.specs.Waits.{Wait, wait_of, without_wait, parks_to_read, parks_to_write, shares_read, shares_write, drains_on, wake_reader, wake_writer}
 use Rattle.schedule_rules.specs.Holds.{reads_cell, writes_cell}
 use Rattle.phase_schedule.specs.Kept.{Open}
-use Rattle.phase_schedule.specs.Shown.{Shows, IsSingle}
-use Rattle.phase_schedule.proofs.Each.{woken_to_read, writer_reads}
-use Rattle.phase_schedule.proofs.Counted.{any_map, read_shares_woken_other, write_shares_beside_readers, drains_beside_readers}
-use Rattle.phase_schedule.proofs.Members.{write_shares_woken_other, read_shares_beside_writer, drains_beside_writer}
+use Rattle.waiting_rows.specs.Shown.{Shows, IsSingle}
+use Rattle.waiting_rows.proofs.Each.{woken_to_read, writer_reads}
+use Rattle.waiting_rows.proofs.Counted.{any_map, read_shares_woken_other, write_shares_beside_readers, drains_beside_readers}
+use Rattle.waiting_rows.proofs.Members.{write_shares_woken_other, read_shares_beside_writer, drains_beside_writer}
 use Rattle.phase_schedule.proofs.Same.{any_same}
-use Rattle.phase_schedule.proofs.Reaching.{parked_writer}
+use Rattle.waiting_rows.proofs.Reaching.{parked_writer}
 use Rattle.phase_schedule.proofs.Elsewhere.{apart_from, count_kept, writers_woken_other}
-use Rattle.phase_schedule.proofs.GivenOn.{given_on, IsListed}
+use Rattle.waiting_rows.specs.Given.{given_on, IsListed}
 use Rattle.phase_schedule.proofs.LockCells.{AsBefore, before_refl, waiting}
 
 -- ---- sizes

@@ -28,12 +28,12 @@ use Rattle.schedule_rules.specs.Replay.{phase_at}
 use Rattle.schedule_rules.specs.Waits.{Wait as WaitingCall, wait_of, with_wait, is_drain}
 use Rattle.phase_schedule.specs.declared.rows.Target.{Target}
 use Rattle.phase_schedule.specs.Kept.{Open, readers_in, writers_in, drains_in, record_in}
-use Rattle.phase_schedule.specs.Shown.{Shows, IsSingle}
+use Rattle.waiting_rows.specs.Shown.{Shows, IsSingle}
 use Rattle.phase_schedule.specs.Tracks.{IsApart}
 use Rattle.phase_schedule.specs.Ready.{asks_run, still_open, opened_by_lock, opened_by, waits_left}
 use Rattle.phase_schedule.proofs.Numbers.{lt_true, lt_false, no_claims}
-use Rattle.phase_schedule.proofs.Single.{single_with}
-use Rattle.phase_schedule.proofs.ShowsWaiting.{shows_waiting_at}
+use Rattle.waiting_rows.proofs.Single.{single_with}
+use Rattle.waiting_rows.proofs.ShowsWaiting.{shows_waiting_at}
 use Rattle.phase_schedule.proofs.Same.{agrees_core}
 use Rattle.phase_schedule.proofs.GivenOn.{core_waiting}
 use Rattle.phase_schedule.proofs.LockBarred.{open_with}

@@ -32,12 +32,13 @@ use Rattle.phase_schedule.specs.declared.rows.CellRow.{CellRow}
 use Rattle.phase_schedule.specs.declared.rows.PartyRow.{PartyRow}
 use Rattle.phase_schedule.specs.Exiting.{Exiting}
 use Rattle.phase_schedule.specs.Kept.{open_after, readers_in, writers_in, drains_in}
-use Rattle.phase_schedule.specs.Shown.{Agrees}
+use Rattle.phase_schedule.specs.Agrees.{Agrees}
 use Rattle.phase_schedule.specs.View.{View}
 use Rattle.phase_schedule.specs.Tracks.{IsApart, Locked, RunBy, Tracks, event}
 use Rattle.phase_schedule.proofs.Numbers.{other_number, same_number}
 use Rattle.phase_schedule.proofs.Same.{unlocked}
-use Rattle.phase_schedule.proofs.GivenOn.{given_on, IsListed, listed_hand}
+use Rattle.waiting_rows.specs.Given.{given_on, IsListed}
+use Rattle.waiting_rows.proofs.GivenOn.{listed_hand}
 use Rattle.phase_schedule.proofs.Hands.{locked_sound, waits_then, hands_locked, handed_writers}
 use Rattle.phase_schedule.proofs.After.{content_with, tracks_after}
 use Rattle.phase_schedule.proofs.Few.{few_readers}

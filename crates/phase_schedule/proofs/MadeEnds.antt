@@ -23,7 +23,8 @@ use Rattle.phase_schedule.specs.View.{View}
 use Rattle.phase_schedule.proofs.Numbers.{other_number, same_number}
 use Rattle.phase_schedule.proofs.Places.{read_once}
 use Rattle.phase_schedule.proofs.Same.{agrees_core}
-use Rattle.phase_schedule.proofs.RowCounts.{write_open_shown, free_party}
+use Rattle.phase_schedule.proofs.OpenHolds.{write_open_shown}
+use Rattle.waiting_rows.proofs.RowCounts.{free_party}
 use Rattle.phase_schedule.proofs.Alone.{runs_once, none_left, others_left}
 use Rattle.phase_schedule.proofs.MadeOpens.{writer_left, opened_write, apart_write}
 

@@ -33,7 +33,9 @@ use Rattle.phase_schedule.specs.View.{View}
 use Rattle.phase_schedule.specs.Tracks.{Tracks, Kept}
 use Rattle.phase_schedule.proofs.Numbers.{other_number, same_number}
 use Rattle.phase_schedule.proofs.Places.{row_at, set_view}
-use Rattle.phase_schedule.proofs.GivenOn.{given_on, within_on, target_given}
+use Rattle.waiting_rows.specs.Given.{given_on}
+use Rattle.waiting_rows.proofs.GivenOn.{within_on}
+use Rattle.phase_schedule.proofs.GivenOn.{target_given}
 use Rattle.phase_schedule.proofs.RowOpens.{no_run, run_kept}
 use Rattle.phase_schedule.proofs.RowInner.{cell_seen}
 use Rattle.phase_schedule.proofs.RowKept.{planned_set}

@@ -19,7 +19,7 @@ use Rattle.phase_schedule.specs.declared.rows.PartyRow.{PartyRow}
 use Rattle.phase_schedule.specs.Kept.{open_after}
 use Rattle.phase_schedule.specs.View.{View}
 use Rattle.phase_schedule.specs.Tracks.{Tracks, event}
-use Rattle.phase_schedule.proofs.Counted.{none_without}
+use Rattle.waiting_rows.proofs.Counted.{none_without}
 use Rattle.phase_schedule.proofs.After.{tracks_after}
 use Rattle.phase_schedule.proofs.MadeOpens.{writer_left, opened_write, steady_write}
 use Rattle.phase_schedule.proofs.MadeKept.{drafted_row, kept_write, phase_made}

@@ -10,10 +10,11 @@ use Rattle.schedule_rules.specs.declared.plan.CellPlan.{CellPlan}
 use Rattle.schedule_rules.specs.History.{Event, count}
 use Rattle.schedule_rules.specs.Waits.{Wait, Attempt, wait_of, without_wait, with_wait, is_read_share, is_write_share, is_drain, parks_to_write, shares_read, shares_write, drains_on, parked_readers, wake_reader, wake_writer}
 use Rattle.schedule_rules.specs.Holds.{read_guards, writers_with, drains_with}
-use Rattle.phase_schedule.specs.Shown.{Shows, IsSingle, Agrees, waiting_of, wait_row}
-use Rattle.phase_schedule.proofs.Counted.{count_without_wait, read_shares_woken, write_shares_beside_readers, drains_beside_readers}
-use Rattle.phase_schedule.proofs.Members.{write_shares_woken, read_shares_beside_writer}
-use Rattle.phase_schedule.proofs.Added.{drains_added}
+use Rattle.waiting_rows.specs.Shown.{Shows, IsSingle, waiting_of, wait_row}
+use Rattle.phase_schedule.specs.Agrees.{Agrees}
+use Rattle.waiting_rows.proofs.Counted.{count_without_wait, read_shares_woken, write_shares_beside_readers, drains_beside_readers}
+use Rattle.waiting_rows.proofs.Members.{write_shares_woken, read_shares_beside_writer}
+use Rattle.waiting_rows.proofs.Added.{drains_added}
 use Rattle.phase_schedule.proofs.Same.{locked_same, locked_by_write, locked_by_drain, unlocked, agrees_same}
 
 -- a call has what its way says, at its cell

@@ -37,7 +37,7 @@ use Rattle.phase_schedule.proofs.ExitStays.{exit_opened}
 use Rattle.phase_schedule.proofs.Numbers.{same_number}
 use Rattle.phase_schedule.proofs.Places.{inside_plan}
 use Rattle.phase_schedule.proofs.RowOpens.{next_slot}
-use Rattle.phase_schedule.proofs.Within.{within_with}
+use Rattle.waiting_rows.proofs.Within.{within_with}
 use Rattle.phase_schedule.proofs.RowTries.{becomes_wait, becomes_skip, becomes_read, becomes_write, becomes_run, steady_same, steady_read, steady_write, steady_run}
 use Rattle.phase_schedule.proofs.RowKept.{with_open, planned_set, within_left, inner_is, party_got, party_waits, party_runs, slot_opened, guard_known, section_known, cell_is, section_none, cell_written, cell_runs}
 

@@ -31,12 +31,12 @@ use Rattle.phase_schedule.specs.declared.rows.PartyRow.{PartyRow}
 use Rattle.phase_schedule.specs.declared.rows.Target.{Target}
 use Rattle.phase_schedule.specs.View.{View}
 use Rattle.phase_schedule.specs.Kept.{cell_row, guard_row, open_after, party_row, plans_in, section_of, stays_in, target_of}
-use Rattle.phase_schedule.specs.Shown.{AreWithin}
+use Rattle.waiting_rows.specs.Shown.{AreWithin}
 use Rattle.phase_schedule.specs.Tracks.{IsSteady, Kept}
 use Rattle.phase_schedule.specs.Ready.{waits_left, still_open, with_section, with_guard}
-use Rattle.phase_schedule.proofs.Finding.{wait_added, wait_beside}
-use Rattle.phase_schedule.proofs.Single.{none_given}
-use Rattle.phase_schedule.proofs.Within.{within_without, within_readers, within_writer}
+use Rattle.waiting_rows.proofs.Finding.{wait_added, wait_beside}
+use Rattle.waiting_rows.proofs.Single.{none_given}
+use Rattle.waiting_rows.proofs.Within.{within_without, within_readers, within_writer}
 use Rattle.phase_schedule.proofs.Numbers.{other_number, same_number}
 use Rattle.phase_schedule.proofs.Places.{row_at, set_view}
 use Rattle.phase_schedule.proofs.RowOpens.{no_run, next_slot}

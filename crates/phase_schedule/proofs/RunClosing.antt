@@ -31,7 +31,7 @@ use Rattle.phase_schedule.specs.View.{View}
 use Rattle.phase_schedule.specs.Closing.{AreFree, AreIdle, HoldsAt, HoldsLocks, HoldsSection, IsClosedAt, IsFinalAt, IsIdle, IsOfCell, IsOneAt, RunsAt, locks_of, reads_row, writes_row}
 use Rattle.phase_schedule.proofs.Numbers.{same_number, other_number}
 use Rattle.phase_schedule.proofs.Places.{slice_get_set_same, slice_get_set_other, mapped_at}
-use Rattle.phase_schedule.proofs.Passing.{count_set}
+use Rattle.waiting_rows.proofs.Passing.{count_set}
 
 -- ---- lists
 

@@ -22,7 +22,7 @@ use Rattle.phase_schedule.specs.Exiting.{Exiting, IsExiting, IsFresh, exiting}
 use Rattle.phase_schedule.specs.Kept.{fresh_cell, idle_party, kind_at, open_after, plans_in}
 use Rattle.phase_schedule.specs.Tracks.{Kept, Locked, RunBy, Tracks, plans}
 use Rattle.phase_schedule.specs.Progress.{AreFresh}
-use Rattle.phase_schedule.proofs.Within.{shows_fresh}
+use Rattle.waiting_rows.proofs.Within.{shows_fresh}
 
 -- ---- lists that grow
 

@@ -29,13 +29,13 @@ use Rattle.phase_schedule.specs.View.{View}
 use Rattle.phase_schedule.specs.Kept.{cell_row, guard_row, kind_at, open_after, open_run, run_in, runner_in, runner_of, section_by, section_of, stays_at}
 use Rattle.phase_schedule.specs.Tracks.{NumbersBelow, Tracks}
 use Rattle.phase_schedule.specs.Closing.{HoldsAt, HoldsLocks, IsOfCell, IsOneAt, RunsAt, locks_of, reads_row, writes_row}
-use Rattle.phase_schedule.proofs.Passing.{count_free, count_test, count_set, count_before}
-use Rattle.phase_schedule.proofs.RowCounts.{open_reads_shown, write_open_shown}
+use Rattle.waiting_rows.proofs.Passing.{count_free, count_test, count_set, count_before}
+use Rattle.phase_schedule.proofs.OpenHolds.{open_reads_shown, write_open_shown}
 use Rattle.phase_schedule.proofs.Places.{planned_length}
 use Rattle.phase_schedule.proofs.RowOpens.{numbered_above, asked_run}
 use Rattle.phase_schedule.proofs.GuardPhase.{phase_known, stays_known}
 use Rattle.phase_schedule.proofs.Same.{agrees_core}
-use Rattle.phase_schedule.proofs.Slots.{set_shows}
+use Rattle.waiting_rows.proofs.Slots.{set_shows}
 
 -- ---- guards by their numbers
 

@@ -6,7 +6,7 @@ use Rattle.schedule_rules.specs.declared.step.Step.{Step}
 use Rattle.schedule_rules.specs.declared.transcript.Transcript.{Transcript}
 use Rattle.schedule_rules.specs.Exits.{ended_turns}
 use Rattle.schedule_rules.specs.Legal.{IsLegal}
-use Rattle.schedule_rules.specs.Transcripts.{AreFinals, IsKnown, IsLegalTranscript, account_of, schedule_of, told}
+use Rattle.schedule_rules.specs.Transcripts.{AreFinals, NamesKnown, IsLegalTranscript, account_of, schedule_of, told}
 use Rattle.phase_schedule.specs.Errors.{cause_of}
 use Rattle.phase_schedule.specs.Tracks.{plans}
 use Rattle.phase_schedule.specs.View.{Made}
@@ -23,7 +23,7 @@ module _ (plan : Plan) (steps : List Step) (x : Made) (i : ℕ) (made : HasMade 
       record {
         made = made;
         history = refl;
-        known = subst (λ n. IsKnown n (length x.rows.cells) (get_or steps i d)) (sym parties) (subst (λ n. IsKnown plan.parties n (get_or steps i d)) (sym same_cells) ((valid (schedule_of plan steps) few_cells few_steps e).known i d lt));
+        known = subst (λ n. NamesKnown n (length x.rows.cells) (get_or steps i d)) (sym parties) (subst (λ n. NamesKnown plan.parties n (get_or steps i d)) (sym same_cells) ((valid (schedule_of plan steps) few_cells few_steps e).known i d lt));
         room = grind (arith, common_steps);
       }
     where

@@ -12,9 +12,10 @@ use Rattle.schedule_rules.specs.Replay.{phase_at}
 use Rattle.schedule_rules.specs.Waits.{Wait, parks_to_read, parks_to_write, shares_read, shares_write, drains_on}
 use Rattle.schedule_rules.specs.Holds.{read_guards, write_holds, writers_with, drains_with}
 use Rattle.schedule_rules.specs.Core.{is_locked_with, core_with}
-use Rattle.phase_schedule.specs.Shown.{Shows, Agrees}
-use Rattle.phase_schedule.proofs.Counted.{any_counted}
-use Rattle.phase_schedule.proofs.Reaching.{flag_readers, flag_writers}
+use Rattle.waiting_rows.specs.Shown.{Shows}
+use Rattle.phase_schedule.specs.Agrees.{Agrees}
+use Rattle.waiting_rows.proofs.Counted.{any_counted}
+use Rattle.waiting_rows.proofs.Reaching.{flag_readers, flag_writers}
 
 -- as many writers and drains lock as much
 pub locked_same : (c : ℕ) (h : List Event) (ws vs : List Wait) → count (shares_write c) vs ≡ count (shares_write c) ws → count (drains_on c) vs ≡ count (drains_on c) ws → is_locked_with c h ws ≡ is_locked_with c h vs

@@ -20,8 +20,8 @@ use Rattle.schedule_rules.specs.Due.{due_answer, due_act, due_tried}
 use Rattle.schedule_rules.specs.Legal.{IsLegal, IsLegalLine, Moment, First, Last, answer_of, due_at}
 use Rattle.schedule_rules.proofs.Opened.{wait_removed, wait_kept}
 use Rattle.schedule_rules.proofs.GoesOn.{attempt_given}
-use Rattle.phase_schedule.proofs.Finding.{wait_added, wait_beside}
-use Rattle.phase_schedule.proofs.Single.{none_given}
+use Rattle.waiting_rows.proofs.Finding.{wait_added, wait_beside}
+use Rattle.waiting_rows.proofs.Single.{none_given}
 
 module _ (cells : List CellPlan) where
   -- ---- a step of another party

@@ -21,7 +21,7 @@ use Rattle.schedule_rules.specs.Calls.{asks, initializes}
 use Rattle.schedule_rules.specs.declared.step.Want.TheVariants.{Turns}
 use Rattle.schedule_rules.specs.History.{Event, accepts}
 use Rattle.schedule_rules.specs.Sections.{is_turn, runs, sections}
-use Rattle.schedule_rules.specs.Guards.{Guard, guards, reader, writer}
+use Rattle.schedule_rules.specs.Guards.{Guard, reader, writer}
 use Rattle.schedule_rules.specs.Replay.{replay, phase_at, inside, back_of_step, content_after_back}
 use Rattle.schedule_rules.specs.Changes.{Content}
 use Rattle.schedule_rules.specs.Legal.{IsLegal, IsLegalLine}

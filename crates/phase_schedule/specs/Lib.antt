@@ -2,7 +2,7 @@ pub mod Errors
 pub mod Standing
 pub mod Exiting
 pub mod View
-pub mod Shown
+pub mod Agrees
 pub mod Kept
 pub mod Meets
 pub mod Tracks
@@ -11,6 +11,7 @@ pub mod Answered
 pub mod Closing
 pub mod Progress
 pub mod Inside
+pub use Rattle.waiting_rows.specs.Shown
 pub use Rattle.phase_bits.specs.Number
 pub use Rattle.phase_bits.specs.Flags
 pub use Rattle.phase_bits.specs.Text

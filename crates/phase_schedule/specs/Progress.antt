@@ -9,7 +9,7 @@ use Rattle.schedule_rules.specs.declared.line.Line.{Line}
 use Rattle.schedule_rules.specs.declared.transcript.Final.{Final}
 use Rattle.schedule_rules.specs.Kinds.{cell_at}
 use Rattle.schedule_rules.specs.History.{Event}
-use Rattle.schedule_rules.specs.Transcripts.{IsKnown, told}
+use Rattle.schedule_rules.specs.Transcripts.{NamesKnown, told}
 use Rattle.phase_schedule.specs.declared.rows.CellRow.{CellRow}
 use Rattle.phase_schedule.specs.View.{View, Made}
 use Rattle.phase_schedule.specs.Exiting.{IsExiting}
@@ -57,7 +57,7 @@ pub record IsNew (plan : Plan) (count : ℕ) (x : Made) : Type 0 where
 pub record CanStep (h : List Event) (x : Made) (steps : List Step) (s : Step) : Type 0 where
   pub made : HasMade x steps
   pub history : h ≡ past x steps
-  pub known : IsKnown (length x.rows.parties) (length x.rows.cells) s
+  pub known : NamesKnown (length x.rows.parties) (length x.rows.cells) s
   pub room : length steps < length x.rows.guards
 
 -- the step was made with this line

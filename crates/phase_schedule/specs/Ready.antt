@@ -26,7 +26,7 @@ use Rattle.schedule_rules.specs.Calls.{asks}
 use Rattle.schedule_rules.specs.declared.step.Want.{Want}
 use Rattle.schedule_rules.specs.declared.step.Want.TheVariants.{Calls, Turns}
 use Rattle.schedule_rules.specs.History.{Event, act_of, accepts}
-use Rattle.schedule_rules.specs.Sections.{Section, innermost, is_turn, without_innermost, runs, sections}
+use Rattle.schedule_rules.specs.Sections.{Section, innermost, is_turn, without_innermost, sections}
 use Rattle.schedule_rules.specs.Guards.{Guard, numbered, guards, reader, writer}
 use Rattle.schedule_rules.specs.Replay.{replay, phase_at, inside}
 use Rattle.schedule_rules.specs.Exits.{finishing, registry}
@@ -34,7 +34,7 @@ use Rattle.schedule_rules.specs.Waits.{Wait as WaitingCall, act_for, attempt, wa
 use Rattle.schedule_rules.specs.Holds.{writes_cell}
 use Rattle.schedule_rules.specs.Refusals.{refusal}
 use Rattle.schedule_rules.specs.Legal.{IsLegal, IsLegalLine}
-use Rattle.schedule_rules.specs.Transcripts.{IsKnown}
+use Rattle.schedule_rules.specs.Transcripts.{NamesKnown}
 use Rattle.phase_schedule.specs.declared.rows.Draft.{Draft}
 use Rattle.phase_schedule.specs.declared.look_up.Run.{Run}
 use Rattle.phase_schedule.specs.declared.rows.Target.{Target}
@@ -53,7 +53,7 @@ pub record IsReady (h : List Event) (v : View) (s : Step) : Type 0 where
 pub record IsNext (h : List Event) (v : View) (s : Step) (n : ℕ) : Type 0 where
   pub ready : IsReady h v s
   pub number : n ≡ length h
-  pub known : IsKnown (length v.parties) (length v.cells) s
+  pub known : NamesKnown (length v.parties) (length v.cells) s
   pub exit : IsExiting (plans v) h (length v.guards) v.exit
 
 -- ---- attempts

@@ -23,7 +23,7 @@ use Rattle.schedule_rules.specs.Legal.{IsLegal}
 use Rattle.phase_schedule.specs.View.{View}
 use Rattle.phase_schedule.specs.Exiting.{IsExiting}
 use Rattle.phase_schedule.specs.Kept.{Open, open_after, cell_row, guard_row, party_row, readers_in, writers_in, drains_in, record_in, runner_in, kind_at, plans_in}
-use Rattle.phase_schedule.specs.Shown.{Shows, IsSingle}
+use Rattle.waiting_rows.specs.Shown.{Shows, IsSingle}
 
 -- the numbers of the guards fall, from below n
 abbrev pub NumbersBelow : ℕ → List Guard → Type 0

@@ -5,7 +5,7 @@ ghost use Rattle.schedule_rules.specs.Core.{core};
 ghost use Rattle.schedule_rules.specs.Exits.{ended_turns};
 ghost use Rattle.schedule_rules.specs.Kinds.{cell_at};
 ghost use Rattle.schedule_rules.specs.Legal.{IsLegal};
-ghost use Rattle.schedule_rules.specs.Transcripts.{AreFinals, IsKnown};
+ghost use Rattle.schedule_rules.specs.Transcripts.{AreFinals, NamesKnown};
 ghost use Rattle.schedule_rules.specs.Waits.{waits};
 ghost use Rattle.phase_schedule.specs.Errors.{cause_of_plan, IsCause};
 ghost use Rattle.phase_schedule.specs.Kept.{kind_at};
@@ -69,7 +69,7 @@ impl<L: PhaseLocker> Engine<L> {
 
     /// Makes one step, and answers its line. It takes no memory.
     pub fn step(&mut self, s: &Step) -> Line
-        requires known { IsKnown self.old.parties (length self.old.cells) s.now }
+        requires known { NamesKnown self.old.parties (length self.old.cells) s.now }
         requires room { length self.old.steps < self.old.count }
         ensures steps { self.new.steps ≡ self.old.steps ++ s.now ∷ [] }
         ensures lines { self.new.lines ≡ self.old.lines ++ result ∷ [] }

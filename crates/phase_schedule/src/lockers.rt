@@ -3,10 +3,11 @@
 ghost use Rattle.std.specs.Prelude.{◌≡◌, ◌+◌, ◌<◌, ◌↔◌, IsNone, OnSome, length};
 ghost use Rattle.phase_bits.specs.Number.{IsKnown};
 ghost use Rattle.phase_bits.specs.Records.{admit_read, leave_read, leave_write, most_readers};
-ghost use Rattle.phase_locker.specs.Rows.{HasFree, SameSize};
+ghost use Rattle.phase_locker.specs.Rows.{HasFree};
 ghost use Rattle.phase_locker.specs.Fits.{Fits, IsWriteOpen, KeepsFit, open_reads};
 ghost use Rattle.phase_locker.specs.Gifts.{Downgrades, Hands};
-ghost use Rattle.phase_locker.specs.Others.{OthersStay, RowsStay};
+ghost use Rattle.phase_locker.specs.Others.{RowsStay};
+ghost use Rattle.phase_locker.specs.Left.{Left};
 
 use phase_bits::Phase;
 use phase_locker::{Given, Parks, PhaseLocker, ReadTicket, WriteTicket};
@@ -23,13 +24,11 @@ pub fn release_read<L: PhaseLocker>(
     requires fits { Fits (L.place cell.old.locker) (L.held cell.old.locker) parks.old number }
     requires open { 0 < open_reads (L.held cell.old.locker) parks.old number }
     ensures hands { Hands number (leave_read (L.held cell.old.locker)) parks.old result (L.held cell.new.locker) parks.new }
-    ensures others { OthersStay number parks.old parks.new }
     ensures rows { RowsStay number parks.old parks.new }
     ensures reads { open_reads (L.held cell.new.locker) parks.new number + 1 ≡ open_reads (L.held cell.old.locker) parks.old number }
-    ensures fits { Fits (L.place cell.new.locker) (L.held cell.new.locker) parks.new number }
-    ensures place { L.place cell.new.locker ≡ L.place cell.old.locker }
+    ensures closed { ¬ IsWriteOpen (L.held cell.new.locker) parks.new number }
     ensures running { cell.new.running ≡ cell.old.running }
-    ensures same { SameSize parks.old parks.new }
+    ensures left { Left L.held L.place number cell.old.locker cell.new.locker parks.old parks.new }
 {
     cell.locker_mut().release_read(parks, number, lock)
 }
@@ -47,14 +46,11 @@ pub fn release_write<L: PhaseLocker>(
     requires fits { Fits (L.place cell.old.locker) (L.held cell.old.locker) parks.old number }
     requires open { IsWriteOpen (L.held cell.old.locker) parks.old number }
     ensures hands { Hands number (leave_write phase (L.held cell.old.locker)) parks.old result (L.held cell.new.locker) parks.new }
-    ensures others { OthersStay number parks.old parks.new }
     ensures rows { RowsStay number parks.old parks.new }
     ensures reads { open_reads (L.held cell.new.locker) parks.new number ≡ 0 }
     ensures closed { ¬ IsWriteOpen (L.held cell.new.locker) parks.new number }
-    ensures fits { Fits (L.place cell.new.locker) (L.held cell.new.locker) parks.new number }
-    ensures place { L.place cell.new.locker ≡ L.place cell.old.locker }
     ensures running { cell.new.running ≡ cell.old.running }
-    ensures same { SameSize parks.old parks.new }
+    ensures left { Left L.held L.place number cell.old.locker cell.new.locker parks.old parks.new }
 {
     cell.locker_mut().release_write(parks, number, lock, phase)
 }
@@ -73,13 +69,11 @@ pub fn downgrade<L: PhaseLocker>(
     requires fits { Fits (L.place cell.old.locker) (L.held cell.old.locker) parks.old number }
     requires open { IsWriteOpen (L.held cell.old.locker) parks.old number }
     ensures downgrades { Downgrades number phase (L.held cell.old.locker) parks.old result.1 (L.held cell.new.locker) parks.new }
-    ensures others { OthersStay number parks.old parks.new }
     ensures rows { RowsStay number parks.old parks.new }
     ensures reads { open_reads (L.held cell.new.locker) parks.new number ≡ 1 }
-    ensures fits { Fits (L.place cell.new.locker) (L.held cell.new.locker) parks.new number }
-    ensures place { L.place cell.new.locker ≡ L.place cell.old.locker }
+    ensures closed { ¬ IsWriteOpen (L.held cell.new.locker) parks.new number }
     ensures running { cell.new.running ≡ cell.old.running }
-    ensures same { SameSize parks.old parks.new }
+    ensures left { Left L.held L.place number cell.old.locker cell.new.locker parks.old parks.new }
 {
     cell.locker_mut().downgrade(parks, number, lock, phase)
 }

@@ -1,5 +1,6 @@
 -- When a call gets which answer.
-use Rattle.std.proofs.Common.{◌≡◌, ℕ, sym, ◌∙◌, Bool, true, false, ◌&&◌, not, Option, Some, None, inl, inr, refl, subst, if◌then◌else◌}
+use Rattle.std.proofs.Common.{◌≡◌, ℕ, sym, ◌∙◌, Bool, true, false, ◌&&◌, ◌||◌, not, ap, Option, Some, None, inl, inr, refl, subst, if◌then◌else◌}
+use Rattle.std.specs.Prelude.{MatchBool}
 use Rattle.phase_bits.specs.Flags.{has, initialized}
 use Rattle.phase_bits.specs.Number.{number}
 use Rattle.phase_bits.specs.declared.phase.Phase.{Phase}
@@ -17,7 +18,7 @@ use Rattle.phase_locker.specs.declared.ways.Given.{Given}
 use Rattle.phase_locker.specs.declared.ways.LockerKind.{LockerKind}
 use Rattle.phase_locker.specs.Natures.{bars, got as got_by, Tries}
 use Rattle.phase_locker.specs.Rows.{Rows, row_of}
-use Rattle.phase_locker.specs.Attempts.{Judged, Locks, Again, keeps}
+use Rattle.phase_locker.specs.Attempts.{Judged, Locks, Keeps, GivesUp, Again, keeps}
 use Rattle.phase_locker.proofs.Judging.{by_bool}
 use Rattle.phase_seq.specs.declared.tolerance.Tolerance.{Tolerance}
 use Rattle.phase_seq.specs.declared.ask.Want.{Want}
@@ -28,7 +29,7 @@ use Rattle.phase_seq.specs.declared.section.Begun.TheVariants as begun
 use Rattle.phase_seq.specs.Phases.{unregistered}
 use Rattle.phase_seq.specs.Asks.{shall_init, initializes, finalizes, asks_run, asks_final, nature_where, nature_of}
 use Rattle.phase_seq.specs.Begins.{section_by, is_cyclic, begun_of, begun_by, begun_tried}
-use Rattle.phase_seq.specs.Exactly.{is_wait, is_missed, is_run, is_final, is_admitted, is_barred, shall_wait, shall_miss}
+use Rattle.phase_seq.specs.Exactly.{BeginsExactly, WaitsWhereBarred, ResumesExactly, SettlesExactly, is_wait, is_missed, is_turned_back, is_run, is_final, is_admitted, is_barred, shall_wait, shall_miss}
 
 both_true : (b : Bool) → b ≡ (b && true)
 both_true true = refl
@@ -73,14 +74,14 @@ pub final_of : (who : Who) (ask : Ask) (p q : Phase) → is_final (begun_of who 
 final_of who ask p q = final_where who ask.want ask.fast ask.tol p q (shall_init ask.tol p) (has (number p) initialized) refl
 
 written : (run final : Bool) (who : Who) (w : Want) (t : WriteTicket) (p : Phase) →
-    let b : Begun = if run then begun.Run (section_by who w unregistered t) else (if final then begun.Final (section_by who w p t) else begun.Write t p) in (is_admitted b ≡ true) × (is_missed b ≡ false) × (is_wait b ≡ false)
-written true final who w t p = (refl, refl, refl)
-written false true who w t p = (refl, refl, refl)
-written false false who w t p = (refl, refl, refl)
+    let b : Begun = if run then begun.Run (section_by who w unregistered t) else (if final then begun.Final (section_by who w p t) else begun.Write t p) in (is_admitted b ≡ true) × (is_missed b ≡ false) × (is_wait b ≡ false) × (is_turned_back b ≡ false)
+written true final who w t p = (refl, refl, refl, refl)
+written false true who w t p = (refl, refl, refl, refl)
+written false false who w t p = (refl, refl, refl, refl)
 
-admitted_of : (who : Who) (ask : Ask) (p : Phase) (g : LockResult ReadTicket WriteTicket) → (is_admitted (begun_of who ask p g) ≡ true) × (is_missed (begun_of who ask p g) ≡ false) × (is_wait (begun_of who ask p g) ≡ false)
-admitted_of who ask p (got.None q) = (refl, refl, refl)
-admitted_of who ask p (got.Read t) = (refl, refl, refl)
+admitted_of : (who : Who) (ask : Ask) (p : Phase) (g : LockResult ReadTicket WriteTicket) → (is_admitted (begun_of who ask p g) ≡ true) × (is_missed (begun_of who ask p g) ≡ false) × (is_wait (begun_of who ask p g) ≡ false) × (is_turned_back (begun_of who ask p g) ≡ false)
+admitted_of who ask p (got.None q) = (refl, refl, refl, refl)
+admitted_of who ask p (got.Read t) = (refl, refl, refl, refl)
 admitted_of who ask p (got.Write t) = written (asks_run ask p) (finalizes ask.want) who ask.want t p
 
 -- ---- an answer that comes where it is due
@@ -216,3 +217,100 @@ locks_waits who ask running post k wake h s r h' s' apart slow ruled locks =
       | inl j ↦ rw (j.1.answer, j.0)
       | inr j ↦ rw (j.1.answer, j.0) (admitted_of who ask h.phase _).2
     ])
+
+-- ---- all answers at once
+
+tried_back : (who : Who) (ask : Ask) (p : Phase) (g : Option (LockResult ReadTicket WriteTicket)) → is_turned_back (begun_tried who ask p g) ≡ false
+tried_back who ask p None = refl
+tried_back who ask p (Some g) = (admitted_of who ask p g).3
+
+attempt_back : (who : Who) (ask : Ask) (p : Phase) (a : Attempt) → is_turned_back (begun_by who ask p a) ≡ false
+attempt_back who ask p (attempt.Wait how) = refl
+attempt_back who ask p (attempt.Got g) = (admitted_of who ask p g).3
+
+pub cyclic_exactly : (who : Who) (ask : Ask) (running : Option ℕ) (h : Holders) → is_cyclic ask.want who.party running ≡ true → BeginsExactly who ask running h false begun.Cyclic
+cyclic_exactly who ask running h e = record {
+  waits = rw e refl;
+  missed = rw e refl;
+  cyclic = sym e;
+  runs = rw e refl;
+  finalizes = cyclic_ends ask.want _ who.party running _ e;
+}
+
+pub tried_exactly : (who : Who) (ask : Ask) (running : Option ℕ) (post : Phase → LockNature → Type 0) (h : Holders) (g : Option (LockResult ReadTicket WriteTicket)) (h' : Holders) → is_cyclic ask.want who.party running ≡ false → ask.fast ≡ true →
+    ((n : LockNature) → post h.phase n → n ≡ nature_of ask h.phase) → Tries post h g h' → BeginsExactly who ask running h false (begun_tried who ask h.phase g)
+tried_exactly who ask running post h g h' apart fast ruled tries =
+    let barred = tried_barred who ask running post h g h' apart fast ruled tries in
+    record {
+      waits = barred.0;
+      missed = barred.1;
+      cyclic = rw apart (tried_back who ask h.phase g);
+      runs = rw apart (tried_comes is_run who ask _ post h g h' (run_comes who ask h.phase) ruled tries);
+      finalizes = tried_finalizes who ask post h g h' ruled tries;
+    }
+
+pub locks_exactly : (who : Who) (ask : Ask) (running : Option ℕ) (post : Phase → LockNature → Type 0) (k : LockerKind) (wake : LockNature) (h : Holders) (s : Rows) (r : Attempt × Given) (h' : Holders) (s' : Rows) → is_cyclic ask.want who.party running ≡ false → ask.fast ≡ false →
+    ((n : LockNature) → post h.phase n → n ≡ nature_of ask h.phase) → Locks post k who wake h s r h' s' → BeginsExactly who ask running h false (begun_by who ask h.phase r.0)
+locks_exactly who ask running post k wake h s r h' s' apart slow ruled locks = record {
+  waits = locks_waits who ask running post k wake h s r h' s' apart slow ruled locks;
+  missed = by_attempt who ask h.phase r.0 ∙ sym (waits_instead (is_cyclic ask.want who.party running) (is_barred ask h) ask.fast slow);
+  cyclic = rw apart (attempt_back who ask h.phase r.0);
+  runs = rw apart (locks_comes is_run who ask _ post k wake h s r h' s' (run_comes who ask h.phase) ruled locks);
+  finalizes = locks_finalizes who ask post k wake h s r h' s' ruled locks;
+}
+
+judged_waits : (k : LockerKind) (fresh : Bool) (who : Who) (ask : Ask) (p : Phase) (wake n : LockNature) (h : Holders) (s : Rows) (a : Attempt) (h' : Holders) (s' : Rows) → Judged k fresh who wake n h s a h' s' → is_wait (begun_by who ask p a) ≡ bars h n
+judged_waits k fresh who ask p wake n h s a h' s' judged =
+    elim (by_bool (bars h n) judged) as (λ x. is_wait (begun_by who ask p a) ≡ bars h n) [
+      | inl j ↦ rw (j.1.answer, j.0) refl
+      | inr j ↦ rw (j.1.answer, j.0) (admitted_of who ask p _).2
+    ]
+
+again_waits : (who : Who) (ask : Ask) (running : Option ℕ) (post : Phase → LockNature → Type 0) (k : LockerKind) (wake n : LockNature) (h : Holders) (s : Rows) (r : Attempt × Given) (h' : Holders) (s' : Rows) → is_cyclic ask.want who.party running ≡ false → n ≡ nature_of ask h.phase →
+    MatchBool (keeps (row_of s who.party).waiting n h) (Keeps who n h s r h' s') (GivesUp k who wake n h s r h' s') →
+    MatchBool (is_cyclic ask.want who.party running || keeps (row_of s who.party).waiting (nature_of ask h.phase) h) (is_wait (begun_by who ask h.phase r.0) ≡ false) (WaitsWhereBarred who ask h s (begun_by who ask h.phase r.0))
+again_waits who ask running post k wake n h s r h' s' apart e steps =
+    rw (apart, ← e)
+    (elim (by_bool (keeps (row_of s who.party).waiting n h) steps) as (λ x. MatchBool (keeps (row_of s who.party).waiting n h) (is_wait (begun_by who ask h.phase r.0) ≡ false) (WaitsWhereBarred who ask h s (begun_by who ask h.phase r.0))) [
+      | inl j ↦ rw (j.0, j.1.answer) (admitted_of who ask h.phase _).2
+      | inr j ↦
+          rw j.0 (record {
+            given = r.1;
+            left = j.1.between;
+            rows = j.1.rows;
+            hands = j.1.hands;
+            waits = rw (← e) (judged_waits k _ who ask h.phase wake n j.1.between j.1.rows r.0 h' s' j.1.judged);
+          })
+    ])
+
+pub again_exactly : (who : Who) (ask : Ask) (running : Option ℕ) (post : Phase → LockNature → Type 0) (k : LockerKind) (wake : LockNature) (h : Holders) (s : Rows) (r : Attempt × Given) (h' : Holders) (s' : Rows) → is_cyclic ask.want who.party running ≡ false →
+    ((n : LockNature) → post h.phase n → n ≡ nature_of ask h.phase) → Again post k who wake h s r h' s' → ResumesExactly who ask running h s false (begun_by who ask h.phase r.0)
+again_exactly who ask running post k wake h s r h' s' apart ruled again = record {
+  waits = again_waits who ask running post k wake again.nature h s r h' s' apart (ruled again.nature again.allowed) again.steps;
+  cyclic = rw apart (attempt_back who ask h.phase r.0);
+  runs = again_comes is_run who ask _ post k wake h s r h' s' (run_comes who ask h.phase) ruled again;
+  finalizes = again_finalizes who ask post k wake h s r h' s' ruled again;
+}
+
+pub cyclic_again : (who : Who) (ask : Ask) (running : Option ℕ) (h : Holders) (s : Rows) → is_cyclic ask.want who.party running ≡ true → ResumesExactly who ask running h s false begun.Cyclic
+cyclic_again who ask running h s e = record {
+  waits = rw e refl;
+  cyclic = sym e;
+  runs = refl;
+  finalizes = sym (both_false _);
+}
+
+-- ---- on a cell with a registry
+
+same_waits : (m : Bool) (who : Who) (ask : Ask) (h : Holders) (s : Rows) (b b' : Begun) → is_wait b' ≡ is_wait b → MatchBool m (is_wait b ≡ false) (WaitsWhereBarred who ask h s b) → MatchBool m (is_wait b' ≡ false) (WaitsWhereBarred who ask h s b')
+same_waits true who ask h s b b' same waits = same ∙ waits
+same_waits false who ask h s b b' same waits = record { given = waits.given; left = waits.left; rows = waits.rows; hands = waits.hands; waits = same ∙ waits.waits }
+
+-- what became of an answer comes exactly where it is due
+pub settled_again : (who : Who) (ask : Ask) (running : Option ℕ) (h : Holders) (s : Rows) (refused : Bool) (b b' : Begun) → ResumesExactly who ask running h s false b → SettlesExactly refused b b' → ResumesExactly who ask running h s refused b'
+settled_again who ask running h s refused b b' exactly settled = record {
+  waits = same_waits _ who ask h s b b' settled.waits exactly.waits;
+  cyclic = settled.cyclic ∙ exactly.cyclic;
+  runs = settled.runs ∙ ap (λ x. if refused then false else x) (exactly.runs ∙ ap (λ x. x && asks_run ask h.phase) (sym settled.admitted));
+  finalizes = settled.finalizes ∙ exactly.finalizes ∙ ap (λ x. asks_final ask h.phase && x) (sym settled.admitted);
+}

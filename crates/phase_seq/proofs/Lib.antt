@@ -3,3 +3,4 @@ pub mod Resumed
 pub mod Exactness
 pub mod Sections
 pub mod Settled
+pub mod Called

@@ -7,3 +7,4 @@ pub mod Registers
 pub mod Stands
 pub mod Exactly
 pub mod Lending
+pub mod Direct

@@ -1,11 +1,12 @@
 -- What a call does beside its attempt on a cell that has a registry, in which it is registered for the exit.
-use Rattle.std.specs.Prelude.{◌≡◌, ◌⊎◌, ℕ, ◌<◌, ◌==◌, Bool, false, ◌&&◌, not, if◌then◌else◌, MatchBool, Option, Some, None}
+use Rattle.std.specs.Prelude.{◌≡◌, ◌⊎◌, ℕ, ◌<◌, ◌==◌, Bool, true, false, length, ◌&&◌, not, if◌then◌else◌, MatchBool, Option, Some, None}
 use Rattle.std.proofs.Common.{inl, inr}
 use Rattle.std.specs.Borrow.{MutBor}
 use Rattle.phase_bits.specs.declared.phase.Phase.{Phase}
 use Rattle.phase_bits.specs.declared.holders.Holders.{Holders}
-use Rattle.phase_bits.specs.Number.{number}
+use Rattle.phase_bits.specs.Number.{number, IsKnown}
 use Rattle.exit_registry.specs.Registry.{Registry, cells_of, is_known, after_register}
+use Rattle.phase_locker.specs.declared.ways.Who.{Who}
 use Rattle.phase_locker.specs.declared.ways.Given.{Given}
 use Rattle.phase_locker.specs.declared.ways.Given.TheVariants.{Nobody}
 use Rattle.phase_locker.specs.declared.ways.LockerKind.{LockerKind}
@@ -19,6 +20,9 @@ use Rattle.phase_seq.specs.declared.section.Finished.{Finished}
 use Rattle.phase_seq.specs.declared.section.Finished.TheVariants as finished
 use Rattle.phase_seq.specs.Phases.{staying, refused, may_generate}
 use Rattle.phase_seq.specs.Finishes.{GoesOn}
+use Rattle.phase_seq.specs.Begins.{running_after}
+use Rattle.phase_seq.specs.Exactly.{is_run}
+use Rattle.phase_seq.specs.Stands.{BegunStands}
 
 -- ---- the registry
 
@@ -26,6 +30,21 @@ use Rattle.phase_seq.specs.Finishes.{GoesOn}
 pub record MayRegister (c : ℕ) (h : Holders) (s : Rows) (m : Registry) : Type 0 where
   pub inside : c < cells_of m
   pub unknown : number h.phase ≡ 0 → ¬ IsWriteOpen h s c → is_known m c ≡ false
+
+-- registration may be tried for a cell of this phase: where that is empty the cell is not known
+pub record MayTry (c : ℕ) (p : Phase) (m : Registry) : Type 0 where
+  pub known : IsKnown p
+  pub inside : c < cells_of m
+  pub unknown : number p ≡ 0 → is_known m c ≡ false
+
+-- a call has begun so on this cell, of which this party ran before, and nothing is registered yet
+pub record IsEntered (who : Who) (before : Option ℕ) (b : Begun) (g : Given) (running : Option ℕ) (k : LockerKind) (h : Holders) (s : Rows) : Type 0 where
+  pub cell : who.cell < length s.readers
+  pub party : who.party < length s.rows
+  pub runs : running ≡ running_after b before
+  pub stands : BegunStands who b running h s
+  pub fits : Fits k h s who.cell
+  pub quiet : is_run b ≡ true → g ≡ Nobody
 
 -- the registry that was given, as it was left
 abbrev pub left_behind : {A : Type 0} → Unit {0} ⊎ ((MutBor A × Unit {0}) ⊎ ⊥) → Option A

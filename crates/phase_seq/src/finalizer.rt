@@ -10,9 +10,6 @@ pub struct FinalFault;
 /// What finalizes a value: it is called at the exit, or where its cell is finalized by hand. It is static_init's
 /// `Finaly`; that it may fail is this project's own.
 pub trait Finaly {
-    // It may be called.
-    ghost may_finalize: { Self → Type 0 };
-
     // What `finaly` may answer.
     ghost finalizes: { Self → Result (Unit {0}) FinalFault → Type 0 };
 
@@ -22,6 +19,5 @@ pub trait Finaly {
     ///
     /// `FinalFault` where the finalizer failed.
     fn finaly(&self) -> Result<(), FinalFault>
-        requires { may_finalize self.now }
         ensures { finalizes self.now result };
 }

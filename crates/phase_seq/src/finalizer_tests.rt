@@ -133,8 +133,6 @@ struct Cup {
 }
 
 impl Finaly for Cup {
-    ghost may_finalize = { λ c. Unit {0} };
-
     ghost finalizes = { λ c r. is_ok r ≡ c.full };
 
     fn finaly(&self) -> Result<(), FinalFault> {
@@ -144,7 +142,6 @@ impl Finaly for Cup {
 
 /// Finalizes a value.
 fn finalize<V: Finaly>(value: &V) -> Result<(), FinalFault>
-    requires { V.may_finalize value.now }
     ensures { V.finalizes value.now result }
 {
     value.finaly()

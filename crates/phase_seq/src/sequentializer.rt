@@ -1,19 +1,20 @@
 //! The sequentializer of a cell.
 
-ghost use Rattle.std.specs.Prelude.{◌≡◌, ◌≢◌, ◌+◌, ◌<◌, ◌&&◌, true, false, length, if◌then◌else◌};
+ghost use Rattle.std.specs.Prelude.{◌≡◌, ◌<◌, ◌&&◌, true, false, length};
 ghost use Rattle.std.specs.Option.{ForSome, option_map, option_copied_mut};
 ghost use Rattle.std.specs.Borrow.{sem};
-ghost use Rattle.phase_locker.specs.Rows.{row_of, HasFree, SameSize};
+ghost use Rattle.phase_bits.specs.Number.{IsKnown};
+ghost use Rattle.phase_locker.specs.Rows.{HasFree};
 ghost use Rattle.phase_locker.specs.Fits.{Fits, IsWriteOpen, open_reads};
-ghost use Rattle.phase_locker.specs.Others.{OthersStay, RowsStay, RowsStayBeside};
-ghost use Rattle.phase_locker.specs.declared.ways.Waiting.TheVariants.{Free};
-ghost use Rattle.phase_seq.specs.declared.section.Section.{Section};
-ghost use Rattle.phase_seq.specs.Asks.{asks_run, asks_final};
-ghost use Rattle.phase_seq.specs.Begins.{Begins, Resumes, is_cyclic, running_after};
+ghost use Rattle.phase_locker.specs.Others.{RowsStay, RowsStayBeside};
+ghost use Rattle.phase_locker.specs.Stands.{MayCall, MayCallAgain, Opens};
+ghost use Rattle.phase_locker.specs.Left.{Left};
+ghost use Rattle.phase_seq.specs.Asks.{asks_run};
+ghost use Rattle.phase_seq.specs.Begins.{Begins, Resumes};
 ghost use Rattle.phase_seq.specs.Registers.{MayRegister, On, left_behind, after_asking, is_refused};
 ghost use Rattle.phase_seq.specs.Finishes.{Finishes, FinishesFinal};
-ghost use Rattle.phase_seq.specs.Stands.{BegunStands, FinishedStands, IsRunning, IsFinalizing, reads_begun, reads_finished};
-ghost use Rattle.phase_seq.specs.Exactly.{is_wait, is_missed, is_turned_back, is_run, is_final, is_admitted, shall_wait, shall_miss, shall_run, shall_finalize};
+ghost use Rattle.phase_seq.specs.Stands.{BegunStands, FinishedStands, IsRunning, IsFinalizing, RunsAfter, reads_begun, reads_finished, opens_write};
+ghost use Rattle.phase_seq.specs.Exactly.{BeginsExactly, ResumesExactly, is_admitted, shall_run};
 ghost use Rattle.phase_seq.specs.Lending.{lends_locker};
 
 use crate::ask::{Ask, Want};
@@ -25,7 +26,11 @@ use phase_locker::{Given, Parks, PhaseLocker, Who};
 use std::marker::PhantomData;
 
 mod attempts;
+mod closures;
+mod direct;
 mod settling;
+
+pub use closures::Exit;
 
 /// The locker of a cell, and the party that runs the cell's generator. It is static_init's `LazySequentializer`, for one
 /// event at a time.
@@ -86,28 +91,17 @@ impl<L: PhaseLocker, G> LazySequentializer<L, G> {
         ask: Ask,
         reg: Option<&mut ExitRegistry>,
     ) -> (Begun, Given)
-        requires cell { who.cell < length parks.old.readers }
-        requires party { who.party < length parks.old.rows }
-        requires free { (row_of parks.old who.party).waiting ≡ Free }
+        requires calls { MayCall who parks.old }
         requires fits { Fits (L.place self.old.locker) (L.held self.old.locker) parks.old who.cell }
         requires registry { ForSome reg (λ m. MayRegister who.cell (L.held self.old.locker) parks.old m.now) }
         ensures begins { On (option_copied_mut reg.entry) (Begins (L.place self.old.locker) who ask self.old.running (L.held self.old.locker) parks.old) (L.place self.old.locker) who.cell parks.old ask.tol.leak (L.held self.old.locker).phase result (L.held self.new.locker) parks.new }
         ensures registry { left_behind reg.exit ≡ option_map (after_asking (shall_run who ask self.old.running (L.held self.old.locker)) who.cell (L.held self.old.locker).phase) (option_copied_mut reg.entry) }
-        ensures waits { is_wait result.0 ≡ shall_wait who ask self.old.running (L.held self.old.locker) }
-        ensures missed { is_missed result.0 ≡ shall_miss who ask self.old.running (L.held self.old.locker) }
-        ensures cyclic { is_turned_back result.0 ≡ is_cyclic ask.want who.party self.old.running }
-        ensures runs { is_run result.0 ≡ (if is_refused ask.tol.leak (option_copied_mut reg.entry) (L.held self.old.locker).phase then false else shall_run who ask self.old.running (L.held self.old.locker)) }
-        ensures finalizes { is_final result.0 ≡ shall_finalize ask (L.held self.old.locker) }
-        ensures running { self.new.running ≡ running_after result.0 self.old.running }
-        ensures others { OthersStay who.cell parks.old parks.new }
+        ensures exactly { BeginsExactly who ask self.old.running (L.held self.old.locker) (is_refused ask.tol.leak (option_copied_mut reg.entry) (L.held self.old.locker).phase) result.0 }
+        ensures running { RunsAfter who.cell result.0 self.old.running (L.held self.old.locker) parks.old self.new.running (L.held self.new.locker) parks.new }
         ensures rows { RowsStayBeside who.party who.cell parks.old parks.new }
         ensures stands { BegunStands who result.0 self.new.running (L.held self.new.locker) parks.new }
-        ensures reads { open_reads (L.held self.new.locker) parks.new who.cell ≡ open_reads (L.held self.old.locker) parks.old who.cell + reads_begun result.0 }
-        ensures writes { IsWriteOpen (L.held self.old.locker) parks.old who.cell → IsWriteOpen (L.held self.new.locker) parks.new who.cell }
-        ensures sections { (o : Section) → o.who.cell ≡ who.cell → IsRunning o self.old.running (L.held self.old.locker) parks.old → IsRunning o self.new.running (L.held self.new.locker) parks.new }
-        ensures fits { Fits (L.place self.new.locker) (L.held self.new.locker) parks.new who.cell }
-        ensures place { L.place self.new.locker ≡ L.place self.old.locker }
-        ensures same { SameSize parks.old parks.new }
+        ensures opens { Opens who.cell (reads_begun result.0) (opens_write result.0) (L.held self.old.locker) parks.old (L.held self.new.locker) parks.new }
+        ensures left { Left L.held L.place who.cell self.old.locker self.new.locker parks.old parks.new }
     {
         let phase = self.locker.phase();
         let before = self.running;
@@ -131,28 +125,18 @@ impl<L: PhaseLocker, G> LazySequentializer<L, G> {
         ask: Ask,
         reg: Option<&mut ExitRegistry>,
     ) -> (Begun, Given)
-        requires cell { who.cell < length parks.old.readers }
-        requires party { who.party < length parks.old.rows }
-        requires waits { (row_of parks.old who.party).waiting ≢ Free }
-        requires here { (row_of parks.old who.party).cell ≡ who.cell }
+        requires calls { MayCallAgain who parks.old }
         requires slow { ask.fast ≡ false }
         requires fits { Fits (L.place self.old.locker) (L.held self.old.locker) parks.old who.cell }
         requires registry { ForSome reg (λ m. MayRegister who.cell (L.held self.old.locker) parks.old m.now) }
         ensures resumes { On (option_copied_mut reg.entry) (Resumes (L.place self.old.locker) who ask self.old.running (L.held self.old.locker) parks.old) (L.place self.old.locker) who.cell parks.old ask.tol.leak (L.held self.old.locker).phase result (L.held self.new.locker) parks.new }
         ensures registry { left_behind reg.exit ≡ option_map (after_asking (is_admitted result.0 && asks_run ask (L.held self.old.locker).phase) who.cell (L.held self.old.locker).phase) (option_copied_mut reg.entry) }
-        ensures cyclic { is_turned_back result.0 ≡ is_cyclic ask.want who.party self.old.running }
-        ensures runs { is_run result.0 ≡ (if is_refused ask.tol.leak (option_copied_mut reg.entry) (L.held self.old.locker).phase then false else (is_admitted result.0 && asks_run ask (L.held self.old.locker).phase)) }
-        ensures finalizes { is_final result.0 ≡ (asks_final ask (L.held self.old.locker).phase && is_admitted result.0) }
-        ensures running { self.new.running ≡ running_after result.0 self.old.running }
-        ensures others { OthersStay who.cell parks.old parks.new }
+        ensures exactly { ResumesExactly who ask self.old.running (L.held self.old.locker) parks.old (is_refused ask.tol.leak (option_copied_mut reg.entry) (L.held self.old.locker).phase) result.0 }
+        ensures running { RunsAfter who.cell result.0 self.old.running (L.held self.old.locker) parks.old self.new.running (L.held self.new.locker) parks.new }
         ensures rows { RowsStayBeside who.party who.cell parks.old parks.new }
         ensures stands { BegunStands who result.0 self.new.running (L.held self.new.locker) parks.new }
-        ensures reads { open_reads (L.held self.new.locker) parks.new who.cell ≡ open_reads (L.held self.old.locker) parks.old who.cell + reads_begun result.0 }
-        ensures writes { IsWriteOpen (L.held self.old.locker) parks.old who.cell → IsWriteOpen (L.held self.new.locker) parks.new who.cell }
-        ensures sections { (o : Section) → o.who.cell ≡ who.cell → IsRunning o self.old.running (L.held self.old.locker) parks.old → IsRunning o self.new.running (L.held self.new.locker) parks.new }
-        ensures fits { Fits (L.place self.new.locker) (L.held self.new.locker) parks.new who.cell }
-        ensures place { L.place self.new.locker ≡ L.place self.old.locker }
-        ensures same { SameSize parks.old parks.new }
+        ensures opens { Opens who.cell (reads_begun result.0) (opens_write result.0) (L.held self.old.locker) parks.old (L.held self.new.locker) parks.new }
+        ensures left { Left L.held L.place who.cell self.old.locker self.new.locker parks.old parks.new }
     {
         let phase = self.locker.phase();
         let before = self.running;
@@ -176,13 +160,10 @@ impl<L: PhaseLocker, G> LazySequentializer<L, G> {
         requires room { (section.want ≡ Want.Read) × (made ≡ true) → HasFree parks.old }
         ensures finishes { Finishes section made (L.held self.old.locker) parks.old result (L.held self.new.locker) parks.new }
         ensures running { self.new.running ≡ None }
-        ensures others { OthersStay section.who.cell parks.old parks.new }
         ensures rows { RowsStay section.who.cell parks.old parks.new }
         ensures stands { FinishedStands section.who.cell result.0 (L.held self.new.locker) parks.new }
         ensures reads { open_reads (L.held self.new.locker) parks.new section.who.cell ≡ reads_finished result.0 }
-        ensures fits { Fits (L.place self.new.locker) (L.held self.new.locker) parks.new section.who.cell }
-        ensures place { L.place self.new.locker ≡ L.place self.old.locker }
-        ensures same { SameSize parks.old parks.new }
+        ensures left { Left L.held L.place section.who.cell self.old.locker self.new.locker parks.old parks.new }
     {
         let Section {
             who,
@@ -212,13 +193,11 @@ impl<L: PhaseLocker, G> LazySequentializer<L, G> {
         requires fits { Fits (L.place self.old.locker) (L.held self.old.locker) parks.old section.who.cell }
         ensures finishes { FinishesFinal section fine (L.held self.old.locker) parks.old result (L.held self.new.locker) parks.new }
         ensures running { self.new.running ≡ self.old.running }
-        ensures others { OthersStay section.who.cell parks.old parks.new }
         ensures rows { RowsStay section.who.cell parks.old parks.new }
+        ensures known { IsKnown result.0 }
         ensures closed { ¬ IsWriteOpen (L.held self.new.locker) parks.new section.who.cell }
         ensures reads { open_reads (L.held self.new.locker) parks.new section.who.cell ≡ 0 }
-        ensures fits { Fits (L.place self.new.locker) (L.held self.new.locker) parks.new section.who.cell }
-        ensures place { L.place self.new.locker ≡ L.place self.old.locker }
-        ensures same { SameSize parks.old parks.new }
+        ensures left { Left L.held L.place section.who.cell self.old.locker self.new.locker parks.old parks.new }
     {
         let Section {
             who,

@@ -1,6 +1,7 @@
 -- Which lines the rules allow for a schedule, one after another, what the cells are left with, and which turns of the exit
 -- end.
 use Rattle.std.specs.Prelude.{ℕ, Bool, true, false, ◌+◌, ◌≡◌, ◌==◌, ◌&&◌, ◌||◌, List, [], ◌∷◌, ◌++◌, map, nat_le}
+use Rattle.std.specs.List.{AllByRecursion}
 use Rattle.phase_bits.specs.Records.{most_readers}
 use Rattle.schedule_rules.specs.declared.plan.CellPlan.{CellPlan}
 use Rattle.schedule_rules.specs.declared.step.Step.{Step}
@@ -111,19 +112,17 @@ pub record GoesWith (cells : List CellPlan) (rows : List Row) (left : List Final
 abbrev pub Goes : List CellPlan → List Row → List Final → Type 0
 Goes cells rows left = GoesWith cells rows left []
 
--- after these rows, which may go so, no choice makes this line legal for this step
-pub record IsWrong (cells : List CellPlan) (rows : List Row) (s : Step) (l : Line) : Type 0 where
-  pub lines : due_lines_from cells [] rows ≡ lines_of rows
-  pub gifts : gifts_from cells [] rows ≡ true
-  pub holds : holds_from cells [] rows ≡ true
-  pub wrong : IsLegalLine cells (history_of rows) s l → ⊥
+-- after these rows this row may go, and for its step no choice makes one of these other lines legal
+pub record GoesOnlySo (cells : List CellPlan) (rows : List Row) (right : Row) (wrong : List Line) : Type 0 where
+  pub lines : due_lines_from cells [] (rows ++ right ∷ []) ≡ lines_of (rows ++ right ∷ [])
+  pub gifts : gifts_from cells [] (rows ++ right ∷ []) ≡ true
+  pub holds : holds_from cells [] (rows ++ right ∷ []) ≡ true
+  pub others : AllByRecursion (λ l. IsLegalLine cells (history_of rows) right.step l → ⊥) wrong
 
--- after these rows, which may go so and leave this, no transcript that tells of these turns is legal
-pub record IsWrongExit (cells : List CellPlan) (rows : List Row) (left : List Final) (turns : List Turned) : Type 0 where
-  pub lines : due_lines_from cells [] rows ≡ lines_of rows
-  pub gifts : gifts_from cells [] rows ≡ true
-  pub holds : holds_from cells [] rows ≡ true
-  pub finals : finals_of cells rows ≡ left
-  pub wrong : (parties : ℕ)
-      → IsLegalTranscript (record { parties = parties; cells = cells; steps = steps_of rows }) (record { lines = lines_of rows; finals = left; exits = turns })
-      → ⊥
+-- these rows may go so and leave this, and then these turns ended. No transcript that tells of other turns, as these, is legal
+pub record EndsOnlySo (cells : List CellPlan) (rows : List Row) (left : List Final) (turns : List Turned) (wrong : List (List Turned)) : Type 0 where
+  pub goes : GoesWith cells rows left turns
+  pub others : (parties : ℕ)
+      → AllByRecursion
+      (λ ts. IsLegalTranscript (record { parties = parties; cells = cells; steps = steps_of rows }) (record { lines = lines_of rows; finals = left; exits = ts }) → ⊥)
+      wrong

@@ -1,4 +1,5 @@
 pub mod Words
 pub mod Examples
+pub mod Openings
 pub mod FirstSteps
 pub mod ExitSteps

@@ -1,15 +1,15 @@
 //! Write guards that are turned into read guards, and read guards that are cloned.
 
-ghost use Rattle.std.specs.Prelude.{[], ◌∷◌};
+ghost use Rattle.std.specs.Prelude.{[], ◌∷◌, ◌++◌};
 ghost use Rattle.schedule_examples.specs.Examples.{Goes, row, draining};
-ghost use Rattle.schedule_examples.specs.Words.{cell, parking_cell, phase, read, write, again, made, put, look, release, downgrade, clone, readers, giving, empty_phase, initialized_phase, value, read_guard, write_guard, running, done, waiting_read, waiting_drain, waits, no_guard, not_writer, initialized_with};
+ghost use Rattle.schedule_examples.specs.Openings.{writes_first, reads_first};
+ghost use Rattle.schedule_examples.specs.Words.{cell, parking_cell, phase, read, write, again, made, look, put, release, downgrade, clone, readers, giving, empty_phase, initialized_phase, value, read_guard, write_guard, running, done, waiting_read, waiting_drain, waits, no_guard, not_writer, initialized_with};
 
 /// A downgrade hands read locks to the parked readers, and its holder reads on. A read guard is cloned.
 pub fn a_downgrade_gives_readers()
     ensures { Goes (parking_cell ∷ [])
-        (row (write 0 0) running
-        ∷ row (made 0 7) write_guard
-        ∷ row (read 1 0) waiting_read
+        (writes_first 0 0 7
+        ++ row (read 1 0) waiting_read
         ∷ row (downgrade 0 1) (giving readers read_guard)
         ∷ row (again 1) read_guard
         ∷ row (look 0 3) (value 7)
@@ -21,9 +21,8 @@ pub fn a_downgrade_gives_readers()
 /// A downgrade need not give. The parked reader gets in by itself where it steps, since no reader bars a reader.
 pub fn a_downgrade_need_not_give()
     ensures { Goes (parking_cell ∷ [])
-        (row (write 0 0) running
-        ∷ row (made 0 7) write_guard
-        ∷ row (read 1 0) waiting_read
+        (writes_first 0 0 7
+        ++ row (read 1 0) waiting_read
         ∷ row (downgrade 0 1) read_guard
         ∷ row (again 1) read_guard
         ∷ row (look 0 3) (value 7)
@@ -35,9 +34,8 @@ pub fn a_downgrade_need_not_give()
 /// A downgrade publishes what was set, and ends the write guard. The new guard shows what is published.
 pub fn a_downgrade_publishes()
     ensures { Goes (cell ∷ [])
-        (row (write 0 0) running
-        ∷ row (made 0 7) write_guard
-        ∷ row (put 0 1 8) done
+        (writes_first 0 0 7
+        ++ row (put 0 1 8) done
         ∷ row (phase 1 0) empty_phase
         ∷ row (downgrade 0 1) read_guard
         ∷ row (phase 1 0) initialized_phase
@@ -53,9 +51,8 @@ pub fn a_downgrade_publishes()
 /// A clone is a guard of its own: it reads on where the first is given back, and bars writes as long.
 pub fn a_clone_outlives_its_guard()
     ensures { Goes (parking_cell ∷ [])
-        (row (read 0 0) running
-        ∷ row (made 0 5) read_guard
-        ∷ row (clone 0 1) read_guard
+        (reads_first 0 0 5
+        ++ row (clone 0 1) read_guard
         ∷ draining (write 1 0) waiting_drain
         ∷ row (clone 0 2) read_guard
         ∷ row (release 0 1) done

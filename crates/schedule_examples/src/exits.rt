@@ -1,7 +1,8 @@
 //! The exit: rounds, and turns that finalize, fail or skip.
 
-ghost use Rattle.std.specs.Prelude.{[], ◌∷◌};
+ghost use Rattle.std.specs.Prelude.{[], ◌∷◌, ◌++◌};
 ghost use Rattle.schedule_examples.specs.Examples.{Goes, GoesWith, row};
+ghost use Rattle.schedule_examples.specs.Openings.{writes_first, fills, two_filled, finalizes_first};
 ghost use Rattle.schedule_examples.specs.Words.{exit_cell, parking_exit_cell, phase, read, write, made, made_failed, look, put, release, exit, finished, finish_failed, empty_phase, registered_phase, finalized_phase, finalizer_failed_phase, value, read_guard, write_guard, running, done, finalizing, skipped, round, closed, no_outcome, exit_begun, inside, untouched, registered_with, finalized_with, finalizer_failed_with, was_done, was_failed, was_skipped};
 
 /// Without a registered cell the first look closes the registry, and the exit is over.
@@ -18,10 +19,8 @@ pub fn an_exit_without_cells_closes()
 /// A turn opens a section of its owner, and the end of the finalizer publishes its phase. The value stays.
 pub fn a_turn_finalizes_a_cell()
     ensures { GoesWith (exit_cell ∷ [])
-        (row (read 0 0) running
-        ∷ row (made 0 4) read_guard
-        ∷ row (release 0 1) done
-        ∷ row (exit 1) (round 1)
+        (fills 0 0 4 1
+        ++ row (exit 1) (round 1)
         ∷ row (exit 1) (finalizing 0)
         ∷ row (phase 0 0) registered_phase
         ∷ row (finished 1) finalized_phase
@@ -35,13 +34,8 @@ pub fn a_turn_finalizes_a_cell()
 /// A finalizer that fails ends its turn too. The exit goes on, and the value may still be read.
 pub fn a_finalizer_that_fails_is_noted()
     ensures { GoesWith (exit_cell ∷ exit_cell ∷ [])
-        (row (read 0 0) running
-        ∷ row (made 0 4) read_guard
-        ∷ row (release 0 1) done
-        ∷ row (read 0 1) running
-        ∷ row (made 0 5) read_guard
-        ∷ row (release 0 4) done
-        ∷ row (exit 0) (round 2)
+        (two_filled
+        ++ row (exit 0) (round 2)
         ∷ row (exit 0) (finalizing 1)
         ∷ row (finish_failed 0) finalizer_failed_phase
         ∷ row (read 0 1) read_guard
@@ -57,17 +51,14 @@ pub fn a_finalizer_that_fails_is_noted()
 /// taken by the second.
 pub fn cells_are_taken_in_rounds_the_latest_first()
     ensures { GoesWith (exit_cell ∷ exit_cell ∷ exit_cell ∷ [])
-        (row (write 0 0) running
-        ∷ row (made 0 1) write_guard
-        ∷ row (release 0 1) done
-        ∷ row (write 0 1) running
-        ∷ row (made 0 2) write_guard
-        ∷ row (release 0 4) done
+        (writes_first 0 0 1
+        ++ row (release 0 1) done
+        ∷ writes_first 0 1 2
+        ++ row (release 0 4) done
         ∷ row (exit 0) (round 2)
         ∷ row (exit 0) (finalizing 1)
-        ∷ row (write 1 2) running
-        ∷ row (made 1 3) write_guard
-        ∷ row (release 1 9) done
+        ∷ writes_first 1 2 3
+        ++ row (release 1 9) done
         ∷ row (finished 0) finalized_phase
         ∷ row (exit 0) (finalizing 0)
         ∷ row (finished 0) finalized_phase
@@ -121,9 +112,8 @@ pub fn a_turn_skips_a_cell_whose_value_is_not_published()
 /// The same where the value is made and its write guard is still open: its phase is not published.
 pub fn a_turn_skips_a_cell_whose_write_guard_is_open()
     ensures { GoesWith (exit_cell ∷ [])
-        (row (write 0 0) running
-        ∷ row (made 0 4) write_guard
-        ∷ row (exit 1) (round 1)
+        (writes_first 0 0 4
+        ++ row (exit 1) (round 1)
         ∷ row (exit 1) (skipped 0)
         ∷ row (release 0 1) done
         ∷ row (exit 1) closed
@@ -135,12 +125,8 @@ pub fn a_turn_skips_a_cell_whose_write_guard_is_open()
 /// must be of its sort; the exit goes on when no section runs.
 pub fn a_finalizer_calls_other_cells()
     ensures { GoesWith (exit_cell ∷ exit_cell ∷ [])
-        (row (read 0 0) running
-        ∷ row (made 0 4) read_guard
-        ∷ row (release 0 1) done
-        ∷ row (exit 0) (round 1)
-        ∷ row (exit 0) (finalizing 0)
-        ∷ row (read 0 1) running
+        (finalizes_first
+        ++ row (read 0 1) running
         ∷ row (finished 0) no_outcome
         ∷ row (finish_failed 0) no_outcome
         ∷ row (exit 0) inside
@@ -161,12 +147,8 @@ pub fn a_finalizer_calls_other_cells()
 /// A finalized cell is read and written as before. Its phase stays, and it has no second turn.
 pub fn a_finalized_cell_is_written_on()
     ensures { GoesWith (exit_cell ∷ [])
-        (row (read 0 0) running
-        ∷ row (made 0 4) read_guard
-        ∷ row (release 0 1) done
-        ∷ row (exit 0) (round 1)
-        ∷ row (exit 0) (finalizing 0)
-        ∷ row (finished 0) finalized_phase
+        (finalizes_first
+        ++ row (finished 0) finalized_phase
         ∷ row (write 0 0) write_guard
         ∷ row (put 0 6 8) done
         ∷ row (release 0 6) done

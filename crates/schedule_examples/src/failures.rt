@@ -1,18 +1,17 @@
 //! Generators that fail.
 
-ghost use Rattle.std.specs.Prelude.{[], ◌∷◌};
+ghost use Rattle.std.specs.Prelude.{[], ◌∷◌, ◌++◌};
 ghost use Rattle.schedule_examples.specs.Examples.{Goes, row};
-ghost use Rattle.schedule_examples.specs.Words.{cell, phase, read, write, again, made, made_failed, look, release, initialized_phase, failed_phase, value, read_guard, write_guard, running, done, failed, waiting, initialized_with, left_failed};
+ghost use Rattle.schedule_examples.specs.Openings.{writes_first, reads_first, fails_first};
+ghost use Rattle.schedule_examples.specs.Words.{cell, phase, read, write, again, made, made_failed, look, release, initialized_phase, failed_phase, value, read_guard, running, done, failed, waiting, initialized_with, left_failed};
 
 /// A generator that failed runs again, and what it makes then is read.
 pub fn a_failed_run_is_tried_again()
     ensures { Goes (cell ∷ [])
-        (row (read 0 0) running
-        ∷ row (made_failed 0) failed
-        ∷ row (phase 0 0) failed_phase
-        ∷ row (read 0 0) running
-        ∷ row (made 0 8) read_guard
-        ∷ row (phase 0 0) initialized_phase
+        (fails_first 0 0
+        ++ row (phase 0 0) failed_phase
+        ∷ reads_first 0 0 8
+        ++ row (phase 0 0) initialized_phase
         ∷ row (look 0 4) (value 8)
         ∷ [])
         (initialized_with 8 ∷ []) }
@@ -21,11 +20,9 @@ pub fn a_failed_run_is_tried_again()
 /// Where a run failed, the read of another party runs, and its failure leaves the phase.
 pub fn another_party_runs_after_a_failure()
     ensures { Goes (cell ∷ [])
-        (row (read 0 0) running
-        ∷ row (made_failed 0) failed
-        ∷ row (read 1 0) running
-        ∷ row (made_failed 1) failed
-        ∷ row (phase 0 0) failed_phase
+        (fails_first 0 0
+        ++ fails_first 1 0
+        ++ row (phase 0 0) failed_phase
         ∷ [])
         (left_failed ∷ []) }
 {}
@@ -52,9 +49,8 @@ pub fn a_write_after_a_failure_publishes_at_its_release()
         (row (write 0 0) running
         ∷ row (made_failed 0) failed
         ∷ row (phase 1 0) failed_phase
-        ∷ row (write 1 0) running
-        ∷ row (made 1 4) write_guard
-        ∷ row (phase 0 0) failed_phase
+        ∷ writes_first 1 0 4
+        ++ row (phase 0 0) failed_phase
         ∷ row (release 1 4) done
         ∷ row (phase 0 0) initialized_phase
         ∷ [])

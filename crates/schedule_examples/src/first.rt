@@ -1,7 +1,8 @@
 //! First schedules.
 
-ghost use Rattle.std.specs.Prelude.{[], ◌∷◌};
+ghost use Rattle.std.specs.Prelude.{[], ◌∷◌, ◌++◌};
 ghost use Rattle.schedule_examples.specs.Examples.{Goes, row};
+ghost use Rattle.schedule_examples.specs.Openings.{writes_first, reads_first};
 ghost use Rattle.schedule_examples.specs.Words.{cell, phase, read, write, made, look, put, release, empty_phase, initialized_phase, value, read_guard, write_guard, running, done, cyclic, initialized_with};
 
 /// Without cells and steps there is nothing to answer.
@@ -12,9 +13,8 @@ pub fn nothing()
 /// A read runs the generator, a write sets another value, and a second read sees it.
 pub fn reads_sets_and_reads_back()
     ensures { Goes (cell ∷ [])
-        (row (read 0 0) running
-        ∷ row (made 0 22) read_guard
-        ∷ row (look 0 1) (value 22)
+        (reads_first 0 0 22
+        ++ row (look 0 1) (value 22)
         ∷ row (release 0 1) done
         ∷ row (write 0 0) write_guard
         ∷ row (put 0 4 33) done
@@ -28,9 +28,8 @@ pub fn reads_sets_and_reads_back()
 /// The phase that a write reached is published when its guard is released, and not before.
 pub fn a_write_publishes_its_phase_at_its_release()
     ensures { Goes (cell ∷ [])
-        (row (write 0 0) running
-        ∷ row (made 0 7) write_guard
-        ∷ row (phase 1 0) empty_phase
+        (writes_first 0 0 7
+        ++ row (phase 1 0) empty_phase
         ∷ row (look 0 1) (value 7)
         ∷ row (release 0 1) done
         ∷ row (phase 1 0) initialized_phase

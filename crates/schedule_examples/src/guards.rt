@@ -1,15 +1,15 @@
 //! Guards.
 
-ghost use Rattle.std.specs.Prelude.{[], ◌∷◌};
+ghost use Rattle.std.specs.Prelude.{[], ◌∷◌, ◌++◌};
 ghost use Rattle.schedule_examples.specs.Examples.{Goes, row};
+ghost use Rattle.schedule_examples.specs.Openings.{writes_first, reads_first};
 ghost use Rattle.schedule_examples.specs.Words.{cell, phase, read, write, made, look, put, release, empty_phase, initialized_phase, value, read_guard, write_guard, running, done, waiting, no_guard, initialized_with};
 
 /// The guard of another party is none, to whatever act.
 pub fn a_guard_is_its_party_s_own()
     ensures { Goes (cell ∷ [])
-        (row (read 0 0) running
-        ∷ row (made 0 6) read_guard
-        ∷ row (look 1 1) no_guard
+        (reads_first 0 0 6
+        ++ row (look 1 1) no_guard
         ∷ row (put 1 1 9) no_guard
         ∷ row (release 1 1) no_guard
         ∷ row (read 1 0) read_guard
@@ -23,9 +23,8 @@ pub fn a_guard_is_its_party_s_own()
 /// A guard that was released is none.
 pub fn a_guard_is_released_once()
     ensures { Goes (cell ∷ [])
-        (row (write 0 0) running
-        ∷ row (made 0 6) write_guard
-        ∷ row (release 0 1) done
+        (writes_first 0 0 6
+        ++ row (release 0 1) done
         ∷ row (release 0 1) no_guard
         ∷ row (look 0 1) no_guard
         ∷ row (put 0 1 2) no_guard
@@ -36,9 +35,8 @@ pub fn a_guard_is_released_once()
 /// A write guard shows the value set last, and others see it once the guard is released.
 pub fn the_value_set_last_is_seen()
     ensures { Goes (cell ∷ [])
-        (row (write 0 0) running
-        ∷ row (made 0 6) write_guard
-        ∷ row (look 0 1) (value 6)
+        (writes_first 0 0 6
+        ++ row (look 0 1) (value 6)
         ∷ row (put 0 1 7) done
         ∷ row (put 0 1 8) done
         ∷ row (look 0 1) (value 8)
@@ -72,9 +70,8 @@ pub fn a_set_is_published_at_the_release()
 /// write.
 pub fn two_guards_of_one_party()
     ensures { Goes (cell ∷ [])
-        (row (read 0 0) running
-        ∷ row (made 0 1) read_guard
-        ∷ row (read 0 0) read_guard
+        (reads_first 0 0 1
+        ++ row (read 0 0) read_guard
         ∷ row (release 0 1) done
         ∷ row (look 0 1) no_guard
         ∷ row (look 0 2) (value 1)

@@ -1,7 +1,8 @@
 //! Generators within generators.
 
-ghost use Rattle.std.specs.Prelude.{[], ◌∷◌};
+ghost use Rattle.std.specs.Prelude.{[], ◌∷◌, ◌++◌};
 ghost use Rattle.schedule_examples.specs.Examples.{Goes, row};
+ghost use Rattle.schedule_examples.specs.Openings.{reads_first};
 ghost use Rattle.schedule_examples.specs.Words.{cell, phase, read, write, made, made_failed, look, empty_phase, failed_phase, value, read_guard, write_guard, running, failed, cyclic, waiting, untouched, initialized_with};
 
 /// Of three generators within each other the middle one fails, and is run again before the outer one
@@ -10,13 +11,11 @@ pub fn a_failure_in_the_middle_of_three()
     ensures { Goes (cell ∷ cell ∷ cell ∷ [])
         (row (read 0 0) running
         ∷ row (read 0 1) running
-        ∷ row (read 0 2) running
-        ∷ row (made 0 9) read_guard
-        ∷ row (made_failed 0) failed
+        ∷ reads_first 0 2 9
+        ++ row (made_failed 0) failed
         ∷ row (phase 0 1) failed_phase
-        ∷ row (read 0 1) running
-        ∷ row (made 0 8) read_guard
-        ∷ row (made 0 7) read_guard
+        ∷ reads_first 0 1 8
+        ++ row (made 0 7) read_guard
         ∷ row (look 0 3) (value 9)
         ∷ row (look 0 7) (value 8)
         ∷ row (look 0 8) (value 7)

@@ -1,15 +1,15 @@
 //! Cells without retry, whose generator runs once.
 
-ghost use Rattle.std.specs.Prelude.{[], ◌∷◌};
-ghost use Rattle.schedule_examples.specs.Examples.{Goes, IsWrong, row};
-ghost use Rattle.schedule_examples.specs.Words.{cell, once_cell, parking_once_cell, phase, read, write, again, made, made_failed, look, put, release, readers, writer, giving, empty_access, failed_access, initialized_phase, failed_phase, value, read_guard, write_guard, running, done, failed, waiting_read, waiting_write, initialized_with, left_failed};
+ghost use Rattle.std.specs.Prelude.{[], ◌∷◌, ◌++◌};
+ghost use Rattle.schedule_examples.specs.Examples.{Goes, GoesOnlySo, row};
+ghost use Rattle.schedule_examples.specs.Openings.{writes_first, fails_first};
+ghost use Rattle.schedule_examples.specs.Words.{cell, once_cell, parking_once_cell, phase, read, write, again, made_failed, look, put, release, readers, writer, giving, initialized_phase, failed_phase, value, read_guard, write_guard, running, done, empty_access, failed_access, failed, waiting_read, waiting_write, initialized_with, left_failed};
 
 /// After the only run failed, a read and a write are told that the value may not be accessed, and leave the phase.
 pub fn a_failed_run_is_not_tried_again()
     ensures { Goes (once_cell ∷ [])
-        (row (read 0 0) running
-        ∷ row (made_failed 0) failed
-        ∷ row (read 0 0) failed_access
+        (fails_first 0 0
+        ++ row (read 0 0) failed_access
         ∷ row (write 0 0) failed_access
         ∷ row (phase 0 0) failed_phase
         ∷ [])
@@ -19,9 +19,8 @@ pub fn a_failed_run_is_not_tried_again()
 /// Where the only run succeeds, all goes as with retry.
 pub fn a_run_that_succeeds_goes_as_with_retry()
     ensures { Goes (once_cell ∷ [])
-        (row (write 0 0) running
-        ∷ row (made 0 3) write_guard
-        ∷ row (release 0 1) done
+        (writes_first 0 0 3
+        ++ row (release 0 1) done
         ∷ row (phase 1 0) initialized_phase
         ∷ row (write 1 0) write_guard
         ∷ row (put 1 4 5) done
@@ -76,44 +75,24 @@ pub fn a_call_that_will_be_denied_waits_for_its_lock()
 
 /// With retry, and before a run, no value is denied. After the only run failed each is, and no run is tried again.
 pub fn a_value_is_denied_after_the_only_run_alone()
-    ensures with_retry { IsWrong (cell ∷ [])
-        (row (read 0 0) running
-        ∷ row (made_failed 0) failed
-        ∷ [])
-        (read 0 0) failed_access }
-    ensures before { IsWrong (once_cell ∷ [])
-        []
-        (read 0 0) empty_access }
-    ensures run { IsWrong (once_cell ∷ [])
-        (row (read 0 0) running
-        ∷ row (made_failed 0) failed
-        ∷ [])
-        (write 1 0) running }
-    ensures read { IsWrong (once_cell ∷ [])
-        (row (read 0 0) running
-        ∷ row (made_failed 0) failed
-        ∷ [])
-        (read 1 0) read_guard }
-    ensures write { IsWrong (once_cell ∷ [])
-        (row (read 0 0) running
-        ∷ row (made_failed 0) failed
-        ∷ [])
-        (write 0 0) write_guard }
-    ensures other_phase { IsWrong (once_cell ∷ [])
-        (row (read 0 0) running
-        ∷ row (made_failed 0) failed
-        ∷ [])
-        (read 0 0) empty_access }
+    ensures with_retry { GoesOnlySo (cell ∷ []) (fails_first 0 0)
+        (row (read 0 0) running) (failed_access ∷ []) }
+    ensures before { GoesOnlySo (once_cell ∷ []) []
+        (row (read 0 0) running) (empty_access ∷ []) }
+    ensures read { GoesOnlySo (once_cell ∷ []) (fails_first 0 0)
+        (row (read 0 0) failed_access) (empty_access ∷ read_guard ∷ running ∷ []) }
+    ensures write { GoesOnlySo (once_cell ∷ []) (fails_first 0 0)
+        (row (write 1 0) failed_access) (running ∷ write_guard ∷ []) }
 {}
 
 /// What is denied hands nothing on where another share is left.
 pub fn what_is_denied_hands_nothing_on_beside_a_share()
-    ensures { IsWrong (parking_once_cell ∷ [])
+    ensures { GoesOnlySo (parking_once_cell ∷ [])
         (row (read 0 0) running
         ∷ row (read 1 0) waiting_read
         ∷ row (read 2 0) waiting_read
         ∷ row (write 3 0) waiting_write
         ∷ row (made_failed 0) (giving readers failed)
         ∷ [])
-        (again 1) (giving (writer 3) failed_access) }
+        (row (again 1) failed_access) (giving (writer 3) failed_access ∷ []) }
 {}

@@ -1,18 +1,18 @@
 //! Cells whose calls park, and are handed the lock.
 
-ghost use Rattle.std.specs.Prelude.{[], ◌∷◌, ◌-◌, ◌^◌, ◌≡◌, true, false, Some};
-ghost use Rattle.schedule_rules.specs.Calls.{Reads, Writes};
+ghost use Rattle.std.specs.Prelude.{[], ◌∷◌, ◌++◌, ◌-◌, ◌^◌, ◌≡◌, true, false};
+ghost use Rattle.phase_locker.specs.declared.tickets.LockNature.TheVariants as nature;
 ghost use Rattle.schedule_rules.specs.Holds.{is_barred_by_readers};
 ghost use Rattle.schedule_rules.specs.Waits.{parked_readers, parked_writers, waits as waits_of};
 ghost use Rattle.schedule_examples.specs.Examples.{Goes, row, draining, early, history_of};
-ghost use Rattle.schedule_examples.specs.Words.{parking_cell, read, write, again, made, made_failed, put, look, release, readers, writer, giving, value, read_guard, write_guard, running, done, failed, waiting_read, waiting_write, waiting_drain, initialized_with};
+ghost use Rattle.schedule_examples.specs.Openings.{writes_first, reads_first};
+ghost use Rattle.schedule_examples.specs.Words.{parking_cell, read, write, again, made, made_failed, look, put, release, readers, writer, giving, value, read_guard, write_guard, running, done, failed, waiting_read, waiting_write, waiting_drain, initialized_with};
 
 /// What a writer gives back goes to the reader that parks behind another writer, and what that gives back to the writer.
 pub fn a_write_hands_over_to_a_reader_and_then_to_a_writer()
     ensures { Goes (parking_cell ∷ [])
-        (row (write 0 0) running
-        ∷ row (made 0 7) write_guard
-        ∷ row (write 1 0) waiting_write
+        (writes_first 0 0 7
+        ++ row (write 1 0) waiting_write
         ∷ row (read 2 0) waiting_read
         ∷ row (release 0 1) (giving readers done)
         ∷ row (again 2) read_guard
@@ -25,9 +25,8 @@ pub fn a_write_hands_over_to_a_reader_and_then_to_a_writer()
 /// Both parked readers are handed a read lock. Only the last of them hands over to the writer.
 pub fn the_last_of_two_readers_hands_over()
     ensures { Goes (parking_cell ∷ [])
-        (row (write 0 0) running
-        ∷ row (made 0 1) write_guard
-        ∷ row (read 1 0) waiting_read
+        (writes_first 0 0 1
+        ++ row (read 1 0) waiting_read
         ∷ row (read 2 0) waiting_read
         ∷ row (write 3 0) waiting_write
         ∷ row (release 0 1) (giving readers done)
@@ -44,9 +43,8 @@ pub fn the_last_of_two_readers_hands_over()
 /// the drain becomes the lock.
 pub fn a_drain_lets_readers_in_while_one_is_left()
     ensures { Goes (parking_cell ∷ [])
-        (row (read 0 0) running
-        ∷ row (made 0 5) read_guard
-        ∷ draining (write 1 0) waiting_drain
+        (reads_first 0 0 5
+        ++ draining (write 1 0) waiting_drain
         ∷ row (read 2 0) read_guard
         ∷ row (release 0 1) done
         ∷ row (release 2 3) done
@@ -61,9 +59,8 @@ pub fn a_drain_lets_readers_in_while_one_is_left()
 /// A drainer that steps while a reader is left may park, and is then handed the lock.
 pub fn a_drainer_parks_and_is_handed_the_lock()
     ensures { Goes (parking_cell ∷ [])
-        (row (read 0 0) running
-        ∷ row (made 0 5) read_guard
-        ∷ draining (write 1 0) waiting_drain
+        (reads_first 0 0 5
+        ++ draining (write 1 0) waiting_drain
         ∷ row (again 1) waiting_write
         ∷ row (release 0 1) (giving (writer 1) done)
         ∷ row (again 1) write_guard
@@ -111,9 +108,8 @@ pub fn a_share_that_does_not_fit_is_handed_on()
 /// A reader that was given a share keeps it beside a drain, which bars the readers that have none.
 pub fn a_share_is_kept_beside_a_drain()
     ensures { Goes (parking_cell ∷ [])
-        (row (write 0 0) running
-        ∷ row (made 0 7) write_guard
-        ∷ row (read 1 0) waiting_read
+        (writes_first 0 0 7
+        ++ row (read 1 0) waiting_read
         ∷ row (release 0 1) (giving readers done)
         ∷ draining (write 2 0) waiting_drain
         ∷ row (again 1) read_guard
@@ -153,19 +149,18 @@ pub fn cells_are_handed_over_apart()
 
 /// Only a call that wants to write, and that readers alone bar, may drain in place of parking.
 pub fn readers_alone_are_drained()
-    ensures readers { is_barred_by_readers (Some Writes) (record { readers = 1; written = false; drained = false }) ≡ true }
-    ensures nobody { is_barred_by_readers (Some Writes) (record { readers = 0; written = false; drained = false }) ≡ false }
-    ensures writer { is_barred_by_readers (Some Writes) (record { readers = 0; written = true; drained = false }) ≡ false }
-    ensures drainer { is_barred_by_readers (Some Writes) (record { readers = 1; written = false; drained = true }) ≡ false }
-    ensures reader { is_barred_by_readers (Some Reads) (record { readers = 2 ^ 20 - 1; written = false; drained = false }) ≡ false }
+    ensures readers { is_barred_by_readers nature.Write (record { readers = 1; written = false; drained = false }) ≡ true }
+    ensures nobody { is_barred_by_readers nature.Write (record { readers = 0; written = false; drained = false }) ≡ false }
+    ensures writer { is_barred_by_readers nature.Write (record { readers = 0; written = true; drained = false }) ≡ false }
+    ensures drainer { is_barred_by_readers nature.Write (record { readers = 1; written = false; drained = true }) ≡ false }
+    ensures reader { is_barred_by_readers nature.Read (record { readers = 2 ^ 20 - 1; written = false; drained = false }) ≡ false }
 {}
 
 /// A parked call that steps before it is given anything parks again, as the last of its list.
 pub fn a_parked_call_that_steps_goes_to_the_end_of_its_list()
     ensures goes { Goes (parking_cell ∷ [])
-        (row (write 0 0) running
-        ∷ row (made 0 1) write_guard
-        ∷ row (write 1 0) waiting_write
+        (writes_first 0 0 1
+        ++ row (write 1 0) waiting_write
         ∷ row (write 2 0) waiting_write
         ∷ row (again 1) waiting_write
         ∷ row (put 0 1 3) done
@@ -177,15 +172,13 @@ pub fn a_parked_call_that_steps_goes_to_the_end_of_its_list()
         ∷ [])
         (initialized_with 3 ∷ []) }
     ensures parked { parked_writers 0 (waits_of (parking_cell ∷ []) (history_of
-        (row (write 0 0) running
-        ∷ row (made 0 1) write_guard
-        ∷ row (write 1 0) waiting_write
+        (writes_first 0 0 1
+        ++ row (write 1 0) waiting_write
         ∷ row (write 2 0) waiting_write
         ∷ []))) ≡ 1 ∷ 2 ∷ [] }
     ensures parked_again { parked_writers 0 (waits_of (parking_cell ∷ []) (history_of
-        (row (write 0 0) running
-        ∷ row (made 0 1) write_guard
-        ∷ row (write 1 0) waiting_write
+        (writes_first 0 0 1
+        ++ row (write 1 0) waiting_write
         ∷ row (write 2 0) waiting_write
         ∷ row (again 1) waiting_write
         ∷ []))) ≡ 2 ∷ 1 ∷ [] }

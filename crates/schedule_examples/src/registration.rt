@@ -1,10 +1,11 @@
 //! Cells that are registered for the exit before their generators first run, or are declined.
 
-ghost use Rattle.std.specs.Prelude.{[], ◌∷◌, ◌≡◌, true, false};
+ghost use Rattle.std.specs.Prelude.{[], ◌∷◌, ◌++◌, ◌≡◌, true, false};
 ghost use Rattle.phase_bits.specs.Number.{phase_of};
 ghost use Rattle.schedule_rules.specs.declared.line.Answer.TheVariants.{Access};
 ghost use Rattle.schedule_rules.specs.Gifts.{downgrades};
 ghost use Rattle.schedule_examples.specs.Examples.{Goes, GoesWith, history_of, row};
+ghost use Rattle.schedule_examples.specs.Openings.{writes_first, reads_first, fails_first};
 ghost use Rattle.schedule_examples.specs.Words.{cell, exit_cell, parking_exit_cell, once_exit_cell, leaking_cell, phase, read, write, made, made_failed, release, exit, registered_phase, registered_failed_phase, leaked_phase, leaked_failed_phase, declined_phase, read_guard, write_guard, running, done, registered_failed_access, declined_access, failed, skipped, round, closed, no_section, exit_begun, initialized_with, registered_with, leaked_with, left_declined, left_registered_failed, was_skipped};
 
 /// A look that finds no cell closes registration. A cell that asks to be registered then is declined: no generator runs, the
@@ -58,9 +59,8 @@ pub fn a_parking_cell_is_declined_at_once()
 pub fn a_cell_that_puts_up_with_it_runs_unregistered()
     ensures { Goes (leaking_cell ∷ [])
         (row (exit 0) closed
-        ∷ row (read 0 0) running
-        ∷ row (made 0 9) read_guard
-        ∷ row (phase 0 0) leaked_phase
+        ∷ reads_first 0 0 9
+        ++ row (phase 0 0) leaked_phase
         ∷ [])
         (leaked_with 9 ∷ []) }
 {}
@@ -72,9 +72,8 @@ pub fn an_unregistered_run_fails_and_is_asked_again()
         ∷ row (write 0 0) running
         ∷ row (made_failed 0) failed
         ∷ row (phase 0 0) leaked_failed_phase
-        ∷ row (write 0 0) running
-        ∷ row (made 0 9) write_guard
-        ∷ row (release 0 5) done
+        ∷ writes_first 0 0 9
+        ++ row (release 0 5) done
         ∷ row (phase 0 0) leaked_phase
         ∷ [])
         (leaked_with 9 ∷ []) }
@@ -83,9 +82,8 @@ pub fn an_unregistered_run_fails_and_is_asked_again()
 /// While the registry is open such a cell is registered as any other.
 pub fn a_cell_that_puts_up_with_it_is_registered_where_it_can_be()
     ensures { Goes (leaking_cell ∷ [])
-        (row (read 0 0) running
-        ∷ row (made 0 9) read_guard
-        ∷ row (phase 0 0) registered_phase
+        (reads_first 0 0 9
+        ++ row (phase 0 0) registered_phase
         ∷ row (exit 1) (round 1)
         ∷ [])
         (registered_with 9 ∷ []) }
@@ -94,15 +92,12 @@ pub fn a_cell_that_puts_up_with_it_is_registered_where_it_can_be()
 /// A run that failed leaves the cell registered, and the next run does not register it again.
 pub fn a_cell_is_registered_once_over_its_runs()
     ensures { Goes (exit_cell ∷ [])
-        (row (read 0 0) running
-        ∷ row (made_failed 0) failed
-        ∷ row (phase 0 0) registered_failed_phase
-        ∷ row (read 0 0) running
-        ∷ row (made_failed 0) failed
-        ∷ row (phase 0 0) registered_failed_phase
-        ∷ row (read 0 0) running
-        ∷ row (made 0 42) read_guard
-        ∷ row (phase 0 0) registered_phase
+        (fails_first 0 0
+        ++ row (phase 0 0) registered_failed_phase
+        ∷ fails_first 0 0
+        ++ row (phase 0 0) registered_failed_phase
+        ∷ reads_first 0 0 42
+        ++ row (phase 0 0) registered_phase
         ∷ row (exit 0) (round 1)
         ∷ [])
         (registered_with 42 ∷ []) }
@@ -111,14 +106,12 @@ pub fn a_cell_is_registered_once_over_its_runs()
 /// A cell that was registered before the registry closed is not declined after it, also where its first run failed.
 pub fn a_registered_cell_runs_again_after_the_registry_closed()
     ensures { GoesWith (exit_cell ∷ [])
-        (row (read 0 0) running
-        ∷ row (made_failed 0) failed
-        ∷ row (exit 1) (round 1)
+        (fails_first 0 0
+        ++ row (exit 1) (round 1)
         ∷ row (exit 1) (skipped 0)
         ∷ row (exit 1) closed
-        ∷ row (read 0 0) running
-        ∷ row (made 0 4) read_guard
-        ∷ row (phase 0 0) registered_phase
+        ∷ reads_first 0 0 4
+        ++ row (phase 0 0) registered_phase
         ∷ [])
         (registered_with 4 ∷ []) (was_skipped 0 ∷ []) }
 {}
@@ -146,9 +139,8 @@ pub fn a_run_keeps_the_registration_that_it_began_with()
 /// Without retry a run that failed is the only one, and its cell is skipped.
 pub fn without_retry_a_registered_cell_runs_once()
     ensures { GoesWith (once_exit_cell ∷ [])
-        (row (read 0 0) running
-        ∷ row (made_failed 0) failed
-        ∷ row (read 0 0) registered_failed_access
+        (fails_first 0 0
+        ++ row (read 0 0) registered_failed_access
         ∷ row (write 0 0) registered_failed_access
         ∷ row (exit 0) (round 1)
         ∷ row (exit 0) (skipped 0)
@@ -160,12 +152,9 @@ pub fn without_retry_a_registered_cell_runs_once()
 /// A cell that no exit finalizes is not registered: a look finds nothing, and the closed registry declines nothing there.
 pub fn other_cells_are_not_registered()
     ensures { Goes (cell ∷ cell ∷ [])
-        (row (read 0 0) running
-        ∷ row (made 0 4) read_guard
-        ∷ row (exit 0) closed
-        ∷ row (read 0 1) running
-        ∷ row (made 0 5) read_guard
-        ∷ [])
+        (reads_first 0 0 4
+        ++ row (exit 0) closed
+        ∷ reads_first 0 1 5)
         (initialized_with 4 ∷ initialized_with 5 ∷ []) }
 {}
 

@@ -1,7 +1,8 @@
 //! Turns of the exit that wait, and exits and outcomes that are refused.
 
-ghost use Rattle.std.specs.Prelude.{[], ◌∷◌};
+ghost use Rattle.std.specs.Prelude.{[], ◌∷◌, ◌++◌};
 ghost use Rattle.schedule_examples.specs.Examples.{Goes, GoesWith, row, draining};
+ghost use Rattle.schedule_examples.specs.Openings.{writes_first, reads_first, fills, finalizes_first};
 ghost use Rattle.schedule_examples.specs.Words.{exit_cell, parking_exit_cell, leaking_cell, read, write, again, made, made_failed, release, exit, finished, finish_failed, readers, writer, giving, finalized_phase, finalizer_failed_phase, read_guard, write_guard, running, done, failed, waiting, waiting_read, waiting_write, waiting_drain, finalizing, skipped, round, closed, waits, no_section, no_outcome, exit_begun, inside, untouched, registered_with, leaked_with, finalized_with, finalizer_failed_with, was_done, was_failed, was_skipped};
 
 /// The party that runs a section does not exit, and a generator is not ended as a finalizer. A turn that is barred waits, and
@@ -27,9 +28,8 @@ pub fn an_exit_waits_for_its_turn_as_a_write()
 /// parks, and is handed the lock when the finalizer ends.
 pub fn a_turn_drains_the_readers()
     ensures { GoesWith (parking_exit_cell ∷ [])
-        (row (read 0 0) running
-        ∷ row (made 0 4) read_guard
-        ∷ row (exit 1) (round 1)
+        (reads_first 0 0 4
+        ++ row (exit 1) (round 1)
         ∷ draining (exit 1) waiting_drain
         ∷ row (read 2 0) read_guard
         ∷ row (release 0 1) done
@@ -45,9 +45,8 @@ pub fn a_turn_drains_the_readers()
 /// Where a writer bars it a turn parks as a writer, and the lock is handed to it.
 pub fn a_turn_parks_as_a_writer()
     ensures { GoesWith (parking_exit_cell ∷ [])
-        (row (write 0 0) running
-        ∷ row (made 0 4) write_guard
-        ∷ row (release 0 1) done
+        (writes_first 0 0 4
+        ++ row (release 0 1) done
         ∷ row (write 0 0) write_guard
         ∷ row (exit 1) (round 1)
         ∷ row (exit 1) waiting_write
@@ -79,12 +78,9 @@ pub fn a_skipped_turn_may_hand_on()
 /// A turn that waits has taken its cell of the round: another attempt goes on with that cell, and the next exit takes the next.
 pub fn a_turn_that_waits_has_taken_its_cell()
     ensures { GoesWith (exit_cell ∷ exit_cell ∷ [])
-        (row (read 0 0) running
-        ∷ row (made 0 4) read_guard
-        ∷ row (release 0 1) done
-        ∷ row (read 0 1) running
-        ∷ row (made 0 5) read_guard
-        ∷ row (exit 1) (round 2)
+        (fills 0 0 4 1
+        ++ reads_first 0 1 5
+        ++ row (exit 1) (round 2)
         ∷ row (exit 1) waiting
         ∷ row (again 1) waiting
         ∷ row (exit 1) waits
@@ -101,9 +97,8 @@ pub fn a_turn_that_waits_has_taken_its_cell()
 /// The owner's own guard bars its turn as any other: it waits, and can't give the guard back.
 pub fn an_exit_waits_for_its_own_guard()
     ensures { Goes (exit_cell ∷ [])
-        (row (read 0 0) running
-        ∷ row (made 0 4) read_guard
-        ∷ row (exit 0) (round 1)
+        (reads_first 0 0 4
+        ++ row (exit 0) (round 1)
         ∷ row (exit 0) waiting
         ∷ row (release 0 1) waits
         ∷ row (again 0) waiting
@@ -114,12 +109,8 @@ pub fn an_exit_waits_for_its_own_guard()
 /// A finalizer that reads its own cell is barred by its own section. It asks for no run, and so is not turned back as cyclic.
 pub fn a_finalizer_that_reads_its_own_cell_waits()
     ensures { Goes (exit_cell ∷ [])
-        (row (read 0 0) running
-        ∷ row (made 0 4) read_guard
-        ∷ row (release 0 1) done
-        ∷ row (exit 0) (round 1)
-        ∷ row (exit 0) (finalizing 0)
-        ∷ row (read 0 0) waiting
+        (finalizes_first
+        ++ row (read 0 0) waiting
         ∷ row (finished 0) waits
         ∷ row (again 0) waiting
         ∷ [])

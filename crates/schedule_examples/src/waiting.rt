@@ -1,17 +1,17 @@
 //! Calls that wait.
 
-ghost use Rattle.std.specs.Prelude.{[], ◌∷◌, ◌-◌, ◌^◌, ◌≡◌, true, false, Some};
-ghost use Rattle.schedule_rules.specs.Calls.{Reads, Writes};
+ghost use Rattle.std.specs.Prelude.{[], ◌∷◌, ◌++◌, ◌-◌, ◌^◌, ◌≡◌, true, false};
+ghost use Rattle.phase_locker.specs.declared.tickets.LockNature.TheVariants as nature;
 ghost use Rattle.schedule_rules.specs.Holds.{is_barred};
 ghost use Rattle.schedule_examples.specs.Examples.{Goes, row};
-ghost use Rattle.schedule_examples.specs.Words.{cell, phase, read, write, again, made, made_failed, look, put, release, empty_phase, value, read_guard, write_guard, running, done, waiting, waits, no_section, untouched, initialized_with};
+ghost use Rattle.schedule_examples.specs.Openings.{writes_first, reads_first};
+ghost use Rattle.schedule_examples.specs.Words.{cell, phase, read, write, again, made, made_failed, look, put, release, readers, empty_phase, value, read_guard, write_guard, running, done, waiting, waits, no_section, untouched, initialized_with};
 
 /// A write waits while another is held, however often it tries, and sees then what was set.
 pub fn a_write_waits_for_a_write()
     ensures { Goes (cell ∷ [])
-        (row (write 0 0) running
-        ∷ row (made 0 1) write_guard
-        ∷ row (write 1 0) waiting
+        (writes_first 0 0 1
+        ++ row (write 1 0) waiting
         ∷ row (again 1) waiting
         ∷ row (put 0 1 2) done
         ∷ row (again 1) waiting
@@ -29,9 +29,8 @@ pub fn a_write_waits_for_a_write()
 /// Readers stand beside each other, and a write waits until the last of them is gone.
 pub fn a_write_waits_for_every_reader()
     ensures { Goes (cell ∷ [])
-        (row (read 0 0) running
-        ∷ row (made 0 5) read_guard
-        ∷ row (read 1 0) read_guard
+        (reads_first 0 0 5
+        ++ row (read 1 0) read_guard
         ∷ row (write 2 0) waiting
         ∷ row (again 2) waiting
         ∷ row (release 0 1) done
@@ -48,9 +47,8 @@ pub fn a_write_waits_for_every_reader()
 /// A write that waits holds nothing, so a reader that comes later gets in before it.
 pub fn a_waiting_write_bars_no_read()
     ensures { Goes (cell ∷ [])
-        (row (read 0 0) running
-        ∷ row (made 0 5) read_guard
-        ∷ row (write 1 0) waiting
+        (reads_first 0 0 5
+        ++ row (write 1 0) waiting
         ∷ row (read 2 0) read_guard
         ∷ row (release 0 1) done
         ∷ row (again 1) waiting
@@ -79,9 +77,8 @@ pub fn a_waiting_read_is_judged_at_the_phase_of_then()
 /// A party waits for a guard of its own, which it cannot release then.
 pub fn a_party_waits_for_its_own_guard()
     ensures { Goes (cell ∷ [])
-        (row (write 0 0) running
-        ∷ row (made 0 1) write_guard
-        ∷ row (made 0 2) no_section
+        (writes_first 0 0 1
+        ++ row (made 0 2) no_section
         ∷ row (made_failed 0) no_section
         ∷ row (phase 0 0) empty_phase
         ∷ row (read 0 0) waiting
@@ -109,13 +106,13 @@ pub fn two_parties_wait_for_each_other()
 /// A read is barred by 2^20 - 1 readers and not by one fewer, and a write by a single one. A drain bars each write, and a
 /// read only where no reader is left. Beside a write hold both are barred.
 pub fn readers_bar_writes_and_too_many_bar_reads()
-    ensures most { is_barred (Some Reads) (record { readers = 2 ^ 20 - 1; written = false; drained = false }) ≡ true }
-    ensures fewer { is_barred (Some Reads) (record { readers = 2 ^ 20 - 2; written = false; drained = false }) ≡ false }
-    ensures one { is_barred (Some Writes) (record { readers = 1; written = false; drained = false }) ≡ true }
-    ensures free { is_barred (Some Writes) (record { readers = 0; written = false; drained = false }) ≡ false }
-    ensures drained { is_barred (Some Writes) (record { readers = 0; written = false; drained = true }) ≡ true }
-    ensures drained_read { is_barred (Some Reads) (record { readers = 0; written = false; drained = true }) ≡ true }
-    ensures draining_read { is_barred (Some Reads) (record { readers = 1; written = false; drained = true }) ≡ false }
-    ensures written { is_barred (Some Writes) (record { readers = 0; written = true; drained = false }) ≡ true }
-    ensures written_read { is_barred (Some Reads) (record { readers = 0; written = true; drained = false }) ≡ true }
+    ensures most { is_barred nature.Read (record { readers = 2 ^ 20 - 1; written = false; drained = false }) ≡ true }
+    ensures fewer { is_barred nature.Read (record { readers = 2 ^ 20 - 2; written = false; drained = false }) ≡ false }
+    ensures one { is_barred nature.Write (record { readers = 1; written = false; drained = false }) ≡ true }
+    ensures free { is_barred nature.Write (record { readers = 0; written = false; drained = false }) ≡ false }
+    ensures drained { is_barred nature.Write (record { readers = 0; written = false; drained = true }) ≡ true }
+    ensures drained_read { is_barred nature.Read (record { readers = 0; written = false; drained = true }) ≡ true }
+    ensures draining_read { is_barred nature.Read (record { readers = 1; written = false; drained = true }) ≡ false }
+    ensures written { is_barred nature.Write (record { readers = 0; written = true; drained = false }) ≡ true }
+    ensures written_read { is_barred nature.Read (record { readers = 0; written = true; drained = false }) ≡ true }
 {}

@@ -48,14 +48,14 @@ module _ (cells : List CellPlan) where
   -- nor does a run
   module _ (c p : ℕ) (m : Registry) where
     open_run : (registry_of_run cells c p m).is_open ≡ m.is_open
-    open_run = by (tries_registration (cell_at cells c) p)
+    open_run = by (tries_registration (cell_at cells c).kind p)
       where
         by : (b : Bool) → (if b then after_register c m else m).is_open ≡ m.is_open
         by true = open_registered m c
         by false = refl
 
     length_run : length (registry_of_run cells c p m).known ≡ length m.known
-    length_run = by (tries_registration (cell_at cells c) p)
+    length_run = by (tries_registration (cell_at cells c).kind p)
       where
         by : (b : Bool) → length (if b then after_register c m else m).known ≡ length m.known
         by true = length_registered m c
@@ -63,7 +63,7 @@ module _ (cells : List CellPlan) where
 
     -- in a closed registry it changes nothing
     closed_run : registry_of_run cells c p (closed m) ≡ closed m
-    closed_run = by (tries_registration (cell_at cells c) p)
+    closed_run = by (tries_registration (cell_at cells c).kind p)
       where
         by : (b : Bool) → (if b then after_register c (closed m) else closed m) ≡ closed m
         by true = refl

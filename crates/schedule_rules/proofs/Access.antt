@@ -9,6 +9,8 @@ use Rattle.phase_bits.specs.Number.{phase_of}
 use Rattle.phase_seq.specs.Phases.{flags_refused}
 use Rattle.phase_bits.specs.Flags.{has, initialized}
 use Rattle.phase_locker.specs.declared.ways.Given.{Given}
+use Rattle.phase_seq.specs.Asks.{shall_init}
+use Rattle.phase_seq.specs.declared.tolerance.Tolerance.{Tolerance}
 use Rattle.schedule_rules.specs.declared.plan.Call.{Call}
 use Rattle.schedule_rules.specs.declared.plan.CellPlan.{CellPlan}
 use Rattle.schedule_rules.specs.declared.step.Act.{Act}
@@ -19,8 +21,8 @@ use Rattle.schedule_rules.specs.declared.step.Want.TheVariants.{Calls, Turns}
 use Rattle.schedule_rules.specs.declared.line.Line.{Line}
 use Rattle.schedule_rules.specs.declared.line.Answer.{Answer}
 use Rattle.schedule_rules.specs.declared.line.Answer.TheVariants as answer
-use Rattle.schedule_rules.specs.Kinds.{cell_at}
-use Rattle.schedule_rules.specs.Phases.{shall_init, runs_generator}
+use Rattle.schedule_rules.specs.Kinds.{cell_at, tolerance_of, tolerance_at}
+use Rattle.schedule_rules.specs.Phases.{runs_generator}
 use Rattle.schedule_rules.specs.Changes.{Content, Asked, is_declined, content_asked, effect}
 use Rattle.schedule_rules.specs.Deeds.{deed_accessed}
 use Rattle.schedule_rules.specs.History.{Event, act_of, accepts}
@@ -41,22 +43,28 @@ use Rattle.schedule_rules.proofs.Initialized.{sound}
 use Rattle.schedule_rules.proofs.Facts.{apart, same_number}
 
 -- on the empty phase alone a run is wanted without retry
-empty-where-wanted : (retry : Bool) (p : ℕ) → shall_init retry p ≡ true → retry ≡ false → p ≡ 0
-empty-where-wanted true p e once = absurd (apart once)
-empty-where-wanted false p e once = grind arith
+empty-where-wanted : (t : Tolerance) (p : ℕ) → shall_init t (phase_of p) ≡ true → t.retry ≡ false → p ≡ 0
+empty-where-wanted t p e once = by t.retry once e
+  where
+    by : (b : Bool) → b ≡ false → (if b then not (has p initialized) else (p == 0)) ≡ true → p ≡ 0
+    by true f g = absurd (apart f)
+    by false f g = grind arith
 
 -- where no run is wanted and there is no value, the cell has no retry
-once-where-unwanted : (retry : Bool) (p : ℕ) → shall_init retry p ≡ false → has p initialized ≡ false → retry ≡ false
-once-where-unwanted false p e lacks = refl
-once-where-unwanted true p e lacks = absurd (by (has p initialized) e lacks)
+once-where-unwanted : (t : Tolerance) (p : ℕ) → shall_init t (phase_of p) ≡ false → has p initialized ≡ false → t.retry ≡ false
+once-where-unwanted t p e lacks = by t.retry e
   where
-    by : (b : Bool) → not b ≡ false → b ≡ false → ⊥
-    by true f g = apart g
-    by false f g = apart f
+    none : (b : Bool) → not b ≡ false → b ≡ false → ⊥
+    none true f g = apart g
+    none false f g = apart f
+
+    by : (b : Bool) → (if b then not (has p initialized) else (p == 0)) ≡ false → b ≡ false
+    by true f = absurd (none (has p initialized) f lacks)
+    by false f = refl
 
 -- and its phase is not empty
-ended-where-unwanted : (retry : Bool) (p : ℕ) → shall_init retry p ≡ false → has p initialized ≡ false → p ≢ 0
-ended-where-unwanted retry p e lacks z = by (subst (λ b. shall_init b p ≡ false) (once-where-unwanted retry p e lacks) e)
+ended-where-unwanted : (t : Tolerance) (p : ℕ) → shall_init t (phase_of p) ≡ false → has p initialized ≡ false → p ≢ 0
+ended-where-unwanted t p e lacks z = by (subst (λ b. (if b then not (has p initialized) else (p == 0)) ≡ false) (once-where-unwanted t p e lacks) e)
   where
     by : (p == 0) ≡ false → ⊥
     by f = grind arith
@@ -101,11 +109,11 @@ module _ (cells : List CellPlan) where
             other : c ≢ d → (c == d) ≡ false
             other n = grind arith
 
-        here : replay cells c (event a (answer.Access q) ∷ h) ≡ content_asked (cell_at cells c) (accepts h) j (replay cells c h)
+        here : replay cells c (event a (answer.Access q) ∷ h) ≡ content_asked (cell_at cells c).kind (tolerance_at cells c) (accepts h) j (replay cells c h)
         here = back_here cells c (back_of_step h (record { party = p; act = a }) (answer.Access q)) (asked c j) (replay cells c h) back (same_number c c refl)
 
         -- by whether it was declined
-        chosen : (b : Bool) → is_declined (cell_at cells c) j (accepts h) (phase_at cells c h) ≡ b
+        chosen : (b : Bool) → is_declined (cell_at cells c).kind (tolerance_at cells c) j (accepts h) (phase_at cells c h) ≡ b
             → replay cells c (event a (answer.Access q) ∷ h) ≡ (if b then record { phase = 36; value = (replay cells c h).value } else replay cells c h)
         chosen b e = here ∙ ap (λ (d : Bool). if d then record { phase = 36; value = (replay cells c h).value } else replay cells c h) e
 
@@ -117,15 +125,15 @@ module _ (cells : List CellPlan) where
             stays,
             record {
               shown = e;
-              once = once-where-unwanted (cell_at cells c).retry (phase_at cells c h) r.unwanted r.accessed;
+              once = once-where-unwanted (tolerance_at cells c) (phase_at cells c h) r.unwanted r.accessed;
               lacks = r.accessed;
-              ended = ended-where-unwanted (cell_at cells c).retry (phase_at cells c h) r.unwanted r.accessed;
+              ended = ended-where-unwanted (tolerance_at cells c) (phase_at cells c h) r.unwanted r.accessed;
             },
           );
         }
           where
             stays : replay cells c (event a (answer.Access q) ∷ h) ≡ replay cells c h
-            stays = chosen false (ap (λ (b : Bool). b && not (runs_generator (cell_at cells c) (accepts h) (phase_at cells c h))) r.unasked)
+            stays = chosen false (ap (λ (b : Bool). b && not (runs_generator (cell_at cells c).kind (tolerance_at cells c) (accepts h) (phase_at cells c h))) r.unasked)
 
         pub declines : Asking cells h p c j false → q ≡ record { bits = 36 } → IsTurnedAway cells h (event a (answer.Access q)) c q
         declines r e = record {
@@ -134,7 +142,7 @@ module _ (cells : List CellPlan) where
           reason = inr (record { call = j; tried = t.tried; declines = declined; shown = e; left = ap (λ y. y.phase) left });
         }
           where
-            declined : is_declined (cell_at cells c) j (accepts h) (phase_at cells c h) ≡ true
+            declined : is_declined (cell_at cells c).kind (tolerance_at cells c) j (accepts h) (phase_at cells c h) ≡ true
             declined = rw r.asked (ap not r.generates)
 
             left : replay cells c (event a (answer.Access q) ∷ h) ≡ record { phase = 36; value = (replay cells c h).value }
@@ -163,7 +171,7 @@ module _ (cells : List CellPlan) where
       by : Began cells h s.party s.act → phase_at cells c h ≡ 0
       by m =
           subst (λ z. (cell_at cells z).retry ≡ false → phase_at cells z h ≡ 0) (called_at h s.party s.act m.cell c m.asked m.calls e)
-          (empty-where-wanted (cell_at cells m.cell).retry (phase_at cells m.cell h) m.asks.wanted) once
+          (empty-where-wanted (tolerance_at cells m.cell) (phase_at cells m.cell h) m.asks.wanted) once
 
   -- and it stays empty while the generator runs
   pub runs_on_empty : (h : List Event) (p c : ℕ) → IsLegal cells h → runs p c h ≡ true → (cell_at cells c).retry ≡ false → phase_at cells c h ≡ 0
@@ -173,7 +181,7 @@ module _ (cells : List CellPlan) where
       needed s e (Calls j) d g u =
           let same : (s.cell == c) ≡ true = found_passes (runs_in c) (sections h) s e in
           let here : s.cell ≡ c = grind arith in
-          empty-where-wanted (cell_at cells c).retry (phase_at cells c h) (subst (λ z. shall_init (cell_at cells z).retry (phase_at cells z h) ≡ true) here u) once
+          empty-where-wanted (tolerance_at cells c) (phase_at cells c h) (subst (λ z. shall_init (tolerance_at cells z) (phase_of (phase_at cells z h)) ≡ true) here u) once
       needed s e Turns d g u = absurd (by d g)
         where
           by : s.want ≡ Turns → generates_for p (Some s) ≡ true → ⊥
@@ -198,8 +206,8 @@ keeps_values cells h s p g = record { sections_stay = same_sections (act_of h s)
     same_guards (act.Call d j) = refl
     same_guards _ = refl
 
-    asked : (x : CellPlan) (b : Bool) (j : Call) (y : Content) → (content_asked x b j y).value ≡ y.value
-    asked x b j y = one (is_declined x j b y.phase)
+    asked : (x : CellPlan) (b : Bool) (j : Call) (y : Content) → (content_asked x.kind (tolerance_of x) b j y).value ≡ y.value
+    asked x b j y = one (is_declined x.kind (tolerance_of x) j b y.phase)
       where
         one : (d : Bool) → (if d then record { phase = 36; value = y.value } else y).value ≡ y.value
         one true = refl

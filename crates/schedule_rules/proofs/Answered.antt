@@ -3,8 +3,10 @@ use Rattle.std.proofs.Common.{◌≡◌, ℕ, List, Bool, true, false, ◌&&◌,
 use Rattle.std.specs.Prelude.{if◌then◌else◌, is_none}
 use Rattle.std.specs.declared.option.Option.{Option}
 use Rattle.phase_bits.specs.declared.phase.Phase.{Phase}
-use Rattle.phase_bits.specs.Number.{phase_of}
+use Rattle.phase_locker.specs.declared.tickets.LockNature.TheVariants as nature
+use Rattle.schedule_rules.specs.declared.plan.Call.{Call}
 use Rattle.schedule_rules.specs.declared.plan.Call.TheVariants as call
+use Rattle.schedule_rules.specs.declared.plan.Kind.{Kind}
 use Rattle.schedule_rules.specs.declared.plan.CellPlan.{CellPlan}
 use Rattle.schedule_rules.specs.declared.step.Step.{Step}
 use Rattle.schedule_rules.specs.declared.line.Line.{Line}
@@ -12,7 +14,6 @@ use Rattle.schedule_rules.specs.declared.line.Refusal.{Refusal}
 use Rattle.schedule_rules.specs.declared.line.Answer.{Answer}
 use Rattle.schedule_rules.specs.declared.line.Answer.TheVariants as answer
 use Rattle.schedule_rules.specs.Phases.{is_accessible}
-use Rattle.schedule_rules.specs.Calls.{Reads}
 use Rattle.schedule_rules.specs.declared.step.Want.{Want}
 use Rattle.schedule_rules.specs.declared.step.Want.TheVariants.{Calls, Turns}
 use Rattle.schedule_rules.specs.Changes.{Content}
@@ -22,10 +23,10 @@ use Rattle.schedule_rules.specs.Guards.{Guard}
 use Rattle.schedule_rules.specs.Waits.{Wait}
 use Rattle.schedule_rules.specs.Holds.{is_barred, holding_with}
 use Rattle.schedule_rules.specs.Refusals.{refusal}
-use Rattle.schedule_rules.specs.Answers.{if_accessible}
-use Rattle.schedule_rules.specs.Due.{answer_of_made, due_finished, due_made, due_look, due_clone, due_answer}
+use Rattle.schedule_rules.specs.Answers.{answer_opened, answer_denied, answer_locked, answer_of_made}
+use Rattle.schedule_rules.specs.Due.{due_finished, due_made, due_look, due_clone, due_answer}
 use Rattle.schedule_rules.specs.Legal.{IsLegalLine, answer_of}
-use Rattle.schedule_rules.specs.Laws.{waits_judged}
+use Rattle.schedule_rules.specs.Causes.{waits_judged}
 use Rattle.schedule_rules.proofs.Judged.{due_at-judged}
 
 module _ (P : Answer → Type 0) where
@@ -34,9 +35,9 @@ module _ (P : Answer → Type 0) where
   either true x y p q = p
   either false x y p q = q
 
-  -- an answer where the value may be accessed
-  pub accessed : (x : CellPlan) (y : Content) (a : Answer) → P a → P (answer.Access (phase_of y.phase)) → P (if_accessible x y a)
-  accessed x y a p q = either (is_accessible x.kind y.phase) a (answer.Access (phase_of y.phase)) p q
+  -- that of a call that gets its lock, where the value may be accessed or not
+  pub accessed : (q : Kind) (k : Call) (y : Content) → P (answer_opened k) → P (answer_denied k y.phase) → P (answer_locked q k y)
+  accessed q k y o d = either (is_accessible q y.phase) (answer_opened k) (answer_denied k y.phase) o d
 
   module _ (cells : List CellPlan) (h : List Event) where
     -- that of a value made
@@ -63,7 +64,7 @@ module _ (P : Answer → Type 0) where
     -- that of a clone
     pub cloned : (ws : List Wait) (o : Option Guard) → P answer.Done → P answer.Borrowed → P answer.ReadGuard → P (due_clone cells h ws o)
     cloned ws None d b r = d
-    cloned ws (Some x) d b r = either (is_barred (Some Reads) (holding_with x.cell h ws)) answer.Borrowed answer.ReadGuard b r
+    cloned ws (Some x) d b r = either (is_barred nature.Read (holding_with x.cell h ws)) answer.Borrowed answer.ReadGuard b r
 
 -- a test that no refusal passes is passed exactly by the due answer of a step that is not refused
 pub legal_by : (t : Answer → Bool) → ((q : Refusal) → t (answer.Refused q) ≡ false) → (cells : List CellPlan) (h : List Event) (s : Step) (l : Line) (k : IsLegalLine cells h s l)

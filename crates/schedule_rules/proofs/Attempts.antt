@@ -1,5 +1,5 @@
 -- What an attempt at a cell is answered, case by case.
-use Rattle.std.proofs.Common.{◌≡◌, ◌<◌, ℕ, List, [], ◌∷◌, refl, sym, ◌∙◌, ap, subst, arith, Bool, true, false, not, ◌&&◌, ◌||◌, None, Some}
+use Rattle.std.proofs.Common.{◌≡◌, ◌<◌, ◌+◌, ℕ, List, [], ◌∷◌, refl, sym, ◌∙◌, ap, subst, arith, Bool, true, false, not, ◌&&◌, ◌||◌, None, Some}
 use Rattle.std.specs.Prelude.{◌==◌, nat_lt, is_some, if◌then◌else◌}
 use Rattle.std.specs.declared.option.Option.{Option}
 use Rattle.exit_registry.specs.Registry.{first_of, look_at}
@@ -8,27 +8,32 @@ use Rattle.phase_bits.specs.Flags.{has, initialized}
 use Rattle.phase_locker.specs.declared.ways.How.{How}
 use Rattle.phase_locker.specs.declared.ways.How.TheVariants as how
 use Rattle.phase_seq.specs.Phases.{flags_refused}
+use Rattle.phase_locker.specs.declared.tickets.LockNature.TheVariants as nature
+use Rattle.phase_seq.specs.Asks.{shall_init}
+use Rattle.phase_seq.specs.declared.tolerance.Tolerance.{Tolerance}
+use Rattle.phase_locker.specs.declared.tickets.LockNature.{LockNature}
 use Rattle.schedule_rules.specs.declared.plan.Call.{Call}
 use Rattle.schedule_rules.specs.declared.plan.Call.TheVariants as call
 use Rattle.schedule_rules.specs.declared.plan.CellPlan.{CellPlan}
+use Rattle.schedule_rules.specs.declared.plan.Kind.{Kind}
 use Rattle.schedule_rules.specs.declared.step.Act.{Act}
 use Rattle.schedule_rules.specs.declared.step.Act.TheVariants as act
 use Rattle.schedule_rules.specs.declared.step.Want.{Want}
 use Rattle.schedule_rules.specs.declared.step.Want.TheVariants.{Calls, Turns}
 use Rattle.schedule_rules.specs.declared.line.Answer.{Answer}
 use Rattle.schedule_rules.specs.declared.line.Answer.TheVariants as answer
-use Rattle.schedule_rules.specs.Kinds.{cell_at}
-use Rattle.schedule_rules.specs.Phases.{shall_init, runs_generator}
-use Rattle.schedule_rules.specs.Calls.{Nature, Reads, Writes, rule, asks, call_initializes}
+use Rattle.schedule_rules.specs.Kinds.{cell_at, tolerance_at}
+use Rattle.schedule_rules.specs.Phases.{runs_generator}
+use Rattle.schedule_rules.specs.Calls.{lock_wanted, asks, initializes}
 use Rattle.schedule_rules.specs.Changes.{Content}
 use Rattle.schedule_rules.specs.History.{Event, accepts, latest_act, count}
 use Rattle.schedule_rules.specs.Sections.{runs}
 use Rattle.schedule_rules.specs.Replay.{replay, phase_at}
 use Rattle.schedule_rules.specs.Exits.{registry}
 use Rattle.schedule_rules.specs.Waits.{act_for, Wait, wait_of, waits, attempt_of_wait, attempt_of_turn, shares_write, drains_on}
-use Rattle.schedule_rules.specs.Holds.{is_barred, holding_with, keeps, write_holds, readers, readers_with, writers_with, drains_with}
+use Rattle.schedule_rules.specs.Holds.{is_barred, holding_with, keeps, read_guards, write_holds, readers, readers_with, writers_with, drains_with}
 use Rattle.schedule_rules.specs.Refusals.{refusal, refusal_by, refusal_free, refusal_waiting}
-use Rattle.schedule_rules.specs.Answers.{answer_of_run, if_accessible, call_answer_admitted, turn_answer_admitted, answer_admitted}
+use Rattle.schedule_rules.specs.Answers.{answer_of_run, answer_opened, answer_denied, answer_declined, answer_locked, call_answer_admitted, turn_answer_admitted, answer_admitted}
 use Rattle.schedule_rules.specs.Due.{answer_of_look, due_attempt, due_tried}
 use Rattle.schedule_rules.specs.Legal.{IsExclusive}
 use Rattle.schedule_rules.proofs.Found.{found_counts}
@@ -57,47 +62,46 @@ waits_or : (Q : Answer → Type 0) (barred : Bool) (w r : Answer) → Q w → (b
 waits_or Q true w r y z = y
 waits_or Q false w r y z = z refl
 
-module _ (Q : Answer → Type 0) (x : CellPlan) (c : ℕ) (o : Bool) (y : Content) where
+module _ (Q : Answer → Type 0) (q : Kind) (t : Tolerance) (c : ℕ) (o : Bool) (y : Content) where
   -- a run that is asked
-  asked_run : (runs_generator x o y.phase ≡ true → Q answer.Running) → (runs_generator x o y.phase ≡ false → Q (answer.Access (phase_of flags_refused)))
-      → Q (answer_of_run x o y)
-  asked_run f g = by (runs_generator x o y.phase) refl
+  asked_run : (k : Call) → (runs_generator q t o y.phase ≡ true → Q answer.Running) → (runs_generator q t o y.phase ≡ false → Q (answer_declined k flags_refused))
+      → Q (answer_of_run q t o k y)
+  asked_run k f g = by (runs_generator q t o y.phase) refl
     where
-      by : (b : Bool) → runs_generator x o y.phase ≡ b → Q (if b then answer.Running else answer.Access (phase_of flags_refused))
+      by : (b : Bool) → runs_generator q t o y.phase ≡ b → Q (if b then answer.Running else answer_declined k flags_refused)
       by true e = f e
       by false e = g e
 
-  -- an answer where the value may be accessed
-  where_accessible : (a : Answer) → (has y.phase initialized ≡ true → Q a) → (has y.phase initialized ≡ false → Q (answer.Access (phase_of y.phase)))
-      → Q (if_accessible x y a)
-  where_accessible a f g = by (has y.phase initialized) refl
+  -- a call that gets its lock
+  where_accessible : (k : Call) → (has y.phase initialized ≡ true → Q (answer_opened k)) → (has y.phase initialized ≡ false → Q (answer_denied k y.phase)) → Q (answer_locked q k y)
+  where_accessible k f g = by (has y.phase initialized) refl
     where
-      by : (b : Bool) → has y.phase initialized ≡ b → Q (if b then a else answer.Access (phase_of y.phase))
+      by : (b : Bool) → has y.phase initialized ≡ b → Q (if b then answer_opened k else answer_denied k y.phase)
       by true e = f e
       by false e = g e
 
   -- a call to read that is admitted
-  read_admitted : (shall_init x.retry y.phase ≡ true → Q (answer_of_run x o y)) → (shall_init x.retry y.phase ≡ false → Q (if_accessible x y answer.ReadGuard))
-      → Q (answer_admitted x c o (Calls call.Read) y)
-  read_admitted f g = by (shall_init x.retry y.phase) refl
+  read_admitted : (shall_init t (phase_of y.phase) ≡ true → Q (answer_of_run q t o call.Read y)) → (shall_init t (phase_of y.phase) ≡ false → Q (answer_locked q call.Read y))
+      → Q (answer_admitted q t c o (Calls call.Read) y)
+  read_admitted f g = by (shall_init t (phase_of y.phase)) refl
     where
-      by : (b : Bool) → shall_init x.retry y.phase ≡ b → Q (call_answer_admitted (if b then Some Writes else Some Reads) x o call.Read y)
-      by true e = subst (λ d. Q (if d then answer_of_run x o y else if_accessible x y answer.WriteGuard)) (sym e) (f e)
+      by : (b : Bool) → shall_init t (phase_of y.phase) ≡ b → Q (call_answer_admitted (if b then nature.Write else nature.Read) q t o call.Read y)
+      by true e = subst (λ d. Q (if d then answer_of_run q t o call.Read y else answer_locked q call.Read y)) (sym e) (f e)
       by false e = g e
 
   -- a call to write that is admitted
-  write_admitted : (shall_init x.retry y.phase ≡ true → Q (answer_of_run x o y)) → (shall_init x.retry y.phase ≡ false → Q (if_accessible x y answer.WriteGuard))
-      → Q (answer_admitted x c o (Calls call.Write) y)
-  write_admitted f g = by (shall_init x.retry y.phase) refl
+  write_admitted : (shall_init t (phase_of y.phase) ≡ true → Q (answer_of_run q t o call.Write y)) → (shall_init t (phase_of y.phase) ≡ false → Q (answer_locked q call.Write y))
+      → Q (answer_admitted q t c o (Calls call.Write) y)
+  write_admitted f g = by (shall_init t (phase_of y.phase)) refl
     where
-      by : (b : Bool) → shall_init x.retry y.phase ≡ b → Q (if b then answer_of_run x o y else if_accessible x y answer.WriteGuard)
+      by : (b : Bool) → shall_init t (phase_of y.phase) ≡ b → Q (if b then answer_of_run q t o call.Write y else answer_locked q call.Write y)
       by true e = f e
       by false e = g e
 
 module _ (cells : List CellPlan) (h : List Event) (p : ℕ) where
   -- what gets the lock to write finds no hold to write
   module _ (c : ℕ) (alone : IsExclusive cells h c) where
-    unbarred : (ws : List Wait) → is_barred (Some Writes) (holding_with c h ws) ≡ false → write_holds c h ≡ 0
+    unbarred : (ws : List Wait) → is_barred nature.Write (holding_with c h ws) ≡ false → write_holds c h ≡ 0
     unbarred ws e = by (nat_lt 0 (writers_with c h ws)) refl e
       where
         by : (b : Bool) → nat_lt 0 (writers_with c h ws) ≡ b → (b || (nat_lt 0 (drains_with c ws) || nat_lt 0 (readers_with c h ws))) ≡ false → write_holds c h ≡ 0
@@ -105,17 +109,17 @@ module _ (cells : List CellPlan) (h : List Event) (p : ℕ) where
         by false f g = grind arith
 
     unheld : (n : ℕ) (ws : List Wait) → ((w : Wait) → wait_of p (waits cells h) ≡ Some w → w.cell ≡ c)
-        → (not (keeps (wait_of p (waits cells h)) (Some Writes) n) && is_barred (Some Writes) (holding_with c h ws)) ≡ false → write_holds c h ≡ 0
+        → (not (keeps (wait_of p (waits cells h)) nature.Write n) && is_barred nature.Write (holding_with c h ws)) ≡ false → write_holds c h ≡ 0
     unheld n ws mine e = by (wait_of p (waits cells h)) refl e
       where
-        by : (o : Option Wait) → wait_of p (waits cells h) ≡ o → (not (keeps o (Some Writes) n) && is_barred (Some Writes) (holding_with c h ws)) ≡ false → write_holds c h ≡ 0
+        by : (o : Option Wait) → wait_of p (waits cells h) ≡ o → (not (keeps o nature.Write n) && is_barred nature.Write (holding_with c h ws)) ≡ false → write_holds c h ≡ 0
         by None f g = unbarred ws g
         by (Some w) f g = kept w.way w.woken refl refl g
           where
             here : (w.cell == c) ≡ true
             here = same_number w.cell c (mine w f)
 
-            kept : (y : How) (b : Bool) → w.way ≡ y → w.woken ≡ b → (not (keeps (Some (record { party = w.party; cell = w.cell; want = w.want; way = y; woken = b })) (Some Writes) n) && is_barred (Some Writes) (holding_with c h ws)) ≡ false → write_holds c h ≡ 0
+            kept : (y : How) (b : Bool) → w.way ≡ y → w.woken ≡ b → (not (keeps (Some (record { party = w.party; cell = w.cell; want = w.want; way = y; woken = b })) nature.Write n) && is_barred nature.Write (holding_with c h ws)) ≡ false → write_holds c h ≡ 0
             kept how.ParkedWrite true u v g =
                 let one : 0 < count (shares_write c) (waits cells h) = found_counts (λ z. z.party == p) (shares_write c) (waits cells h) w f (rw (u, v, here) refl) in
                 omega (arith, alone.one_writer, one)
@@ -126,12 +130,51 @@ module _ (cells : List CellPlan) (h : List Event) (p : ℕ) where
             kept how.ParkedRead b u v g = unbarred ws g
             kept how.Spin b u v g = unbarred ws g
 
+    -- nor a guard to read
+    unbarred_read : (ws : List Wait) → is_barred nature.Write (holding_with c h ws) ≡ false → read_guards c h ≡ 0
+    unbarred_read ws e = by (nat_lt 0 (writers_with c h ws)) (nat_lt 0 (drains_with c ws)) (nat_lt 0 (readers_with c h ws)) refl e
+      where
+        by : (b d o : Bool) → nat_lt 0 (readers_with c h ws) ≡ o → (b || (d || o)) ≡ false → read_guards c h ≡ 0
+        by false false false f g = grind arith
+        by true d o f g = absurd (apart g)
+        by false true o f g = absurd (apart g)
+        by false false true f g = absurd (apart g)
+
+    unread : (ws : List Wait) → ((w : Wait) → wait_of p (waits cells h) ≡ Some w → w.cell ≡ c)
+        → (not (keeps (wait_of p (waits cells h)) nature.Write (readers cells c h)) && is_barred nature.Write (holding_with c h ws)) ≡ false → read_guards c h ≡ 0
+    unread ws mine e = by (wait_of p (waits cells h)) refl e
+      where
+        none : (n : ℕ) → read_guards c h + n ≡ 0 → read_guards c h ≡ 0
+        none n f = omega (arith, f)
+
+        drained : (b : Bool) → (readers cells c h == 0) ≡ b → (not b && is_barred nature.Write (holding_with c h ws)) ≡ false → read_guards c h ≡ 0
+        drained true f g = let n : readers cells c h ≡ 0 = grind arith in none _ n
+        drained false f g = unbarred_read ws g
+
+        by : (o : Option Wait) → wait_of p (waits cells h) ≡ o → (not (keeps o nature.Write (readers cells c h)) && is_barred nature.Write (holding_with c h ws)) ≡ false → read_guards c h ≡ 0
+        by None f g = unbarred_read ws g
+        by (Some w) f g = kept w.way w.woken refl refl g
+          where
+            here : (w.cell == c) ≡ true
+            here = same_number w.cell c (mine w f)
+
+            kept : (y : How) (b : Bool) → w.way ≡ y → w.woken ≡ b
+                → (not (keeps (Some (record { party = w.party; cell = w.cell; want = w.want; way = y; woken = b })) nature.Write (readers cells c h)) && is_barred nature.Write (holding_with c h ws)) ≡ false
+                → read_guards c h ≡ 0
+            kept how.ParkedWrite true u v g =
+                let one : 0 < count (shares_write c) (waits cells h) = found_counts (λ z. z.party == p) (shares_write c) (waits cells h) w f (rw (u, v, here) refl) in
+                none _ (alone.no_reader (omega (arith, one)))
+            kept how.ParkedWrite false u v g = unbarred_read ws g
+            kept how.Drain b u v g = drained (readers cells c h == 0) refl g
+            kept how.ParkedRead b u v g = unbarred_read ws g
+            kept how.Spin b u v g = unbarred_read ws g
+
   -- whatever of the party waits, waits for the cell
   abbrev pub IsMine : ℕ → Type 0
   IsMine c = (w : Wait) → wait_of p (waits cells h) ≡ Some w → w.cell ≡ c
 
   -- this rule does not bar the party at the cell, where these calls of others wait
-  abbrev pub IsFree : ℕ → List Wait → Option Nature → Type 0
+  abbrev pub IsFree : ℕ → List Wait → LockNature → Type 0
   IsFree c ws n = (not (keeps (wait_of p (waits cells h)) n (readers cells c h)) && is_barred n (holding_with c h ws)) ≡ false
 
   -- a party whose act is not refused, and is no Again, does not wait
@@ -151,42 +194,42 @@ module _ (cells : List CellPlan) (h : List Event) (p : ℕ) where
       none x = cc
 
   module _ (P : Act → Answer → Type 0) (k : Cases cells h p P) where
-    asking : (a : Act) (c : ℕ) (j : Call) (ws : List Wait) → Calling cells h p a c j → IsMine c → asks (cell_at cells c) (Calls j) (phase_at cells c h) ≡ true
-        → shall_init (cell_at cells c).retry (phase_at cells c h) ≡ true → IsFree c ws (Some Writes) → P a (answer_of_run (cell_at cells c) (accepts h) (replay cells c h))
+    asking : (a : Act) (c : ℕ) (j : Call) (ws : List Wait) → Calling cells h p a c j → IsMine c → asks (tolerance_at cells c) (Calls j) (phase_at cells c h) ≡ true
+        → shall_init (tolerance_at cells c) (phase_of (phase_at cells c h)) ≡ true → IsFree c ws nature.Write → P a (answer_of_run (cell_at cells c).kind (tolerance_at cells c) (accepts h) j (replay cells c h))
     asking a c j ws t mine asked wanted free =
-        asked_run (P a) (cell_at cells c) c (accepts h) (replay cells c h)
-        (λ g. k.running a c j t (record { asked = asked; wanted = wanted; generates = g; unheld = λ alone. unheld c alone (readers cells c h) ws mine free }))
-        (λ g. k.declined a c j t (record { asked = asked; wanted = wanted; generates = g; unheld = λ alone. unheld c alone (readers cells c h) ws mine free }))
+        asked_run (P a) (cell_at cells c).kind (tolerance_at cells c) c (accepts h) (replay cells c h) j
+        (λ g. k.running a c j t (record { asked = asked; wanted = wanted; generates = g; unheld = λ alone. unheld c alone (readers cells c h) ws mine free; unread = λ alone. unread c alone ws mine free }))
+        (λ g. k.declined a c j t (record { asked = asked; wanted = wanted; generates = g; unheld = λ alone. unheld c alone (readers cells c h) ws mine free; unread = λ alone. unread c alone ws mine free }))
 
-    called : (a : Act) (c : ℕ) (j : Call) (ws : List Wait) → Calling cells h p a c j → IsMine c → IsFree c ws (rule (cell_at cells c) (Calls j) (phase_at cells c h))
-        → P a (answer_admitted (cell_at cells c) c (accepts h) (Calls j) (replay cells c h))
+    called : (a : Act) (c : ℕ) (j : Call) (ws : List Wait) → Calling cells h p a c j → IsMine c → IsFree c ws (lock_wanted (tolerance_at cells c) (Calls j) (phase_at cells c h))
+        → P a (answer_admitted (cell_at cells c).kind (tolerance_at cells c) c (accepts h) (Calls j) (replay cells c h))
     called a c call.Phase ws t mine free = k.phased a c t
     called a c call.Read ws t mine free =
-        read_admitted (P a) (cell_at cells c) c (accepts h) (replay cells c h)
-        (λ e. asking a c call.Read ws t mine e e (subst (IsFree c ws) (ap (λ b. if b then Some Writes else Some Reads) e) free))
-        (λ e. where_accessible (P a) (cell_at cells c) c (accepts h) (replay cells c h) answer.ReadGuard
+        read_admitted (P a) (cell_at cells c).kind (tolerance_at cells c) c (accepts h) (replay cells c h)
+        (λ e. asking a c call.Read ws t mine e e (subst (IsFree c ws) (ap (λ b. if b then nature.Write else nature.Read) e) free))
+        (λ e. where_accessible (P a) (cell_at cells c).kind (tolerance_at cells c) c (accepts h) (replay cells c h) call.Read
         (λ f. k.reading a c t (record { unasked = e; unwanted = e; accessed = f }))
         (λ f. k.denied a c call.Read t (record { unasked = e; unwanted = e; accessed = f })))
     called a c call.Write ws t mine free =
-        write_admitted (P a) (cell_at cells c) c (accepts h) (replay cells c h)
+        write_admitted (P a) (cell_at cells c).kind (tolerance_at cells c) c (accepts h) (replay cells c h)
         (λ e. asking a c call.Write ws t mine e e free)
-        (λ e. where_accessible (P a) (cell_at cells c) c (accepts h) (replay cells c h) answer.WriteGuard
+        (λ e. where_accessible (P a) (cell_at cells c).kind (tolerance_at cells c) c (accepts h) (replay cells c h) call.Write
         (λ f. k.writing a c t (record { unasked = e; unwanted = e; accessed = f }))
         (λ f. k.denied a c call.Write t (record { unasked = e; unwanted = e; accessed = f })))
 
-    turned : (a : Act) (c : ℕ) (ws : List Wait) → Turning cells h p a c → IsMine c → IsFree c ws (rule (cell_at cells c) Turns (phase_at cells c h))
-        → P a (answer_admitted (cell_at cells c) c (accepts h) Turns (replay cells c h))
+    turned : (a : Act) (c : ℕ) (ws : List Wait) → Turning cells h p a c → IsMine c → IsFree c ws (lock_wanted (tolerance_at cells c) Turns (phase_at cells c h))
+        → P a (answer_admitted (cell_at cells c).kind (tolerance_at cells c) c (accepts h) Turns (replay cells c h))
     turned a c ws t mine free = by (has (phase_at cells c h) initialized) refl free
       where
-        by : (b : Bool) → has (phase_at cells c h) initialized ≡ b → IsFree c ws (if b then Some Writes else None)
-            → P a (turn_answer_admitted (if b then Some Writes else None) c)
+        by : (b : Bool) → has (phase_at cells c h) initialized ≡ b → IsFree c ws (if b then nature.Write else nature.None)
+            → P a (turn_answer_admitted (if b then nature.Write else nature.None) c)
         by true e f = k.finalizing a c t e (λ alone. unheld c alone (readers cells c h) ws mine f)
         by false e f = k.skipped a c t e
 
     pub attempted : (a : Act) (c : ℕ) (w : Want) (ws : List Wait) (chosen : Bool) → Tries cells h p a c w → IsMine c
         → P a (due_attempt cells h p (record { cell = c; want = w }) ws chosen)
     attempted a c (Calls j) ws chosen t mine =
-        in_turn (P a) (call_initializes j && runs p c h) _ _ _ (k.cyclic a c j t) (k.waiting a c (Calls j) _ t)
+        in_turn (P a) (initializes (Calls j) && runs p c h) _ _ _ (k.cyclic a c j t) (k.waiting a c (Calls j) _ t)
         (λ free. called a c j ws t mine free)
     attempted a c Turns ws chosen t mine =
         waits_or (P a) _ _ _ (k.waiting a c Turns _ t) (λ free. turned a c ws t mine free)

@@ -1,9 +1,9 @@
 -- What the record of a cell's holders bars is what the rule bars.
-use Rattle.std.proofs.Common.{◌≡◌, ℕ, ◌<◌, List, refl, arith, Bool, true, false, ◌&&◌, ◌||◌, not, Some}
+use Rattle.std.proofs.Common.{◌≡◌, ℕ, ◌<◌, List, refl, arith, Bool, true, false, ◌&&◌, ◌||◌, not}
 use Rattle.std.specs.Prelude.{◌==◌, nat_lt}
 use Rattle.phase_bits.specs.Records.{most_readers, bars_read, bars_write}
+use Rattle.phase_locker.specs.declared.tickets.LockNature.TheVariants as nature
 use Rattle.schedule_rules.specs.declared.plan.CellPlan.{CellPlan}
-use Rattle.schedule_rules.specs.Calls.{Reads, Writes}
 use Rattle.schedule_rules.specs.History.{Event}
 use Rattle.schedule_rules.specs.Waits.{Wait}
 use Rattle.schedule_rules.specs.Holds.{is_barred, readers_with, writers_with, drains_with, holding_with}
@@ -20,8 +20,8 @@ bars_to_read : (w d n m : ℕ) → (0 < w → n ≡ 0) → (nat_lt 0 w || ((nat_
 bars_to_read w d n m alone = grind arith
 
 module _ (cells : List CellPlan) (h : List Event) (c : ℕ) (ws : List Wait) where
-  pub bars_read-core : (0 < writers_with c h ws → readers_with c h ws ≡ 0) → is_barred (Some Reads) (holding_with c h ws) ≡ bars_read (core_with cells c h ws)
+  pub bars_read-core : (0 < writers_with c h ws → readers_with c h ws ≡ 0) → is_barred nature.Read (holding_with c h ws) ≡ bars_read (core_with cells c h ws)
   bars_read-core alone = bars_to_read (writers_with c h ws) (drains_with c ws) (readers_with c h ws) most_readers alone
 
-  pub bars_write-core : is_barred (Some Writes) (holding_with c h ws) ≡ bars_write (core_with cells c h ws)
+  pub bars_write-core : is_barred nature.Write (holding_with c h ws) ≡ bars_write (core_with cells c h ws)
   bars_write-core = bars_to_write (nat_lt 0 (writers_with c h ws)) (nat_lt 0 (drains_with c ws)) (readers_with c h ws)

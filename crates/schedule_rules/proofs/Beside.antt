@@ -7,53 +7,21 @@ use Rattle.std.proofs.lemmas.Nat.{and_assoc, and_or_apart}
 use Rattle.phase_bits.specs.Flags.{has}
 use Rattle.phase_seq.specs.Phases.{final_outcome, registration}
 use Rattle.schedule_rules.specs.declared.plan.CellPlan.{CellPlan}
-use Rattle.schedule_rules.specs.Kinds.{is_finalizable}
+use Rattle.schedule_rules.specs.Kinds.{is_finalizable, tolerance_of}
 use Rattle.schedule_rules.specs.Phases.{flags_kept}
 use Rattle.schedule_rules.specs.Changes.{Content, Change, Ran, Asked, Put, Ended, is_declined, effect}
-use Rattle.schedule_rules.specs.Deeds.{Deed, Holds, EndsToWrite}
-use Rattle.schedule_rules.specs.History.{Event, deed_of}
-use Rattle.schedule_rules.specs.Sections.{Section, sections}
+use Rattle.schedule_rules.specs.History.{Event}
 use Rattle.schedule_rules.specs.Guards.{Guard, guards}
-use Rattle.schedule_rules.specs.Replay.{replay}
-use Rattle.schedule_rules.specs.Legal.{IsLegal, IsExclusive}
-use Rattle.schedule_rules.proofs.Alone.{alone}
-use Rattle.schedule_rules.proofs.Each.{each_of}
-use Rattle.schedule_rules.proofs.Finds.{Finds, finds}
-use Rattle.schedule_rules.proofs.Leaves.{NewOf, guards_say}
+use Rattle.schedule_rules.proofs.Opening.{IsOfRun, each_after}
 use Rattle.schedule_rules.proofs.Facts.{apart}
 
--- a generator ran in the section, or values were set, and no more
-abbrev pub IsOfRun : List Change → Type 0
-IsOfRun [] = Unit {0}
-IsOfRun (Ran o m ∷ chs) = IsOfRun chs
-IsOfRun (Put v ∷ chs) = IsOfRun chs
-IsOfRun (Asked o k ∷ chs) = ⊥
-IsOfRun (Ended fine ∷ chs) = ⊥
-
--- so it is in the section of each guard
+-- in the section of a guard a generator ran, or values were set, and no more
 abbrev pub IsRunning : Guard → Type 0
 IsRunning x = IsOfRun x.changes
 
-module _ (cells : List CellPlan) where
-  abbrev IsAny : Content → Section → Type 0
-  IsAny y s = Unit {0}
-
-  abbrev Of : Content → Guard → Type 0
-  Of y x = IsRunning x
-
-  new : (h : List Event) (p : ℕ) (alone : (c : ℕ) → IsExclusive cells h c) (d : Deed) (f : Finds cells h p d) → NewOf cells h p alone IsAny IsAny Of Of d f
-  new h p alone (Holds c true) f = tt
-  new h p alone (EndsToWrite v) f = λ u. tt
-  new h p alone _ f = tt
-
-  pub guards-run : (h : List Event) → IsLegal cells h → AllByRecursion IsRunning (guards h)
-  guards-run [] k = tt
-  guards-run (e ∷ h) k =
-      let d : Deed = deed_of h e.step e.line.answer in
-      let f : Finds cells h e.step.party d = finds cells h e.step e.line k.0 in
-      guards_say cells h e.step.party (alone cells h k.2) IsAny IsAny Of Of d f
-      (record { section = λ s u. u; guard = λ x u. u; beside = λ y x w u. u; reads = λ y c. tt; sets = λ v y x u. u; new = new h e.step.party (alone cells h k.2) d f })
-      (each_of (λ s. IsAny (replay cells s.cell h) s) (sections h) (λ s. tt)) (guards-run h k.2)
+pub guards-run : (h : List Event) → AllByRecursion IsRunning (guards h)
+guards-run [] = tt
+guards-run (e ∷ h) = each_after IsRunning h (λ x n. n.runs) (λ v x r. r) e (guards-run h)
 
 -- a flag that no run sets, and that no registration sets
 pub record IsBeside (f : ℕ) : Type 0 where
@@ -72,7 +40,7 @@ beside false = record { made = refl; failed = refl; stays = refl; nothing = refl
 
 module _ (f : ℕ) (is : IsBeside f) where
   -- it is among the flags that stay only where it was
-  kept_before : (x : CellPlan) (o : Bool) (p : ℕ) → has (flags_kept x o p) f ≡ true → has p f ≡ true
+  kept_before : (x : CellPlan) (o : Bool) (p : ℕ) → has (flags_kept x.kind o p) f ≡ true → has p f ≡ true
   kept_before x o p e = by (is_finalizable x.kind) (p == 0) o e
     where
       by : (b d o : Bool) → has (if b then (if d then registration o else bit_and p (2 ^ 32 - 1 - 7)) else 0) f ≡ true → has p f ≡ true
@@ -86,17 +54,17 @@ module _ (f : ℕ) (is : IsBeside f) where
   run_before x [] y r e = e
   run_before x (Ran o (Some v) ∷ chs) y r e =
       let p : ℕ = (effect x chs y).phase in
-      run_before x chs y r (kept_before x o p (sym (ap (λ z. z == f) (and_or_apart f (flags_kept x o p) 1 is.made)) ∙ e))
+      run_before x chs y r (kept_before x o p (sym (ap (λ z. z == f) (and_or_apart f (flags_kept x.kind o p) 1 is.made)) ∙ e))
   run_before x (Ran o None ∷ chs) y r e =
       let p : ℕ = (effect x chs y).phase in
-      run_before x chs y r (kept_before x o p (sym (ap (λ z. z == f) (and_or_apart f (flags_kept x o p) 6 is.failed)) ∙ e))
+      run_before x chs y r (kept_before x o p (sym (ap (λ z. z == f) (and_or_apart f (flags_kept x.kind o p) 6 is.failed)) ∙ e))
   run_before x (Put v ∷ chs) y r e = run_before x chs y r e
   run_before x (Asked o k ∷ chs) y r e = absurd r
   run_before x (Ended fine ∷ chs) y r e = absurd r
 
   -- so it is with a call that leaves nothing open
   pub asked_before : (x : CellPlan) (o : Bool) (k : _) (y : Content) → has (effect x (Asked o k ∷ []) y).phase f ≡ true → has y.phase f ≡ true
-  asked_before x o k y e = by (is_declined x k o y.phase) e
+  asked_before x o k y e = by (is_declined x.kind (tolerance_of x) k o y.phase) e
     where
       by : (b : Bool) → has (if b then record { phase = 36; value = y.value } else y).phase f ≡ true → has y.phase f ≡ true
       by true g = absurd (apart (sym g ∙ is.declined))

@@ -5,6 +5,7 @@ use Rattle.phase_bits.specs.Number.{phase_of}
 use Rattle.phase_bits.specs.Flags.{has, initialized}
 use Rattle.phase_locker.specs.declared.ways.How.{How}
 use Rattle.phase_seq.specs.Phases.{flags_refused}
+use Rattle.phase_seq.specs.Asks.{shall_init}
 use Rattle.schedule_rules.specs.declared.plan.Call.{Call}
 use Rattle.schedule_rules.specs.declared.plan.Call.TheVariants as call
 use Rattle.schedule_rules.specs.declared.plan.CellPlan.{CellPlan}
@@ -15,8 +16,8 @@ use Rattle.schedule_rules.specs.declared.step.Want.{Want}
 use Rattle.schedule_rules.specs.declared.step.Want.TheVariants.{Calls, Turns}
 use Rattle.schedule_rules.specs.declared.line.Answer.{Answer}
 use Rattle.schedule_rules.specs.declared.line.Answer.TheVariants as answer
-use Rattle.schedule_rules.specs.Kinds.{cell_at}
-use Rattle.schedule_rules.specs.Phases.{shall_init, runs_generator, phase_finalized}
+use Rattle.schedule_rules.specs.Kinds.{cell_at, tolerance_at}
+use Rattle.schedule_rules.specs.Phases.{runs_generator, phase_finalized}
 use Rattle.schedule_rules.specs.Calls.{asks}
 use Rattle.schedule_rules.specs.History.{Event, act_of, accepts}
 use Rattle.schedule_rules.specs.Sections.{Section, innermost, is_turn, sections}
@@ -24,7 +25,7 @@ use Rattle.schedule_rules.specs.Guards.{Guard, numbered, guards}
 use Rattle.schedule_rules.specs.Replay.{phase_at}
 use Rattle.schedule_rules.specs.Exits.{registry}
 use Rattle.schedule_rules.specs.Waits.{attempt}
-use Rattle.schedule_rules.specs.Holds.{write_holds}
+use Rattle.schedule_rules.specs.Holds.{read_guards, write_holds}
 use Rattle.schedule_rules.specs.Legal.{IsExclusive}
 
 -- the act is a call, or goes on with one
@@ -82,18 +83,19 @@ module _ (cells : List CellPlan) (h : List Event) (p : ℕ) where
   trying a c (Calls k) t = calling-tries a t.acts
   trying a c Turns t = turning-tries a t.acts
 
-  -- a generator is asked at the cell, and runs there or not, and nothing holds the cell to write where holds exclude each
-  -- other
+  -- a generator is asked at the cell, and runs there or not, and no guard and no section of the cell is open where holds
+  -- exclude each other
   pub record Asking (c : ℕ) (k : Call) (runs : Bool) : Type 0 where
-    pub asked : asks (cell_at cells c) (Calls k) (phase_at cells c h) ≡ true
-    pub wanted : shall_init (cell_at cells c).retry (phase_at cells c h) ≡ true
-    pub generates : runs_generator (cell_at cells c) (accepts h) (phase_at cells c h) ≡ runs
+    pub asked : asks (tolerance_at cells c) (Calls k) (phase_at cells c h) ≡ true
+    pub wanted : shall_init (tolerance_at cells c) (phase_of (phase_at cells c h)) ≡ true
+    pub generates : runs_generator (cell_at cells c).kind (tolerance_at cells c) (accepts h) (phase_at cells c h) ≡ runs
     pub unheld : IsExclusive cells h c → write_holds c h ≡ 0
+    pub unread : IsExclusive cells h c → read_guards c h ≡ 0
 
   -- no generator is asked at the cell, and its value may be accessed or not
   pub record Resting (c : ℕ) (k : Call) (accessible : Bool) : Type 0 where
-    pub unasked : asks (cell_at cells c) (Calls k) (phase_at cells c h) ≡ false
-    pub unwanted : shall_init (cell_at cells c).retry (phase_at cells c h) ≡ false
+    pub unasked : asks (tolerance_at cells c) (Calls k) (phase_at cells c h) ≡ false
+    pub unwanted : shall_init (tolerance_at cells c) (phase_of (phase_at cells c h)) ≡ false
     pub accessed : has (phase_at cells c h) initialized ≡ accessible
 
   -- what holds of the act and the answer of each legal step that is not refused

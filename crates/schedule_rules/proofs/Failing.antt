@@ -22,7 +22,8 @@ use Rattle.schedule_rules.specs.Waits.{Wait, cell_of_section, cell_concerned}
 use Rattle.schedule_rules.specs.Refusals.{refusal}
 use Rattle.schedule_rules.specs.Due.{due_answer}
 use Rattle.schedule_rules.specs.Legal.{IsLegalLine}
-use Rattle.schedule_rules.specs.Laws.{IsFailedRun, is_failed, is_failure, waits_judged}
+use Rattle.schedule_rules.specs.Causes.{is_failed, is_failure, waits_judged}
+use Rattle.schedule_rules.specs.Laws.{IsFailedRun}
 use Rattle.schedule_rules.proofs.Cases.{IsTrying, trying, Cases, calling-tries, turning-tries}
 use Rattle.schedule_rules.proofs.Steps.{allowed}
 use Rattle.schedule_rules.specs.declared.line.Refusal.{Refusal}

@@ -23,7 +23,7 @@ use Rattle.schedule_rules.specs.Replay.{phase_at}
 use Rattle.schedule_rules.specs.Exits.{finishing, registry}
 use Rattle.schedule_rules.specs.Holds.{write_holds}
 use Rattle.schedule_rules.specs.Legal.{IsLegalLine, IsExclusive}
-use Rattle.schedule_rules.proofs.Cases.{step, Asking, Resting, Cases}
+use Rattle.schedule_rules.proofs.Cases.{Calling, step, Asking, Resting, Cases}
 use Rattle.schedule_rules.proofs.Steps.{of_legal}
 
 module _ (cells : List CellPlan) (h : List Event) (p : ℕ) where
@@ -79,8 +79,9 @@ module _ (cells : List CellPlan) (h : List Event) (p : ℕ) where
   Finds Takes = Unit {0}
   Finds (Looks closes) = Looking closes
 
-  -- how a finalizer ends is told by the act, and a phase is shown
+  -- how a finalizer ends is told by the act, and a phase is shown; and a call that leaves nothing open is the act's
   abbrev pub Tells : Act → Answer → Deed → Type 0
+  Tells a r (Visits c chs) = (v : Visit c chs) × Calling cells h p a c v.asked
   Tells a r (Ends (Finishes fine)) = (a ≡ finishing fine) × ((q : Phase) × (r ≡ answer.Phase q))
   Tells a r _ = Unit {0}
 
@@ -103,8 +104,8 @@ module _ (cells : List CellPlan) (h : List Event) (p : ℕ) where
     reading = λ a c t q. by_act a (act.Call c call.Read) answer.ReadGuard t.does (q.accessed, tt);
     writing = λ a c t q. by_act a (act.Call c call.Write) answer.WriteGuard t.does (q.accessed, tt);
     running = λ a c k t q. by_act a (act.Call c k) answer.Running t.does (q, tt);
-    declined = λ a c k t q. by_act a (act.Call c k) (answer.Access (phase_of flags_refused)) t.does (record { asked = k; does = refl; finds = inl q }, tt);
-    denied = λ a c k t q. by_act a (act.Call c k) (answer.Access (phase_of (phase_at cells c h))) t.does (record { asked = k; does = refl; finds = inr q }, tt);
+    declined = λ a c k t q. by_act a (act.Call c k) (answer.Access (phase_of flags_refused)) t.does (record { asked = k; does = refl; finds = inl q }, (record { asked = k; does = refl; finds = inl q }, t));
+    denied = λ a c k t q. by_act a (act.Call c k) (answer.Access (phase_of (phase_at cells c h))) t.does (record { asked = k; does = refl; finds = inr q }, (record { asked = k; does = refl; finds = inr q }, t));
     skipped = λ a c t q. (q, tt);
     finalizing = λ a c t q u. (record { value = q; unheld = u }, tt);
     round = λ c cs e n. ((n, (c, cs, e)), tt);

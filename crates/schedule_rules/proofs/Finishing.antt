@@ -38,7 +38,8 @@ use Rattle.schedule_rules.proofs.Means.{Finished, Means, means}
 use Rattle.schedule_rules.proofs.Leaves.{left_at, GivenAt, GivesOf, moves}
 use Rattle.schedule_rules.proofs.Grows.{Needs, IsStanding}
 use Rattle.schedule_rules.proofs.Initialized.{sound}
-use Rattle.schedule_rules.proofs.Beside.{IsOfRun, IsRunning, guards-run, beside, run_before, asked_before}
+use Rattle.schedule_rules.proofs.Opening.{IsOfRun}
+use Rattle.schedule_rules.proofs.Beside.{IsRunning, guards-run, beside, run_before, asked_before}
 use Rattle.schedule_rules.proofs.Facts.{apart, same_number, other_number}
 
 -- a finalizer's section needs a value
@@ -155,7 +156,7 @@ module _ (cells : List CellPlan) (c : ℕ) where
     ran z chs r was is = apart (sym (run_before (final_outcome fine) (beside fine) (cell_at cells z) chs (replay cells z h) r is) ∙ was)
 
     dropped : (g : ℕ) (x : Guard) → numbered g (guards h) ≡ Some x → IsOfRun x.changes
-    dropped g x f = each_found (λ y. y.number == g) IsRunning (guards h) x f (guards-run cells h legal)
+    dropped g x f = each_found (λ y. y.number == g) IsRunning (guards h) x f (guards-run h)
 
     gives : (d : Deed) (f : Finds cells h p d) → GivesOf cells h p (alone cells h legal) (Marks d) d f
     gives (Ends (Makes made)) f = ran f.section.cell (Ran f.section.is_open made ∷ []) tt

@@ -1,15 +1,18 @@
 -- What a legal step leaves: each section stands on the phase that it needs, and each holder of a write guard sees a value.
 use Rattle.std.proofs.Common.{◌≡◌, ℕ, List, [], ◌∷◌, refl, sym, ◌∙◌, ap, subst, arith, Bool, true, false, not, ◌⊎◌, inl, inr, Some}
-use Rattle.std.specs.Prelude.{◌==◌}
+use Rattle.std.specs.Prelude.{◌==◌, if◌then◌else◌}
 use Rattle.std.specs.List.{AllByRecursion}
 use Rattle.std.specs.Int.RustNames.{bit_and, bit_or}
 use Rattle.std.proofs.lemmas.Nat.{and_or_self, and_or_apart}
 use Rattle.phase_bits.specs.Flags.{has, initialized}
+use Rattle.phase_seq.specs.Asks.{shall_init}
+use Rattle.phase_seq.specs.declared.tolerance.Tolerance.{Tolerance}
+use Rattle.phase_bits.specs.Number.{phase_of}
 use Rattle.schedule_rules.specs.declared.plan.CellPlan.{CellPlan}
 use Rattle.schedule_rules.specs.declared.step.Want.{Want}
 use Rattle.schedule_rules.specs.declared.step.Want.TheVariants.{Calls, Turns}
-use Rattle.schedule_rules.specs.Kinds.{cell_at}
-use Rattle.schedule_rules.specs.Phases.{shall_init, flags_kept}
+use Rattle.schedule_rules.specs.Kinds.{cell_at, tolerance_of, tolerance_at}
+use Rattle.schedule_rules.specs.Phases.{flags_kept}
 use Rattle.schedule_rules.specs.Changes.{Content, Change, Ran, Asked, Put, Ended, effect}
 use Rattle.schedule_rules.specs.Deeds.{Makes, Finishes, Deed, Opens, Holds, Ends, EndsToRead, EndsToWrite, Drops, DropsToRead, Visits}
 use Rattle.schedule_rules.specs.History.{Event}
@@ -24,13 +27,16 @@ use Rattle.schedule_rules.proofs.Leaves.{left_at, sections_left, guards_left, Ne
 use Rattle.schedule_rules.proofs.Facts.{apart}
 
 -- where a run is wanted, INITIALIZED is not there
-pub wanted-lacks : (retry : Bool) (p : ℕ) → shall_init retry p ≡ true → has p initialized ≡ false
-wanted-lacks true p e = by (has p initialized) e
+pub wanted-lacks : (t : Tolerance) (p : ℕ) → shall_init t (phase_of p) ≡ true → has p initialized ≡ false
+wanted-lacks t p e = by t.retry e
   where
-    by : (b : Bool) → not b ≡ true → b ≡ false
-    by false f = refl
-    by true f = absurd (cc)
-wanted-lacks false p e = let empty : p ≡ 0 = grind arith in subst (λ q. has q initialized ≡ false) (sym empty) refl
+    lacks : (b : Bool) → not b ≡ true → b ≡ false
+    lacks false f = refl
+    lacks true f = absurd (cc)
+
+    by : (b : Bool) → (if b then not (has p initialized) else (p == 0)) ≡ true → has p initialized ≡ false
+    by true f = lacks (has p initialized) f
+    by false f = let empty : p ≡ 0 = grind arith in subst (λ q. has q initialized ≡ false) (sym empty) refl
 
 -- a run that succeeds sets it
 pub has_made : (p : ℕ) → has (bit_or p initialized) initialized ≡ true
@@ -42,12 +48,12 @@ has_more p m e = ap (λ z. z == 1) (and_or_apart 1 p m e)
 
 -- what a section needs of the phase of its cell: a generator that a run is wanted, and a finalizer that there is a value
 abbrev pub Needs : Want → CellPlan → ℕ → Type 0
-Needs (Calls k) x p = shall_init x.retry p ≡ true
+Needs (Calls k) x p = shall_init (tolerance_of x) (phase_of p) ≡ true
 Needs Turns x p = has p initialized ≡ true
 
 -- a generator's section needs a phase that lacks INITIALIZED
 pub needs-lacks : (w : Want) (x : CellPlan) (p : ℕ) → is_turn w ≡ false → Needs w x p → has p initialized ≡ false
-needs-lacks (Calls k) x p d n = wanted-lacks x.retry p n
+needs-lacks (Calls k) x p d n = wanted-lacks (tolerance_of x) p n
 needs-lacks Turns x p d n = absurd (apart d)
 
 -- a generator ended in the section
@@ -90,7 +96,7 @@ module _ (cells : List CellPlan) where
     new (Opens c Turns taken) f = f.value
     new (Holds c true) f = λ w. (f, λ n. absurd n)
     new (EndsToWrite v) f = λ u w. (
-      has_made (flags_kept (cell_at cells f.section.cell) f.section.is_open (phase_at cells f.section.cell h)),
+      has_made (flags_kept (cell_at cells f.section.cell).kind f.section.is_open (phase_at cells f.section.cell h)),
       λ n. needs-lacks f.section.want (cell_at cells f.section.cell) (phase_at cells f.section.cell h) f.kind u,
     )
     new _ f = tt
@@ -127,14 +133,14 @@ module _ (cells : List CellPlan) where
       visits c chs v r = by v.finds
         where
           by : Asking cells h p c v.asked false ⊎ Resting cells h p c v.asked false → has (effect (cell_at cells c) chs (replay cells c h)).phase initialized ≡ true
-          by (inl q) = absurd (apart (sym r ∙ wanted-lacks (cell_at cells c).retry (phase_at cells c h) q.wanted))
+          by (inl q) = absurd (apart (sym r ∙ wanted-lacks (tolerance_at cells c) (phase_at cells c h) q.wanted))
           by (inr q) = subst (λ y. has y.phase initialized ≡ true) (sym (rests cells h p alone c chs v.asked v.does q)) r
 
       gives : (d : Deed) (f : Finds cells h p d) → GivesOf cells h p alone Keeps d f
       gives (Ends (Makes made)) f = λ r. absurd (apart (sym r ∙ lacks f))
       gives (Ends (Finishes true)) f = λ r. has_more (phase_at cells f.section.cell h) 64 refl ∙ r
       gives (Ends (Finishes false)) f = λ r. has_more (phase_at cells f.section.cell h) 128 refl ∙ r
-      gives (EndsToRead v) f = λ r. has_made (flags_kept (cell_at cells f.section.cell) f.section.is_open (phase_at cells f.section.cell h))
+      gives (EndsToRead v) f = λ r. has_made (flags_kept (cell_at cells f.section.cell).kind f.section.is_open (phase_at cells f.section.cell h))
       gives (Drops g) f = ready g f.guard f.found
       gives (DropsToRead g) f = ready g f.guard f.found f.way
       gives (Visits c chs) f = visits c chs f

@@ -6,7 +6,7 @@ use Rattle.schedule_rules.specs.declared.step.Step.{Step}
 use Rattle.schedule_rules.specs.History.{Event}
 use Rattle.schedule_rules.specs.Due.{due_answer}
 use Rattle.schedule_rules.specs.Legal.{Moment, First, Last, due_at}
-use Rattle.schedule_rules.specs.Laws.{waits_judged}
+use Rattle.schedule_rules.specs.Causes.{waits_judged}
 
 -- the answer that is due, where these calls of others wait
 pub due_at-judged : (cells : List CellPlan) (m : Moment) (h : List Event) (s : Step) (g : Given) (chosen : Bool)

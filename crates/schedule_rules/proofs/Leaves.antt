@@ -4,7 +4,7 @@ use Rattle.std.proofs.Common.{◌≡◌, ◌<◌, ◌≤◌, ◌+◌, ◌⊎◌,
 use Rattle.std.specs.Prelude.{◌==◌, if◌then◌else◌}
 use Rattle.std.specs.List.{AllByRecursion}
 use Rattle.schedule_rules.specs.declared.plan.CellPlan.{CellPlan}
-use Rattle.schedule_rules.specs.Kinds.{cell_at}
+use Rattle.schedule_rules.specs.Kinds.{cell_at, tolerance_at}
 use Rattle.schedule_rules.specs.Phases.{runs_generator}
 use Rattle.schedule_rules.specs.Changes.{Content, Change, Asked, Ended, effect}
 use Rattle.schedule_rules.specs.Deeds.{Ending, Makes, Finishes, Deed, Opens, Holds, Ends, EndsToRead, EndsToWrite, Drops, DropsToRead, Beside, Puts, Visits}
@@ -92,7 +92,7 @@ module _ (cells : List CellPlan) (h : List Event) (p : ℕ) where
     pub rests : (c : ℕ) (chs : List Change) (k : _) → chs ≡ Asked (accepts h) k ∷ [] → Resting cells h p c k false → effect (cell_at cells c) chs (replay cells c h) ≡ replay cells c h
     rests c chs k e r =
         ap (λ l. effect (cell_at cells c) l (replay cells c h)) e
-        ∙ ap (λ (b : Bool). if b && not (runs_generator (cell_at cells c) (accepts h) (replay cells c h).phase) then record { phase = 36; value = (replay cells c h).value } else replay cells c h) r.unasked
+        ∙ ap (λ (b : Bool). if b && not (runs_generator (cell_at cells c).kind (tolerance_at cells c) (accepts h) (replay cells c h).phase) then record { phase = 36; value = (replay cells c h).value } else replay cells c h) r.unasked
 
     rests_at : (c z : ℕ) (chs : List Change) → effect (cell_at cells c) chs (replay cells c h) ≡ replay cells c h → left_at (Visits c chs) z ≡ replay cells z h
     rests_at c z chs same = by (c == z) refl

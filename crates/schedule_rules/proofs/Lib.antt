@@ -20,23 +20,31 @@ pub mod Registered
 pub mod Accepts
 pub mod Grows
 pub mod Initialized
-pub mod Steady
 pub mod OneSuccess
 pub mod Bars
 mod OneTranscript
 mod Waiting
+pub mod NotCyclic
 pub mod Access
 pub mod Answered
-mod Running
+pub mod Causes
+mod Tried
 mod TurnedBack
 mod Failing
+pub mod Trying
 pub mod Registrations
+mod Opening
 mod Beside
+mod Published
+mod Beyond
+mod Values
 pub mod Finishing
 pub mod Counts
 pub mod Turns
+pub mod TurnRoom
 pub mod NeverBusy
 mod Settled
+pub mod Steady
 mod Turning
 pub mod Registering
 mod Tells

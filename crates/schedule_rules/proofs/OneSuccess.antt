@@ -51,7 +51,7 @@ module _ (cells : List CellPlan) (c : ℕ) where
     gives : (d : Deed) (f : Finds cells h p d) → GivesOf cells h p (alone cells h legal) (Publishes d) d f
     gives (Ends (Makes made)) f = λ n. inr n
     gives (Ends e) f = λ n. inr n
-    gives (EndsToRead v) f = λ n. inl (has_made (flags_kept (cell_at cells f.section.cell) f.section.is_open (phase_at cells f.section.cell h)))
+    gives (EndsToRead v) f = λ n. inl (has_made (flags_kept (cell_at cells f.section.cell).kind f.section.is_open (phase_at cells f.section.cell h)))
     gives (Drops g) f = λ w n. inl (seen g f.guard f.found w)
     gives (DropsToRead g) f = λ n. inl (seen g f.guard f.found f.way)
     gives (Visits z chs) f = λ n. inr n
@@ -73,7 +73,7 @@ module _ (cells : List CellPlan) (c : ℕ) where
           here,
           inl (subst (λ y. has y.phase initialized ≡ true)
               (sym (back_here cells c (back_of_section (Makes (Some v)) (innermost p (sections h))) (record { cell = f.section.cell; changes = Ran f.section.is_open (Some v) ∷ [] }) (replay cells c h) (ap (back_of_section (Makes (Some v))) f.found) same))
-              (has_made (flags_kept (cell_at cells c) f.section.is_open (phase_at cells c h)))),
+              (has_made (flags_kept (cell_at cells c).kind f.section.is_open (phase_at cells c h)))),
         )
     succeeds (EndsToWrite v) f s =
         let e : _ = f.found in

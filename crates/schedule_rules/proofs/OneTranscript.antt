@@ -7,6 +7,7 @@ use Rattle.std.proofs.lemmas.List.{same_lists}
 use Rattle.std.proofs.lemmas.List.{get_or_past}
 use Rattle.std.proofs.lemmas.Option.{get_or_from_slice_get}
 use Rattle.exit_registry.specs.Registry.{first_of}
+use Rattle.phase_locker.specs.declared.tickets.LockNature.{LockNature}
 use Rattle.schedule_rules.specs.declared.plan.CellPlan.{CellPlan}
 use Rattle.schedule_rules.specs.declared.step.Step.{Step}
 use Rattle.schedule_rules.specs.declared.line.Line.{Line}
@@ -22,14 +23,14 @@ use Rattle.schedule_rules.specs.declared.step.Act.{Act}
 use Rattle.schedule_rules.specs.declared.step.Act.TheVariants as act
 use Rattle.schedule_rules.specs.declared.transcript.Final.{Final}
 use Rattle.schedule_rules.specs.History.{Event}
-use Rattle.schedule_rules.specs.Kinds.{no_cell, cell_at, is_parking}
-use Rattle.schedule_rules.specs.Calls.{rule, initializes}
+use Rattle.schedule_rules.specs.Kinds.{no_cell, cell_at, tolerance_of, is_parking}
+use Rattle.schedule_rules.specs.Calls.{lock_wanted, initializes}
 use Rattle.schedule_rules.specs.declared.step.Want.{Want}
 use Rattle.schedule_rules.specs.declared.step.Want.TheVariants.{Calls}
 use Rattle.schedule_rules.specs.Exits.{registry, ended_turns}
 use Rattle.schedule_rules.specs.Waits.{Attempt, attempt, Wait, wait_of, attempt_of_wait, attempt_of_turn, waits, other_waits, cell_concerned}
 use Rattle.schedule_rules.specs.Refusals.{refusal}
-use Rattle.schedule_rules.specs.Answers.{way_at, Meeting, answer_barred, answer_admitted, answer_of_attempt}
+use Rattle.schedule_rules.specs.Answers.{way_parked, way_at, Meeting, drains_by, answer_barred, answer_admitted, answer_of_attempt}
 use Rattle.schedule_rules.specs.Holds.{is_barred}
 use Rattle.schedule_rules.specs.Due.{meeting, due_tried, due_answer}
 use Rattle.schedule_rules.specs.Gifts.{is_nobody, may_give_on, may_give_first, may_give_last}
@@ -59,10 +60,13 @@ one_way place.Park v w e = absurd (cc)
 -- so an attempt there has one answer
 one_answer : (x : CellPlan) (w : Want) (m : Meeting) (b d : Bool) → is_parking x.place ≡ false → answer_of_attempt x w m b ≡ answer_of_attempt x w m d
 one_answer x w m b d e =
-    ap (λ (y : Answer). if initializes w && m.own_run then answer.Cyclic else if not m.kept && is_barred (rule x w m.content.phase) m.holding then y else answer_admitted x m.cell m.is_open w m.content)
+    ap (λ (y : Answer). if initializes w && m.own_run then answer.Cyclic else if not m.kept && is_barred n m.holding then y else answer_admitted x.kind (tolerance_of x) m.cell m.is_open w m.content)
     same
   where
-    same : answer_barred x w m b ≡ answer_barred x w m d
+    n : LockNature
+    n = lock_wanted (tolerance_of x) w m.content.phase
+
+    same : answer_barred x.place (way_parked w (drains_by n m.holding b)) ≡ answer_barred x.place (way_parked w (drains_by n m.holding d))
     same = ap (λ (v : How). answer.Waiting v) (one_way x.place _ _ e)
 
 apart : false ≡ true → ⊥

@@ -53,7 +53,7 @@ module _ (cells : List CellPlan) where
   -- what is known after a deed, was known before, or the section that it opens is in the cell
   known_by : (c : ℕ) (h : List Event) (p : ℕ) (d : Deed) → is_known (registry_by cells h d (registry cells h)) c ≡ true
       → (is_known (registry cells h) c ≡ true) ⊎ (0 < count (runs_in c) (sections_by h p d (sections h)))
-  known_by c h p (Opens d (Calls j) taken) known = by (tries_registration (cell_at cells d) (phase_at cells d h)) known
+  known_by c h p (Opens d (Calls j) taken) known = by (tries_registration (cell_at cells d).kind (phase_at cells d h)) known
     where
       new : ((d == c) ≡ true) ⊎ (is_known (registry cells h) c ≡ true)
           → (is_known (registry cells h) c ≡ true) ⊎ (0 < cond (d == c) (count (runs_in c) (sections h) + 1) (count (runs_in c) (sections h)))

@@ -8,7 +8,7 @@ use Rattle.phase_seq.specs.Phases.{flags_generate, registration, initialization_
 use Rattle.schedule_rules.specs.declared.plan.Call.{Call}
 use Rattle.schedule_rules.specs.declared.plan.CellPlan.{CellPlan}
 use Rattle.schedule_rules.specs.declared.step.Want.TheVariants.{Calls, Turns}
-use Rattle.schedule_rules.specs.Kinds.{cell_at, is_finalizable}
+use Rattle.schedule_rules.specs.Kinds.{cell_at, is_finalizable, tolerance_of}
 use Rattle.schedule_rules.specs.Phases.{tries_registration, runs_generator}
 use Rattle.schedule_rules.specs.Changes.{Change}
 use Rattle.schedule_rules.specs.Deeds.{Deed, Opens, Visits, Skips}
@@ -16,7 +16,7 @@ use Rattle.schedule_rules.specs.History.{Event, accepts, deed_of}
 use Rattle.schedule_rules.specs.Replay.{phase_at}
 use Rattle.schedule_rules.specs.Exits.{registry_taken, registry_of_run, registry_by, registry}
 use Rattle.schedule_rules.specs.Legal.{IsLegal}
-use Rattle.schedule_rules.specs.Laws.{asks_registration, visit_registers, deed_registers, tries_to_register}
+use Rattle.schedule_rules.proofs.Trying.{asks_so, visit_registers, deed_registers, shows_registration}
 use Rattle.schedule_rules.proofs.Facts.{first, second}
 use Rattle.schedule_rules.proofs.Cases.{Asking, Resting}
 use Rattle.schedule_rules.proofs.Finds.{Visit, Finds, finds}
@@ -37,7 +37,7 @@ and_none true = refl
 and_none false = refl
 
 -- what is declined on the empty phase was asked when no cell could be registered
-declined-closed : (x : CellPlan) (o : Bool) (p : ℕ) → tries_registration x p ≡ true → runs_generator x o p ≡ false → o ≡ false
+declined-closed : (x : CellPlan) (o : Bool) (p : ℕ) → tries_registration x.kind p ≡ true → runs_generator x.kind (tolerance_of x) o p ≡ false → o ≡ false
 declined-closed x o p e f = by (is_finalizable x.kind) (p == 0) o e f
   where
     by : (b d o : Bool) → (b && d) ≡ true
@@ -62,7 +62,7 @@ module _ (cells : List CellPlan) (c : ℕ) (h : List Event) (p : ℕ) (legal : I
   visits d chs v = subst (λ l. (visit_registers cells c h d l && accepts h) ≡ false) (sym v.does) (by v.finds)
     where
       tried : Bool
-      tried = asks_registration cells c h (Some (record { cell = d; want = Calls v.asked }))
+      tried = asks_so cells c h (Some (record { cell = d; want = Calls v.asked }))
 
       by : Asking cells h p d v.asked false ⊎ Resting cells h p d v.asked false → (tried && accepts h) ≡ false
       by (inl q) = none tried refl
@@ -71,16 +71,16 @@ module _ (cells : List CellPlan) (c : ℕ) (h : List Event) (p : ℕ) (legal : I
           none false e = refl
           none true e = declined-closed (cell_at cells d) (accepts h) (phase_at cells d h) (second _ _ (second _ _ e)) q.generates
       by (inr r) =
-          ap (λ b. ((d == c) && (b && tries_registration (cell_at cells d) (phase_at cells d h))) && accepts h) r.unasked ∙ ap (λ b. b && accepts h) (and_none (d == c))
+          ap (λ b. ((d == c) && (b && tries_registration (cell_at cells d).kind (phase_at cells d h))) && accepts h) r.unasked ∙ ap (λ b. b && accepts h) (and_none (d == c))
 
   -- a call that begins a run
   run_registers : (d : ℕ) (j : Call) (taken : Bool) → Asking cells h p d j true → IsRegistering (Opens d (Calls j) taken)
   run_registers d j taken q =
-      by (tries_registration (cell_at cells d) (phase_at cells d h)) (d == c) (registry cells h).is_open refl refl refl
-      ∙ ap (λ b. is_known (registry cells h) c || (((d == c) && (b && tries_registration (cell_at cells d) (phase_at cells d h))) && accepts h)) (sym q.asked)
+      by (tries_registration (cell_at cells d).kind (phase_at cells d h)) (d == c) (registry cells h).is_open refl refl refl
+      ∙ ap (λ b. is_known (registry cells h) c || (((d == c) && (b && tries_registration (cell_at cells d).kind (phase_at cells d h))) && accepts h)) (sym q.asked)
     where
       -- what is known of the cell where this is so
-      known_by : (b o : Bool) → tries_registration (cell_at cells d) (phase_at cells d h) ≡ b → (registry cells h).is_open ≡ o
+      known_by : (b o : Bool) → tries_registration (cell_at cells d).kind (phase_at cells d h) ≡ b → (registry cells h).is_open ≡ o
           → is_known (registry_of_run cells d (phase_at cells d h) (registry cells h)) c ≡ is_known (if b && o then registered d (registry cells h) else registry cells h) c
       known_by true o e g =
           ap (λ (b : Bool). is_known (if b then after_register d (registry cells h) else registry cells h) c) e
@@ -88,13 +88,13 @@ module _ (cells : List CellPlan) (c : ℕ) (h : List Event) (p : ℕ) (legal : I
       known_by false o e g = ap (λ (b : Bool). is_known (if b then after_register d (registry cells h) else registry cells h) c) e
 
       -- and what is said of it
-      said_by : (b same o : Bool) → tries_registration (cell_at cells d) (phase_at cells d h) ≡ b → (d == c) ≡ same → (registry cells h).is_open ≡ o
-          → ((same && b) && o) ≡ (((d == c) && (true && tries_registration (cell_at cells d) (phase_at cells d h))) && accepts h)
+      said_by : (b same o : Bool) → tries_registration (cell_at cells d).kind (phase_at cells d h) ≡ b → (d == c) ≡ same → (registry cells h).is_open ≡ o
+          → ((same && b) && o) ≡ (((d == c) && (true && tries_registration (cell_at cells d).kind (phase_at cells d h))) && accepts h)
       said_by b same o e f g =
           ap (λ x. (x && b) && o) (sym f) ∙ ap (λ x. ((d == c) && x) && o) (sym e)
-          ∙ ap (λ x. ((d == c) && tries_registration (cell_at cells d) (phase_at cells d h)) && x) (sym g ∙ open-accepts cells h legal)
+          ∙ ap (λ x. ((d == c) && tries_registration (cell_at cells d).kind (phase_at cells d h)) && x) (sym g ∙ open-accepts cells h legal)
 
-      same_cell : (d == c) ≡ true → tries_registration (cell_at cells d) (phase_at cells d h) ≡ true → is_known (registered d (registry cells h)) c ≡ true
+      same_cell : (d == c) ≡ true → tries_registration (cell_at cells d).kind (phase_at cells d h) ≡ true → is_known (registered d (registry cells h)) c ≡ true
       same_cell same e =
           let at : d ≡ c = grind arith in
           let inside : d < length cells = finalizable-inside cells d (first _ _ e) in
@@ -106,7 +106,7 @@ module _ (cells : List CellPlan) (c : ℕ) (h : List Event) (p : ℕ) (legal : I
       other_cell other = get_or-set_other (registry cells h).known d c true false (grind arith)
 
       -- the two are the same
-      meet : (b same o : Bool) → tries_registration (cell_at cells d) (phase_at cells d h) ≡ b → (d == c) ≡ same
+      meet : (b same o : Bool) → tries_registration (cell_at cells d).kind (phase_at cells d h) ≡ b → (d == c) ≡ same
           → is_known (if b && o then registered d (registry cells h) else registry cells h) c ≡ (is_known (registry cells h) c || ((same && b) && o))
       meet true true true e f = same_cell f e ∙ sym (or_all (is_known (registry cells h) c))
       meet true false true e f = other_cell f ∙ sym (or_none (is_known (registry cells h) c))
@@ -115,9 +115,9 @@ module _ (cells : List CellPlan) (c : ℕ) (h : List Event) (p : ℕ) (legal : I
       meet false true o e f = sym (or_none (is_known (registry cells h) c))
       meet false false o e f = sym (or_none (is_known (registry cells h) c))
 
-      by : (b same o : Bool) → tries_registration (cell_at cells d) (phase_at cells d h) ≡ b → (d == c) ≡ same → (registry cells h).is_open ≡ o
+      by : (b same o : Bool) → tries_registration (cell_at cells d).kind (phase_at cells d h) ≡ b → (d == c) ≡ same → (registry cells h).is_open ≡ o
           → is_known (registry_of_run cells d (phase_at cells d h) (registry cells h)) c
-          ≡ (is_known (registry cells h) c || (((d == c) && (true && tries_registration (cell_at cells d) (phase_at cells d h))) && accepts h))
+          ≡ (is_known (registry cells h) c || (((d == c) && (true && tries_registration (cell_at cells d).kind (phase_at cells d h))) && accepts h))
       by b same o e f g = known_by b o e g ∙ meet b same o e f ∙ ap (λ x. is_known (registry cells h) c || x) (said_by b same o e f g)
 
   pub registering : (d : Deed) → Finds cells h p d → IsRegistering d
@@ -130,5 +130,5 @@ module _ (cells : List CellPlan) (c : ℕ) (h : List Event) (p : ℕ) (legal : I
 -- the registry knows a cell after a step where it did before, or where the step tries to register it and cells may be
 -- registered
 pub known-by-trying : (cells : List CellPlan) (h : List Event) (e : Event) (c : ℕ) → IsLegal cells (e ∷ h)
-    → is_known (registry cells (e ∷ h)) c ≡ (is_known (registry cells h) c || (tries_to_register cells c h e.step e.line.answer && accepts h))
+    → is_known (registry cells (e ∷ h)) c ≡ (is_known (registry cells h) c || (shows_registration cells c h e.step e.line.answer && accepts h))
 known-by-trying cells h e c k = registering cells c h e.step.party k.2 (deed_of h e.step e.line.answer) (finds cells h e.step e.line k.0)

@@ -7,7 +7,7 @@ use Rattle.schedule_rules.specs.declared.plan.CellPlan.{CellPlan}
 use Rattle.schedule_rules.specs.declared.step.Step.{Step}
 use Rattle.schedule_rules.specs.declared.step.Want.TheVariants.{Calls}
 use Rattle.schedule_rules.specs.declared.line.Line.{Line}
-use Rattle.schedule_rules.specs.Kinds.{cell_at, is_finalizable}
+use Rattle.schedule_rules.specs.Kinds.{cell_at, is_finalizable, tolerance_at}
 use Rattle.schedule_rules.specs.Calls.{asks}
 use Rattle.schedule_rules.specs.Changes.{Change, is_declined, effect}
 use Rattle.schedule_rules.specs.Deeds.{Deed, Opens, Visits}
@@ -16,7 +16,7 @@ use Rattle.schedule_rules.specs.Exits.{registry}
 use Rattle.schedule_rules.specs.Replay.{replay, phase_at}
 use Rattle.schedule_rules.specs.Holds.{write_holds}
 use Rattle.schedule_rules.specs.Legal.{IsLegal, IsLegalLine, IsExclusive}
-use Rattle.schedule_rules.specs.Laws.{asks_registration, visit_registers, deed_registers, tries_to_register, registrations}
+use Rattle.schedule_rules.proofs.Trying.{asks_so, visit_registers, deed_registers, shows_registration, registrations_shown}
 use Rattle.schedule_rules.proofs.Alone.{alone}
 use Rattle.schedule_rules.proofs.Cases.{Asking, Resting}
 use Rattle.schedule_rules.proofs.Finds.{Visit, Finds, finds}
@@ -37,8 +37,8 @@ module _ (cells : List CellPlan) (c : ℕ) where
         deed_registers cells c h d ≡ true → (phase_at cells c h ≡ 0) × (write_holds c h ≡ 0) × IsHeldBy d
 
     -- what a call asks that tries to register the cell
-    tried : (d : ℕ) (j : Call) → asks_registration cells c h (Some (record { cell = d; want = Calls j })) ≡ true
-        → (d ≡ c) × (asks (cell_at cells d) (Calls j) (phase_at cells d h) ≡ true) × (phase_at cells d h ≡ 0)
+    tried : (d : ℕ) (j : Call) → asks_so cells c h (Some (record { cell = d; want = Calls j })) ≡ true
+        → (d ≡ c) × (asks (tolerance_at cells d) (Calls j) (phase_at cells d h) ≡ true) × (phase_at cells d h ≡ 0)
     tried d j e = (same (first _ _ e), first _ _ (second _ _ e), empty (second (is_finalizable (cell_at cells d).kind) _ (second _ _ (second _ _ e))))
       where
         same : (d == c) ≡ true → d ≡ c
@@ -48,7 +48,7 @@ module _ (cells : List CellPlan) (c : ℕ) where
         empty f = grind arith
 
     asked : (d : ℕ) (j : Call) (x : Deed) → (IsExclusive cells h d → write_holds d h ≡ 0) → (d ≡ c → IsHeldBy x)
-        → (d ≡ c) × (asks (cell_at cells d) (Calls j) (phase_at cells d h) ≡ true) × (phase_at cells d h ≡ 0)
+        → (d ≡ c) × (asks (tolerance_at cells d) (Calls j) (phase_at cells d h) ≡ true) × (phase_at cells d h ≡ 0)
         → (phase_at cells c h ≡ 0) × (write_holds c h ≡ 0) × IsHeldBy x
     asked d j x unheld is (here, n, empty) = (subst (λ z. phase_at cells z h ≡ 0) here empty, subst (λ z. IsExclusive cells h z → write_holds z h ≡ 0) here unheld only, is here)
 
@@ -61,12 +61,12 @@ module _ (cells : List CellPlan) (c : ℕ) where
     visits : (d : ℕ) (chs : List Change) → Visit cells h p d chs → IsFresh (Visits d chs)
     visits d chs v e = by v.finds (tried d v.asked (subst (λ l. visit_registers cells c h d l ≡ true) v.does e))
       where
-        by : Asking cells h p d v.asked false ⊎ Resting cells h p d v.asked false → (d ≡ c) × (asks (cell_at cells d) (Calls v.asked) (phase_at cells d h) ≡ true) × (phase_at cells d h ≡ 0)
+        by : Asking cells h p d v.asked false ⊎ Resting cells h p d v.asked false → (d ≡ c) × (asks (tolerance_at cells d) (Calls v.asked) (phase_at cells d h) ≡ true) × (phase_at cells d h ≡ 0)
             → (phase_at cells c h ≡ 0) × (write_holds c h ≡ 0) × IsHeldBy (Visits d chs)
         by (inr r) t = absurd (apart (sym t.1 ∙ r.unasked))
         by (inl q) t = asked d v.asked (Visits d chs) q.unheld (λ here. inl (left here)) t
           where
-            declined : is_declined (cell_at cells d) v.asked (accepts h) (phase_at cells d h) ≡ true
+            declined : is_declined (cell_at cells d).kind (tolerance_at cells d) v.asked (accepts h) (phase_at cells d h) ≡ true
             declined = rw q.asked (ap not q.generates)
 
             phase : effect (cell_at cells d) chs (replay cells d h) ≡ record { phase = 36; value = (replay cells d h).value }
@@ -89,38 +89,38 @@ module _ (cells : List CellPlan) (c : ℕ) where
     freshly _ f = λ e. absurd (cc)
 
   -- a legal line that tries to register the cell
-  fresh : (h : List Event) (s : Step) (l : Line) → IsLegal cells h → IsLegalLine cells h s l → tries_to_register cells c h s l.answer ≡ true
+  fresh : (h : List Event) (s : Step) (l : Line) → IsLegal cells h → IsLegalLine cells h s l → shows_registration cells c h s l.answer ≡ true
       → (phase_at cells c h ≡ 0) × (write_holds c h ≡ 0) × IsHeld cells (record { step = s; line = l } ∷ h) c
   fresh h s l k m = freshly h s.party (alone cells h k c) (deed_of h s l.answer) (finds cells h s l m)
 
   -- it does so where the registry does not know the cell
-  pub tries-unknown : (h : List Event) (s : Step) (l : Line) → IsLegal cells h → IsLegalLine cells h s l → tries_to_register cells c h s l.answer ≡ true
+  pub tries-unknown : (h : List Event) (s : Step) (l : Line) → IsLegal cells h → IsLegalLine cells h s l → shows_registration cells c h s l.answer ≡ true
       → is_known (registry cells h) c ≡ false
   tries-unknown h s l k m e = let f : _ = fresh h s l k m e in fresh-unknown cells h c k f.0 f.1
 
   -- no step tried to register the cell, or one did, and then it is touched
   abbrev IsTried : List Event → Type 0
-  IsTried h = (registrations cells c h ≡ 0) ⊎ ((registrations cells c h ≡ 1) × IsHeld cells h c)
+  IsTried h = (registrations_shown cells c h ≡ 0) ⊎ ((registrations_shown cells c h ≡ 1) × IsHeld cells h c)
 
   counted : (h : List Event) → IsLegal cells h → IsTried h
   counted [] k = inl refl
-  counted (e ∷ h) k = by (tries_to_register cells c h e.step e.line.answer) refl (counted h k.2)
+  counted (e ∷ h) k = by (shows_registration cells c h e.step e.line.answer) refl (counted h k.2)
     where
       never : (phase_at cells c h ≡ 0) × (write_holds c h ≡ 0) × IsHeld cells (e ∷ h) c → IsHeld cells h c → ⊥
       never f (inl ne) = ne f.0
       never f (inr n) = omega (arith, f.1, n)
 
-      by : (b : Bool) → tries_to_register cells c h e.step e.line.answer ≡ b → IsTried h
-          → (cond b (registrations cells c h + 1) (registrations cells c h) ≡ 0) ⊎ ((cond b (registrations cells c h + 1) (registrations cells c h) ≡ 1) × IsHeld cells (e ∷ h) c)
+      by : (b : Bool) → shows_registration cells c h e.step e.line.answer ≡ b → IsTried h
+          → (cond b (registrations_shown cells c h + 1) (registrations_shown cells c h) ≡ 0) ⊎ ((cond b (registrations_shown cells c h + 1) (registrations_shown cells c h) ≡ 1) × IsHeld cells (e ∷ h) c)
       by true f (inl none) = inr (omega (arith, none), (fresh h e.step e.line k.2 k.0 f).2)
       by true f (inr one) = absurd (never (fresh h e.step e.line k.2 k.0 f) one.1)
       by false f (inl none) = inl none
       by false f (inr one) = inr (one.0, held-stays cells h e c k one.1)
 
   -- so registration is tried at most once
-  pub registered-once : (h : List Event) → IsLegal cells h → registrations cells c h ≤ 1
+  pub registered-once : (h : List Event) → IsLegal cells h → registrations_shown cells c h ≤ 1
   registered-once h k = by (counted h k)
     where
-      by : IsTried h → registrations cells c h ≤ 1
+      by : IsTried h → registrations_shown cells c h ≤ 1
       by (inl none) = omega (arith, none)
       by (inr one) = omega (arith, one.0)

@@ -3,7 +3,7 @@ use Rattle.std.proofs.Common.{◌≡◌, ◌≢◌, ◌⊎◌, inl, inr, ℕ, Li
 use Rattle.std.specs.Prelude.{◌==◌}
 use Rattle.phase_bits.specs.Flags.{has, initialized}
 use Rattle.schedule_rules.specs.declared.plan.CellPlan.{CellPlan}
-use Rattle.schedule_rules.specs.Kinds.{cell_at}
+use Rattle.schedule_rules.specs.Kinds.{cell_at, tolerance_at}
 use Rattle.schedule_rules.specs.Changes.{Content, Change, Ran, Asked, Put, Ended, effect}
 use Rattle.schedule_rules.specs.Deeds.{Makes, Finishes, Deed, Ends, EndsToRead, Drops, DropsToRead, Visits}
 use Rattle.schedule_rules.specs.History.{Event, deed_of}
@@ -20,7 +20,8 @@ use Rattle.schedule_rules.proofs.Finds.{Visit, Finds, Tells, finds, tells}
 use Rattle.schedule_rules.proofs.Leaves.{left_at, GivesOf, moves, rests}
 use Rattle.schedule_rules.proofs.Grows.{HasRun, IsReady, wanted-lacks, lacks}
 use Rattle.schedule_rules.proofs.Initialized.{sound}
-use Rattle.schedule_rules.proofs.Beside.{IsOfRun, IsRunning, guards-run}
+use Rattle.schedule_rules.proofs.Opening.{IsOfRun}
+use Rattle.schedule_rules.proofs.Beside.{IsRunning, guards-run}
 use Rattle.schedule_rules.proofs.Finishing.{ended-turn}
 use Rattle.schedule_rules.proofs.Facts.{apart}
 
@@ -46,13 +47,13 @@ module _ (cells : List CellPlan) (h : List Event) (p : ℕ) (legal : IsLegal cel
   visits c chs v r = by v.finds
     where
       by : Asking cells h p c v.asked false ⊎ Resting cells h p c v.asked false → (effect (cell_at cells c) chs (replay cells c h)).phase ≡ phase_at cells c h
-      by (inl q) = absurd (apart (sym r ∙ wanted-lacks (cell_at cells c).retry (phase_at cells c h) q.wanted))
+      by (inl q) = absurd (apart (sym r ∙ wanted-lacks (tolerance_at cells c) (phase_at cells c h) q.wanted))
       by (inr q) = ap (λ y. y.phase) (rests cells h p (alone cells h legal) c chs v.asked v.does q)
 
   -- no generator ended in the section of a guard that stands on a value
   dropped : (g : ℕ) (x : Guard) → numbered g (guards h) ≡ Some x → x.writes ≡ true → has (phase_at cells x.cell h) initialized ≡ true
       → (effect (cell_at cells x.cell) x.changes (replay cells x.cell h)).phase ≡ phase_at cells x.cell h
-  dropped g x f w r = by (puts_keep (cell_at cells x.cell) x.changes (replay cells x.cell h) (each_found (λ y. y.number == g) IsRunning (guards h) x f (guards-run cells h legal)))
+  dropped g x f w r = by (puts_keep (cell_at cells x.cell) x.changes (replay cells x.cell h) (each_found (λ y. y.number == g) IsRunning (guards h) x f (guards-run h)))
     where
       by : HasRun x.changes ⊎ ((effect (cell_at cells x.cell) x.changes (replay cells x.cell h)).phase ≡ phase_at cells x.cell h) → (effect (cell_at cells x.cell) x.changes (replay cells x.cell h)).phase ≡ phase_at cells x.cell h
       by (inl n) = absurd (apart (sym r ∙ (each_found (λ y. y.number == g) (IsReady cells h) (guards h) x f (sound cells h legal).ready w).1 n))

@@ -4,6 +4,7 @@ use Rattle.std.specs.Prelude.{◌==◌, if◌then◌else◌}
 use Rattle.std.specs.declared.option.Option.{Option}
 use Rattle.exit_registry.specs.Registry.{first_of}
 use Rattle.phase_bits.specs.Number.{phase_of}
+use Rattle.phase_locker.specs.declared.tickets.LockNature.TheVariants as nature
 use Rattle.schedule_rules.specs.declared.plan.Call.TheVariants as call
 use Rattle.schedule_rules.specs.declared.plan.CellPlan.{CellPlan}
 use Rattle.schedule_rules.specs.declared.step.Act.{Act}
@@ -16,7 +17,6 @@ use Rattle.schedule_rules.specs.declared.line.Answer.{Answer}
 use Rattle.schedule_rules.specs.declared.line.Answer.TheVariants as answer
 use Rattle.schedule_rules.specs.declared.line.Refusal.{Refusal}
 use Rattle.schedule_rules.specs.Phases.{phase_finalized}
-use Rattle.schedule_rules.specs.Calls.{Reads}
 use Rattle.schedule_rules.specs.History.{Event}
 use Rattle.schedule_rules.specs.Sections.{Section, innermost, is_turn, sections}
 use Rattle.schedule_rules.specs.Guards.{Guard, numbered, own, guards}
@@ -25,9 +25,10 @@ use Rattle.schedule_rules.specs.Exits.{registry}
 use Rattle.schedule_rules.specs.Waits.{Wait, wait_of, waits}
 use Rattle.schedule_rules.specs.Holds.{is_barred, holding_with}
 use Rattle.schedule_rules.specs.Refusals.{refusal, no_guard, no_writer, no_reader, writes_of, no_outcome, ends_run, ends_turn}
-use Rattle.schedule_rules.specs.Due.{answer_of_made, due_made, due_finished, due_clone, due_answer}
+use Rattle.schedule_rules.specs.Answers.{answer_of_made}
+use Rattle.schedule_rules.specs.Due.{due_made, due_finished, due_clone, due_answer}
 use Rattle.schedule_rules.specs.Legal.{IsLegalLine, answer_of, due_at}
-use Rattle.schedule_rules.specs.Laws.{waits_judged}
+use Rattle.schedule_rules.specs.Causes.{waits_judged}
 use Rattle.schedule_rules.proofs.Cases.{step, Cases}
 use Rattle.schedule_rules.proofs.Attempts.{rests, mine_where_none, attempted, again, exits}
 use Rattle.schedule_rules.proofs.Judged.{due_at-judged}
@@ -110,7 +111,7 @@ module _ (cells : List CellPlan) (h : List Event) (p : ℕ) (P : Act → Answer 
 
   -- a clone
   clones : (g : ℕ) (ws : List Wait) (x : Guard) → numbered g (guards h) ≡ Some x → x.writes ≡ false → P (act.Clone g) (due_clone cells h ws (Some x))
-  clones g ws x e d = by (is_barred (Some Reads) (holding_with x.cell h ws))
+  clones g ws x e d = by (is_barred nature.Read (holding_with x.cell h ws))
     where
       by : (b : Bool) → P (act.Clone g) (if b then answer.Borrowed else answer.ReadGuard)
       by true = k.borrowed g x e d

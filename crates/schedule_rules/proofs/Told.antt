@@ -7,7 +7,7 @@ use Rattle.phase_bits.specs.Flags.{has, initialized}
 use Rattle.schedule_rules.specs.declared.plan.Call.{Call}
 use Rattle.schedule_rules.specs.declared.plan.CellPlan.{CellPlan}
 use Rattle.schedule_rules.specs.declared.step.Want.TheVariants.{Calls, Turns}
-use Rattle.schedule_rules.specs.Kinds.{cell_at, is_finalizable}
+use Rattle.schedule_rules.specs.Kinds.{cell_at, is_finalizable, tolerance_at}
 use Rattle.schedule_rules.specs.Phases.{tries_registration}
 use Rattle.schedule_rules.specs.Calls.{asks}
 use Rattle.schedule_rules.specs.Changes.{Content, Change, Ran, Ended, is_declined, effect}
@@ -139,7 +139,7 @@ module _ (cells : List CellPlan) (c : ℕ) (kind : is_finalizable (cell_at cells
             let is : _ = rests cells h p (alone cells h legal) d chs v.asked v.does q in
             subst (λ y. TellsRegistration (knows h) y.phase) (sym is) (phase_tells d same (subst (λ y. y.phase ≢ 0) is ne))
         by (inl q) =
-            let declined : is_declined (cell_at cells d) v.asked (accepts h) (phase_at cells d h) ≡ true = rw q.asked (ap not q.generates) in
+            let declined : is_declined (cell_at cells d).kind (tolerance_at cells d) v.asked (accepts h) (phase_at cells d h) ≡ true = rw q.asked (ap not q.generates) in
             let is : effect (cell_at cells d) chs (replay cells d h) ≡ record { phase = 36; value = (replay cells d h).value } =
             ap (λ l. effect (cell_at cells d) l (replay cells d h)) v.does ∙ ap (λ (b : Bool). if b then record { phase = 36; value = (replay cells d h).value } else replay cells d h) declined in
             let unknown : knows h ≡ false =
@@ -175,9 +175,9 @@ module _ (cells : List CellPlan) (c : ℕ) (kind : is_finalizable (cell_at cells
       known : knows_now ≡ (knows h || ((phase_at cells c h == 0) && accepts h))
       known =
           registering cells c h p legal (Opens d (Calls j) taken) q
-          ∙ ap (λ b. knows h || ((b && (asks (cell_at cells d) (Calls j) (phase_at cells d h) && tries_registration (cell_at cells d) (phase_at cells d h))) && accepts h)) same
-          ∙ ap (λ b. knows h || ((true && (b && tries_registration (cell_at cells d) (phase_at cells d h))) && accepts h)) q.asked
-          ∙ ap (λ z. knows h || (tries_registration (cell_at cells z) (phase_at cells z h) && accepts h)) (sym (at d same))
+          ∙ ap (λ b. knows h || ((b && (asks (tolerance_at cells d) (Calls j) (phase_at cells d h) && tries_registration (cell_at cells d).kind (phase_at cells d h))) && accepts h)) same
+          ∙ ap (λ b. knows h || ((true && (b && tries_registration (cell_at cells d).kind (phase_at cells d h))) && accepts h)) q.asked
+          ∙ ap (λ z. knows h || (tries_registration (cell_at cells z).kind (phase_at cells z h) && accepts h)) (sym (at d same))
           ∙ ap (λ b. knows h || ((b && (phase_at cells c h == 0)) && accepts h)) kind
 
       stays : phase_at cells c h ≢ 0 → knows_now ≡ knows h
@@ -203,7 +203,7 @@ module _ (cells : List CellPlan) (c : ℕ) (kind : is_finalizable (cell_at cells
         by true same = here d j taken q same
         by false other =
             let known : is_known (registry_by cells h (Opens d (Calls j) taken) (registry cells h)) c ≡ knows h =
-            registering cells c h p legal (Opens d (Calls j) taken) q ∙ ap (λ b. knows h || ((b && (asks (cell_at cells d) (Calls j) (phase_at cells d h) && tries_registration (cell_at cells d) (phase_at cells d h))) && accepts h)) other ∙ or_none (knows h) in
+            registering cells c h p legal (Opens d (Calls j) taken) q ∙ ap (λ b. knows h || ((b && (asks (tolerance_at cells d) (Calls j) (phase_at cells d h) && tries_registration (cell_at cells d).kind (phase_at cells d h))) && accepts h)) other ∙ or_none (knows h) in
             subst (λ b. ToldBy b (Opens d (Calls j) taken)) (sym known) (others (Opens d (Calls j) taken) q other)
 
     told-after : (d : Deed) → Finds cells h p d → ToldBy (is_known (registry_by cells h d (registry cells h)) c) d

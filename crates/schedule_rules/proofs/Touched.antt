@@ -5,7 +5,7 @@ use Rattle.std.specs.Int.RustNames.{bit_and, bit_or}
 use Rattle.std.proofs.lemmas.Nat.{and_or_self}
 use Rattle.std.specs.declared.option.Option.{Option}
 use Rattle.schedule_rules.specs.declared.plan.CellPlan.{CellPlan}
-use Rattle.schedule_rules.specs.Kinds.{cell_at}
+use Rattle.schedule_rules.specs.Kinds.{cell_at, tolerance_of}
 use Rattle.schedule_rules.specs.Phases.{flags_kept}
 use Rattle.schedule_rules.specs.Changes.{Content, Change, Ran, Asked, Put, Ended, is_declined, content_after, effect}
 use Rattle.schedule_rules.specs.History.{Event}
@@ -25,15 +25,15 @@ HasEnded (Put v ∷ chs) = HasEnded chs
 
 module _ (x : CellPlan) where
   ran_touches : (o : Bool) (made : Option ℕ) (y : Content) → (content_after x (Ran o made) y).phase ≢ 0
-  ran_touches o (Some v) y = with_flag (flags_kept x o y.phase) 1 (λ e. cc)
-  ran_touches o None y = with_flag (flags_kept x o y.phase) 6 (λ e. cc)
+  ran_touches o (Some v) y = with_flag (flags_kept x.kind o y.phase) 1 (λ e. cc)
+  ran_touches o None y = with_flag (flags_kept x.kind o y.phase) 6 (λ e. cc)
 
   ended_touches : (fine : Bool) (y : Content) → (content_after x (Ended fine) y).phase ≢ 0
   ended_touches true y = with_flag y.phase 64 (λ e. cc)
   ended_touches false y = with_flag y.phase 128 (λ e. cc)
 
   asked_keeps : (o : Bool) (k : _) (y : Content) → y.phase ≢ 0 → (content_after x (Asked o k) y).phase ≢ 0
-  asked_keeps o k y ne = by (is_declined x k o y.phase)
+  asked_keeps o k y ne = by (is_declined x.kind (tolerance_of x) k o y.phase)
     where
       by : (b : Bool) → (cond b (record { phase = 36; value = y.value }) y).phase ≢ 0
       by true = λ e. cc

@@ -56,7 +56,7 @@ finalizable-inside cells c e = by (nat_lt c (length cells)) refl
     by false f = absurd (none (get_or_past cells c no_cell (grind arith)))
 
 -- what has a first begins with it
-begins : (cs : List ℕ) (d : ℕ) → first_of cs ≡ Some d → cs ≡ d ∷ rest_of cs
+pub begins : (cs : List ℕ) (d : ℕ) → first_of cs ≡ Some d → cs ≡ d ∷ rest_of cs
 begins [] d e = absurd (cc)
 begins (b ∷ cs) d e = ap (λ x. x ∷ cs) (same e)
   where
@@ -67,14 +67,14 @@ begins (b ∷ cs) d e = ap (λ x. x ∷ cs) (same e)
 same_attempt : (a b : Attempt) → Some a ≡ Some b → a ≡ b
 same_attempt a b e = cc
 
-waits_so : (o : Option Wait) (d : ℕ) (v : Want) → attempt_of_wait o ≡ Some (record { cell = d; want = v }) → (w : Wait) × (o ≡ Some w) × (w.cell ≡ d) × (w.want ≡ v)
+pub waits_so : (o : Option Wait) (d : ℕ) (v : Want) → attempt_of_wait o ≡ Some (record { cell = d; want = v }) → (w : Wait) × (o ≡ Some w) × (w.cell ≡ d) × (w.want ≡ v)
 waits_so None d v e = absurd (cc)
 waits_so (Some w) d v e =
     let same : _ = same_attempt (record { cell = w.cell; want = w.want }) (record { cell = d; want = v }) e in
     (w, refl, ap (λ a. a.cell) same, ap (λ a. a.want) same)
 
 -- a turn that is attempted is the first left
-first_so : (o : Option ℕ) (d : ℕ) → attempt_of_turn o ≡ Some (record { cell = d; want = Turns }) → o ≡ Some d
+pub first_so : (o : Option ℕ) (d : ℕ) → attempt_of_turn o ≡ Some (record { cell = d; want = Turns }) → o ≡ Some d
 first_so None d e = absurd (cc)
 first_so (Some b) d e =
     let same : _ = same_attempt (record { cell = b; want = Turns }) (record { cell = d; want = Turns }) e in ap (λ (a : Attempt). Some a.cell) same
@@ -331,9 +331,9 @@ module _ (cells : List CellPlan) (c : ℕ) where
             by false other = elsewhere other
 
       running : Asking cells h p d j true → HasTurnBy (Opens d (Calls j) b) n
-      running q = by (tries_registration (cell_at cells d) (phase_at cells d h)) (registry cells h).is_open refl refl
+      running q = by (tries_registration (cell_at cells d).kind (phase_at cells d h)) (registry cells h).is_open refl refl
         where
-          by : (x o : Bool) → tries_registration (cell_at cells d) (phase_at cells d h) ≡ x → (registry cells h).is_open ≡ o → HasTurnBy (Opens d (Calls j) b) n
+          by : (x o : Bool) → tries_registration (cell_at cells d).kind (phase_at cells d h) ≡ x → (registry cells h).is_open ≡ o → HasTurnBy (Opens d (Calls j) b) n
           by false o e f = stays (ap (λ (x : Bool). if x then after_register d (registry cells h) else registry cells h) e)
           by true false e f =
               stays (ap (λ (x : Bool). if x then after_register d (registry cells h) else registry cells h) e ∙ ap (λ (x : Bool). if x then registered d (registry cells h) else registry cells h) f)

@@ -3,13 +3,16 @@ use Rattle.std.proofs.Common.{◌≡◌, ℕ, List, Bool, true, false, not, ◌&
 use Rattle.std.specs.Prelude.{if◌then◌else◌, is_none}
 use Rattle.std.specs.declared.option.Option.{Option}
 use Rattle.std.specs.declared.option.Option.TheVariants.{None, Some}
-use Rattle.phase_bits.specs.Number.{phase_of}
 use Rattle.phase_locker.specs.declared.ways.How.{How}
 use Rattle.phase_locker.specs.declared.ways.Given.{Given}
 use Rattle.phase_locker.specs.declared.ways.Given.TheVariants as given
 use Rattle.exit_registry.specs.declared.registry.Look.{Look}
 use Rattle.exit_registry.specs.declared.registry.Look.TheVariants as look
 use Rattle.exit_registry.specs.Registry.{first_of, look_at}
+use Rattle.phase_locker.specs.declared.tickets.LockNature.TheVariants as nature
+use Rattle.phase_locker.specs.declared.tickets.LockNature.{LockNature}
+use Rattle.phase_seq.specs.declared.tolerance.Tolerance.{Tolerance}
+use Rattle.schedule_rules.specs.declared.plan.Kind.{Kind}
 use Rattle.schedule_rules.specs.declared.plan.Call.{Call}
 use Rattle.schedule_rules.specs.declared.plan.Call.TheVariants as call
 use Rattle.schedule_rules.specs.declared.plan.CellPlan.{CellPlan}
@@ -21,7 +24,7 @@ use Rattle.schedule_rules.specs.declared.line.Answer.{Answer}
 use Rattle.schedule_rules.specs.declared.line.Answer.TheVariants as answer
 use Rattle.schedule_rules.specs.declared.line.Refusal.{Refusal}
 use Rattle.schedule_rules.specs.Phases.{is_accessible, runs_generator}
-use Rattle.schedule_rules.specs.Calls.{Nature, Reads, Writes, rule, asks, initializes}
+use Rattle.schedule_rules.specs.Calls.{lock_wanted, asks, initializes}
 use Rattle.schedule_rules.specs.declared.step.Want.{Want}
 use Rattle.schedule_rules.specs.declared.step.Want.TheVariants.{Calls, Turns}
 use Rattle.schedule_rules.specs.Changes.{Content}
@@ -33,13 +36,13 @@ use Rattle.schedule_rules.specs.Exits.{registry}
 use Rattle.schedule_rules.specs.Waits.{Attempt, attempt, Wait, wait_of, waits, attempt_of_wait, attempt_of_turn}
 use Rattle.schedule_rules.specs.Holds.{is_barred, holding_with}
 use Rattle.schedule_rules.specs.Refusals.{refusal}
-use Rattle.schedule_rules.specs.Answers.{if_accessible, Meeting, answer_of_run, call_answer_admitted, turn_answer_admitted, answer_admitted}
-use Rattle.schedule_rules.specs.Due.{answer_of_made, answer_of_look, due_finished, keeps_own, due_attempt, due_tried, due_made, due_look, due_clone, due_answer, meeting}
-use Rattle.schedule_rules.specs.Kinds.{cell_at}
+use Rattle.schedule_rules.specs.Answers.{answer_opened, answer_denied, answer_locked, Meeting, answer_of_run, call_answer_admitted, turn_answer_admitted, answer_admitted, answer_of_made}
+use Rattle.schedule_rules.specs.Due.{answer_of_look, due_finished, keeps_own, due_attempt, due_tried, due_made, due_look, due_clone, due_answer, meeting}
+use Rattle.schedule_rules.specs.Kinds.{cell_at, tolerance_at}
 use Rattle.schedule_rules.specs.Legal.{Moment, IsLegalLine, answer_of, due_at, may_give}
 use Rattle.schedule_rules.specs.Gifts.{is_nobody}
 use Rattle.schedule_rules.proofs.Judged.{due_at-judged}
-use Rattle.schedule_rules.specs.Laws.{is_waiting, is_borrowed, waits_judged, is_barred_attempt, is_barred_step, is_barred_clone, is_borrowing_step}
+use Rattle.schedule_rules.specs.Causes.{is_waiting, is_borrowed, waits_judged, is_attempted, is_barred_attempt, is_barred_step, is_barred_clone, is_borrowing_step}
 
 -- the answer says that the step is refused
 abbrev is_refused : Answer → Bool
@@ -131,27 +134,33 @@ module _ (t : Answer → Bool) (waiting borrowed : Bool) (is : Tests t waiting b
   one_of_two true x y p q = p
   one_of_two false x y p q = q
 
-  -- an answer that does not pass, where the value may be accessed
-  accessed : (x : CellPlan) (y : Content) (a : Answer) → t a ≡ false → t (if_accessible x y a) ≡ false
-  accessed x y a e = one_of_two (is_accessible x.kind y.phase) a (answer.Access (phase_of y.phase)) e (is.access _)
+  -- a call that gets its lock
+  opened : (k : Call) → t (answer_opened k) ≡ false
+  opened call.Phase = is.read_guard
+  opened call.Read = is.read_guard
+  opened call.Write = is.write_guard
+
+  locked : (q : Kind) (k : Call) (y : Content) → t (answer_locked q k y) ≡ false
+  locked q k y = one_of_two (is_accessible q y.phase) (answer_opened k) (answer_denied k y.phase) (opened k) (is.access _)
 
   -- a call that is not barred
-  admitted_call : (n : Option Nature) (x : CellPlan) (o : Bool) (k : Call) (y : Content) → t (call_answer_admitted n x o k y) ≡ false
-  admitted_call None x o k y = is.phase _
-  admitted_call (Some Reads) x o k y = accessed x y answer.ReadGuard is.read_guard
-  admitted_call (Some Writes) x o k y =
-      one_of_two (asks x (Calls k) y.phase) (answer_of_run x o y) (if_accessible x y answer.WriteGuard)
-      (one_of_two (runs_generator x o y.phase) answer.Running (answer.Access _) is.running (is.access _)) (accessed x y answer.WriteGuard is.write_guard)
+  admitted_call : (n : LockNature) (q : Kind) (u : Tolerance) (o : Bool) (k : Call) (y : Content) → t (call_answer_admitted n q u o k y) ≡ false
+  admitted_call nature.None q u o k y = is.phase _
+  admitted_call nature.Read q u o k y = locked q k y
+  admitted_call nature.Write q u o k y =
+      one_of_two (asks u (Calls k) y.phase) (answer_of_run q u o k y) (answer_locked q k y)
+      (one_of_two (runs_generator q u o y.phase) answer.Running (answer.Access _) is.running (is.access _)) (locked q k y)
 
   -- a turn that is not barred
-  admitted_turn : (n : Option Nature) (c : ℕ) → t (turn_answer_admitted n c) ≡ false
-  admitted_turn None c = is.skipped c
-  admitted_turn (Some n) c = is.finalizing c
+  admitted_turn : (n : LockNature) (c : ℕ) → t (turn_answer_admitted n c) ≡ false
+  admitted_turn nature.None c = is.skipped c
+  admitted_turn nature.Read c = is.finalizing c
+  admitted_turn nature.Write c = is.finalizing c
 
   -- the same for whatever is attempted
-  admitted : (x : CellPlan) (c : ℕ) (o : Bool) (w : Want) (y : Content) → t (answer_admitted x c o w y) ≡ false
-  admitted x c o (Calls k) y = admitted_call (rule x (Calls k) y.phase) x o k y
-  admitted x c o Turns y = admitted_turn (rule x Turns y.phase) c
+  admitted : (q : Kind) (u : Tolerance) (c : ℕ) (o : Bool) (w : Want) (y : Content) → t (answer_admitted q u c o w y) ≡ false
+  admitted q u c o (Calls k) y = admitted_call (lock_wanted u (Calls k) y.phase) q u o k y
+  admitted q u c o Turns y = admitted_turn (lock_wanted u Turns y.phase) c
 
   -- a look for registered cells
   told : (l : Look) → t (answer_of_look l) ≡ false
@@ -168,12 +177,12 @@ module _ (t : Answer → Bool) (waiting borrowed : Bool) (is : Tests t waiting b
 
   module _ (cells : List CellPlan) (h : List Event) (ws : List Wait) (chosen : Bool) where
     -- an attempt waits exactly where it is barred
-    tried : (p : ℕ) (o : Option Attempt) → t (due_tried cells h p o ws chosen) ≡ (is_barred_attempt cells h p o ws && waiting)
+    tried : (p : ℕ) (o : Option Attempt) → t (due_tried cells h p o ws chosen) ≡ (is_attempted (is_barred_attempt cells h p ws) o && waiting)
     tried p None = told (look_at (registry cells h).pending)
     tried p (Some a) =
-        let m : Meeting = meeting cells h p a ws in let x : CellPlan = cell_at cells a.cell in
-        in_turn (initializes a.want && m.own_run) m.kept (is_barred (rule x a.want m.content.phase) m.holding) _ (answer_admitted x a.cell m.is_open a.want m.content)
-        (admitted x a.cell m.is_open a.want m.content)
+        let m : Meeting = meeting cells h p a ws in let x : CellPlan = cell_at cells a.cell in let u : Tolerance = tolerance_at cells a.cell in
+        in_turn (initializes a.want && m.own_run) m.kept (is_barred (lock_wanted u a.want m.content.phase) m.holding) _ (answer_admitted x.kind u a.cell m.is_open a.want m.content)
+        (admitted x.kind u a.cell m.is_open a.want m.content)
 
     -- a value made
     made_call : (w : Want) → t (answer_of_made w) ≡ false
@@ -203,11 +212,11 @@ module _ (t : Answer → Bool) (waiting borrowed : Bool) (is : Tests t waiting b
 
     cloned : (g : ℕ) (o : Option Guard) → numbered g (guards h) ≡ o → t (due_clone cells h ws o) ≡ (is_barred_clone cells h (act.Clone g) ws && borrowed)
     cloned g None e = rw e is.done
-    cloned g (Some x) e = rw e (lent (is_barred (Some Reads) (holding_with x.cell h ws)))
+    cloned g (Some x) e = rw e (lent (is_barred nature.Read (holding_with x.cell h ws)))
 
     -- each act, where it attempts what is barred or is a clone that is barred
     due : (p : ℕ) (a : Act)
-        → t (due_answer cells h (record { party = p; act = a }) ws chosen) ≡ ((is_barred_attempt cells h p (attempt cells h (record { party = p; act = a })) ws && waiting) || (is_barred_clone cells h a ws && borrowed))
+        → t (due_answer cells h (record { party = p; act = a }) ws chosen) ≡ ((is_attempted (is_barred_attempt cells h p ws) (attempt cells h (record { party = p; act = a })) && waiting) || (is_barred_clone cells h a ws && borrowed))
     due p (act.Call c k) = tried p (Some (record { cell = c; want = Calls k })) ∙ sym (nothing_else _)
     due p act.Again = tried p (attempt_of_wait (wait_of p (waits cells h))) ∙ sym (nothing_else _)
     due p (act.Made v) = made v (innermost p (sections h))
@@ -290,7 +299,7 @@ module _ (cells : List CellPlan) (h : List Event) (s : Step) where
 pub kept_is_answered : (cells : List CellPlan) (h : List Event) (p : ℕ) (a : Attempt) (ws : List Wait) (chosen : Bool)
     → keeps_own cells h p a ≡ true → is_waiting (due_attempt cells h p a ws chosen) ≡ false
 kept_is_answered cells h p a ws chosen keeps =
-    tried is_waiting true false tests_waiting cells h ws chosen p (Some a) ∙ rw keeps (nothing (initializes a.want && runs p a.cell h) (is_barred (rule (cell_at cells a.cell) a.want (phase_at cells a.cell h)) (holding_with a.cell h ws)))
+    tried is_waiting true false tests_waiting cells h ws chosen p (Some a) ∙ rw keeps (nothing (initializes a.want && runs p a.cell h) (is_barred (lock_wanted (tolerance_at cells a.cell) a.want (phase_at cells a.cell h)) (holding_with a.cell h ws)))
   where
     nothing : (x y : Bool) → ((not x && (not true && y)) && true) ≡ false
     nothing true y = refl

@@ -1,64 +1,83 @@
--- The call table: what a call wants of a cell at a phase.
-use Rattle.std.specs.Prelude.{ℕ, Bool, true, false, ◌&&◌, if◌then◌else◌}
+-- The call table: what a call asks of the sequentializer. The lock that it wants at a phase, whether it asks for a run
+-- there, and as what it is woken, are the sequentializer's own rules of what is asked.
+use Rattle.std.specs.Prelude.{ℕ, Bool, false}
 use Rattle.std.specs.declared.option.Option.{Option}
 use Rattle.std.specs.declared.option.Option.TheVariants.{None, Some}
+use Rattle.phase_bits.specs.Number.{phase_of}
+use Rattle.phase_locker.specs.declared.tickets.LockNature.{LockNature}
+use Rattle.phase_locker.specs.declared.tickets.LockNature.TheVariants as nature
 use Rattle.phase_locker.specs.declared.ways.How.{How}
 use Rattle.phase_locker.specs.declared.ways.How.TheVariants as how
+use Rattle.phase_seq.specs.declared.tolerance.Tolerance.{Tolerance}
+use Rattle.phase_seq.specs.declared.ask.Want.{Want as Sought}
+use Rattle.phase_seq.specs.declared.ask.Want.TheVariants as sought
+use Rattle.phase_seq.specs.declared.ask.Ask.{Ask}
+use Rattle.phase_seq.specs.Asks.{initializes as run_sought, asks_run, nature_of, wake_of}
 use Rattle.schedule_rules.specs.declared.plan.Call.{Call}
 use Rattle.schedule_rules.specs.declared.plan.Call.TheVariants as call
-use Rattle.schedule_rules.specs.declared.plan.CellPlan.{CellPlan}
 use Rattle.schedule_rules.specs.declared.step.Want.{Want}
 use Rattle.schedule_rules.specs.declared.step.Want.TheVariants.{Calls, Turns}
-use Rattle.phase_bits.specs.Flags.{has, initialized}
-use Rattle.schedule_rules.specs.Phases.{shall_init}
 
--- the nature of a lock
-pub data Nature : Type 0 where
-  Reads : Nature
-  Writes : Nature
+-- what each call seeks of its cell: nothing, where it looks at the cell as it is
+abbrev pub call_seeks : Call → Option Sought
+call_seeks call.Phase = None
+call_seeks call.Read = Some sought.Read
+call_seeks call.Write = Some sought.Write
 
--- the calls that ask for a run
-abbrev pub call_initializes : Call → Bool
-call_initializes call.Phase = false
-call_initializes call.Read = true
-call_initializes call.Write = true
+-- the same of whatever is attempted
+abbrev pub seeks : Want → Option Sought
+seeks (Calls k) = call_seeks k
+seeks Turns = Some sought.Finalize
 
--- the call asks for a run where one is wanted
+-- what is sought is asked, by a call that may wait
+abbrev pub asking : Option Sought → Tolerance → Option Ask
+asking None t = None
+asking (Some s) t = Some (record { want = s; fast = false; tol = t })
+
+-- what is asked of a cell that puts up with this
+abbrev pub ask_of : Want → Tolerance → Option Ask
+ask_of w t = asking (seeks w) t
+
+-- ---- the sequentializer's rules of what is asked
+
+-- what is sought asks for a run where one is due
+abbrev pub seeks_run : Option Sought → Bool
+seeks_run None = false
+seeks_run (Some s) = run_sought s
+
+-- the call asks for a run where one is due
 abbrev pub initializes : Want → Bool
-initializes (Calls k) = call_initializes k
-initializes Turns = false
+initializes w = seeks_run (seeks w)
 
 -- a run is asked at this phase
-abbrev pub asks : CellPlan → Want → ℕ → Bool
-asks x w p = initializes w && shall_init x.retry p
+abbrev pub run_asked : Option Ask → ℕ → Bool
+run_asked None p = false
+run_asked (Some a) p = asks_run a (phase_of p)
 
--- a write where a run is wanted, and else this rule
-abbrev pub rule_to_init : CellPlan → ℕ → Option Nature → Option Nature
-rule_to_init x p n = if shall_init x.retry p then Some Writes else n
+-- the same of whatever is attempted at a cell that puts up with this
+abbrev pub asks : Tolerance → Want → ℕ → Bool
+asks t w p = run_asked (ask_of w t) p
 
--- the rule of each call
-abbrev pub call_rule : CellPlan → Call → ℕ → Option Nature
-call_rule x call.Phase p = None
-call_rule x call.Read p = rule_to_init x p (Some Reads)
-call_rule x call.Write p = Some Writes
+-- the lock that is wanted at this phase
+abbrev pub lock_asked : Option Ask → ℕ → LockNature
+lock_asked None p = nature.None
+lock_asked (Some a) p = nature_of a (phase_of p)
 
--- the lock that is wanted at this phase: a turn wants one where there is a value to finalize
-abbrev pub rule : CellPlan → Want → ℕ → Option Nature
-rule x (Calls k) p = call_rule x k p
-rule x Turns p = if has p initialized then Some Writes else None
+-- the same of whatever is attempted at a cell that puts up with this
+abbrev pub lock_wanted : Tolerance → Want → ℕ → LockNature
+lock_wanted t w p = lock_asked (ask_of w t) p
 
--- as what a parked call is woken
-abbrev pub call_waking_nature : Call → Nature
-call_waking_nature call.Phase = Reads
-call_waking_nature call.Read = Reads
-call_waking_nature call.Write = Writes
+-- as what a parked call is woken that seeks this
+abbrev pub woken_as : Option Sought → LockNature
+woken_as None = nature.None
+woken_as (Some s) = wake_of s
 
--- the same for whatever is attempted
-abbrev pub waking_nature : Want → Nature
-waking_nature (Calls k) = call_waking_nature k
-waking_nature Turns = Writes
+-- the same of whatever is attempted
+abbrev pub wakes_as : Want → LockNature
+wakes_as w = woken_as (seeks w)
 
--- a call parks to be woken so
-abbrev pub way_of_nature : Nature → How
-way_of_nature Reads = how.ParkedRead
-way_of_nature Writes = how.ParkedWrite
+-- a call parks to be woken so. None does not occur: what wants no lock is not barred
+abbrev pub way_of_nature : LockNature → How
+way_of_nature nature.None = how.ParkedRead
+way_of_nature nature.Read = how.ParkedRead
+way_of_nature nature.Write = how.ParkedWrite

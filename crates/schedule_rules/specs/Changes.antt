@@ -2,9 +2,12 @@
 use Rattle.std.specs.Prelude.{ℕ, Bool, not, List, [], ◌∷◌, ◌&&◌, if◌then◌else◌}
 use Rattle.std.specs.declared.option.Option.{Option}
 use Rattle.std.specs.declared.option.Option.TheVariants.{None, Some}
+use Rattle.phase_seq.specs.declared.tolerance.Tolerance.{Tolerance}
 use Rattle.schedule_rules.specs.declared.plan.Call.{Call}
+use Rattle.schedule_rules.specs.declared.plan.Kind.{Kind}
 use Rattle.schedule_rules.specs.declared.plan.CellPlan.{CellPlan}
 use Rattle.schedule_rules.specs.declared.step.Want.TheVariants.{Calls}
+use Rattle.schedule_rules.specs.Kinds.{tolerance_of}
 use Rattle.schedule_rules.specs.Phases.{Success, Failure, NoRun, runs_generator, phase_reached, phase_finalized}
 use Rattle.schedule_rules.specs.Calls.{asks}
 
@@ -25,23 +28,23 @@ pub data Change : Type 0 where
   Ended : (fine : Bool) → Change  -- its finalizer ended
 
 -- a successful run sets the value, a failed one leaves it
-abbrev pub content_of_run : CellPlan → Bool → Option ℕ → Content → Content
-content_of_run x is_open (Some v) y = record { phase = phase_reached x is_open y.phase Success; value = Some v }
-content_of_run x is_open None y = record { phase = phase_reached x is_open y.phase Failure; value = y.value }
+abbrev pub content_of_run : Kind → Bool → Option ℕ → Content → Content
+content_of_run q is_open (Some v) y = record { phase = phase_reached q is_open y.phase Success; value = Some v }
+content_of_run q is_open None y = record { phase = phase_reached q is_open y.phase Failure; value = y.value }
 
 -- a run is asked and no generator runs: its cell is not registered
-abbrev pub is_declined : CellPlan → Call → Bool → ℕ → Bool
-is_declined x k is_open p = asks x (Calls k) p && not (runs_generator x is_open p)
+abbrev pub is_declined : Kind → Tolerance → Call → Bool → ℕ → Bool
+is_declined q t k is_open p = asks t (Calls k) p && not (runs_generator q t is_open p)
 
 -- a call that was admitted and left nothing open changes the phase where it was declined
-abbrev pub content_asked : CellPlan → Bool → Call → Content → Content
-content_asked x is_open k y =
-    if is_declined x k is_open y.phase then record { phase = phase_reached x is_open y.phase NoRun; value = y.value } else y
+abbrev pub content_asked : Kind → Tolerance → Bool → Call → Content → Content
+content_asked q t is_open k y =
+    if is_declined q t k is_open y.phase then record { phase = phase_reached q is_open y.phase NoRun; value = y.value } else y
 
 -- what one change makes of a content
 abbrev pub content_after : CellPlan → Change → Content → Content
-content_after x (Ran is_open made) y = content_of_run x is_open made y
-content_after x (Asked is_open k) y = content_asked x is_open k y
+content_after x (Ran is_open made) y = content_of_run x.kind is_open made y
+content_after x (Asked is_open k) y = content_asked x.kind (tolerance_of x) is_open k y
 content_after x (Put v) y = record { phase = y.phase; value = Some v }
 content_after x (Ended fine) y = record { phase = phase_finalized y.phase fine; value = y.value }
 

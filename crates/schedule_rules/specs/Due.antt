@@ -2,23 +2,20 @@
 use Rattle.std.specs.Prelude.{ℕ, Bool, true, false, List, if◌then◌else◌}
 use Rattle.std.specs.declared.option.Option.{Option}
 use Rattle.std.specs.declared.option.Option.TheVariants.{None, Some}
-use Rattle.schedule_rules.specs.declared.plan.Call.{Call}
-use Rattle.schedule_rules.specs.declared.plan.Call.TheVariants as call
+use Rattle.phase_locker.specs.declared.tickets.LockNature.TheVariants as nature
 use Rattle.schedule_rules.specs.declared.step.Act.{Act}
 use Rattle.schedule_rules.specs.declared.step.Act.TheVariants as act
 use Rattle.schedule_rules.specs.declared.line.Answer.{Answer}
 use Rattle.schedule_rules.specs.declared.line.Answer.TheVariants as answer
 use Rattle.schedule_rules.specs.declared.step.Step.{Step}
 use Rattle.schedule_rules.specs.declared.plan.CellPlan.{CellPlan}
-use Rattle.schedule_rules.specs.Kinds.{cell_at}
-use Rattle.schedule_rules.specs.declared.step.Want.{Want}
-use Rattle.schedule_rules.specs.declared.step.Want.TheVariants.{Calls, Turns}
+use Rattle.schedule_rules.specs.Kinds.{cell_at, tolerance_at}
 use Rattle.exit_registry.specs.declared.registry.Look.{Look}
 use Rattle.exit_registry.specs.declared.registry.Look.TheVariants as look
 use Rattle.exit_registry.specs.Registry.{look_at}
 use Rattle.phase_bits.specs.Number.{phase_of}
 use Rattle.schedule_rules.specs.Phases.{phase_finalized}
-use Rattle.schedule_rules.specs.Calls.{Reads, rule}
+use Rattle.schedule_rules.specs.Calls.{lock_wanted}
 use Rattle.schedule_rules.specs.History.{Event, accepts}
 use Rattle.schedule_rules.specs.Sections.{Section, innermost, runs, sections}
 use Rattle.schedule_rules.specs.Guards.{Guard, numbered, guards}
@@ -26,18 +23,7 @@ use Rattle.schedule_rules.specs.Replay.{replay, phase_at, inside}
 use Rattle.schedule_rules.specs.Exits.{registry}
 use Rattle.schedule_rules.specs.Waits.{Attempt, attempt, Wait, wait_of, waits}
 use Rattle.schedule_rules.specs.Holds.{is_barred, keeps, readers, holding_with}
-use Rattle.schedule_rules.specs.Answers.{answer_of_value, Meeting, answer_of_attempt}
-
--- what a generator's value leaves
-abbrev pub call_answer_of_made : Call → Answer
-call_answer_of_made call.Read = answer.ReadGuard
-call_answer_of_made call.Write = answer.WriteGuard
-call_answer_of_made call.Phase = answer.WriteGuard  -- does not occur: the call asks for no run
-
--- the same for whatever was attempted
-abbrev pub answer_of_made : Want → Answer
-answer_of_made (Calls k) = call_answer_of_made k
-answer_of_made Turns = answer.WriteGuard  -- does not occur: a finalizer makes no value
+use Rattle.schedule_rules.specs.Answers.{answer_of_value, answer_of_made, Meeting, answer_of_attempt}
 
 -- what a look for registered cells answers
 abbrev pub answer_of_look : Look → Answer
@@ -48,7 +34,7 @@ module _ (cells : List CellPlan) where
   -- the party's waiting call keeps its share or drain
   abbrev pub keeps_own : List Event → ℕ → Attempt → Bool
   keeps_own h p a =
-      keeps (wait_of p (waits cells h)) (rule (cell_at cells a.cell) a.want (phase_at cells a.cell h)) (readers cells a.cell h)
+      keeps (wait_of p (waits cells h)) (lock_wanted (tolerance_at cells a.cell) a.want (phase_at cells a.cell h)) (readers cells a.cell h)
 
   -- what an attempt of the party at the cell meets, where these calls of others wait
   abbrev pub meeting : List Event → ℕ → Attempt → List Wait → Meeting
@@ -92,7 +78,7 @@ module _ (cells : List CellPlan) where
   -- a clone is barred as a call that reads. None does not occur: without its guard it is refused
   abbrev pub due_clone : List Event → List Wait → Option Guard → Answer
   due_clone h ws None = answer.Done
-  due_clone h ws (Some x) = if is_barred (Some Reads) (holding_with x.cell h ws) then answer.Borrowed else answer.ReadGuard
+  due_clone h ws (Some x) = if is_barred nature.Read (holding_with x.cell h ws) then answer.Borrowed else answer.ReadGuard
 
   -- the answer of each act
   abbrev pub due_act : List Event → Step → List Wait → Bool → Act → Answer

@@ -72,7 +72,7 @@ registry_taken false r = r
 module _ (cells : List CellPlan) where
   -- a run of the cell at this phase registers it, where registration is tried
   abbrev pub registry_of_run : ℕ → ℕ → Registry → Registry
-  registry_of_run c p r = if tries_registration (cell_at cells c) p then after_register c r else r
+  registry_of_run c p r = if tries_registration (cell_at cells c).kind p then after_register c r else r
 
   -- the registry after this deed: a run registers its cell, a look takes the cells registered since the last one, and
   -- every other step of the exit takes the first cell left. A registration that is refused changes nothing

@@ -15,7 +15,7 @@ use Rattle.schedule_rules.specs.declared.step.Want.{Want}
 use Rattle.schedule_rules.specs.declared.step.Want.TheVariants.{Calls, Turns}
 use Rattle.schedule_rules.specs.declared.plan.Call.{Call}
 use Rattle.schedule_rules.specs.declared.plan.Call.TheVariants as call
-use Rattle.schedule_rules.specs.Kinds.{cell_at, is_parking}
+use Rattle.schedule_rules.specs.Kinds.{cell_at, tolerance_at, is_parking}
 use Rattle.schedule_rules.specs.Changes.{is_declined}
 use Rattle.schedule_rules.specs.History.{Event, accepts}
 use Rattle.schedule_rules.specs.Replay.{phase_at}
@@ -55,7 +55,7 @@ module _ (cells : List CellPlan) where
   -- a call that reads on, and is declined: its section is downgraded, and then the read lock is given back
   abbrev pub is_declined_read : List Event → ℕ → Want → Bool
   is_declined_read h c Turns = false
-  is_declined_read h c (Calls k) = reads_on k && is_declined (cell_at cells c) k (accepts h) (phase_at cells c h)
+  is_declined_read h c (Calls k) = reads_on k && is_declined (cell_at cells c).kind (tolerance_at cells c) k (accepts h) (phase_at cells c h)
 
   -- the attempt is such a call
   abbrev pub declines_read : List Event → Option Attempt → Bool

@@ -3,10 +3,11 @@ use Rattle.std.specs.Prelude.{ℕ, Bool, true, false, not, List, ◌==◌, ◌+�
 use Rattle.std.specs.declared.option.Option.{Option}
 use Rattle.std.specs.declared.option.Option.TheVariants.{None, Some}
 use Rattle.phase_bits.specs.Records.{most_readers}
+use Rattle.phase_locker.specs.declared.tickets.LockNature.{LockNature}
+use Rattle.phase_locker.specs.declared.tickets.LockNature.TheVariants as nature
 use Rattle.phase_locker.specs.declared.ways.How.{How}
 use Rattle.phase_locker.specs.declared.ways.How.TheVariants as how
 use Rattle.schedule_rules.specs.declared.plan.CellPlan.{CellPlan}
-use Rattle.schedule_rules.specs.Calls.{Nature, Reads, Writes}
 use Rattle.schedule_rules.specs.History.{Event, count}
 use Rattle.schedule_rules.specs.Sections.{runs_in, sections}
 use Rattle.schedule_rules.specs.Guards.{Guard, guards}
@@ -80,31 +81,31 @@ module _ (cells : List CellPlan) where
   holding c h = holding_with c h (waits cells h)
 
 -- a lock of this nature is barred
-abbrev pub is_barred : Option Nature → Holding → Bool
-is_barred None o = false
-is_barred (Some Reads) o = o.written || ((o.drained && (o.readers == 0)) || (o.readers == most_readers))
-is_barred (Some Writes) o = o.written || (o.drained || nat_lt 0 o.readers)
+abbrev pub is_barred : LockNature → Holding → Bool
+is_barred nature.None o = false
+is_barred nature.Read o = o.written || ((o.drained && (o.readers == 0)) || (o.readers == most_readers))
+is_barred nature.Write o = o.written || (o.drained || nat_lt 0 o.readers)
 
 -- the lock is one to write
-abbrev pub wants_to_write : Option Nature → Bool
-wants_to_write None = false
-wants_to_write (Some Reads) = false
-wants_to_write (Some Writes) = true
+abbrev pub wants_to_write : LockNature → Bool
+wants_to_write nature.None = false
+wants_to_write nature.Read = false
+wants_to_write nature.Write = true
 
 -- readers alone bar the lock, and it is one to write
-abbrev pub is_barred_by_readers : Option Nature → Holding → Bool
+abbrev pub is_barred_by_readers : LockNature → Holding → Bool
 is_barred_by_readers n o = wants_to_write n && (nat_lt 0 o.readers && (not o.written && not o.drained))
 
 -- what is kept, by the way of waiting and whether the call was woken: a share of the nature that is wanted, and a drain
 -- that wants to write and has no reader beside it
-abbrev pub keeps_way : How → Bool → Option Nature → ℕ → Bool
-keeps_way how.ParkedRead woken (Some Reads) readers = woken
-keeps_way how.ParkedWrite woken (Some Writes) readers = woken
-keeps_way how.Drain woken (Some Writes) readers = readers == 0
+abbrev pub keeps_way : How → Bool → LockNature → ℕ → Bool
+keeps_way how.ParkedRead woken nature.Read readers = woken
+keeps_way how.ParkedWrite woken nature.Write readers = woken
+keeps_way how.Drain woken nature.Write readers = readers == 0
 keeps_way _ woken n readers = false
 
 -- the waiting call keeps its share or its drain
-abbrev pub keeps : Option Wait → Option Nature → ℕ → Bool
+abbrev pub keeps : Option Wait → LockNature → ℕ → Bool
 keeps None n readers = false
 keeps (Some w) n readers = keeps_way w.way w.woken n readers
 

@@ -17,6 +17,7 @@ pub mod Gifts
 pub mod Legal
 pub mod Core
 pub mod Transcripts
+pub mod Causes
 pub mod Laws
 pub use Rattle.phase_bits.specs.Number
 pub use Rattle.phase_bits.specs.Flags

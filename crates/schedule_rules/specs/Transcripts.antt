@@ -52,7 +52,7 @@ names_known_cell cells act.FinishFailed = true
 names_known_cell cells act.Exit = true
 
 -- the party and the cell that a step names are among so many
-pub record IsKnown (parties cells : ℕ) (s : Step) : Type 0 where
+pub record NamesKnown (parties cells : ℕ) (s : Step) : Type 0 where
   pub party : s.party < parties
   pub cell : IsTrue (names_known_cell cells s.act)
 
@@ -63,7 +63,7 @@ most_parties = 2 ^ 20
 -- a schedule that can be run
 pub record IsValid (x : Schedule) : Type 0 where
   pub parties : x.parties < most_parties
-  pub known : All (IsKnown x.parties (length x.cells)) x.steps
+  pub known : All (NamesKnown x.parties (length x.cells)) x.steps
   pub cells_count : length x.cells < 2 ^ 32
   pub steps_count : length x.steps < 2 ^ 32
 

@@ -1,6 +1,6 @@
 //! Laws of the definitions, for every history. Each is the contract of a function that does nothing.
 
-ghost use Rattle.std.specs.Prelude.{ℕ, Bool, List, ◌∷◌, ◌≡◌, ◌≢◌, ◌≤◌, ◌<◌, ◌&&◌, ◌||◌, ◌⊎◌, is_none, true, false, if◌then◌else◌};
+ghost use Rattle.std.specs.Prelude.{ℕ, Bool, List, ◌∷◌, ◌≡◌, ◌≢◌, ◌≤◌, ◌<◌, ◌+◌, ◌&&◌, ◌||◌, ◌⊎◌, ◌++◌, length, is_none, is_some, true, false, if◌then◌else◌};
 ghost use Rattle.std.specs.declared.option.Option.TheVariants.{Some};
 ghost use Rattle.phase_bits.specs.declared.phase.Phase.{Phase};
 ghost use Rattle.phase_bits.specs.Records.{bars_read, bars_write};
@@ -12,34 +12,53 @@ ghost use Rattle.schedule_rules.specs.declared.line.Line.{Line};
 ghost use Rattle.schedule_rules.specs.declared.line.Refusal.{Refusal};
 ghost use Rattle.schedule_rules.specs.declared.line.Answer.TheVariants as answer;
 ghost use Rattle.schedule_rules.specs.declared.plan.Call.TheVariants as call;
-ghost use Rattle.schedule_rules.specs.Calls.{Reads, Writes};
-ghost use Rattle.schedule_rules.specs.declared.step.Want.TheVariants.{Calls};
+ghost use Rattle.phase_locker.specs.declared.tickets.LockNature.TheVariants as nature;
+ghost use Rattle.schedule_rules.specs.declared.step.Want.TheVariants.{Calls, Turns};
 ghost use Rattle.schedule_rules.specs.Refusals.{refusal};
 ghost use Rattle.schedule_rules.specs.History.{Event, accepts, is_closed};
 ghost use Rattle.schedule_rules.specs.Kinds.{cell_at, is_finalizable};
-ghost use Rattle.schedule_rules.specs.Sections.{runs};
-ghost use Rattle.schedule_rules.specs.Waits.{Attempt, attempt, Wait, cell_concerned};
-ghost use Rattle.schedule_rules.specs.Holds.{readers_with, writers_with, holding, holding_with, is_barred};
+ghost use Rattle.schedule_rules.specs.Sections.{Section, innermost, is_turn, runs, sections};
+ghost use Rattle.schedule_rules.specs.Changes.{effect};
+ghost use Rattle.schedule_rules.specs.Guards.{Guard, numbered, reader, guards};
+ghost use Rattle.schedule_rules.specs.Gifts.{turns_to_read};
+ghost use Rattle.schedule_rules.specs.Waits.{Attempt, attempt, Wait, wait_of, waits, cell_concerned};
+ghost use Rattle.schedule_rules.specs.Calls.{initializes};
+ghost use Rattle.schedule_rules.specs.declared.step.Act.TheVariants as act;
+ghost use Rattle.schedule_rules.specs.Holds.{read_guards, write_holds, readers_with, writers_with, holding, holding_with, is_barred};
 ghost use Rattle.schedule_rules.specs.Core.{core, core_with};
 ghost use Rattle.schedule_rules.specs.Due.{keeps_own, due_attempt};
 ghost use Rattle.schedule_rules.specs.Legal.{IsLegal, IsLegalLine, IsExclusive};
-ghost use Rattle.schedule_rules.specs.Replay.{phase_at};
+ghost use Rattle.schedule_rules.specs.Replay.{replay, phase_at, inside};
 ghost use Rattle.phase_bits.specs.Flags.{has, initialized};
+ghost use Rattle.schedule_rules.specs.Causes.{
+  is_waiting,
+  is_borrowed,
+  is_failed,
+  is_running,
+  is_access,
+  is_cyclic,
+  is_finalizing,
+  is_skipped,
+  is_round,
+  is_closing,
+  is_failure,
+  is_barred_step,
+  is_running_step,
+  is_access_step,
+  is_turn_step,
+  is_cyclic_step,
+  is_round_step,
+  is_closing_step,
+  is_borrowing_step,
+};
 ghost use Rattle.schedule_rules.specs.Laws.{
   ChangesNothing,
   IsWithoutEffect,
   KeepsValues,
   IsTurnedAway,
   IsFailedRun,
-  IsSteady,
-  is_waiting,
-  is_borrowed,
-  is_failed,
-  is_failure,
-  is_running,
-  is_barred_step,
-  is_asking_step,
-  is_borrowing_step,
+  GivesBack,
+  read_at,
   NoneParks,
   successes,
   tries_to_register,
@@ -48,16 +67,19 @@ ghost use Rattle.schedule_rules.specs.Laws.{
   TurnsWhere,
   IsEndedTurn,
   turns_of,
+  turns_at_hand,
+  IsAsAt,
 };
 ghost use Rattle.schedule_rules.specs.Exits.{finishing};
 ghost use Rattle.exit_registry.specs.Registry.{is_known};
 ghost use Rattle.exit_registry.specs.Exits.{closed};
-ghost use Rattle.phase_seq.specs.Phases.{final_outcome};
-ghost use Rattle.schedule_rules.specs.Exits.{registry, NoneBusy};
+ghost use Rattle.phase_bits.specs.Number.{phase_of};
+ghost use Rattle.phase_seq.specs.Phases.{final_outcome, flags_refused};
+ghost use Rattle.schedule_rules.specs.Exits.{registry, ended_turns, NoneBusy};
 ghost use Rattle.schedule_rules.specs.Transcripts.{Schedule, Account, IsLegalTranscript};
 
-/// A refused step leaves all sections, guards and waiting calls with their shares and drains, and every published phase
-/// and value, as they were. Where its line is legal, it gives nothing.
+/// A refused step leaves all sections, guards and waiting calls with their shares and drains, every published phase and
+/// value, and all of the exit, as they were. Where its line is legal, it gives nothing.
 pub fn refused_steps_change_nothing()
     ensures changes { (cells : List CellPlan) (h : List Event) (s : Step) (r : Refusal) (g : Given) →
         ChangesNothing cells h (record { step = s; line = record { answer = answer.Refused r; given = g } }) }
@@ -81,7 +103,31 @@ pub fn steps_wait_exactly_where_barred()
 /// that is registered is registered, or puts up with not being it.
 pub fn steps_run_exactly_where_asked()
     ensures { (cells : List CellPlan) (h : List Event) (s : Step) (l : Line) →
-        (legal : IsLegalLine cells h s l) → is_running l.answer ≡ is_asking_step cells h s l.given legal.moment }
+        (legal : IsLegalLine cells h s l) → is_running l.answer ≡ is_running_step cells h s l.given legal.moment }
+{}
+
+/// Each of these answers comes exactly by its cause, at a step that is not refused. Cyclic: the call asks for a run of the
+/// generator that its own party runs. Access: the call is neither cyclic nor barred, and asks for a run that runs no
+/// generator, or asks for none and wants a lock of a cell whose value may not be accessed. Finalizing and Skipped, with the
+/// number of the cell: the turn of this cell is not barred, and its value is there, or is not.
+pub fn answers_come_exactly_by_their_causes()
+    ensures cyclic { (cells : List CellPlan) (h : List Event) (s : Step) (l : Line) →
+        IsLegalLine cells h s l → is_cyclic l.answer ≡ is_cyclic_step cells h s }
+    ensures access { (cells : List CellPlan) (h : List Event) (s : Step) (l : Line) →
+        (legal : IsLegalLine cells h s l) → is_access l.answer ≡ is_access_step cells h s l.given legal.moment }
+    ensures finalizing { (cells : List CellPlan) (h : List Event) (s : Step) (l : Line) →
+        (legal : IsLegalLine cells h s l) → (c : ℕ) → is_finalizing c l.answer ≡ is_turn_step cells c true h s l.given legal.moment }
+    ensures skipped { (cells : List CellPlan) (h : List Event) (s : Step) (l : Line) →
+        (legal : IsLegalLine cells h s l) → (c : ℕ) → is_skipped c l.answer ≡ is_turn_step cells c false h s l.given legal.moment }
+{}
+
+/// A look answers with the number of the cells registered since the last look, and that there is none exactly where there
+/// is none. A step looks where it is an Exit that is not refused, and no cell is left of the round.
+pub fn looks_tell_what_is_registered()
+    ensures round { (cells : List CellPlan) (h : List Event) (s : Step) (l : Line) →
+        IsLegalLine cells h s l → (n : ℕ) → is_round n l.answer ≡ is_round_step cells n h s }
+    ensures closed { (cells : List CellPlan) (h : List Event) (s : Step) (l : Line) →
+        IsLegalLine cells h s l → is_closing l.answer ≡ is_closing_step cells h s }
 {}
 
 /// A call for the phase begins no run of a generator, whatever the phase is.
@@ -133,21 +179,42 @@ pub fn holds_exclude_each_other()
 /// its share or its drain is not barred at all.
 pub fn records_bar_what_rules_bar()
     ensures reads { (cells : List CellPlan) (h : List Event) (c : ℕ) → IsExclusive cells h c →
-        is_barred (Some Reads) (holding cells c h) ≡ bars_read (core cells c h) }
+        is_barred nature.Read (holding cells c h) ≡ bars_read (core cells c h) }
     ensures writes { (cells : List CellPlan) (h : List Event) (c : ℕ) →
-        is_barred (Some Writes) (holding cells c h) ≡ bars_write (core cells c h) }
+        is_barred nature.Write (holding cells c h) ≡ bars_write (core cells c h) }
     ensures reads_with { (cells : List CellPlan) (h : List Event) (c : ℕ) (ws : List Wait) →
         (0 < writers_with c h ws → readers_with c h ws ≡ 0) →
-        is_barred (Some Reads) (holding_with c h ws) ≡ bars_read (core_with cells c h ws) }
+        is_barred nature.Read (holding_with c h ws) ≡ bars_read (core_with cells c h ws) }
     ensures writes_with { (cells : List CellPlan) (h : List Event) (c : ℕ) (ws : List Wait) →
-        is_barred (Some Writes) (holding_with c h ws) ≡ bars_write (core_with cells c h ws) }
+        is_barred nature.Write (holding_with c h ws) ≡ bars_write (core_with cells c h ws) }
     ensures kept { (cells : List CellPlan) (h : List Event) (p : ℕ) (a : Attempt) (ws : List Wait) (chosen : Bool) →
         keeps_own cells h p a ≡ true → is_waiting (due_attempt cells h p a ws chosen) ≡ false }
 {}
 
-/// What is open was opened before now, and nothing of its cell was given back since. The latest guard stands first.
-pub fn open_things_are_steady()
-    ensures { (cells : List CellPlan) (h : List Event) → IsLegal cells h → IsSteady cells h }
+/// The published phase of a cell changes only where a section of the cell is given back, and never while a guard to read
+/// the cell is open.
+pub fn phases_change_where_sections_end()
+    ensures { (cells : List CellPlan) (h : List Event) (e : Event) (c : ℕ) → IsLegal cells (e ∷ h) →
+        phase_at cells c (e ∷ h) ≢ phase_at cells c h → GivesBack cells h e c × (read_guards c h ≡ 0) }
+{}
+
+/// A downgrade of a guard, and the value that the generator of a read made, open a guard to read, with the number of their
+/// step. From there until that guard is released, whatever else happens, no section of its cell runs and no guard writes it.
+pub fn downgrades_keep_sections_out()
+    ensures opens { (cells : List CellPlan) (h : List Event) (s : Step) (g : Given) (c : ℕ) →
+        turns_to_read s.act ≡ true → cell_concerned cells h s ≡ Some c →
+        numbered (length h) (guards (read_at s g ∷ h)) ≡ Some (reader (length h) s.party c) }
+    ensures keeps_out { (cells : List CellPlan) (h later : List Event) (s : Step) (g : Given) (c : ℕ) →
+        IsLegal cells (later ++ read_at s g ∷ h) → turns_to_read s.act ≡ true → cell_concerned cells h s ≡ Some c →
+        is_some (numbered (length h) (guards (later ++ read_at s g ∷ h))) ≡ true →
+        write_holds c (later ++ read_at s g ∷ h) ≡ 0 }
+{}
+
+/// What an open guard shows has a value: its own section's, where it writes, and else the published one. So a look always
+/// answers with a value that is there.
+pub fn shown_values_are_there()
+    ensures { (cells : List CellPlan) (h : List Event) (g : ℕ) (x : Guard) → IsLegal cells h → numbered g (guards h) ≡ Some x →
+        is_some (if x.writes then inside cells h x else replay cells x.cell h).value ≡ true }
 {}
 
 /// INITIALIZED is never cleared.
@@ -183,15 +250,22 @@ pub fn generators_succeed_once()
     ensures { (cells : List CellPlan) (h : List Event) (c : ℕ) → IsLegal cells h → successes c h ≤ 1 }
 {}
 
-/// Registration for the exit is tried at most once at a cell, and then the cell was not registered before. A cell is
-/// registered exactly by the step that tries it, where cells may still be registered.
+/// Registration for the exit is tried exactly where a step is not refused, its attempt is neither cyclic nor barred, and it
+/// asks for a run of a cell that is to be registered, on the empty phase (`tries_to_register`). Then the run begins, or the
+/// call is declined. It is tried at most once at a cell, which was not registered before. A cell is registered exactly by the
+/// step that tries it, where cells may still be registered.
 pub fn registration_is_tried_once()
+    ensures answers { (cells : List CellPlan) (h : List Event) (s : Step) (l : Line) (c : ℕ) →
+        (legal : IsLegalLine cells h s l) → tries_to_register cells c h s l.given legal.moment ≡ true →
+        (l.answer ≡ answer.Running) ⊎ (l.answer ≡ answer.Access (phase_of flags_refused)) }
     ensures unknown { (cells : List CellPlan) (h : List Event) (s : Step) (l : Line) (c : ℕ) → IsLegal cells h →
-        IsLegalLine cells h s l → tries_to_register cells c h s l.answer ≡ true → is_known (registry cells h) c ≡ false }
-    ensures once { (cells : List CellPlan) (h : List Event) (c : ℕ) → IsLegal cells h → registrations cells c h ≤ 1 }
-    ensures registers { (cells : List CellPlan) (h : List Event) (e : Event) (c : ℕ) → IsLegal cells (e ∷ h) →
+        (legal : IsLegalLine cells h s l) → tries_to_register cells c h s l.given legal.moment ≡ true →
+        is_known (registry cells h) c ≡ false }
+    ensures once { (cells : List CellPlan) (h : List Event) (c : ℕ) → (legal : IsLegal cells h) →
+        registrations cells c h legal ≤ 1 }
+    ensures registers { (cells : List CellPlan) (h : List Event) (e : Event) (c : ℕ) → (legal : IsLegal cells (e ∷ h)) →
         is_known (registry cells (e ∷ h)) c ≡
-        (is_known (registry cells h) c || (tries_to_register cells c h e.step e.line.answer && accepts h)) }
+        (is_known (registry cells h) c || (tries_to_register cells c h e.step e.line.given legal.0.moment && accepts h)) }
 {}
 
 /// Of a cell of a kind that is registered, a phase that is not empty has REGISTERED where the cell is registered, and
@@ -252,4 +326,36 @@ pub fn registered_cells_have_one_turn()
 /// No turn of a legal transcript is Busy: each is done, skipped or failed, and has a text.
 pub fn no_turn_is_busy()
     ensures { (x : Schedule) (t : Account) → IsLegalTranscript x t → NoneBusy t.exits }
+{}
+
+/// The turns to come, those that wait, those that go on and those that ended are together at most as many as the cells.
+/// So fewer turns ended than there are cells, where a finalizer runs and where a step takes a turn or goes on with one.
+pub fn turns_have_room()
+    ensures all { (cells : List CellPlan) (h : List Event) → IsLegal cells h →
+        turns_at_hand cells h + length (ended_turns h) ≤ length cells }
+    ensures runs { (cells : List CellPlan) (h : List Event) (p : ℕ) (s : Section) → IsLegal cells h →
+        innermost p (sections h) ≡ Some s → is_turn s.want ≡ true → length (ended_turns h) < length cells }
+    ensures taken { (cells : List CellPlan) (h : List Event) (s : Step) (c : ℕ) → IsLegal cells h →
+        attempt cells h s ≡ Some (record { cell = c; want = Turns }) → length (ended_turns h) < length cells }
+{}
+
+/// What is published of a cell stays while a section of it is open: it is what was published there before the step that
+/// opened the section. So the holder of a write guard sees what happened in its section, on what is published.
+pub fn write_guards_stand_on_what_is_published()
+    ensures sections { (cells : List CellPlan) (h : List Event) (p : ℕ) (s : Section) → IsLegal cells h →
+        innermost p (sections h) ≡ Some s → IsAsAt cells h s.cell s.start }
+    ensures guards { (cells : List CellPlan) (h : List Event) (g : ℕ) (x : Guard) → IsLegal cells h →
+        numbered g (guards h) ≡ Some x → x.writes ≡ true → IsAsAt cells h x.cell x.start }
+    ensures shows { (cells : List CellPlan) (h : List Event) (g : ℕ) (x : Guard) → IsLegal cells h →
+        numbered g (guards h) ≡ Some x → x.writes ≡ true →
+        inside cells h x ≡ effect (cell_at cells x.cell) x.changes (replay cells x.cell h) }
+{}
+
+/// A call that waits asks for no run of a generator that its own party is running. So an Again is never turned back as
+/// cyclic.
+pub fn waiting_calls_are_not_cyclic()
+    ensures waits { (cells : List CellPlan) (h : List Event) (p : ℕ) (w : Wait) → IsLegal cells h →
+        wait_of p (waits cells h) ≡ Some w → (initializes w.want && runs p w.cell h) ≡ false }
+    ensures again { (cells : List CellPlan) (h : List Event) (s : Step) (l : Line) → IsLegal cells h →
+        IsLegalLine cells h s l → s.act ≡ act.Again → l.answer ≢ answer.Cyclic }
 {}

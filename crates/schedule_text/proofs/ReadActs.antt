@@ -2,13 +2,15 @@
 use Rattle.std.proofs.Common.{◌≡◌, ℕ, ◌^◌, ◌<◌, Bool, true, false, cond, eqb, List, [], ◌∷◌, ◌++◌, Option, Some, None, refl, sym, ap, ◌∙◌, append_assoc, arith}
 use Rattle.std.specs.Prelude.{codes}
 use Rattle.std.specs.Fmt.{decimal}
+use Rattle.std.specs.List.{AllByRecursion}
+use Rattle.schedule_rules.specs.declared.plan.Call.{Call}
 use Rattle.schedule_rules.specs.declared.plan.Call.TheVariants as call
 use Rattle.schedule_rules.specs.declared.step.Act.{Act}
 use Rattle.schedule_rules.specs.declared.step.Act.TheVariants as act
 use Rattle.schedule_text.specs.Lines.{Word}
-use Rattle.schedule_text.specs.ScheduleText.{ActFits}
+use Rattle.schedule_text.specs.ScheduleText.{call_name, ActFits}
 use Rattle.schedule_text.specs.ReadFields.{Field, ◌>>=◌, bytes_after, number_at, name_at}
-use Rattle.schedule_text.specs.ReadSteps.{act_text, last_number_at, last_name_at, call_at, release_at, read_else, made_failed_at, value_at, made_else, look_at, set_at, downgrade_at, clone_at, again_at, phase_at, write_at, read_or_release_at, made_at, finish_failed_at, finished_else, finished_at, exit_at, act_at}
+use Rattle.schedule_text.specs.ReadSteps.{act_text, last_number_at, last_name_at, call_at, call_table, word_else, first_word, call_else, called_at, called_or_release_at, release_at, made_failed_at, value_at, made_else, look_at, set_at, downgrade_at, clone_at, again_at, made_at, finish_failed_at, finished_else, finished_at, exit_at, act_at}
 use Rattle.schedule_text.proofs.ReadWords.{bind_some, carry, word_takes}
 use Rattle.schedule_text.proofs.ReadNumbers.{number_takes, number_again, name_takes, name_again}
 
@@ -75,13 +77,36 @@ named word make bytes a rest takes e =
     let t = last_name_takes s.0 n.0.0 n.0.1 n.1 in
     carry (TakesAct bytes) (make n.0.0) a n.0.1 rest n.2 (takes n.0.0 n.0.1 t.1 (behind word bytes s.0 (ended n.0.0 ++ n.0.1) w t.0))
 
-phase_takes : (bytes : List ℕ) (a : Act) (rest : List ℕ) → phase_at bytes ≡ Some (a, rest) → TakesAct bytes a rest
-unfolding phase_at call_at act_text
-phase_takes bytes a rest e = named (codes "phase ") (λ c. act.Call c call.Phase) bytes a rest (λ n rest lt e. record { spelling = e; fits = lt }) e
+-- each row of the table has the name of its call, and a space
+abbrev IsNamed : Word × Call → Type 0
+IsNamed row = row.0 ≡ call_name row.1 ++ (32 ∷ [])
 
-write_takes : (bytes : List ℕ) (a : Act) (rest : List ℕ) → write_at bytes ≡ Some (a, rest) → TakesAct bytes a rest
-unfolding write_at call_at act_text
-write_takes bytes a rest e = named (codes "write ") (λ c. act.Call c call.Write) bytes a rest (λ n rest lt e. record { spelling = e; fits = lt }) e
+-- the word that was found is that of the call
+call_found : (rows : List (Word × Call)) (bytes : List ℕ) (k : Call) (start : List ℕ) → AllByRecursion IsNamed rows → first_word rows bytes ≡ Some (k, start) → bytes ≡ call_name k ++ (32 ∷ start)
+call_found [] bytes k start names e = absurd cc
+call_found (row ∷ rows) bytes k start names e = by (bytes_after row.0 bytes) refl e (λ g. call_found rows bytes k start names.1 g)
+  where
+    by : (o : Option (List ℕ)) → bytes_after row.0 bytes ≡ o → word_else o row.1 (first_word rows bytes) ≡ Some (k, start) → (first_word rows bytes ≡ Some (k, start) → bytes ≡ call_name k ++ (32 ∷ start))
+        → bytes ≡ call_name k ++ (32 ∷ start)
+    by None f g rest = rest g
+    by (Some after) f g rest =
+        carry (λ (j : Call) (rest : List ℕ). bytes ≡ call_name j ++ (32 ∷ rest)) row.1 k after start g
+        (word_takes row.0 bytes after f ∙ ap (λ (w : List ℕ). w ++ after) names.0 ∙ append_assoc (call_name row.1) (32 ∷ []) after)
+
+-- a call, and the number of its cell
+called_takes : (bytes : List ℕ) (k : Call) (start : List ℕ) (a : Act) (rest : List ℕ) → first_word call_table bytes ≡ Some (k, start) → call_at k start ≡ Some (a, rest) → TakesAct bytes a rest
+unfolding call_at act_text
+called_takes bytes k start a rest f e =
+    let n = bind_some (last_name_at start) (found (λ c. act.Call c k)) (a, rest) e in
+    let t = last_name_takes start n.0.0 n.0.1 n.1 in
+    let word : bytes ≡ call_name k ++ (32 ∷ start) = call_found call_table bytes k start (refl, (refl, (refl, tt))) f in
+    carry (TakesAct bytes) (act.Call n.0.0 k) a n.0.1 rest n.2
+    (record { spelling = word ∙ ap (λ (x : List ℕ). call_name k ++ (32 ∷ x)) t.0 ∙ sym (append_assoc (call_name k) (32 ∷ ended n.0.0) n.0.1); fits = t.1 })
+
+call_takes : (bytes : List ℕ) (a : Act) (rest : List ℕ) → called_at bytes ≡ Some (a, rest) → TakesAct bytes a rest
+unfolding called_at
+call_takes bytes a rest e =
+    let k = bind_some (first_word call_table bytes) (λ k. call_at k.0 k.1) (a, rest) e in called_takes bytes k.0.0 k.0.1 a rest k.1 k.2
 
 look_takes : (bytes : List ℕ) (a : Act) (rest : List ℕ) → look_at bytes ≡ Some (a, rest) → TakesAct bytes a rest
 unfolding look_at act_text
@@ -99,11 +124,9 @@ clone_takes : (bytes : List ℕ) (a : Act) (rest : List ℕ) → clone_at bytes 
 unfolding clone_at act_text
 clone_takes bytes a rest e = named (codes "clone ") (λ g. act.Clone g) bytes a rest (λ n rest lt e. record { spelling = e; fits = lt }) e
 
-read_takes : (bytes : List ℕ) (o : Option (List ℕ)) (a : Act) (rest : List ℕ) → bytes_after (codes "read ") bytes ≡ o → read_else o bytes ≡ Some (a, rest) → TakesAct bytes a rest
-unfolding call_at act_text
-read_takes bytes None a rest at e = release_takes bytes a rest e
-read_takes bytes (Some start) a rest at e =
-    named (codes "read ") (λ c. act.Call c call.Read) bytes a rest (λ n rest lt e. record { spelling = e; fits = lt }) (rw at e)
+call_or_release_takes : (bytes : List ℕ) (o : Field Call) (a : Act) (rest : List ℕ) → first_word call_table bytes ≡ o → call_else o bytes ≡ Some (a, rest) → TakesAct bytes a rest
+call_or_release_takes bytes None a rest at e = release_takes bytes a rest e
+call_or_release_takes bytes (Some k) a rest at e = called_takes bytes k.0 k.1 a rest at e
 
 abbrev just : Act → List ℕ → Field Act
 just made rest = Some (made, rest)
@@ -167,14 +190,12 @@ pick true x y z P e f g = f e
 pick false x y z P e f g = g e
 
 pub act_takes : (bytes : List ℕ) (a : Act) (rest : List ℕ) → act_at bytes ≡ Some (a, rest) → TakesAct bytes a rest
-unfolding act_at read_or_release_at made_at finished_at
+unfolding act_at called_or_release_at made_at finished_at
 act_takes [] a rest e = absurd cc
 act_takes (b ∷ bs) a rest e =
     let bytes : List ℕ = b ∷ bs in
     let P : Type 0 = TakesAct bytes a rest in
-    pick (eqb b 112) (phase_at bytes) _ (a, rest) P e (phase_takes bytes a rest) (λ e.
-    pick (eqb b 114) (read_or_release_at bytes) _ (a, rest) P e (read_takes bytes (bytes_after (codes "read ") bytes) a rest refl) (λ e.
-    pick (eqb b 119) (write_at bytes) _ (a, rest) P e (write_takes bytes a rest) (λ e.
+    pick (eqb b 114) (called_or_release_at bytes) _ (a, rest) P e (call_or_release_takes bytes (first_word call_table bytes) a rest refl) (λ e.
     pick (eqb b 97) (again_at bytes) _ (a, rest) P e (again_takes bytes a rest) (λ e.
     pick (eqb b 109) (made_at bytes) _ (a, rest) P e (made_takes bytes (bytes_after (codes "made ") bytes) a rest refl) (λ e.
     pick (eqb b 108) (look_at bytes) _ (a, rest) P e (look_takes bytes a rest) (λ e.
@@ -182,12 +203,12 @@ act_takes (b ∷ bs) a rest e =
     pick (eqb b 100) (downgrade_at bytes) _ (a, rest) P e (downgrade_takes bytes a rest) (λ e.
     pick (eqb b 99) (clone_at bytes) _ (a, rest) P e (clone_takes bytes a rest) (λ e.
     pick (eqb b 101) (exit_at bytes) _ (a, rest) P e (exit_takes bytes a rest) (λ e.
-    pick (eqb b 102) (finished_at bytes) _ (a, rest) P e (finished_takes bytes (bytes_after (codes "finished\n") bytes) a rest refl) (λ e. absurd cc)))))))))))
+    pick (eqb b 102) (finished_at bytes) _ (a, rest) P e (finished_takes bytes (bytes_after (codes "finished\n") bytes) a rest refl) (call_takes bytes a rest)))))))))
 
 -- ---- what is spelled is read
 
 pub act_again : (a : Act) (more : List ℕ) → ActFits a → act_at (act_text a ++ more) ≡ Some (a, more)
-unfolding act_at act_text bytes_after phase_at call_at write_at read_or_release_at release_at again_at made_at value_at made_failed_at look_at set_at downgrade_at clone_at finished_at finish_failed_at exit_at
+unfolding act_at act_text bytes_after called_at call_at called_or_release_at release_at again_at made_at value_at made_failed_at look_at set_at downgrade_at clone_at finished_at finish_failed_at exit_at
 act_again (act.Call c call.Phase) more fits = rw (last_name_again c more fits) refl
 act_again (act.Call c call.Read) more fits = rw (last_name_again c more fits) refl
 act_again (act.Call c call.Write) more fits = rw (last_name_again c more fits) refl

@@ -40,6 +40,20 @@ last_name_at bytes = do
   rest ← bytes_after (codes "\n") n.1
   Some (n.0, rest)
 
+-- the words of the calls, each with the space behind it, in the order in which they are tried
+abbrev pub call_table : List (Word × Call)
+call_table = (codes "phase ", call.Phase) ∷ (codes "read ", call.Read) ∷ (codes "write ", call.Write) ∷ []
+
+-- this, where its word was found, and else the other
+abbrev pub word_else : {A : Type 0} → Option (List ℕ) → A → Field A → Field A
+word_else (Some rest) a other = Some (a, rest)
+word_else None a other = other
+
+-- what the first word of a table stands for that is at the front
+abbrev pub first_word : {A : Type 0} → List (Word × A) → List ℕ → Field A
+first_word [] bytes = None
+first_word (row ∷ rows) bytes = word_else (bytes_after row.0 bytes) row.1 (first_word rows bytes)
+
 -- the cell of a call
 unfoldable pub call_at : Call → List ℕ → Field Act
 call_at k bytes = do
@@ -66,11 +80,6 @@ clone_at bytes = do
   rest ← bytes_after (codes "clone ") bytes
   g ← last_name_at rest
   Some (act.Clone g.0, g.1)
-
--- a call to read, or else the release of a guard
-abbrev pub read_else : Option (List ℕ) → List ℕ → Field Act
-read_else (Some rest) bytes = call_at call.Read rest
-read_else None bytes = release_at bytes
 
 -- that the generator failed
 unfoldable pub made_failed_at : List ℕ → Field Act
@@ -111,21 +120,20 @@ again_at bytes = do
   rest ← bytes_after (codes "again\n") bytes
   Some (act.Again, rest)
 
--- a call for the phase
-unfoldable pub phase_at : List ℕ → Field Act
-phase_at bytes = do
-  rest ← bytes_after (codes "phase ") bytes
-  call_at call.Phase rest
+-- a call: its word and its cell
+unfoldable pub called_at : List ℕ → Field Act
+called_at bytes = do
+  k ← first_word call_table bytes
+  call_at k.0 k.1
 
--- a call to write
-unfoldable pub write_at : List ℕ → Field Act
-write_at bytes = do
-  rest ← bytes_after (codes "write ") bytes
-  call_at call.Write rest
+-- a call that was found, or else the release of a guard
+abbrev pub call_else : Field Call → List ℕ → Field Act
+call_else (Some k) bytes = call_at k.0 k.1
+call_else None bytes = release_at bytes
 
--- a call to read, or else the release of a guard, which begins with the same letter
-unfoldable pub read_or_release_at : List ℕ → Field Act
-read_or_release_at bytes = read_else (bytes_after (codes "read ") bytes) bytes
+-- a call, or else the release of a guard, which begins with the letter of a call
+unfoldable pub called_or_release_at : List ℕ → Field Act
+called_or_release_at bytes = call_else (first_word call_table bytes) bytes
 
 -- the outcome of a generator
 unfoldable pub made_at : List ℕ → Field Act
@@ -152,13 +160,11 @@ exit_at bytes = do
   rest ← bytes_after (codes "exit\n") bytes
   Some (act.Exit, rest)
 
--- an act is told by its first letter
+-- an act that is no call is told by its first letter
 unfoldable pub act_at : List ℕ → Field Act
 act_at [] = None
 act_at (b ∷ bytes) =
-    if b == 112 then phase_at (b ∷ bytes)
-    else (if b == 114 then read_or_release_at (b ∷ bytes)
-    else (if b == 119 then write_at (b ∷ bytes)
+    if b == 114 then called_or_release_at (b ∷ bytes)
     else (if b == 97 then again_at (b ∷ bytes)
     else (if b == 109 then made_at (b ∷ bytes)
     else (if b == 108 then look_at (b ∷ bytes)
@@ -167,7 +173,7 @@ act_at (b ∷ bytes) =
     else (if b == 99 then clone_at (b ∷ bytes)
     else (if b == 101 then exit_at (b ∷ bytes)
     else (if b == 102 then finished_at (b ∷ bytes)
-    else None))))))))))
+    else called_at (b ∷ bytes)))))))))
 
 -- a step: its party and its act
 unfoldable pub step_at : List ℕ → Field Step

@@ -70,6 +70,10 @@ schedule_lines x =
     (codes "schedule" ∷ codes "1" ∷ []) ∷ (codes "parties" ∷ decimal x.parties ∷ [])
     ∷ (map cell_words x.cells ++ ((codes "steps" ∷ []) ∷ (map step_words x.steps ++ ((codes "end" ∷ []) ∷ []))))
 
+-- a text that is read has at most this many bytes
+abbrev pub most_bytes : ℕ
+most_bytes = 2 ^ 24
+
 -- the text of a schedule. Each schedule has just this one
 abbrev pub schedule_text : Schedule → List ℕ
 schedule_text x = lines_text (schedule_lines x)

@@ -1,8 +1,8 @@
 //! Reads a schedule from its text.
 
-ghost use Rattle.std.specs.Prelude.{◌≡◌, ◌≤◌, ◌^◌, length, IfOk, IfErr, MatchResult};
+ghost use Rattle.std.specs.Prelude.{◌≡◌, ◌≤◌, length, IfOk, IfErr, MatchResult};
 ghost use Rattle.schedule_rules.specs.Transcripts.{Schedule, schedule_of};
-ghost use Rattle.schedule_text.specs.ScheduleText.{Spells};
+ghost use Rattle.schedule_text.specs.ScheduleText.{Spells, most_bytes};
 ghost use Rattle.schedule_text.specs.Reading.{IsMemory, IsUnnumbered};
 ghost use Rattle.schedule_text.specs.declared.read.ReadError.TheVariants.{Memory};
 
@@ -35,7 +35,7 @@ impl From<AllocError> for ReadError {
 
 /// Reads the schedule that the text spells. It passes over the bytes once.
 pub fn read_schedule(alloc: Global, text: &[u8]) -> Result<(Plan, Vec<Step>), ReadError>
-    requires { length text.now ≤ 2 ^ 24 }
+    requires { length text.now ≤ most_bytes }
     // What is read is spelled so.
     ensures found { IfOk result (λ r. Spells text.now (schedule_of r.0 r.1.items)) }
     // What spells a schedule is read as that one, unless memory runs out.

@@ -1,15 +1,14 @@
 //! The attempt of a call, and what it begins.
 
-ghost use Rattle.std.specs.Prelude.{◌≡◌, ◌≢◌, ◌+◌, ◌<◌, ◌&&◌, true, false, length};
-ghost use Rattle.phase_locker.specs.Rows.{row_of, SameSize};
-ghost use Rattle.phase_locker.specs.Fits.{Fits, IsWriteOpen, open_reads};
-ghost use Rattle.phase_locker.specs.Others.{OthersStay, RowsStayBeside};
-ghost use Rattle.phase_locker.specs.declared.ways.Waiting.TheVariants.{Free};
-ghost use Rattle.phase_seq.specs.declared.section.Section.{Section};
-ghost use Rattle.phase_seq.specs.Asks.{nature_of, asks_run, asks_final};
+ghost use Rattle.std.specs.Prelude.{◌≡◌, true, false};
+ghost use Rattle.phase_locker.specs.Fits.{Fits, IsWriteOpen};
+ghost use Rattle.phase_locker.specs.Others.{RowsStayBeside};
+ghost use Rattle.phase_locker.specs.Stands.{MayCall, MayCallAgain, Opens};
+ghost use Rattle.phase_locker.specs.Left.{Left};
+ghost use Rattle.phase_seq.specs.Asks.{nature_of};
 ghost use Rattle.phase_seq.specs.Begins.{Begins, Resumes, is_cyclic, begun_of, begun_by, begun_tried, running_after};
-ghost use Rattle.phase_seq.specs.Stands.{BegunStands, IsRunning, reads_begun};
-ghost use Rattle.phase_seq.specs.Exactly.{is_wait, is_missed, is_turned_back, is_run, is_final, is_admitted, shall_wait, shall_miss, shall_run, shall_finalize};
+ghost use Rattle.phase_seq.specs.Stands.{BegunStands, RunsAfter, reads_begun, opens_write};
+ghost use Rattle.phase_seq.specs.Exactly.{BeginsExactly, ResumesExactly, is_run};
 
 use crate::ask::Ask;
 use crate::section::{Begun, section_by};
@@ -23,28 +22,17 @@ impl<L: PhaseLocker, G> LazySequentializer<L, G> {
     /// A call of a party that does not wait, before any registration: that is the whole call on a cell without a registry.
     #[inline(always)]
     pub(crate) fn enter(&mut self, parks: &mut Parks, who: Who, ask: Ask) -> (Begun, Given)
-        requires cell { who.cell < length parks.old.readers }
-        requires party { who.party < length parks.old.rows }
-        requires free { (row_of parks.old who.party).waiting ≡ Free }
+        requires calls { MayCall who parks.old }
         requires fits { Fits (L.place self.old.locker) (L.held self.old.locker) parks.old who.cell }
         ensures begins { Begins (L.place self.old.locker) who ask self.old.running (L.held self.old.locker) parks.old result (L.held self.new.locker) parks.new }
-        ensures waits { is_wait result.0 ≡ shall_wait who ask self.old.running (L.held self.old.locker) }
-        ensures missed { is_missed result.0 ≡ shall_miss who ask self.old.running (L.held self.old.locker) }
-        ensures cyclic { is_turned_back result.0 ≡ is_cyclic ask.want who.party self.old.running }
-        ensures runs { is_run result.0 ≡ shall_run who ask self.old.running (L.held self.old.locker) }
-        ensures finalizes { is_final result.0 ≡ shall_finalize ask (L.held self.old.locker) }
-        ensures running { self.new.running ≡ running_after result.0 self.old.running }
-        ensures others { OthersStay who.cell parks.old parks.new }
+        ensures exactly { BeginsExactly who ask self.old.running (L.held self.old.locker) false result.0 }
+        ensures running { RunsAfter who.cell result.0 self.old.running (L.held self.old.locker) parks.old self.new.running (L.held self.new.locker) parks.new }
         ensures rows { RowsStayBeside who.party who.cell parks.old parks.new }
         ensures stands { BegunStands who result.0 self.new.running (L.held self.new.locker) parks.new }
-        ensures reads { open_reads (L.held self.new.locker) parks.new who.cell ≡ open_reads (L.held self.old.locker) parks.old who.cell + reads_begun result.0 }
-        ensures writes { IsWriteOpen (L.held self.old.locker) parks.old who.cell → IsWriteOpen (L.held self.new.locker) parks.new who.cell }
-        ensures sections { (o : Section) → o.who.cell ≡ who.cell → IsRunning o self.old.running (L.held self.old.locker) parks.old → IsRunning o self.new.running (L.held self.new.locker) parks.new }
+        ensures opens { Opens who.cell (reads_begun result.0) (opens_write result.0) (L.held self.old.locker) parks.old (L.held self.new.locker) parks.new }
         ensures fresh { IsWriteOpen (L.held self.old.locker) parks.old who.cell → is_run result.0 ≡ false }
         ensures given { result.1 ≡ Given.Nobody }
-        ensures fits { Fits (L.place self.new.locker) (L.held self.new.locker) parks.new who.cell }
-        ensures place { L.place self.new.locker ≡ L.place self.old.locker }
-        ensures same { SameSize parks.old parks.new }
+        ensures left { Left L.held L.place who.cell self.old.locker self.new.locker parks.old parks.new }
     {
         if self.is_cyclic(who, ask) {
             return (Begun::Cyclic, Given::Nobody);
@@ -64,28 +52,18 @@ impl<L: PhaseLocker, G> LazySequentializer<L, G> {
     /// A call of a party that waits, before any registration: that is the whole call on a cell without a registry.
     #[inline(always)]
     pub(crate) fn resume(&mut self, parks: &mut Parks, who: Who, ask: Ask) -> (Begun, Given)
-        requires cell { who.cell < length parks.old.readers }
-        requires party { who.party < length parks.old.rows }
-        requires waits { (row_of parks.old who.party).waiting ≢ Free }
-        requires here { (row_of parks.old who.party).cell ≡ who.cell }
+        requires calls { MayCallAgain who parks.old }
         requires slow { ask.fast ≡ false }
         requires fits { Fits (L.place self.old.locker) (L.held self.old.locker) parks.old who.cell }
         ensures resumes { Resumes (L.place self.old.locker) who ask self.old.running (L.held self.old.locker) parks.old result (L.held self.new.locker) parks.new }
-        ensures cyclic { is_turned_back result.0 ≡ is_cyclic ask.want who.party self.old.running }
-        ensures runs { is_run result.0 ≡ (is_admitted result.0 && asks_run ask (L.held self.old.locker).phase) }
-        ensures finalizes { is_final result.0 ≡ (asks_final ask (L.held self.old.locker).phase && is_admitted result.0) }
-        ensures running { self.new.running ≡ running_after result.0 self.old.running }
-        ensures others { OthersStay who.cell parks.old parks.new }
+        ensures exactly { ResumesExactly who ask self.old.running (L.held self.old.locker) parks.old false result.0 }
+        ensures running { RunsAfter who.cell result.0 self.old.running (L.held self.old.locker) parks.old self.new.running (L.held self.new.locker) parks.new }
         ensures rows { RowsStayBeside who.party who.cell parks.old parks.new }
         ensures stands { BegunStands who result.0 self.new.running (L.held self.new.locker) parks.new }
-        ensures reads { open_reads (L.held self.new.locker) parks.new who.cell ≡ open_reads (L.held self.old.locker) parks.old who.cell + reads_begun result.0 }
-        ensures writes { IsWriteOpen (L.held self.old.locker) parks.old who.cell → IsWriteOpen (L.held self.new.locker) parks.new who.cell }
-        ensures sections { (o : Section) → o.who.cell ≡ who.cell → IsRunning o self.old.running (L.held self.old.locker) parks.old → IsRunning o self.new.running (L.held self.new.locker) parks.new }
+        ensures opens { Opens who.cell (reads_begun result.0) (opens_write result.0) (L.held self.old.locker) parks.old (L.held self.new.locker) parks.new }
         ensures fresh { IsWriteOpen (L.held self.old.locker) parks.old who.cell → is_run result.0 ≡ false }
         ensures quiet { is_run result.0 ≡ true → result.1 ≡ Given.Nobody }
-        ensures fits { Fits (L.place self.new.locker) (L.held self.new.locker) parks.new who.cell }
-        ensures place { L.place self.new.locker ≡ L.place self.old.locker }
-        ensures same { SameSize parks.old parks.new }
+        ensures left { Left L.held L.place who.cell self.old.locker self.new.locker parks.old parks.new }
     {
         if self.is_cyclic(who, ask) {
             return (Begun::Cyclic, Given::Nobody);

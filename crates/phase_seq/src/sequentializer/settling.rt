@@ -1,18 +1,18 @@
 //! What becomes of an answer on a cell that is registered for the exit.
 
-ghost use Rattle.std.specs.Prelude.{◌≡◌, ◌+◌, ◌<◌, true, false, Some, if◌then◌else◌, length};
-ghost use Rattle.phase_bits.specs.Number.{number, IsKnown};
-ghost use Rattle.exit_registry.specs.Registry.{cells_of, is_known};
-ghost use Rattle.phase_locker.specs.Rows.{SameSize, HasFree};
+ghost use Rattle.std.specs.Prelude.{◌≡◌, ◌+◌, ◌<◌, true, false, Some, length};
+ghost use Rattle.phase_bits.specs.Number.{IsKnown};
+ghost use Rattle.phase_locker.specs.Rows.{HasFree};
 ghost use Rattle.phase_locker.specs.Fits.{Fits, IsWriteOpen, open_reads};
-ghost use Rattle.phase_locker.specs.Others.{OthersStay, RowsStay};
+ghost use Rattle.phase_locker.specs.Others.{RowsStay};
+ghost use Rattle.phase_locker.specs.Left.{Left};
 ghost use Rattle.phase_seq.specs.Asks.{initializes};
 ghost use Rattle.phase_seq.specs.Begins.{running_after};
 ghost use Rattle.phase_seq.specs.Phases.{staying, refused};
 ghost use Rattle.phase_seq.specs.Finishes.{GoesOn};
-ghost use Rattle.phase_seq.specs.Registers.{RunsOrNot, Settles, after_asking, is_refused};
-ghost use Rattle.phase_seq.specs.Stands.{BegunStands, FinishedStands, IsRunning, IsFree, reads_begun, reads_finished};
-ghost use Rattle.phase_seq.specs.Exactly.{is_wait, is_missed, is_turned_back, is_run, is_final, is_admitted};
+ghost use Rattle.phase_seq.specs.Registers.{IsEntered, MayTry, RunsOrNot, Settles, after_asking, is_refused};
+ghost use Rattle.phase_seq.specs.Stands.{BegunStands, FinishedStands, reads_begun, reads_finished, opens_write};
+ghost use Rattle.phase_seq.specs.Exactly.{SettlesExactly, is_run};
 
 use crate::ask::Want;
 use crate::phases::{may_generate, refused, without_outcome};
@@ -23,10 +23,8 @@ use phase_bits::Phase;
 use phase_locker::{Given, Parks, PhaseLocker, Who, WriteTicket};
 
 /// Tries the registration of a cell whose phase is empty. Answers the flags that stay.
-fn staying(registry: &mut ExitRegistry, cell: u32, phase: Phase) -> Phase
-    requires known { IsKnown phase }
-    requires inside { cell < cells_of registry.old }
-    requires unknown { number phase ≡ 0 → is_known registry.old cell ≡ false }
+pub(super) fn staying(registry: &mut ExitRegistry, cell: u32, phase: Phase) -> Phase
+    requires { MayTry cell phase registry.old }
     ensures phase { result ≡ staying registry.old.is_open phase }
     ensures known { IsKnown result }
     ensures registry { registry.new ≡ after_asking true cell phase registry.old }
@@ -59,13 +57,10 @@ impl<L: PhaseLocker, G> LazySequentializer<L, G> {
         requires room { want ≡ Want.Read → HasFree parks.old }
         ensures goes_on { GoesOn want cell phase (L.held self.old.locker) parks.old result (L.held self.new.locker) parks.new }
         ensures running { self.new.running ≡ self.old.running }
-        ensures others { OthersStay cell parks.old parks.new }
         ensures rows { RowsStay cell parks.old parks.new }
         ensures stands { FinishedStands cell result.0 (L.held self.new.locker) parks.new }
         ensures reads { open_reads (L.held self.new.locker) parks.new cell ≡ reads_finished result.0 }
-        ensures fits { Fits (L.place self.new.locker) (L.held self.new.locker) parks.new cell }
-        ensures place { L.place self.new.locker ≡ L.place self.old.locker }
-        ensures same { SameSize parks.old parks.new }
+        ensures left { Left L.held L.place cell self.old.locker self.new.locker parks.old parks.new }
     {
         match want {
             Want::Init => {
@@ -92,27 +87,17 @@ impl<L: PhaseLocker, G> LazySequentializer<L, G> {
         phase: Phase,
         before: Option<u32>,
     ) -> (Begun, Given)
-        requires cell { section.who.cell < length parks.old.readers }
-        requires party { section.who.party < length parks.old.rows }
-        requires free { IsFree section.who parks.old }
-        requires running { IsRunning section self.old.running (L.held self.old.locker) parks.old }
-        requires fits { Fits (L.place self.old.locker) (L.held self.old.locker) parks.old section.who.cell }
-        requires known { IsKnown phase }
-        requires inside { section.who.cell < cells_of registry.old }
-        requires unknown { number phase ≡ 0 → is_known registry.old section.who.cell ≡ false }
+        requires entered { IsEntered section.who before (Begun.Run section) Given.Nobody self.old.running (L.place self.old.locker) (L.held self.old.locker) parks.old }
+        requires registry { MayTry section.who.cell phase registry.old }
         ensures runs_or_not { RunsOrNot leak section registry.old phase (L.held self.old.locker) parks.old result (L.held self.new.locker) parks.new }
         ensures registry { registry.new ≡ after_asking true section.who.cell phase registry.old }
-        ensures admitted { is_admitted result.0 ≡ true }
-        ensures runs { is_run result.0 ≡ (if is_refused leak (Some registry.old) phase then false else true) }
-        ensures finalizes { is_final result.0 ≡ false }
+        ensures exactly { SettlesExactly (is_refused leak (Some registry.old) phase) (Begun.Run section) result.0 }
         ensures running { self.new.running ≡ running_after result.0 before }
-        ensures others { OthersStay section.who.cell parks.old parks.new }
         ensures rows { RowsStay section.who.cell parks.old parks.new }
         ensures stands { BegunStands section.who result.0 self.new.running (L.held self.new.locker) parks.new }
         ensures reads { open_reads (L.held self.new.locker) parks.new section.who.cell ≡ open_reads (L.held self.old.locker) parks.old section.who.cell + reads_begun result.0 }
-        ensures fits { Fits (L.place self.new.locker) (L.held self.new.locker) parks.new section.who.cell }
-        ensures place { L.place self.new.locker ≡ L.place self.old.locker }
-        ensures same { SameSize parks.old parks.new }
+        ensures closes { opens_write result.0 ≡ false → ¬ IsWriteOpen (L.held self.new.locker) parks.new section.who.cell }
+        ensures left { Left L.held L.place section.who.cell self.old.locker self.new.locker parks.old parks.new }
     {
         let Section {
             who,
@@ -142,32 +127,18 @@ impl<L: PhaseLocker, G> LazySequentializer<L, G> {
         begun: Begun,
         given: Given,
     ) -> (Begun, Given)
-        requires cell { who.cell < length parks.old.readers }
-        requires party { who.party < length parks.old.rows }
-        requires running { self.old.running ≡ running_after begun before }
-        requires stands { BegunStands who begun self.old.running (L.held self.old.locker) parks.old }
-        requires fits { Fits (L.place self.old.locker) (L.held self.old.locker) parks.old who.cell }
-        requires quiet { is_run begun ≡ true → given ≡ Given.Nobody }
-        requires known { IsKnown phase }
-        requires inside { who.cell < cells_of registry.old }
-        requires unknown { is_run begun ≡ true → number phase ≡ 0 → is_known registry.old who.cell ≡ false }
+        requires entered { IsEntered who before begun given self.old.running (L.place self.old.locker) (L.held self.old.locker) parks.old }
+        requires registry { is_run begun ≡ true → MayTry who.cell phase registry.old }
         ensures settles { Settles leak registry.old phase (begun, given) (L.held self.old.locker) parks.old result (L.held self.new.locker) parks.new }
-        ensures still { is_run begun ≡ false → (L.held self.new.locker ≡ L.held self.old.locker) × (parks.new ≡ parks.old) × (self.new.running ≡ self.old.running) }
+        ensures still { is_run begun ≡ false → (result ≡ (begun, given)) × (L.held self.new.locker ≡ L.held self.old.locker) × (parks.new ≡ parks.old) × (self.new.running ≡ self.old.running) }
         ensures registry { registry.new ≡ after_asking (is_run begun) who.cell phase registry.old }
-        ensures waits { is_wait result.0 ≡ is_wait begun }
-        ensures missed { is_missed result.0 ≡ is_missed begun }
-        ensures cyclic { is_turned_back result.0 ≡ is_turned_back begun }
-        ensures admitted { is_admitted result.0 ≡ is_admitted begun }
-        ensures runs { is_run result.0 ≡ (if is_refused leak (Some registry.old) phase then false else is_run begun) }
-        ensures finalizes { is_final result.0 ≡ is_final begun }
+        ensures exactly { SettlesExactly (is_refused leak (Some registry.old) phase) begun result.0 }
         ensures running { self.new.running ≡ running_after result.0 before }
-        ensures others { OthersStay who.cell parks.old parks.new }
         ensures rows { RowsStay who.cell parks.old parks.new }
         ensures stands { BegunStands who result.0 self.new.running (L.held self.new.locker) parks.new }
         ensures reads { open_reads (L.held self.new.locker) parks.new who.cell + reads_begun begun ≡ open_reads (L.held self.old.locker) parks.old who.cell + reads_begun result.0 }
-        ensures fits { Fits (L.place self.new.locker) (L.held self.new.locker) parks.new who.cell }
-        ensures place { L.place self.new.locker ≡ L.place self.old.locker }
-        ensures same { SameSize parks.old parks.new }
+        ensures closes { is_run begun ≡ true → opens_write result.0 ≡ false → ¬ IsWriteOpen (L.held self.new.locker) parks.new who.cell }
+        ensures left { Left L.held L.place who.cell self.old.locker self.new.locker parks.old parks.new }
     {
         if !begun.is_run() {
             return (begun, given);

@@ -2,7 +2,7 @@
 
 ghost use Rattle.std.specs.Prelude.{◌≡◌};
 ghost use Rattle.schedule_text.specs.ReadFields.{Gives};
-ghost use Rattle.schedule_text.specs.ReadSteps.{call_at, release_at, read_or_release_at, made_at, look_at, set_at, downgrade_at, clone_at, again_at, phase_at, write_at, finished_at, exit_at, act_at};
+ghost use Rattle.schedule_text.specs.ReadSteps.{call_at, call_table, first_word, called_at, called_or_release_at, release_at, made_at, look_at, set_at, downgrade_at, clone_at, again_at, finished_at, exit_at, act_at};
 
 use super::field::{after_word, first_byte, last_u32, last_u64, number_u32};
 use schedule_rules::{Act, Call};
@@ -16,29 +16,38 @@ fn cell_of(call: Call, text: &[u8]) -> Option<(Act, &[u8])>
     Some((Act::Call { cell, call }, rest))
 }
 
-/// `phase c`.
-#[tactic(auto, unfolding(crate::specs::ReadSteps::phase_at))]
-fn phase(text: &[u8]) -> Option<(Act, &[u8])>
-    ensures { Gives (λ found. (found.0, found.1.now)) result (phase_at text.now) }
+/// The call whose word stands at the front, and the bytes after it: a row for each call, tried in order.
+fn call_word(text: &[u8]) -> Option<(Call, &[u8])>
+    ensures { Gives (λ found. (found.0, found.1.now)) result (first_word call_table text.now) }
 {
-    cell_of(Call::Phase, after_word(text, b"phase ")?)
+    if let Some(rest) = after_word(text, b"phase ") {
+        return Some((Call::Phase, rest));
+    }
+    if let Some(rest) = after_word(text, b"read ") {
+        return Some((Call::Read, rest));
+    }
+    if let Some(rest) = after_word(text, b"write ") {
+        return Some((Call::Write, rest));
+    }
+    None
 }
 
-/// `write c`.
-#[tactic(auto, unfolding(crate::specs::ReadSteps::write_at))]
-fn write(text: &[u8]) -> Option<(Act, &[u8])>
-    ensures { Gives (λ found. (found.0, found.1.now)) result (write_at text.now) }
+/// The word of a call and its cell, `read c` and the like.
+#[tactic(auto, unfolding(crate::specs::ReadSteps::called_at))]
+fn called(text: &[u8]) -> Option<(Act, &[u8])>
+    ensures { Gives (λ found. (found.0, found.1.now)) result (called_at text.now) }
 {
-    cell_of(Call::Write, after_word(text, b"write ")?)
+    let (call, rest) = call_word(text)?;
+    cell_of(call, rest)
 }
 
-/// `read c`, or else `release g`.
-#[tactic(auto, unfolding(crate::specs::ReadSteps::read_or_release_at))]
-fn read_or_release(text: &[u8]) -> Option<(Act, &[u8])>
-    ensures { Gives (λ found. (found.0, found.1.now)) result (read_or_release_at text.now) }
+/// A call, or else `release g`, which begins with the letter of a call.
+#[tactic(auto, unfolding(crate::specs::ReadSteps::called_or_release_at))]
+fn called_or_release(text: &[u8]) -> Option<(Act, &[u8])>
+    ensures { Gives (λ found. (found.0, found.1.now)) result (called_or_release_at text.now) }
 {
-    match after_word(text, b"read ") {
-        Some(rest) => cell_of(Call::Read, rest),
+    match call_word(text) {
+        Some((call, rest)) => cell_of(call, rest),
         None => release(text),
     }
 }
@@ -130,16 +139,14 @@ fn set(text: &[u8]) -> Option<(Act, &[u8])>
     Some((Act::Set { guard, value }, rest))
 }
 
-/// An act, which its first letter tells, up to the end of its line.
+/// An act, up to the end of its line: one that its first letter tells, and else a call.
 #[tactic(auto, unfolding(crate::specs::ReadSteps::act_at))]
 pub(super) fn act(text: &[u8]) -> Option<(Act, &[u8])>
     ensures { Gives (λ found. (found.0, found.1.now)) result (act_at text.now) }
 {
     let (first, _) = first_byte(text)?;
     match first {
-        b'p' => phase(text),
-        b'r' => read_or_release(text),
-        b'w' => write(text),
+        b'r' => called_or_release(text),
         b'a' => again(text),
         b'm' => made(text),
         b'l' => look(text),
@@ -148,6 +155,6 @@ pub(super) fn act(text: &[u8]) -> Option<(Act, &[u8])>
         b'c' => clone(text),
         b'e' => exit(text),
         b'f' => finished(text),
-        _ => None,
+        _ => called(text),
     }
 }

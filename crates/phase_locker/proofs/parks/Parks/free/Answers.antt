@@ -1,20 +1,21 @@
-use Rattle.std.proofs.Common.{◌≡◌, refl, arith, rules}
-use Rattle.std.proofs.Math.ListN.{length-set}
-use Rattle.std.proofs.lemmas.Fn.{filter_same}
-use Rattle.phase_locker.specs.Rows.{free_row, without}
-use Rattle.phase_locker.proofs.Lookups.{inside_at}
-use Rattle.phase_locker.proofs.Left.{leave_order, freed_seen}
+use Rattle.std.proofs.Common.{◌∙◌}
+use Rattle.phase_locker.proofs.Shown.{free_reader, free_writer}
 use Rattle.phase_locker.proofs.parks.Parks.free.Goals as goal
 
-pub invariant_of-self : goal.invariant_of-self
-invariant_of-self c =
-    let kept : c.retain.new.self.items ≡ without c.args.party c.self.inside.order.items = filter_same _ _ _ (λ x b f' k. search rules) _ _ c.retain.ensures.filtered in
-    record {
-      kept = rw kept (leave_order _ _ _ _ (inside_at _ c.self.inside.rows.items c.self.inside.order.items c.self.inside.cells c.self.view_is _ c.requires) c.self.invariant.kept refl);
-      room = omega (arith, c.self.invariant.room, c.retain.ensures.capacity, length-set c.self.inside.rows.items c.args.party free_row);
-    }
+pub leave_readers-requires-clause-cell : goal.leave_readers-requires-clause-cell
+leave_readers-requires-clause-cell c = (free_reader c.self.inside.rows.items c.self.inside.links.items c.self.inside.queues.items c.args.self.now c.args.party c.index-row.result.now c.self.view_is c.self.invariant c.requires c.index-row.ensures c.in-ParkedRead.is).0
 
-pub returns : goal.returns
-returns c =
-    let kept : c.retain.new.self.items ≡ without c.args.party c.self.inside.order.items = filter_same _ _ _ (λ x b f' k. search rules) _ _ c.retain.ensures.filtered in
-    rw (← c.self.view_is, kept) (freed_seen _ _ _ _ c.self.invariant.kept)
+pub leave_readers-requires-clause-parked : goal.leave_readers-requires-clause-parked
+leave_readers-requires-clause-parked c = (free_reader c.self.inside.rows.items c.self.inside.links.items c.self.inside.queues.items c.args.self.now c.args.party c.index-row.result.now c.self.view_is c.self.invariant c.requires c.index-row.ensures c.in-ParkedRead.is).1
+
+pub leave_writers-requires-clause-cell : goal.leave_writers-requires-clause-cell
+leave_writers-requires-clause-cell c = (free_writer c.self.inside.rows.items c.self.inside.links.items c.self.inside.queues.items c.args.self.now c.args.party c.index-row.result.now c.self.view_is c.self.invariant c.requires c.index-row.ensures c.in-ParkedWrite.is).0
+
+pub leave_writers-requires-clause-parked : goal.leave_writers-requires-clause-parked
+leave_writers-requires-clause-parked c = (free_writer c.self.inside.rows.items c.self.inside.links.items c.self.inside.queues.items c.args.self.now c.args.party c.index-row.result.now c.self.view_is c.self.invariant c.requires c.index-row.ensures c.in-ParkedWrite.is).1
+
+pub returns-in-ParkedRead : goal.returns-in-ParkedRead
+returns-in-ParkedRead c = c.leave_readers.ensures ∙ (free_reader c.self.inside.rows.items c.self.inside.links.items c.self.inside.queues.items c.args.self.now c.args.party c.index-row.result.now c.self.view_is c.self.invariant c.requires c.index-row.ensures c.in-ParkedRead.is).2
+
+pub returns-in-ParkedWrite : goal.returns-in-ParkedWrite
+returns-in-ParkedWrite c = c.leave_writers.ensures ∙ (free_writer c.self.inside.rows.items c.self.inside.links.items c.self.inside.queues.items c.args.self.now c.args.party c.index-row.result.now c.self.view_is c.self.invariant c.requires c.index-row.ensures c.in-ParkedWrite.is).2

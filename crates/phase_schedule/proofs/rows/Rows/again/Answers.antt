@@ -27,6 +27,6 @@ begun-requires g c κs within =
     let r = c.again-begun.ensures in (
       within,
       again_begun g.L.PhaseLocker.held g.L.PhaseLocker.place c.args.self.now g.h c.args.s.now c.args.n c.args.target c.index_mut.result.now c.again-begun.new.cell c.index_mut.ensures.value c.again-begun.new.parks c.again-begun.result c.in-Some.ask c.again-begun.new.registry
-          (ap (λ x. ask_of x c.args.target.want) (sym plan) ∙ sym c.ask_of.ensures ∙ c.in-Some.is) r.place r.fits r.others r.same r.running
+          (ap (λ x. ask_of x c.args.target.want) (sym plan) ∙ sym c.ask_of.ensures ∙ c.in-Some.is) r.left.place r.left.fits r.left.others r.left.same r.running.running
           (rw plan at r.registry) c.requires.1 (rw plan at r.resumes),
     )

@@ -20,8 +20,8 @@ release_write-given-requires-clause-open g c =
 
 pub returns-in-Read-clause-holds : goal.returns-in-Read-clause-holds
 returns-in-Read-clause-holds g c =
-    read_given (λ q. g.L.PhaseLocker.held q.locker) (λ q. g.L.PhaseLocker.place q.locker) (λ q. q.running) _ c.args.self.now.cells.items c.args.self.now.guards.items c.args.self.now.parties.items c.args.self.now.sequentializers.items c.args.self.now.parks c.requires.holds c.args.guard c.in-Read.cell c.in-Read.party _ c.replace.new.dest c.replace.ensures.after c.requires.inside _ _ c.release_read-given.new.cell c.index_mut-row.ensures.value c.release_read-given.ensures.running c.release_read-given.new.parks c.release_read-given.ensures.others c.release_read-given.ensures.same c.release_read-given.ensures.fits _ (sym c.index_mut.ensures.value ∙ sym c.replace.ensures.value ∙ c.in-Read.is) c.release_read-given.ensures.reads
+    read_given (λ q. g.L.PhaseLocker.held q.locker) (λ q. g.L.PhaseLocker.place q.locker) (λ q. q.running) _ c.args.self.now.cells.items c.args.self.now.guards.items c.args.self.now.parties.items c.args.self.now.sequentializers.items c.args.self.now.parks c.requires.holds c.args.guard c.in-Read.cell c.in-Read.party _ c.replace.new.dest c.replace.ensures.after c.requires.inside _ _ c.release_read-given.new.cell c.index_mut-row.ensures.value c.release_read-given.ensures.running c.release_read-given.new.parks c.release_read-given.ensures.left.others c.release_read-given.ensures.left.same c.release_read-given.ensures.left.fits _ (sym c.index_mut.ensures.value ∙ sym c.replace.ensures.value ∙ c.in-Read.is) c.release_read-given.ensures.reads
 
 pub returns-in-Write-clause-holds : goal.returns-in-Write-clause-holds
 returns-in-Write-clause-holds g c =
-    write_given (λ q. g.L.PhaseLocker.held q.locker) (λ q. g.L.PhaseLocker.place q.locker) (λ q. q.running) _ c.args.self.now.cells.items c.args.self.now.guards.items c.args.self.now.parties.items c.args.self.now.sequentializers.items c.args.self.now.parks c.requires.holds c.args.guard c.in-Write.cell c.in-Write.party _ c.replace.new.dest c.replace.ensures.after c.requires.inside _ _ c.release_write-given.new.cell c.index_mut-row-in-Write.ensures.value c.release_write-given.ensures.running c.release_write-given.new.parks c.release_write-given.ensures.others c.release_write-given.ensures.same c.release_write-given.ensures.fits _ (sym c.index_mut.ensures.value ∙ sym c.replace.ensures.value ∙ c.in-Write.is)
+    write_given (λ q. g.L.PhaseLocker.held q.locker) (λ q. g.L.PhaseLocker.place q.locker) (λ q. q.running) _ c.args.self.now.cells.items c.args.self.now.guards.items c.args.self.now.parties.items c.args.self.now.sequentializers.items c.args.self.now.parks c.requires.holds c.args.guard c.in-Write.cell c.in-Write.party _ c.replace.new.dest c.replace.ensures.after c.requires.inside _ _ c.release_write-given.new.cell c.index_mut-row-in-Write.ensures.value c.release_write-given.ensures.running c.release_write-given.new.parks c.release_write-given.ensures.left.others c.release_write-given.ensures.left.same c.release_write-given.ensures.left.fits _ (sym c.index_mut.ensures.value ∙ sym c.replace.ensures.value ∙ c.in-Write.is)

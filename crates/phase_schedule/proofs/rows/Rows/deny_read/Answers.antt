@@ -20,5 +20,5 @@ returns g c =
     (denies_read g.h v c.args.s.now c.args.n c.args.target c.args.phase c.args.given c.requires.1 c.index_mut.result.now c.index_mut.ensures.value c.release_read-last.result
     (g.L.PhaseLocker.held c.index_mut-cell.result.now.locker) (g.L.PhaseLocker.held c.release_read-last.new.cell.locker) c.release_read-last.new.parks _ _ _
     (released (λ q. g.L.PhaseLocker.held q.locker) (λ q. g.L.PhaseLocker.place q.locker) (λ q. q.running) c.args.self.now.sequentializers.items c.args.self.now.parks c.args.target.cell c.index_mut-cell.result.now c.release_read-last.new.cell c.release_read-last.new.parks
-    c.index_mut-cell.ensures.value lt c.release_read-last.ensures.others c.release_read-last.ensures.fits c.release_read-last.ensures.place c.release_read-last.ensures.running c.release_read-last.ensures.same)
+    c.index_mut-cell.ensures.value lt c.release_read-last.ensures.left.others c.release_read-last.ensures.left.fits c.release_read-last.ensures.left.place c.release_read-last.ensures.running c.release_read-last.ensures.left.same)
     c.release_read-last.ensures.hands)

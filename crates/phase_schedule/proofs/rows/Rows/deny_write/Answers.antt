@@ -31,5 +31,5 @@ returns g c =
     (denies_write g.h v c.args.s.now c.args.n c.args.target c.args.phase c.args.given c.requires.1 c.index_mut.result.now c.index_mut.ensures.value c.release_write-last.result
     (g.L.PhaseLocker.held c.index_mut-cell.result.now.locker) (g.L.PhaseLocker.held c.release_write-last.new.cell.locker) c.release_write-last.new.parks _ _ _
     (released (λ q. g.L.PhaseLocker.held q.locker) (λ q. g.L.PhaseLocker.place q.locker) (λ q. q.running) c.args.self.now.sequentializers.items c.args.self.now.parks c.args.target.cell c.index_mut-cell.result.now c.release_write-last.new.cell c.release_write-last.new.parks
-    c.index_mut-cell.ensures.value lt c.release_write-last.ensures.others c.release_write-last.ensures.fits c.release_write-last.ensures.place c.release_write-last.ensures.running c.release_write-last.ensures.same)
+    c.index_mut-cell.ensures.value lt c.release_write-last.ensures.left.others c.release_write-last.ensures.left.fits c.release_write-last.ensures.left.place c.release_write-last.ensures.running c.release_write-last.ensures.left.same)
     c.release_write-last.ensures.hands)

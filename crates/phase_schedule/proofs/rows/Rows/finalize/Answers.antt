@@ -52,7 +52,7 @@ returns g c =
     c.index_mut.ensures.value c.end_run-section.ensures.row c.index_mut-2.ensures.value
     (finish_released g.h v t c.args.s.now.party c.args.run c.requires.1.ended c.requires.1.acting.idle c.end_run-section.result is
     (λ q. g.L.PhaseLocker.held q.locker) (λ q. g.L.PhaseLocker.place q.locker) (λ q. q.running) c.args.self.now.sequentializers.items c.index_mut-cell.result.now c.finish_final-given.new.self c.finish_final-given.new.parks
-    c.index_mut-cell.ensures.value lt c.finish_final-given.ensures.others c.finish_final-given.ensures.fits c.finish_final-given.ensures.place c.finish_final-given.ensures.running c.finish_final-given.ensures.same)
+    c.index_mut-cell.ensures.value lt c.finish_final-given.ensures.left.others c.finish_final-given.ensures.left.fits c.finish_final-given.ensures.left.place c.finish_final-given.ensures.running c.finish_final-given.ensures.left.same)
     (finish_final g.h v t c.args.s.now.party c.args.run c.requires.1.ended c.requires.1.acting.idle c.end_run-section.result is c.args.fine
     (g.L.PhaseLocker.held c.index_mut-cell.result.now.locker)
     (read_locker (λ q. g.L.PhaseLocker.held q.locker) c.args.self.now.sequentializers.items c.args.run.cell c.index_mut-cell.result.now c.index_mut-cell.ensures.value lt)

@@ -65,5 +65,5 @@ returns g c =
     c.index_mut-row.ensures.value c.end_run-section.ensures.row c.index_mut.ensures.value
     (finish_called g.h v t c.args.s.now.party c.args.run c.requires.1.ended c.requires.1.made.acting.idle c.end_run-section.result is
     (λ q. g.L.PhaseLocker.held q.locker) (λ q. g.L.PhaseLocker.place q.locker) (λ q. q.running) c.args.self.now.sequentializers.items c.index_mut-cell.result.now c.finish-finished.new.self c.finish-finished.new.parks
-    c.index_mut-cell.ensures.value lt c.finish-finished.ensures.others c.finish-finished.ensures.fits c.finish-finished.ensures.place c.finish-finished.ensures.running c.finish-finished.ensures.same)
+    c.index_mut-cell.ensures.value lt c.finish-finished.ensures.left.others c.finish-finished.ensures.left.fits c.finish-finished.ensures.left.place c.finish-finished.ensures.running c.finish-finished.ensures.left.same)
     f.downgrades)

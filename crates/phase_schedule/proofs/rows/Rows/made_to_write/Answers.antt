@@ -78,6 +78,6 @@ returns g c =
     c.index_mut-3.ensures.value
     (set-set _ _ _ _)
     (map-set_same (λ q. g.L.PhaseLocker.held q.locker) c.args.self.now.sequentializers.items c.args.run.cell c.finish-finished.new.self c.index_mut-cell.result.now (f.held ∙ ap (λ q. g.L.PhaseLocker.held q.locker) c.index_mut-cell.ensures.value))
-    (map-set_same (λ q. g.L.PhaseLocker.place q.locker) c.args.self.now.sequentializers.items c.args.run.cell c.finish-finished.new.self c.index_mut-cell.result.now (c.finish-finished.ensures.place ∙ ap (λ q. g.L.PhaseLocker.place q.locker) c.index_mut-cell.ensures.value))
+    (map-set_same (λ q. g.L.PhaseLocker.place q.locker) c.args.self.now.sequentializers.items c.args.run.cell c.finish-finished.new.self c.index_mut-cell.result.now (c.finish-finished.ensures.left.place ∙ ap (λ q. g.L.PhaseLocker.place q.locker) c.index_mut-cell.ensures.value))
     (map-set (λ q. q.running) c.args.self.now.sequentializers.items c.args.run.cell c.finish-finished.new.self ∙ ap (λ o. set v.running c.args.run.cell o) c.finish-finished.ensures.running)
     f.rows)

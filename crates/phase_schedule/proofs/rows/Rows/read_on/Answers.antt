@@ -43,4 +43,4 @@ returns g c =
     rw (c.open_reader.ensures, c.replace.ensures.after, c.publish.ensures)
     (did_read_on g.L.PhaseLocker.held g.L.PhaseLocker.place g.h c.args.self.now c.args.s.now c.args.n c.args.guard c.args.cell c.requires.1 c.index_mut-row.result.now c.downgrade-given.new.cell c.downgrade-given.result.1 c.downgrade-given.new.parks
     c.draft-draft.result c.index_mut.result.now c.index_mut-row.ensures.value c.index_mut.ensures.value c.draft-draft.ensures
-    c.downgrade-given.ensures.downgrades c.downgrade-given.ensures.others c.downgrade-given.ensures.fits c.downgrade-given.ensures.place c.downgrade-given.ensures.running c.downgrade-given.ensures.same)
+    c.downgrade-given.ensures.downgrades c.downgrade-given.ensures.left.others c.downgrade-given.ensures.left.fits c.downgrade-given.ensures.left.place c.downgrade-given.ensures.running c.downgrade-given.ensures.left.same)

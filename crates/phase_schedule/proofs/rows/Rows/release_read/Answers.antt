@@ -30,4 +30,4 @@ pub returns : goal.returns
 returns g c =
     rw c.replace.ensures.after
     (did_release_read g.L.PhaseLocker.held g.L.PhaseLocker.place g.h c.args.self.now c.args.s.now c.args.guard c.args.cell c.requires.1 c.index_mut-row.result.now c.release_read-given.new.cell c.release_read-given.result c.release_read-given.new.parks
-    c.index_mut-row.ensures.value c.release_read-given.ensures.hands c.release_read-given.ensures.others c.release_read-given.ensures.fits c.release_read-given.ensures.place c.release_read-given.ensures.running c.release_read-given.ensures.same)
+    c.index_mut-row.ensures.value c.release_read-given.ensures.hands c.release_read-given.ensures.left.others c.release_read-given.ensures.left.fits c.release_read-given.ensures.left.place c.release_read-given.ensures.running c.release_read-given.ensures.left.same)

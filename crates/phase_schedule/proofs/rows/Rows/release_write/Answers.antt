@@ -40,4 +40,4 @@ returns g c =
     rw (c.replace.ensures.after, c.publish.ensures)
     (did_release_write g.L.PhaseLocker.held g.L.PhaseLocker.place g.h c.args.self.now c.args.s.now c.args.guard c.args.cell c.requires.1 c.index_mut-row.result.now c.release_write-given.new.cell c.release_write-given.result c.release_write-given.new.parks
     c.draft-draft.result c.index_mut.result.now c.index_mut-row.ensures.value c.index_mut.ensures.value c.draft-draft.ensures
-    c.release_write-given.ensures.hands c.release_write-given.ensures.others c.release_write-given.ensures.fits c.release_write-given.ensures.place c.release_write-given.ensures.running c.release_write-given.ensures.same)
+    c.release_write-given.ensures.hands c.release_write-given.ensures.left.others c.release_write-given.ensures.left.fits c.release_write-given.ensures.left.place c.release_write-given.ensures.running c.release_write-given.ensures.left.same)

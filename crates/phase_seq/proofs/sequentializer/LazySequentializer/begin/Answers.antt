@@ -1,7 +1,7 @@
-use Rattle.std.proofs.Common.{◌≡◌, false, Some, ap, subst}
+use Rattle.std.proofs.Common.{◌≡◌, ◌∙◌, false, Some, ap, subst, refl}
 use Rattle.phase_seq.specs.Registers.{Settles}
 use Rattle.phase_seq.specs.Exactly.{is_run}
-use Rattle.phase_seq.proofs.Settled.{others_then}
+use Rattle.phase_seq.proofs.Settled.{others_then, settled_opens}
 use Rattle.phase_seq.proofs.sequentializer.LazySequentializer.begin.Goals as goal
 
 pub returns-in-Some-clause-begins : goal.returns-in-Some-clause-begins
@@ -12,20 +12,36 @@ returns-in-Some-clause-begins g c =
       held = g.L.PhaseLocker.held e.new.self.locker;
       rows = e.new.parks;
       enters = e.ensures.begins;
-      fits = rw e.ensures.place at e.ensures.fits;
-      others = e.ensures.others;
-      same = e.ensures.same;
+      fits = rw e.ensures.left.place at e.ensures.left.fits;
+      others = e.ensures.left.others;
+      same = e.ensures.left.same;
       settles = subst (λ p. Settles c.args.ask.tol.leak c.in-Some.registry.now p e.result (g.L.PhaseLocker.held e.new.self.locker) e.new.parks c.settle.result (g.L.PhaseLocker.held c.settle.new.self.locker) c.settle.new.parks) c.phase-phase.ensures.phase c.settle.ensures.settles;
     })
 
 pub returns-in-Some-clause-registry : goal.returns-in-Some-clause-registry
-returns-in-Some-clause-registry g c = rw c.in-Some.is (ap (λ m. Some m) (rw (c.enter-begun.ensures.runs, c.phase-phase.ensures.phase) at c.settle.ensures.registry))
+returns-in-Some-clause-registry g c = rw c.in-Some.is (ap (λ m. Some m) (rw (c.enter-begun.ensures.exactly.runs, c.phase-phase.ensures.phase) at c.settle.ensures.registry))
 
-pub returns-in-Some-clause-others : goal.returns-in-Some-clause-others
-returns-in-Some-clause-others g c = others_then c.args.who.cell c.args.parks.now c.enter-begun.new.parks c.settle.new.parks c.enter-begun.ensures.others c.settle.ensures.others
+pub returns-in-Some-clause-left : goal.returns-in-Some-clause-left
+returns-in-Some-clause-left g c =
+    let e = c.enter-begun in
+    record {
+      others = others_then c.args.who.cell c.args.parks.now e.new.parks c.settle.new.parks e.ensures.left.others c.settle.ensures.left.others;
+      fits = c.settle.ensures.left.fits;
+      place = c.settle.ensures.left.place ∙ e.ensures.left.place;
+      same = record { parties = c.settle.ensures.left.same.parties ∙ e.ensures.left.same.parties; cells = c.settle.ensures.left.same.cells ∙ e.ensures.left.same.cells };
+    }
 
-pub returns-in-Some-clause-sections : goal.returns-in-Some-clause-sections
-returns-in-Some-clause-sections g c = λ o here was.
-    let none : is_run c.enter-begun.result.0 ≡ false = c.enter-begun.ensures.fresh (rw here at was.locked) in
-    let still = c.settle.ensures.still none in
-    rw (still.0, still.1, still.2) (c.enter-begun.ensures.sections o here was)
+pub returns-in-Some-clause-running : goal.returns-in-Some-clause-running
+returns-in-Some-clause-running g c = record {
+  running = c.settle.ensures.running;
+  sections = λ o here was.
+      let none : is_run c.enter-begun.result.0 ≡ false = c.enter-begun.ensures.fresh (rw here at was.locked) in
+      let still = c.settle.ensures.still none in
+      rw (still.1, still.2, still.3) (c.enter-begun.ensures.running.sections o here was);
+}
+
+pub returns-in-Some-clause-opens : goal.returns-in-Some-clause-opens
+returns-in-Some-clause-opens g c =
+    let e = c.enter-begun in
+    settled_opens (is_run e.result.0) e.result.0 c.settle.result.0 c.args.who.cell (g.L.PhaseLocker.held c.args.self.now.locker) c.args.parks.now (g.L.PhaseLocker.held e.new.self.locker) e.new.parks (g.L.PhaseLocker.held c.settle.new.self.locker) c.settle.new.parks refl e.ensures.opens e.ensures.fresh
+    (λ none. let still = c.settle.ensures.still none in (ap (λ r. r.0) still.0, still.1, still.2)) c.settle.ensures.reads c.settle.ensures.closes

@@ -5,5 +5,5 @@ use Rattle.phase_seq.proofs.sequentializer.LazySequentializer.settle.Goals as go
 pub returns-clause-reads : goal.returns-clause-reads
 returns-clause-reads g c =
     let none : reads_begun c.args.begun ≡ 0 = ap reads_begun c.in-Run.is in
-    let here : c.in-Run.section.who ≡ c.args.who = (rw c.in-Run.is at c.requires.stands).1 in
+    let here : c.in-Run.section.who ≡ c.args.who = (rw c.in-Run.is at c.requires.entered.stands).1 in
     omega (arith, none, rw here at c.run_or_not.ensures.reads)

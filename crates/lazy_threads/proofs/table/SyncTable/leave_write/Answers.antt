@@ -1,0 +1,18 @@
+use Rattle.std.proofs.Common.{arith, refl, ◌≡◌, ◌<◌, ◌%◌}
+use Rattle.std.proofs.Math.ListN.{get_or}
+use Rattle.atomic_table.specs.Table.{keeps}
+use Rattle.lazy_threads.specs.Views.{left_write}
+use Rattle.lazy_threads.proofs.Steps.{steps, left_write-Keeps, finds_own}
+use Rattle.lazy_threads.proofs.table.SyncTable.leave_write.Goals as goal
+
+pub swap-requires : goal.swap-requires
+swap-requires c =
+    let next = c.bits-word.result in
+    let known : next < 256 = rw c.bits-word.ensures c.requires.phase.known.below in
+    let lasts : (c.args.seat.now.token.me.0.entered % 2 ≡ 1 → next % 2 ≡ 1) = rw c.bits-word.ensures c.requires.phase.lasts in (
+      c.requires.table,
+      omega (arith, c.args.self.now.one_word),
+      λ s rule size at small.
+          let word = get_or s.words 0 0 in let v = c.args.seat.now.token.me.0 in
+          (left_write word next v, keeps, tt, steps s _ next _ rule.1 (left_write-Keeps word next s.views _ v c.requires.hold known lasts rule.0 at), (refl, finds_own _ _ _ _ c.requires.hold rule.0 at)),
+    )

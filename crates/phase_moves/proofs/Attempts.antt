@@ -1,0 +1,442 @@
+-- What an attempt does to the record of its cell and to the rows, by what it began.
+use Rattle.std.proofs.Common.{◌≡◌, ◌≢◌, ◌<◌, ◌∙◌, ℕ, length, set, ap, sym, subst, refl, arith, Bool, true, false, None, Some, inl, inr}
+use Rattle.std.specs.Prelude.{◌⊎◌, MatchBool, if◌then◌else◌, ◌||◌, ◌&&◌, ◌==◌, not}
+use Rattle.std.proofs.lemmas.List.{set-get_or}
+use Rattle.std.specs.declared.option.Option.{Option}
+use Rattle.phase_bits.specs.declared.phase.Phase.{Phase}
+use Rattle.phase_bits.specs.declared.holders.Holders.{Holders}
+use Rattle.phase_bits.specs.Records.{bars_write, leave_write}
+use Rattle.phase_locker.specs.declared.ways.Given.{Given}
+use Rattle.phase_locker.specs.declared.ways.Given.TheVariants as given
+use Rattle.phase_locker.specs.declared.ways.How.{How}
+use Rattle.phase_locker.specs.declared.ways.How.TheVariants as how
+use Rattle.phase_locker.specs.declared.ways.Who.{Who}
+use Rattle.phase_locker.specs.declared.ways.Waiting.{Waiting}
+use Rattle.phase_locker.specs.declared.ways.Waiting.TheVariants as waiting
+use Rattle.phase_locker.specs.declared.ways.LockerKind.{LockerKind}
+use Rattle.phase_locker.specs.declared.ways.Row.{Row}
+use Rattle.phase_locker.specs.declared.tickets.LockNature.{LockNature}
+use Rattle.phase_locker.specs.declared.tickets.LockNature.TheVariants as nature
+use Rattle.phase_locker.specs.declared.tickets.Attempt.{Attempt}
+use Rattle.phase_locker.specs.declared.tickets.Attempt.TheVariants as attempt
+use Rattle.phase_locker.specs.Natures.{bars, admitted, got, write_ticket}
+use Rattle.phase_locker.specs.Rows.{Rows as Parking, row_of, free_row, freed, left, is_drain}
+use Rattle.phase_locker.specs.Fits.{Fits, IsWriteOpen}
+use Rattle.phase_locker.specs.Gifts.{Hands, Downgrades, rows_handed}
+use Rattle.phase_locker.specs.Attempts.{Judged, Waits, Gets, Keeps, GivesUp, rows_waiting, held_waiting, given_up, keeps}
+use Rattle.phase_locker.proofs.Standing.{kept_writes, left_writes, hands_writes}
+use Rattle.phase_seq.specs.declared.ask.Ask.{Ask}
+use Rattle.phase_seq.specs.declared.ask.Want.{Want}
+use Rattle.phase_seq.specs.declared.section.Begun.{Begun}
+use Rattle.phase_seq.specs.declared.section.Begun.TheVariants as begun
+use Rattle.phase_seq.specs.declared.ask.Want.TheVariants as want
+use Rattle.phase_seq.specs.declared.section.Section.{Section as SeqSection}
+use Rattle.phase_seq.specs.declared.section.Finished.{Finished}
+use Rattle.phase_seq.specs.Asks.{initializes, finalizes, asks_run, wake_of, nature_of, nature_where, shall_init as seq_shall_init}
+use Rattle.phase_seq.specs.Exactly.{is_run}
+use Rattle.phase_seq.specs.Finishes.{GoesOn}
+use Rattle.phase_seq.specs.Registers.{Generates, HasSectionAtOnce, Settles, Stays, begun_at_once, is_refused}
+use Rattle.phase_seq.specs.Phases.{unregistered, refused, staying}
+use Rattle.phase_bits.specs.Flags.{has, initialized}
+use Rattle.phase_bits.specs.Number.{number}
+use Rattle.exit_registry.specs.Registry.{Registry}
+use Rattle.phase_seq.specs.Begins.{Begins, Resumes, TurnsBack, MakesAttempt, MakesAnother, TriesLock, is_cyclic, section_by, begun_by}
+use Rattle.waiting_rows.specs.Given.{IsListed}
+use Rattle.waiting_rows.proofs.GivenOn.{listed_hand, listed_share}
+use Rattle.phase_moves.specs.Calls.{Calls, Enters}
+use Rattle.phase_moves.proofs.Lockers.{hands_phase, downgrades_phase}
+
+-- the rows after what was begun
+abbrev pub rows_begun : Begun → Who → Parking → Parking
+rows_begun (begun.Wait way) w s = rows_waiting way w s
+rows_begun begun.Missed w s = s
+rows_begun begun.Cyclic w s = s
+rows_begun (begun.Nothing q) w s = s
+rows_begun (begun.Read t q) w s = s
+rows_begun (begun.Write t q) w s = s
+rows_begun (begun.Run o) w s = s
+rows_begun (begun.Final o) w s = s
+
+-- how many write holds it opens
+abbrev pub writes_begun : Begun → ℕ
+writes_begun (begun.Wait way) = 0
+writes_begun begun.Missed = 0
+writes_begun begun.Cyclic = 0
+writes_begun (begun.Nothing q) = 0
+writes_begun (begun.Read t q) = 0
+writes_begun (begun.Write t q) = 1
+writes_begun (begun.Run o) = 1
+writes_begun (begun.Final o) = 1
+
+-- the call is declined, on a cell with this registry or with none: it asks for a run, and no generator runs
+abbrev pub declines : Ask → Option Registry → Phase → Bool
+declines ask o p = asks_run ask p && is_refused ask.tol.leak o p
+
+-- the flags that stay beside those of a run
+abbrev pub stays_asked : Option Registry → Phase → Phase
+stays_asked None p = unregistered
+stays_asked (Some m) p = staying m.is_open p
+
+-- the phase that a call tells, which is declined or not
+abbrev pub phase_told : Bool → Phase → Phase
+phase_told d p = if d then refused else p
+
+-- the phase that is published then: a write publishes nothing yet
+abbrev pub phase_left : Bool → Begun → Phase → Phase
+phase_left d (begun.Wait way) p = p
+phase_left d begun.Missed p = p
+phase_left d begun.Cyclic p = p
+phase_left d (begun.Nothing q) p = phase_told d p
+phase_left d (begun.Read t q) p = phase_told d p
+phase_left d (begun.Write t q) p = p
+phase_left d (begun.Run o) p = p
+phase_left d (begun.Final o) p = p
+
+-- it had the lock to write, if only at once
+abbrev pub wrote : Bool → Begun → Bool
+wrote d (begun.Wait way) = false
+wrote d begun.Missed = false
+wrote d begun.Cyclic = false
+wrote d (begun.Nothing q) = d
+wrote d (begun.Read t q) = d
+wrote d (begun.Write t q) = true
+wrote d (begun.Run o) = true
+wrote d (begun.Final o) = true
+
+-- what it tells
+abbrev pub Tells : Who → Ask → Option Registry → Phase → Begun → Type 0
+Tells who ask o p (begun.Wait way) = Unit {0}
+Tells who ask o p begun.Missed = ⊥
+Tells who ask o p begun.Cyclic = ⊥
+Tells who ask o p (begun.Nothing q) = q ≡ phase_told (declines ask o p) p
+Tells who ask o p (begun.Read t q) = q ≡ phase_told (declines ask o p) p
+Tells who ask o p (begun.Write t q) = q ≡ phase_told (declines ask o p) p
+Tells who ask o p (begun.Run s) = (s ≡ section_by who ask.want (stays_asked o p) write_ticket) × (asks_run ask p ≡ true)
+Tells who ask o p (begun.Final s) = (s ≡ section_by who ask.want p write_ticket) × (finalizes ask.want ≡ true)
+
+-- what a call that was not turned back did
+pub record IsBegun (who : Who) (ask : Ask) (o : Option Registry) (h : Holders) (s : Parking) (b : Begun) (g : Given) (h' : Holders) (s' : Parking) : Type 0 where
+  pub phase : h'.phase ≡ phase_left (declines ask o h.phase) b h.phase
+  pub listed : IsListed who.cell (freed who.party s) g
+  pub rows : s' ≡ rows_begun b who (rows_handed who.cell g (freed who.party s))
+  pub alone : wrote (declines ask o h.phase) b ≡ true → IsWriteOpen h s who.cell → ⊥
+  pub told : Tells who ask o h.phase b
+
+-- and one that was
+pub record IsTurned (h : Holders) (s : Parking) (b : Begun) (g : Given) (h' : Holders) (s' : Parking) : Type 0 where
+  pub cyclic : b ≡ begun.Cyclic
+  pub given : g ≡ given.Nobody
+  pub held : h' ≡ h
+  pub rows : s' ≡ s
+
+-- ---- a call that was judged, before it is settled whether its cell is registered
+
+-- what it tells then
+abbrev pub TellsFirst : Who → Ask → Phase → Begun → Type 0
+TellsFirst who ask p (begun.Wait way) = Unit {0}
+TellsFirst who ask p begun.Missed = ⊥
+TellsFirst who ask p begun.Cyclic = ⊥
+TellsFirst who ask p (begun.Nothing q) = (q ≡ p) × (asks_run ask p ≡ false)
+TellsFirst who ask p (begun.Read t q) = (q ≡ p) × (asks_run ask p ≡ false)
+TellsFirst who ask p (begun.Write t q) = (q ≡ p) × (asks_run ask p ≡ false)
+TellsFirst who ask p (begun.Run s) = (s ≡ section_by who ask.want unregistered write_ticket) × (asks_run ask p ≡ true)
+TellsFirst who ask p (begun.Final s) = (s ≡ section_by who ask.want p write_ticket) × (finalizes ask.want ≡ true)
+
+-- what a call that was not turned back entered
+pub record IsEntered (who : Who) (ask : Ask) (h : Holders) (s : Parking) (b : Begun) (g : Given) (h' : Holders) (s' : Parking) : Type 0 where
+  pub phase : h'.phase ≡ h.phase
+  pub listed : IsListed who.cell (freed who.party s) g
+  pub rows : s' ≡ rows_begun b who (rows_handed who.cell g (freed who.party s))
+  pub alone : writes_begun b ≡ 1 → IsWriteOpen h s who.cell → ⊥
+  pub told : TellsFirst who ask h.phase b
+
+-- where a call that asks for no run is not declined
+calm : (ask : Ask) (o : Option Registry) (p : Phase) → asks_run ask p ≡ false → declines ask o p ≡ false
+calm ask o p e = ap (λ b. b && is_refused ask.tol.leak o p) e
+
+record JudgedTo (who : Who) (ask : Ask) (h : Holders) (s : Parking) (b : Begun) (h' : Holders) (s' : Parking) : Type 0 where
+  pub phase : h'.phase ≡ h.phase
+  pub rows : s' ≡ rows_begun b who s
+  pub alone : writes_begun b ≡ 1 → h.locked ≡ false
+  pub told : TellsFirst who ask h.phase b
+
+waiting_phase : (way : How) (h : Holders) → (held_waiting way h).phase ≡ h.phase
+waiting_phase how.Spin h = refl
+waiting_phase how.ParkedRead h = refl
+waiting_phase how.ParkedWrite h = refl
+waiting_phase how.Drain h = refl
+
+admitted_phase : (n : LockNature) (h : Holders) → (admitted h n).phase ≡ h.phase
+admitted_phase nature.Read h = refl
+admitted_phase nature.Write h = refl
+admitted_phase nature.None h = refl
+
+-- what was got begins this
+record GotTo (who : Who) (ask : Ask) (p : Phase) (n : LockNature) (s : Parking) (b : Begun) : Type 0 where
+  pub rows : s ≡ rows_begun b who s
+  pub wrote : writes_begun b ≡ 1 → n ≡ nature.Write
+  pub told : TellsFirst who ask p b
+
+-- no run is asked by a call that wants no lock to write
+run_writes : (w : Want) (due there : Bool) → (initializes w && due) ≡ true → nature_where w due there ≡ nature.Write
+run_writes want.Init true there e = refl
+run_writes want.Init false there e = absurd (cc)
+run_writes want.Read true there e = refl
+run_writes want.Read false there e = absurd (cc)
+run_writes want.Write due there e = refl
+run_writes want.ReadOnly due there e = absurd (cc)
+run_writes want.WriteOnly due there e = absurd (cc)
+run_writes want.Finalize due there e = absurd (cc)
+
+no_run : (ask : Ask) (p : Phase) (n : LockNature) → n ≡ nature_of ask p → n ≢ nature.Write → asks_run ask p ≡ false
+no_run ask p n e ne = by (asks_run ask p) refl
+  where
+    by : (b : Bool) → asks_run ask p ≡ b → b ≡ false
+    by true q = absurd (ne (e ∙ run_writes ask.want (seq_shall_init ask.tol p) (has (number p) initialized) q))
+    by false q = refl
+
+got_write : (who : Who) (ask : Ask) (p : Phase) (s : Parking) (run final : Bool) → asks_run ask p ≡ run → finalizes ask.want ≡ final → GotTo who ask p nature.Write s (if run then begun.Run (section_by who ask.want unregistered write_ticket) else (if final then begun.Final (section_by who ask.want p write_ticket) else begun.Write write_ticket p))
+got_write who ask p s true final r e = record { rows = refl; wrote = λ k. refl; told = (refl, r) }
+got_write who ask p s false true r e = record { rows = refl; wrote = λ k. refl; told = (refl, e) }
+got_write who ask p s false false r e = record { rows = refl; wrote = λ k. refl; told = (refl, r) }
+
+got_to : (who : Who) (ask : Ask) (p : Phase) (n : LockNature) (s : Parking) → n ≡ nature_of ask p → GotTo who ask p n s (begun_by who ask p (attempt.Got (got n p)))
+got_to who ask p nature.Read s e = record { rows = refl; wrote = λ k. absurd (omega (arith, k)); told = (refl, no_run ask p nature.Read e (λ q. cc)) }
+got_to who ask p nature.None s e = record { rows = refl; wrote = λ k. absurd (omega (arith, k)); told = (refl, no_run ask p nature.None e (λ q. cc)) }
+got_to who ask p nature.Write s e = got_write who ask p s (asks_run ask p) (finalizes ask.want) refl refl
+
+judged_to : (k : LockerKind) (fresh : Bool) (who : Who) (wake n : LockNature) (h : Holders) (s : Parking) (a : Attempt) (h' : Holders) (s' : Parking) (ask : Ask) → n ≡ nature_of ask h.phase → Judged k fresh who wake n h s a h' s' → JudgedTo who ask h s (begun_by who ask h.phase a) h' s'
+judged_to k fresh who wake n h s a h' s' ask ruled judged = by (bars h n) refl judged
+  where
+    unlocked : (m : LockNature) → m ≡ nature.Write → bars h m ≡ false → h.locked ≡ false
+    unlocked m e b = first h.locked (let f : bars_write h ≡ false = ap (bars h) (sym e) ∙ b in f)
+      where
+        first : (x : Bool) → (x || not (h.readers == 0)) ≡ false → x ≡ false
+        first true e = absurd (cc)
+        first false e = refl
+
+    by : (b : Bool) → bars h n ≡ b → MatchBool b (Waits k fresh who wake n h s a h' s') (Gets who n h s a h' s') → JudgedTo who ask h s (begun_by who ask h.phase a) h' s'
+    by true e j =
+        subst (λ x. JudgedTo who ask h s (begun_by who ask h.phase x) h' s') (sym j.answer)
+        (record { phase = ap (λ (x : Holders). x.phase) j.held ∙ waiting_phase j.how h; rows = j.rows; alone = λ z. absurd (omega (arith, z)); told = tt })
+    by false e j =
+        let t = got_to who ask h.phase n s ruled in
+        subst (λ x. JudgedTo who ask h s (begun_by who ask h.phase x) h' s') (sym j.answer)
+        (record { phase = ap (λ (x : Holders). x.phase) j.held ∙ admitted_phase n h; rows = j.rows ∙ t.rows; alone = λ z. unlocked n (t.wrote z) e; told = t.told })
+
+-- ---- the calls
+
+-- the row of a party that does not wait is free already
+free_same : (p : ℕ) (s : Parking) → row_of s p ≡ free_row → freed p s ≡ s
+free_same p s e = ap (λ (r : Row). left r.waiting r.cell p s) e ∙ (λ i. record { rows = same i; readers = s.readers; writers = s.writers })
+  where
+    same : set s.rows p free_row ≡ s.rows
+    same = ap (λ r. set s.rows p r) (sym e) ∙ set-get_or s.rows p free_row
+
+module _ (k : LockerKind) (who : Who) (ask : Ask) (running : Option ℕ) (h : Holders) (s : Parking) (r : Begun × Given) (h' : Holders) (s' : Parking) (slow : ask.fast ≡ false) where
+  turned : TurnsBack h s r h' s' → IsTurned h s r.0 r.1 h' s'
+  turned t = record { cyclic = ap (λ (x : Begun × Given). x.0) t.answer; given = ap (λ (x : Begun × Given). x.1) t.answer; held = t.held; rows = t.rows }
+
+  begins : row_of s who.party ≡ free_row → Begins k who ask running h s r h' s' → IsTurned h s r.0 r.1 h' s' ⊎ IsEntered who ask h s r.0 r.1 h' s'
+  begins free d = by (is_cyclic ask.want who.party running) ask.fast slow d
+    where
+      made : MakesAttempt k who ask h s r h' s' → IsEntered who ask h s r.0 r.1 h' s'
+      made a =
+          let j = judged_to k true who (wake_of ask.want) a.locks.nature h s a.attempt h' s' ask a.locks.allowed a.locks.judged in
+          subst (λ b. IsEntered who ask h s b r.1 h' s') (sym a.answer)
+          (subst (λ g. IsEntered who ask h s (begun_by who ask h.phase a.attempt) g h' s') (sym a.locks.given)
+          (record {
+            phase = j.phase;
+            listed = tt;
+            rows = j.rows ∙ ap (rows_begun (begun_by who ask h.phase a.attempt) who) (sym (free_same who.party s free));
+            alone = λ z o. (let l = j.alone z in let m = o.locked in cc);
+            told = j.told;
+          }))
+
+      by : (c f : Bool) → f ≡ false → MatchBool c (TurnsBack h s r h' s') (MatchBool f (TriesLock who ask h s r h' s') (MakesAttempt k who ask h s r h' s')) → IsTurned h s r.0 r.1 h' s' ⊎ IsEntered who ask h s r.0 r.1 h' s'
+      by true f e d = inl (turned d)
+      by false true e d = absurd (cc)
+      by false false e d = inr (made d)
+
+  resumes : (row_of s who.party).cell ≡ who.cell → who.party < length s.rows → Fits k h s who.cell → Resumes k who ask running h s r h' s' → IsTurned h s r.0 r.1 h' s' ⊎ IsEntered who ask h s r.0 r.1 h' s'
+  resumes here inside fits d = by (is_cyclic ask.want who.party running) d
+    where
+      row : row_of s who.party ≡ record { waiting = (row_of s who.party).waiting; cell = who.cell }
+      row = λ i. record { waiting = (row_of s who.party).waiting; cell = here i }
+
+      given_phase : (w : Waiting) → (given_up w h).phase ≡ h.phase
+      given_phase waiting.ShareRead = refl
+      given_phase waiting.ShareWrite = refl
+      given_phase waiting.Drain = refl
+      given_phase waiting.Free = refl
+      given_phase waiting.Spin = refl
+      given_phase waiting.ParkedRead = refl
+      given_phase waiting.ParkedWrite = refl
+
+      kept : (n : LockNature) (a : Attempt) → n ≡ nature_of ask h.phase → r.0 ≡ begun_by who ask h.phase a → keeps (row_of s who.party).waiting n h ≡ true → Keeps who n h s (a, r.1) h' s' → IsEntered who ask h s r.0 r.1 h' s'
+      kept n a ruled answer e j =
+          let t = got_to who ask h.phase n (freed who.party s) ruled in
+          subst (λ b. IsEntered who ask h s b r.1 h' s') (sym (answer ∙ ap (begun_by who ask h.phase) j.answer))
+          (subst (λ g. IsEntered who ask h s (begun_by who ask h.phase (attempt.Got (got n h.phase))) g h' s') (sym j.given)
+          (record {
+            phase = ap (λ (x : Holders). x.phase) j.held;
+            listed = tt;
+            rows = j.rows ∙ t.rows;
+            alone = λ z o. kept_writes (row_of s who.party).waiting n k h s who.cell who.party inside row fits e o;
+            told = t.told;
+          }))
+
+      gave : (n : LockNature) (a : Attempt) → n ≡ nature_of ask h.phase → r.0 ≡ begun_by who ask h.phase a → GivesUp k who (wake_of ask.want) n h s (a, r.1) h' s' → IsEntered who ask h s r.0 r.1 h' s'
+      gave n a ruled answer j =
+          let phase : j.between.phase ≡ h.phase = hands_phase who.cell (given_up (row_of s who.party).waiting h) (freed who.party s) r.1 j.between j.rows j.hands ∙ given_phase (row_of s who.party).waiting in
+          let t = judged_to k (not (is_drain (row_of s who.party).waiting)) who (wake_of ask.want) n j.between j.rows a h' s' ask (ruled ∙ ap (nature_of ask) (sym phase)) j.judged in
+          subst (λ b. IsEntered who ask h s b r.1 h' s') (sym answer)
+          (record {
+            phase = t.phase ∙ phase;
+            listed = listed_hand who.cell (given_up (row_of s who.party).waiting h) (freed who.party s) r.1 j.hands.may;
+            rows = subst (λ p. s' ≡ rows_begun (begun_by who ask p a) who j.rows) phase t.rows ∙ ap (rows_begun (begun_by who ask h.phase a) who) j.hands.rows;
+            alone = λ z o. (let l = t.alone (subst (λ p. writes_begun (begun_by who ask p a) ≡ 1) (sym phase) z) in
+                let m = (hands_writes r.1 who.cell (given_up (row_of s who.party).waiting h) (freed who.party s) j.between j.rows j.hands (subst (λ c. IsWriteOpen (given_up (row_of s who.party).waiting h) (left (row_of s who.party).waiting c who.party s) who.cell) (sym here) (left_writes (row_of s who.party).waiting k h s who.cell who.party inside row fits o))).locked in cc);
+            told = subst (λ p. TellsFirst who ask p (begun_by who ask p a)) phase t.told;
+          })
+
+      by : (c : Bool) → MatchBool c (TurnsBack h s r h' s') (MakesAnother k who ask h s r h' s') → IsTurned h s r.0 r.1 h' s' ⊎ IsEntered who ask h s r.0 r.1 h' s'
+      by true d = inl (turned d)
+      by false d = inr (either (keeps (row_of s who.party).waiting d.again.nature h) refl d.again.steps)
+        where
+          either : (b : Bool) → keeps (row_of s who.party).waiting d.again.nature h ≡ b → MatchBool b (Keeps who d.again.nature h s (d.attempt, r.1) h' s') (GivesUp k who (wake_of ask.want) d.again.nature h s (d.attempt, r.1) h' s') → IsEntered who ask h s r.0 r.1 h' s'
+          either true e j = kept d.again.nature d.attempt d.again.allowed d.answer e j
+          either false e j = gave d.again.nature d.attempt d.again.allowed d.answer j
+
+  -- a call of a party that waits at the cell, or does not wait
+  pub entered : (waits : Bool) → MatchBool waits ((row_of s who.party).cell ≡ who.cell) (row_of s who.party ≡ free_row) → who.party < length s.rows → Fits k h s who.cell → Enters waits k who ask running h s r h' s' → IsTurned h s r.0 r.1 h' s' ⊎ IsEntered who ask h s r.0 r.1 h' s'
+  entered true row inside fits d = resumes row inside fits d
+  entered false row inside fits d = begins row d
+
+-- ---- whether the cell is registered
+
+module _ (k : LockerKind) (who : Who) (ask : Ask) (h : Holders) (s : Parking) where
+  -- an answer that begins no run is as it was entered
+  plain : (o : Option Registry) (b : Begun) (g : Given) (h' : Holders) (s' : Parking) → is_run b ≡ false → IsEntered who ask h s b g h' s' → IsBegun who ask o h s b g h' s'
+  plain o (begun.Wait way) g h' s' e d = record { phase = d.phase; listed = d.listed; rows = d.rows; alone = λ z. absurd (cc); told = tt }
+  plain o begun.Missed g h' s' e d = absurd d.told
+  plain o begun.Cyclic g h' s' e d = absurd d.told
+  plain o (begun.Nothing q) g h' s' e d =
+      let z = calm ask o h.phase d.told.1 in
+      record { phase = rw z d.phase; listed = d.listed; rows = d.rows; alone = rw z (λ f. absurd (cc)); told = rw z d.told.0 }
+  plain o (begun.Read t q) g h' s' e d =
+      let z = calm ask o h.phase d.told.1 in
+      record { phase = rw z d.phase; listed = d.listed; rows = d.rows; alone = rw z (λ f. absurd (cc)); told = rw z d.told.0 }
+  plain o (begun.Write t q) g h' s' e d =
+      let z = calm ask o h.phase d.told.1 in
+      record { phase = d.phase; listed = d.listed; rows = d.rows; alone = λ f. d.alone refl; told = rw z d.told.0 }
+  plain o (begun.Run x) g h' s' e d = absurd (cc)
+  plain o (begun.Final x) g h' s' e d = record { phase = d.phase; listed = d.listed; rows = d.rows; alone = λ f. d.alone refl; told = d.told }
+
+  -- a run that was entered: the generator runs, beside these flags
+  runs : (o : Option Registry) (x : SeqSection) (g : Given) (h' : Holders) (s' : Parking) → IsEntered who ask h s (begun.Run x) g h' s' → IsBegun who ask o h s (begun.Run (section_by x.who x.want (stays_asked o h.phase) x.ticket)) g h' s'
+  runs o x g h' s' d =
+      record {
+        phase = d.phase;
+        listed = d.listed;
+        rows = d.rows;
+        alone = λ f. d.alone refl;
+        told = ((λ i. section_by (d.told.0 i).who (d.told.0 i).want (stays_asked o h.phase) (d.told.0 i).ticket), d.told.1);
+      }
+
+  -- or it has a section at once
+  at_once : (m : Registry) (x : SeqSection) (h1 : Holders) (s1 : Parking) (r : Begun × Given) (h' : Holders) (s' : Parking) → IsEntered who ask h s (begun.Run x) given.Nobody h1 s1 → is_refused ask.tol.leak (Some m) h.phase ≡ true → HasSectionAtOnce x h1 s1 r h' s' → IsBegun who ask (Some m) h s r.0 r.1 h' s'
+  at_once m x h1 s1 r h' s' d refuses so = subst (λ b. IsBegun who ask (Some m) h s b r.1 h' s') (sym so.answer) (by x.want so.finished so.goes_on)
+    where
+      declined : declines ask (Some m) h.phase ≡ true
+      declined = ap (λ b. b && is_refused ask.tol.leak (Some m) h.phase) d.told.1 ∙ refuses
+
+      at : x.who.cell ≡ who.cell
+      at = ap (λ (y : SeqSection). y.who.cell) d.told.0
+
+      by : (w : Want) (f : Finished) → GoesOn w x.who.cell refused h1 s1 (f, r.1) h' s' → IsBegun who ask (Some m) h s (begun_at_once f) r.1 h' s'
+      by want.Init f k =
+          let hands = subst (λ c. Hands c (leave_write refused h1) s1 r.1 h' s') at k.hands in
+          subst (λ y. IsBegun who ask (Some m) h s (begun_at_once y) r.1 h' s') (sym k.finished)
+          (record {
+            phase = rw declined (hands_phase who.cell (leave_write refused h1) s1 r.1 h' s' hands);
+            listed = subst (λ y. IsListed who.cell y r.1) d.rows (listed_hand who.cell (leave_write refused h1) s1 r.1 hands.may);
+            rows = hands.rows ∙ ap (λ y. rows_handed who.cell r.1 y) d.rows;
+            alone = λ f. d.alone refl;
+            told = rw declined refl;
+          })
+      by want.Read f k =
+          let down = subst (λ c. Downgrades c refused h1 s1 r.1 h' s') at k.downgrades in
+          subst (λ y. IsBegun who ask (Some m) h s (begun_at_once y) r.1 h' s') (sym k.finished)
+          (record {
+            phase = rw declined (downgrades_phase who.cell refused h1 s1 r.1 h' s' down);
+            listed = subst (λ y. IsListed who.cell y r.1) d.rows (listed_share who.cell s1 r.1 down.may);
+            rows = down.rows ∙ ap (λ y. rows_handed who.cell r.1 y) d.rows;
+            alone = λ f. d.alone refl;
+            told = rw declined refl;
+          })
+      by want.Write f k =
+          subst (λ (y : Finished × Given). IsBegun who ask (Some m) h s (begun_at_once y.0) y.1 h' s') (sym k.finished)
+          (record {
+            phase = ap (λ (y : Holders). y.phase) k.held ∙ d.phase;
+            listed = tt;
+            rows = k.rows ∙ d.rows;
+            alone = λ f. d.alone refl;
+            told = rw declined refl;
+          })
+      by want.ReadOnly f k = absurd k
+      by want.WriteOnly f k = absurd k
+      by want.Finalize f k = absurd k
+
+  -- what was entered, settled
+  stays : (o : Option Registry) (b : Begun) (g : Given) (h1 : Holders) (s1 : Parking) (r : Begun × Given) (h' : Holders) (s' : Parking) → is_run b ≡ false → IsEntered who ask h s b g h1 s1 → Stays (b, g) h1 s1 r h' s' → IsBegun who ask o h s r.0 r.1 h' s'
+  stays o b g h1 s1 r h' s' e d st =
+      subst (λ (q : Begun × Given). IsBegun who ask o h s q.0 q.1 h' s') (sym st.same) (subst (λ z. IsBegun who ask o h s b g z s') (sym st.held) (subst (λ z. IsBegun who ask o h s b g h1 z) (sym st.rows) (plain o b g h1 s1 e d)))
+
+  settled : (m : Registry) (b : Begun) (g : Given) (h1 : Holders) (s1 : Parking) (r : Begun × Given) (h' : Holders) (s' : Parking) → IsEntered who ask h s b g h1 s1 → Settles ask.tol.leak m h.phase (b, g) h1 s1 r h' s' → IsBegun who ask (Some m) h s r.0 r.1 h' s'
+  settled m (begun.Run x) g h1 s1 r h' s' d st = by (is_refused ask.tol.leak (Some m) h.phase) refl st.1
+    where
+      quiet : IsEntered who ask h s (begun.Run x) given.Nobody h1 s1
+      quiet = subst (λ y. IsEntered who ask h s (begun.Run x) y h1 s1) st.0 d
+
+      by : (b : Bool) → is_refused ask.tol.leak (Some m) h.phase ≡ b → MatchBool b (HasSectionAtOnce x h1 s1 r h' s') (Generates x (staying m.is_open h.phase) h1 s1 r h' s') → IsBegun who ask (Some m) h s r.0 r.1 h' s'
+      by true e k = at_once m x h1 s1 r h' s' quiet e k
+      by false e k =
+          subst (λ (q : Begun × Given). IsBegun who ask (Some m) h s q.0 q.1 h' s') (sym k.answer) (subst (λ z. IsBegun who ask (Some m) h s (begun.Run (section_by x.who x.want (staying m.is_open h.phase) x.ticket)) given.Nobody z s') (sym k.held) (subst (λ z. IsBegun who ask (Some m) h s (begun.Run (section_by x.who x.want (staying m.is_open h.phase) x.ticket)) given.Nobody h1 z) (sym k.rows) (runs (Some m) x given.Nobody h1 s1 quiet)))
+  settled m (begun.Wait how) g h1 s1 r h' s' d st = stays (Some m) (begun.Wait how) g h1 s1 r h' s' refl d st
+  settled m begun.Missed g h1 s1 r h' s' d st = absurd d.told
+  settled m begun.Cyclic g h1 s1 r h' s' d st = absurd d.told
+  settled m (begun.Nothing p) g h1 s1 r h' s' d st = stays (Some m) (begun.Nothing p) g h1 s1 r h' s' refl d st
+  settled m (begun.Read t p) g h1 s1 r h' s' d st = stays (Some m) (begun.Read t p) g h1 s1 r h' s' refl d st
+  settled m (begun.Write t p) g h1 s1 r h' s' d st = stays (Some m) (begun.Write t p) g h1 s1 r h' s' refl d st
+  settled m (begun.Final x) g h1 s1 r h' s' d st = stays (Some m) (begun.Final x) g h1 s1 r h' s' refl d st
+
+  -- on a cell without a registry
+  unsettled : (b : Begun) (g : Given) (h' : Holders) (s' : Parking) → IsEntered who ask h s b g h' s' → IsBegun who ask None h s b g h' s'
+  unsettled (begun.Run x) g h' s' d = subst (λ y. IsBegun who ask None h s (begun.Run y) g h' s') ((λ i. section_by (d.told.0 i).who (d.told.0 i).want unregistered (d.told.0 i).ticket) ∙ sym d.told.0) (runs None x g h' s' d)
+  unsettled (begun.Wait how) g h' s' d = plain None (begun.Wait how) g h' s' refl d
+  unsettled begun.Missed g h' s' d = absurd d.told
+  unsettled begun.Cyclic g h' s' d = absurd d.told
+  unsettled (begun.Nothing p) g h' s' d = plain None (begun.Nothing p) g h' s' refl d
+  unsettled (begun.Read t p) g h' s' d = plain None (begun.Read t p) g h' s' refl d
+  unsettled (begun.Write t p) g h' s' d = plain None (begun.Write t p) g h' s' refl d
+  unsettled (begun.Final x) g h' s' d = plain None (begun.Final x) g h' s' refl d
+
+  -- a call of a party that waits at the cell, or does not wait
+  module _ (running : Option ℕ) (r : Begun × Given) (h' : Holders) (s' : Parking) (slow : ask.fast ≡ false) where
+    pub answered : (o : Option Registry) (waits : Bool) → MatchBool waits ((row_of s who.party).cell ≡ who.cell) (row_of s who.party ≡ free_row) → who.party < length s.rows → Fits k h s who.cell → Calls waits o k who ask running h s r h' s' → IsTurned h s r.0 r.1 h' s' ⊎ IsBegun who ask o h s r.0 r.1 h' s'
+    answered None waits row inside fits d =
+        elim (entered k who ask running h s r h' s' slow waits row inside fits d) [
+          | inl t ↦ inl t
+          | inr e ↦ inr (unsettled r.0 r.1 h' s' e)
+        ]
+    answered (Some m) waits row inside fits d =
+        elim (entered k who ask running h s d.entered d.held d.rows slow waits row inside fits d.enters) [
+          | inl t ↦ inl (back d t)
+          | inr e ↦ inr (settled m d.entered.0 d.entered.1 d.held d.rows r h' s' e d.settles)
+        ]
+      where
+        back : (d : Calls waits (Some m) k who ask running h s r h' s') → IsTurned h s d.entered.0 d.entered.1 d.held d.rows → IsTurned h s r.0 r.1 h' s'
+        back d t =
+            let st : Stays (begun.Cyclic, d.entered.1) d.held d.rows r h' s' = subst (λ b. Settles ask.tol.leak m h.phase (b, d.entered.1) d.held d.rows r h' s') t.cyclic d.settles in
+            record { cyclic = ap (λ (q : Begun × Given). q.0) st.same; given = ap (λ (q : Begun × Given). q.1) st.same ∙ t.given; held = st.held ∙ t.held; rows = st.rows ∙ t.rows }

@@ -1,0 +1,270 @@
+-- A run ends, and its call goes on.
+use Rattle.std.proofs.Common.{◌≡◌, ◌==◌, ◌<◌, ◌+◌, ◌∙◌, ℕ, [], ◌∷◌, length, set, get_or, ap, sym, subst, refl, arith, Bool, true, false, None, Some}
+use Rattle.std.specs.declared.option.Option.{Option}
+use Rattle.std.specs.Option.{is_some}
+use Rattle.phase_bits.specs.declared.phase.Phase.{Phase}
+use Rattle.phase_bits.specs.declared.holders.Holders.{Holders}
+use Rattle.phase_bits.specs.Number.{phase_of, IsKnown}
+use Rattle.phase_bits.specs.Records.{leave_write}
+use Rattle.phase_locker.specs.declared.ways.Given.{Given}
+use Rattle.phase_locker.specs.declared.ways.Given.TheVariants as given
+use Rattle.phase_locker.specs.declared.ways.LockerKind.{LockerKind}
+use Rattle.phase_locker.specs.Rows.{Rows as Parking, HasFree}
+use Rattle.phase_locker.specs.Fits.{open_reads}
+use Rattle.phase_locker.specs.Gifts.{Hands, Downgrades}
+use Rattle.phase_locker.specs.Left.{Left}
+use Rattle.phase_locker.specs.declared.tickets.ReadTicket.{ReadTicket}
+use Rattle.phase_locker.specs.declared.tickets.WriteTicket.{WriteTicket}
+use Rattle.phase_seq.specs.declared.ask.Want.{Want as SeqWant}
+use Rattle.phase_seq.specs.declared.ask.Want.TheVariants as want
+use Rattle.phase_seq.specs.declared.section.Section.{Section as SeqSection}
+use Rattle.phase_seq.specs.declared.section.Finished.{Finished}
+use Rattle.phase_seq.specs.declared.section.Finished.TheVariants as finished
+use Rattle.phase_seq.specs.Asks.{initializes}
+use Rattle.phase_seq.specs.Phases.{reached}
+use Rattle.phase_seq.specs.Finishes.{Finishes, GoesOn}
+use Rattle.phase_seq.specs.Stands.{FinishedStands, IsRunning, reads_finished}
+use Rattle.schedule_rules.specs.declared.plan.CellPlan.{CellPlan}
+use Rattle.schedule_rules.specs.declared.plan.Call.TheVariants as call
+use Rattle.schedule_rules.specs.declared.step.Want.{Want}
+use Rattle.schedule_rules.specs.declared.step.Want.TheVariants.{Calls, Turns}
+use Rattle.schedule_rules.specs.Kinds.{cell_at}
+use Rattle.schedule_rules.specs.Changes.{Content, Ran, content_of_run}
+use Rattle.schedule_rules.specs.Guards.{reader}
+use Rattle.schedule_rules.specs.Sections.{Section, is_turn, runs_in, without_innermost}
+use Rattle.schedule_rules.specs.Holds.{writes_cell}
+use Rattle.schedule_rules.specs.History.{count}
+use Rattle.schedule_rules.specs.Waits.{wait_of}
+use Rattle.waiting_rows.proofs.GivenOn.{listed_hand, listed_share}
+use Rattle.waiting_rows.proofs.RowCounts.{free_party}
+use Rattle.phase_moves.specs.declared.rows.CellRow.{CellRow}
+use Rattle.phase_moves.specs.declared.rows.OpenRun.{OpenRun}
+use Rattle.phase_moves.specs.declared.rows.PartyRow.{PartyRow}
+use Rattle.phase_moves.specs.declared.rows.Rows.{Rows}
+use Rattle.phase_moves.specs.Standing.{Standing, run_in, reads_in, writes_in, runner_of, run_closed, guarded, writer_of}
+use Rattle.phase_moves.specs.Stands.{Seen, seen_at, IsCell, IsLocked, Stands, section_of, stays_in, target_of, want_of}
+use Rattle.phase_moves.specs.Ends.{IsEnding, EndsAs, GoesAs}
+use Rattle.phase_moves.proofs.Known.{change_known, stays_known}
+use Rattle.phase_moves.proofs.Lockers.{locked_write, locked_down, hands_writers, downgrades_writers}
+use Rattle.phase_moves.proofs.Guards.{target_given}
+use Rattle.phase_moves.proofs.Opening.{guard_opened, seen_reader}
+use Rattle.phase_moves.proofs.Innermost.{in_cells, cell_here, runs_here, o_is, its_row, write_open, seen_closed, seen_without, closed_moved, without_moved, without_it, cell_ended, parties_ended}
+use Rattle.phase_moves.proofs.Moved.{HasParties, exit_kept, moved}
+
+-- ---- what the end of a run answers
+
+abbrev pub EndedAs : SeqSection → Bool → Holders → Parking → Finished → Given → Holders → Parking → Type 0
+EndedAs o made h s (finished.Phase q) g h' s' = (made ≡ true) × (o.want ≡ want.Init)
+EndedAs o made h s (finished.Read t q) g h' s' = (made ≡ true) × (o.want ≡ want.Read) × (q ≡ reached o.stays true) × Downgrades o.who.cell (reached o.stays true) h s g h' s'
+EndedAs o made h s (finished.Write t q) g h' s' = (made ≡ true) × (o.want ≡ want.Write) × (q ≡ reached o.stays true) × (h' ≡ h) × (s' ≡ s) × (g ≡ given.Nobody)
+EndedAs o made h s (finished.Failed q) g h' s' = (made ≡ false) × (q ≡ reached o.stays false) × Hands o.who.cell (leave_write (reached o.stays false) h) s g h' s'
+
+module _ (o : SeqSection) (h : Holders) (s : Parking) (r : Finished × Given) (h' : Holders) (s' : Parking) where
+  goes : (w : SeqWant) → o.want ≡ w → GoesOn w o.who.cell (reached o.stays true) h s r h' s' → EndedAs o true h s r.0 r.1 h' s'
+  goes want.Init e k = subst (λ f. EndedAs o true h s f r.1 h' s') (sym k.finished) (refl, e)
+  goes want.Read e k = subst (λ f. EndedAs o true h s f r.1 h' s') (sym k.finished) (refl, e, refl, k.downgrades)
+  goes want.Write e k = subst (λ (f : Finished × Given). EndedAs o true h s f.0 f.1 h' s') (sym k.finished) (refl, e, refl, k.held, k.rows, refl)
+  goes want.ReadOnly e k = absurd k
+  goes want.WriteOnly e k = absurd k
+  goes want.Finalize e k = absurd k
+
+  pub ended_as : (made : Bool) → Finishes o made h s r h' s' → EndedAs o made h s r.0 r.1 h' s'
+  ended_as true k = goes o.want refl k
+  ended_as false k = subst (λ f. EndedAs o false h s f r.1 h' s') (sym k.finished) (refl, refl, k.hands)
+
+-- a value was made or not
+abbrev pub IsMadeAs : Option ℕ → Bool → Type 0
+IsMadeAs None b = b ≡ false
+IsMadeAs (Some v) b = b ≡ true
+
+-- as the code asks
+pub is_made : (o : Option ℕ) (b : Bool) → b ≡ is_some o → IsMadeAs o b
+is_made None b e = e
+is_made (Some v) b e = e
+
+-- the phase that is reached is the one that the changes give
+reached_as : (x : CellPlan) (w : Want) (is_open : Bool) (y : Content) (made : Option ℕ) (b : Bool) → is_turn w ≡ false → IsMadeAs made b → reached (stays_in x w is_open y.phase) b ≡ phase_of (content_of_run x.kind is_open made y).phase
+reached_as x (Calls k) is_open y (Some v) true e m = refl
+reached_as x (Calls k) is_open y (Some v) false e m = absurd (cc)
+reached_as x (Calls k) is_open y None true e m = absurd (cc)
+reached_as x (Calls k) is_open y None false e m = refl
+reached_as x Turns is_open y made b e m = absurd (cc)
+
+asked_run : (w : Want) → is_turn w ≡ false → initializes (want_of w) ≡ true
+asked_run (Calls call.Phase) e = refl
+asked_run (Calls call.Read) e = refl
+asked_run (Calls call.Write) e = refl
+asked_run Turns e = absurd (cc)
+
+never_init : (w : Want) → want_of w ≡ want.Init → ⊥
+never_init (Calls call.Phase) e = cc
+never_init (Calls call.Read) e = cc
+never_init (Calls call.Write) e = cc
+never_init Turns e = cc
+
+module _ {L : Type 0} (held : L → Holders) (place : L → LockerKind) (m : Standing) (v : Rows L) (p c : ℕ) (made : Option ℕ) (s : Section) (is : IsEnding held place m v p c made s) (row : CellRow L) (row_is : row ≡ get_or v.cells.items c row) where
+  abbrev n : ℕ
+  n = length v.guards.items
+
+  abbrev its : SeqSection
+  its = section_of (cell_at m.plans c) c (m.content c).phase s
+
+  here : IsCell held place (seen_at c m) v.parks c row
+  here = cell_here held place m v p c s is.inner row row_is
+
+  -- what the sequentializer requires
+  module _ (o : OpenRun) (taken : row.run ≡ Some o) where
+    same : o ≡ its_row held place m v p c s is.inner row row_is
+    same = o_is held place m v p c s is.inner row row_is o taken
+
+    pub end_running : IsRunning o.section row.seq.running (held row.seq.locker) v.parks
+    end_running =
+        subst (λ (x : OpenRun). IsRunning x.section row.seq.running (held row.seq.locker) v.parks) (sym same)
+        (record {
+          party = here.runner ∙ ap runner_of (runs_here held place m v p c s is.inner row row_is) ∙ (let t = is.calls in rw t refl);
+          asked = asked_run s.want is.calls;
+          known = stays_known (cell_at m.plans c) s.want s.is_open (m.content c).phase here.known;
+          locked = write_open held place m v p c s is.inner row row_is;
+        })
+
+    pub end_room : (b : Bool) → IsMadeAs made b → b ≡ true → HasFree v.parks
+    end_room b is_as so = by made refl is_as
+      where
+        by : (x : Option ℕ) → made ≡ x → IsMadeAs x b → HasFree v.parks
+        by None e q = absurd (let f : true ≡ false = sym so ∙ q in cc)
+        by (Some x) e q = free_party p m.waits v.parks is.inner.rests.stands.waits.shows (is.awake x e) (let a = is.inner.party in let r = is.inner.rests.stands.sizes.rows in omega (arith, a, r))
+
+  -- ---- the move
+
+  module _ (v' : Rows L) (row' : CellRow L) (of of' : PartyRow) (of_is : of ≡ get_or v.parties.items p of) (o : OpenRun) (taken : row.run ≡ Some o) (cells : v'.cells.items ≡ set v.cells.items c row') (guards : v'.guards ≡ v.guards) (exit : v'.exit ≡ v.exit) (parties : v'.parties.items ≡ set v.parties.items p of')
+      (of'_is : of' ≡ record { waiting = of.waiting; innermost = o.run.outer }) (plan : row'.plan ≡ row.plan) (run : row'.run ≡ None) (running : row'.seq.running ≡ None) (b : Bool) (made_is : IsMadeAs made b) (r : Finished × Given)
+      (finishes : Finishes o.section b (held row.seq.locker) v.parks r (held row'.seq.locker) v'.parks) (stands : FinishedStands o.section.who.cell r.0 (held row'.seq.locker) v'.parks) (reads : open_reads (held row'.seq.locker) v'.parks o.section.who.cell ≡ reads_finished r.0) (k : Left held place o.section.who.cell row.seq.locker row'.seq.locker v.parks v'.parks) where
+    abbrev made_as : Content
+    made_as = content_of_run (cell_at m.plans c).kind s.is_open made (m.content c)
+
+    left_here : Left held place c row.seq.locker row'.seq.locker v.parks v'.parks
+    left_here = subst (λ (x : OpenRun). Left held place x.section.who.cell row.seq.locker row'.seq.locker v.parks v'.parks) (same o taken) k
+
+    reads_here : (f : Finished) → r.0 ≡ f → open_reads (held row'.seq.locker) v'.parks c ≡ reads_finished f
+    reads_here f e = subst (λ (x : OpenRun). open_reads (held row'.seq.locker) v'.parks x.section.who.cell ≡ reads_finished r.0) (same o taken) reads ∙ ap reads_finished e
+
+    stands_here : (f : Finished) → r.0 ≡ f → FinishedStands c f (held row'.seq.locker) v'.parks
+    stands_here f e = subst (λ x. FinishedStands c x (held row'.seq.locker) v'.parks) e (subst (λ (x : OpenRun). FinishedStands x.section.who.cell r.0 (held row'.seq.locker) v'.parks) (same o taken) stands)
+
+    how : (f : Finished) → r.0 ≡ f → EndedAs its b (held row.seq.locker) v.parks f r.1 (held row'.seq.locker) v'.parks
+    how f e = subst (λ x. EndedAs its b (held row.seq.locker) v.parks x r.1 (held row'.seq.locker) v'.parks) e (ended_as its (held row.seq.locker) v.parks r (held row'.seq.locker) v'.parks b (subst (λ (x : OpenRun). Finishes x.section b (held row.seq.locker) v.parks r (held row'.seq.locker) v'.parks) (same o taken) finishes))
+
+    phase_is : (d : Bool) → b ≡ d → reached its.stays d ≡ phase_of made_as.phase
+    phase_is d e = reached_as (cell_at m.plans c) s.want s.is_open (m.content c) made d is.calls (subst (IsMadeAs made) e made_is)
+
+    made_value : b ≡ true → made ≡ made_as.value
+    made_value e = by made (subst (IsMadeAs made) e made_is)
+      where
+        by : (x : Option ℕ) → IsMadeAs x true → x ≡ (content_of_run (cell_at m.plans c).kind s.is_open x (m.content c)).value
+        by None q = absurd (cc)
+        by (Some x) q = refl
+
+    kept_value : b ≡ false → (m.content c).value ≡ made_as.value
+    kept_value e = by made (subst (IsMadeAs made) e made_is)
+      where
+        by : (x : Option ℕ) → IsMadeAs x false → (m.content c).value ≡ (content_of_run (cell_at m.plans c).kind s.is_open x (m.content c)).value
+        by None q = refl
+        by (Some x) q = absurd (cc)
+
+    known_made : IsKnown (phase_of made_as.phase)
+    known_made = change_known (cell_at m.plans c) (Ran s.is_open made) (m.content c) here.known
+
+    cell_now : (y : Content) (a z : ℕ) → row'.value ≡ y.value → IsKnown (phase_of y.phase) → IsLocked (place row'.seq.locker) (held row'.seq.locker) v'.parks c a z y.phase → IsCell held place (record { plan = cell_at m.plans c; content = y; reads = a; writes = z; run = None }) v'.parks c row'
+    cell_now y a z = cell_ended held place m v p c s is.inner row row_is v' row' y a z plan run running left_here.place
+
+    parties_now : (m' : Standing) → m'.sections ≡ without_innermost s.party m.sections → ((q : ℕ) → target_of (wait_of q m'.waits) ≡ target_of (wait_of q m.waits)) → HasParties held place m' v v'
+    parties_now = parties_ended held place m v p c s is.inner row row_is v' of of' of_is parties o taken of'_is
+
+    told_as : (q : Phase) → q ≡ phase_of made_as.phase → q ≡ phase_of (content_of_run (cell_at m.plans s.cell).kind s.is_open made (m.content s.cell)).phase
+    told_as q e = e ∙ (λ i. phase_of (content_of_run (cell_at m.plans (sym is.inner.at i)).kind s.is_open made (m.content (sym is.inner.at i))).phase)
+
+    abbrev ok : Stands held place n m v
+    ok = is.inner.rests.stands
+
+    inside : c < length v.cells.items
+    inside = in_cells held place m v p c s is.inner row row_is
+
+    -- it failed
+    pub ends_failed : (q : Phase) → r.0 ≡ finished.Failed q → row'.value ≡ row.value → EndsAs held place m v s made (Some (finished.Failed q, r.1)) v'
+    ends_failed q e value =
+        let d = how (finished.Failed q) e in
+        record {
+          stands = moved held place c n n m (run_closed s made r.1 m) v v' row' ok inside cells
+              (subst (λ (z : Seen). IsCell held place z v'.parks c row') (sym (seen_closed held place m v p c s is.inner row row_is (Ran s.is_open made ∷ []) r.1))
+              (cell_now made_as 0 0 (value ∙ here.valued ∙ kept_value d.0) known_made (locked_write (place row.seq.locker) (place row'.seq.locker) (held row.seq.locker) (held row'.seq.locker) v.parks v'.parks c made_as.phase (reached its.stays false) r.1 d.2 (reads_here (finished.Failed q) e) (stands_here (finished.Failed q) e).0 left_here.fits (phase_is false d.0))))
+              (closed_moved held place m v p c s is.inner row row_is (Ran s.is_open made ∷ []) r.1 m.turns v' left_here guards (exit_kept (length v.cells.items) m m v.exit v'.exit exit refl refl refl ok.exit) (hands_writers c _ v.parks r.1 _ v'.parks d.2) (listed_hand c _ v.parks r.1 d.2.may) d.2.rows)
+              (parties_now (run_closed s made r.1 m) refl (λ x. target_given s.cell r.1 m.waits x));
+          told = failing made (subst (IsMadeAs made) d.0 made_is) (told_as q (d.1 ∙ phase_is false d.0));
+        }
+      where
+        failing : (x : Option ℕ) → IsMadeAs x false → q ≡ phase_of (content_of_run (cell_at m.plans s.cell).kind s.is_open x (m.content s.cell)).phase → GoesAs s.want x (phase_of (content_of_run (cell_at m.plans s.cell).kind s.is_open x (m.content s.cell)).phase) (finished.Failed q) r.1
+        failing None z f = f
+        failing (Some x) z f = absurd (cc)
+
+    -- its call reads on
+    pub ends_read : (l : ReadTicket) (q : Phase) → r.0 ≡ finished.Read l q → row'.value ≡ made → EndsAs held place m v s made (Some (finished.Read l q, r.1)) v'
+    ends_read l q e value =
+        let d = how (finished.Read l q) e in
+        record {
+          stands = moved held place c n n m (guarded (reader n s.party s.cell) (run_closed s made r.1 m)) v v' row' ok inside cells
+              (subst (λ (z : Seen). IsCell held place z v'.parks c row') (sym seen)
+              (cell_now made_as 1 0 (value ∙ made_value d.0) known_made (locked_down (place row'.seq.locker) (held row.seq.locker) (held row'.seq.locker) v.parks v'.parks c made_as.phase (reached its.stays true) r.1 d.3 (reads_here (finished.Read l q) e) (stands_here (finished.Read l q) e).0 left_here.fits (phase_is true d.0))))
+              (guard_opened held place c n n n m (run_closed s made r.1 m) v v' (reader n s.party s.cell)
+              (closed_moved held place m v p c s is.inner row row_is (Ran s.is_open made ∷ []) r.1 m.turns v' left_here guards (exit_kept (length v.cells.items) m m v.exit v'.exit exit refl refl refl ok.exit) (downgrades_writers c _ _ v.parks r.1 _ v'.parks d.3) (listed_share c v.parks r.1 d.3.may) d.3.rows)
+              refl is.inner.at (omega arith) is.inner.rests.empty is.inner.rests.empty inside)
+              (parties_now (guarded (reader n s.party s.cell) (run_closed s made r.1 m)) refl (λ x. target_given s.cell r.1 m.waits x));
+          told = going made (subst (IsMadeAs made) d.0 made_is) (d.1, told_as q (d.2 ∙ phase_is true d.0));
+        }
+      where
+        seen : seen_at c (guarded (reader n s.party s.cell) (run_closed s made r.1 m)) ≡ record { plan = cell_at m.plans c; content = made_as; reads = 1; writes = 0; run = None }
+        seen =
+            ap (λ x. seen_at c (guarded (reader n s.party x) (run_closed s made r.1 m))) is.inner.at
+            ∙ seen_reader n s.party c (run_closed s made r.1 m)
+            ∙ ap (λ (w : Seen). record { plan = w.plan; content = w.content; reads = w.reads + 1; writes = w.writes; run = w.run }) (seen_closed held place m v p c s is.inner row row_is (Ran s.is_open made ∷ []) r.1)
+
+        going : (x : Option ℕ) → IsMadeAs x true → (want_of s.want ≡ want.Read) × (q ≡ phase_of (content_of_run (cell_at m.plans s.cell).kind s.is_open x (m.content s.cell)).phase) → GoesAs s.want x (phase_of (content_of_run (cell_at m.plans s.cell).kind s.is_open x (m.content s.cell)).phase) (finished.Read l q) r.1
+        going None z f = absurd (cc)
+        going (Some x) z f = f
+
+    -- its call writes on
+    pub ends_write : (l : WriteTicket) (q : Phase) → r.0 ≡ finished.Write l q → row'.value ≡ row.value → EndsAs held place m v s made (Some (finished.Write l q, r.1)) v'
+    ends_write l q e value =
+        let d = how (finished.Write l q) e in
+        record {
+          stands = moved held place c n n m (guarded (writer_of n s made) gone) v v' row' ok inside cells
+              (subst (λ (z : Seen). IsCell held place z v'.parks c row') (sym seen)
+              (cell_now (m.content c) 0 1 (value ∙ here.valued) here.known
+              (record {
+                fits = left_here.fits;
+                phase_is = ap (λ (h : Holders). h.phase) d.3 ∙ here.locked.phase_is;
+                reads_are = reads_here (finished.Write l q) e;
+                write_is = λ lt. (stands_here (finished.Write l q) e).0;
+                write_was = λ o. omega arith;
+                one = omega arith;
+              })))
+              (guard_opened held place c n n n m gone v v' (writer_of n s made) (without_moved held place m v p c s is.inner row row_is v' left_here guards exit d.4) refl is.inner.at (omega arith) is.inner.rests.empty is.inner.rests.empty inside)
+              (parties_now (guarded (writer_of n s made) gone) refl (λ x. refl));
+          told = going made (subst (IsMadeAs made) d.0 made_is) (d.1, told_as q (d.2 ∙ phase_is true d.0), d.5);
+        }
+      where
+        gone : Standing
+        gone = without_it held place m v p c s is.inner row row_is
+
+        seen : seen_at c (guarded (writer_of n s made) gone) ≡ record { plan = cell_at m.plans c; content = m.content c; reads = 0; writes = 1; run = None }
+        seen =
+            let e : (s.cell == c) ≡ true = (let q = is.inner.at in grind (arith, q)) in
+            let more : count (writes_cell c) m.guards + 1 + count (runs_in c) (without_innermost s.party m.sections) ≡ writes_in c gone + 1 = omega arith in
+            rw e ((λ i. record { plan = cell_at m.plans c; content = m.content c; reads = reads_in c m; writes = more i; run = run_in c (without_innermost s.party m.sections) }) ∙ ap (λ (w : Seen). record { plan = w.plan; content = w.content; reads = w.reads; writes = w.writes + 1; run = w.run }) (seen_without held place m v p c s is.inner row row_is))
+
+        going : (x : Option ℕ) → IsMadeAs x true → (want_of s.want ≡ want.Write) × (q ≡ phase_of (content_of_run (cell_at m.plans s.cell).kind s.is_open x (m.content s.cell)).phase) × (r.1 ≡ given.Nobody) → GoesAs s.want x (phase_of (content_of_run (cell_at m.plans s.cell).kind s.is_open x (m.content s.cell)).phase) (finished.Write l q) r.1
+        going None z f = absurd (cc)
+        going (Some x) z f = f
+
+    -- it never only ends
+    pub ends_phase : (q : Phase) → r.0 ≡ finished.Phase q → EndsAs held place m v s made (Some (finished.Phase q, r.1)) v'
+    ends_phase q e = absurd (never_init s.want (how (finished.Phase q) e).1)

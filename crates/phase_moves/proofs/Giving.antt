@@ -1,0 +1,125 @@
+-- What is given as a guard is given back may be given.
+use Rattle.std.proofs.Common.{◌≡◌, ◌≢◌, ◌∙◌, ℕ, ap, sym, subst, refl, arith, true, false, Some}
+use Rattle.std.specs.Prelude.{slice_get}
+use Rattle.phase_bits.specs.declared.phase.Phase.{Phase}
+use Rattle.phase_bits.specs.declared.holders.Holders.{Holders}
+use Rattle.phase_bits.specs.Records.{leave_read, leave_write}
+use Rattle.phase_locker.specs.declared.ways.Given.{Given}
+use Rattle.phase_locker.specs.declared.ways.Given.TheVariants as given
+use Rattle.phase_locker.specs.declared.ways.LockerKind.{LockerKind}
+use Rattle.phase_locker.specs.Rows.{Rows as Parking, writers_of}
+use Rattle.phase_locker.specs.Fits.{Fits, IsIdle, is_park}
+use Rattle.phase_locker.specs.Gifts.{Hands, Downgrades, MayHand, MayShare}
+use Rattle.phase_locker.proofs.Holding.{listed_in}
+use Rattle.schedule_rules.specs.declared.plan.Place.{Place}
+use Rattle.schedule_rules.specs.declared.plan.Place.TheVariants as place_of
+use Rattle.schedule_rules.specs.Kinds.{cell_at, is_parking}
+use Rattle.schedule_rules.specs.Guards.{Guard, numbered}
+use Rattle.schedule_rules.specs.Holds.{reads_cell, writes_cell}
+use Rattle.waiting_rows.specs.Given.{IsListed}
+use Rattle.waiting_rows.proofs.GivenOn.{listed_hand, reaches_given}
+use Rattle.waiting_rows.proofs.RowCounts.{shares_shown, claims_shown}
+use Rattle.phase_moves.specs.declared.rows.CellRow.{CellRow}
+use Rattle.phase_moves.specs.declared.rows.Rows.{Rows}
+use Rattle.phase_moves.specs.Standing.{Standing, left}
+use Rattle.phase_moves.specs.Stands.{Stands, seen_at, IsCell, kind_at}
+use Rattle.phase_moves.specs.Gifts.{stand_on, IsGift, MayGive, MayGiveDown}
+use Rattle.phase_moves.proofs.Guards.{found_itself, count_same, count_less, reads_here, never_writes}
+use Rattle.phase_moves.proofs.Lockers.{reading_alone}
+use Rattle.phase_moves.proofs.Leaving.{read_open, write_open, no_reads, no_writes}
+
+-- where parked calls are listed, calls park
+parking : (k : LockerKind) (h : Holders) (s : Parking) (c : ℕ) (p : Place) (g : Given) → Fits k h s c → k ≡ kind_at p → IsListed c s g → g ≢ given.Nobody → is_parking p ≡ true
+parking k h s c place_of.Park g fits e l ne = refl
+parking k h s c place_of.Spin given.Nobody fits e l ne = absurd (ne refl)
+parking k h s c place_of.Spin (given.Writer q) fits e l ne = absurd (listed_in q (writers_of s c) l (fits.still (ap is_park e)).0.1)
+parking k h s c place_of.Spin given.Readers fits e l ne = absurd (let a = (fits.still (ap is_park e)).0.0 in let b : false ≡ true = sym l ∙ a in cc)
+
+idle_at : (c : ℕ) (h : Holders) (s : Parking) (g : Given) → MayHand c h s g → g ≢ given.Nobody → IsIdle h
+idle_at c h s given.Nobody may ne = absurd (ne refl)
+idle_at c h s (given.Writer q) may ne = may.0
+idle_at c h s given.Readers may ne = may.0
+
+module _ {L : Type 0} (held : L → Holders) (place : L → LockerKind) (hand : ℕ) (m : Standing) (v : Rows L) (x : Guard) (t : Stands held place hand m v) (found : numbered hand m.guards ≡ Some x) (row : CellRow L) (row_is : slice_get v.cells.items x.cell ≡ Some row) (g : Given) where
+  there : numbered x.number m.guards ≡ Some x
+  there = found_itself hand m.guards x found
+
+  its : IsCell held place (seen_at x.cell m) v.parks x.cell row
+  its = t.cell x.cell row row_is
+
+  gift : g ≢ given.Nobody → IsListed x.cell v.parks g → stand_on x.cell (left x given.Nobody m) ≡ 0 → IsGift x.cell (left x given.Nobody m) g
+  gift ne listed free = record { parks = parking _ _ v.parks x.cell (cell_at m.plans x.cell).place g its.locked.fits its.placed listed ne; reach = reaches_given x.cell g m.waits v.parks t.waits.shows listed; free = free }
+
+  free_read : x.writes ≡ false → IsIdle (leave_read (held row.seq.locker)) → stand_on x.cell (left x given.Nobody m) ≡ 0
+  free_read r idle =
+      let l = its.locked in
+      let less = count_less (reads_cell x.cell) x.number m.guards x there (reads_here x r) in
+      let same = count_same (writes_cell x.cell) x.number m.guards x there (never_writes x x.cell r) in
+      let are = l.reads_are in
+      let most = l.fits.shared in
+      let readers = idle.readers in
+      let some = read_open held place hand m v x t found row row_is r in
+      let none = reading_alone (place row.seq.locker) (held row.seq.locker) v.parks x.cell _ _ _ l (omega (arith, are, some)) in
+      let shown = shares_shown x.cell m.waits v.parks t.waits.single t.waits.shows in
+      let claimed = claims_shown x.cell m.waits v.parks t.waits.single t.waits.shows in
+      let claims = l.fits.locked idle.locked in
+      omega (arith, less, same, are, most, readers, some, none, shown, claimed, claims)
+
+  free_write : (q : Phase) → x.writes ≡ true → IsIdle (leave_write q (held row.seq.locker)) → stand_on x.cell (left x given.Nobody m) ≡ 0
+  free_write q w idle =
+      let reads = no_reads held place hand m v x t found row row_is w given.Nobody in
+      let writes = no_writes held place hand m v x t found row row_is w given.Nobody in
+      let readers = idle.readers in
+      let most = its.locked.fits.shared in
+      let opened = write_open held place hand m v x t found row row_is w in
+      let unclaimed = opened.unclaimed in
+      let shown = shares_shown x.cell m.waits v.parks t.waits.single t.waits.shows in
+      let claimed = claims_shown x.cell m.waits v.parks t.waits.single t.waits.shows in
+      omega (arith, reads, writes, readers, most, unclaimed, shown, claimed)
+
+  pub gives_write : (q : Phase) → x.writes ≡ true → (h' : Holders) (s' : Parking) → Hands x.cell (leave_write q (held row.seq.locker)) v.parks g h' s' → MayGive x.cell (left x given.Nobody m) g
+  gives_write q w h' s' hands = by g refl
+    where
+      by : (d : Given) → g ≡ d → MayGive x.cell (left x given.Nobody m) d
+      by given.Nobody e = tt
+      by (given.Writer r) e =
+          let ne : g ≢ given.Nobody = λ z. (let f : given.Writer r ≡ given.Nobody = sym e ∙ z in cc) in
+          subst (IsGift x.cell (left x given.Nobody m)) e (gift ne (listed_hand x.cell _ v.parks g hands.may) (free_write q w (idle_at x.cell _ v.parks g hands.may ne)))
+      by given.Readers e =
+          let ne : g ≢ given.Nobody = λ z. (let f : given.Readers ≡ given.Nobody = sym e ∙ z in cc) in
+          subst (IsGift x.cell (left x given.Nobody m)) e (gift ne (listed_hand x.cell _ v.parks g hands.may) (free_write q w (idle_at x.cell _ v.parks g hands.may ne)))
+
+  pub gives_read : x.writes ≡ false → (h' : Holders) (s' : Parking) → Hands x.cell (leave_read (held row.seq.locker)) v.parks g h' s' → MayGive x.cell (left x given.Nobody m) g
+  gives_read r h' s' hands = by g refl
+    where
+      by : (d : Given) → g ≡ d → MayGive x.cell (left x given.Nobody m) d
+      by given.Nobody e = tt
+      by (given.Writer q) e =
+          let ne : g ≢ given.Nobody = λ z. (let f : given.Writer q ≡ given.Nobody = sym e ∙ z in cc) in
+          subst (IsGift x.cell (left x given.Nobody m)) e (gift ne (listed_hand x.cell _ v.parks g hands.may) (free_read r (idle_at x.cell _ v.parks g hands.may ne)))
+      by given.Readers e =
+          let ne : g ≢ given.Nobody = λ z. (let f : given.Readers ≡ given.Nobody = sym e ∙ z in cc) in
+          subst (IsGift x.cell (left x given.Nobody m)) e (gift ne (listed_hand x.cell _ v.parks g hands.may) (free_read r (idle_at x.cell _ v.parks g hands.may ne)))
+
+-- the same, at the cell that the code names
+pub gives_read_at : {L : Type 0} (held : L → Holders) (place : L → LockerKind) (hand : ℕ) (m : Standing) (v : Rows L) (x : Guard) (t : Stands held place hand m v) (found : numbered hand m.guards ≡ Some x) (c : ℕ) → x.cell ≡ c → (row : CellRow L) → slice_get v.cells.items c ≡ Some row → (g : Given) → x.writes ≡ false
+    → (h' : Holders) (s' : Parking) → Hands c (leave_read (held row.seq.locker)) v.parks g h' s' → MayGive x.cell (left x given.Nobody m) g
+gives_read_at held place hand m v x t found c at row row_is g r h' s' hands =
+    gives_read held place hand m v x t found row (ap (λ d. slice_get v.cells.items d) at ∙ row_is) g r h' s' (subst (λ d. Hands d (leave_read (held row.seq.locker)) v.parks g h' s') (sym at) hands)
+
+pub gives_write_at : {L : Type 0} (held : L → Holders) (place : L → LockerKind) (hand : ℕ) (m : Standing) (v : Rows L) (x : Guard) (t : Stands held place hand m v) (found : numbered hand m.guards ≡ Some x) (c : ℕ) → x.cell ≡ c → (row : CellRow L) → slice_get v.cells.items c ≡ Some row → (g : Given) (q : Phase) → x.writes ≡ true
+    → (h' : Holders) (s' : Parking) → Hands c (leave_write q (held row.seq.locker)) v.parks g h' s' → MayGive x.cell (left x given.Nobody m) g
+gives_write_at held place hand m v x t found c at row row_is g q w h' s' hands =
+    gives_write held place hand m v x t found row (ap (λ d. slice_get v.cells.items d) at ∙ row_is) g q w h' s' (subst (λ d. Hands d (leave_write q (held row.seq.locker)) v.parks g h' s') (sym at) hands)
+
+-- at a downgrade
+pub gives_down_at : {L : Type 0} (held : L → Holders) (place : L → LockerKind) (hand : ℕ) (m : Standing) (v : Rows L) (x : Guard) (t : Stands held place hand m v) (c : ℕ) → x.cell ≡ c → (row : CellRow L) → slice_get v.cells.items c ≡ Some row → (g : Given) (q : Phase)
+    → (h' : Holders) (s' : Parking) → Downgrades c q (held row.seq.locker) v.parks g h' s' → MayGiveDown x.cell m g
+gives_down_at held place hand m v x t c at row row_is g q h' s' down = subst (λ d. MayGiveDown d m g) (sym at) (by g down.may)
+  where
+    by : (d : Given) → MayShare c v.parks d → MayGiveDown c m d
+    by given.Nobody may = tt
+    by (given.Writer p) may = absurd may
+    by given.Readers may =
+        let k = t.cell c row row_is in
+        record { parks = parking _ _ v.parks c (cell_at m.plans c).place given.Readers k.locked.fits k.placed may (λ e. (let f : given.Readers ≡ given.Nobody = e in cc)); reach = reaches_given c given.Readers m.waits v.parks t.waits.shows may }

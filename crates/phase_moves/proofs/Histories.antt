@@ -1,0 +1,153 @@
+-- What stands open after one step more is a move of what stood open.
+use Rattle.std.proofs.Common.{◌≡◌, ◌∙◌, ◌+◌, ◌++◌, ℕ, List, [], ◌∷◌, length, ap, sym, refl, arith, Bool, true, false, None, Some}
+use Rattle.std.specs.Prelude.{◌==◌, if◌then◌else◌}
+use Rattle.std.specs.declared.option.Option.{Option}
+use Rattle.phase_bits.specs.declared.phase.Phase.{Phase}
+use Rattle.phase_locker.specs.declared.ways.Given.{Given}
+use Rattle.phase_locker.specs.declared.ways.Given.TheVariants as given
+use Rattle.phase_locker.specs.declared.ways.How.{How}
+use Rattle.phase_locker.specs.declared.tickets.ReadTicket.{ReadTicket}
+use Rattle.phase_locker.specs.declared.tickets.WriteTicket.{WriteTicket}
+use Rattle.phase_seq.specs.declared.section.Finished.TheVariants as finished
+use Rattle.schedule_rules.specs.declared.line.Answer.TheVariants as answer
+use Rattle.schedule_rules.specs.declared.line.Line.{Line}
+use Rattle.schedule_rules.specs.declared.line.Refusal.{Refusal}
+use Rattle.schedule_rules.specs.declared.plan.Call.{Call}
+use Rattle.schedule_rules.specs.declared.plan.CellPlan.{CellPlan}
+use Rattle.schedule_rules.specs.declared.step.Act.{Act}
+use Rattle.schedule_rules.specs.declared.step.Act.TheVariants as act
+use Rattle.schedule_rules.specs.declared.step.Want.TheVariants.{Calls}
+use Rattle.schedule_rules.specs.Changes.{Ran}
+use Rattle.schedule_rules.specs.Exits.{registry, owner, ended_turns, first_owner, finishing, turn_of_section}
+use Rattle.schedule_rules.specs.Guards.{Guard, guards, numbered, guard_of, own, without_guard, reader, reader_beside, reader_made, writer_made}
+use Rattle.schedule_rules.specs.History.{Event, accepts}
+use Rattle.schedule_rules.specs.Replay.{replay, content_after_back, back_of_guard, back_of_run, back_of_turn}
+use Rattle.schedule_rules.specs.Sections.{Section, sections, innermost, without_innermost}
+use Rattle.schedule_rules.specs.Waits.{Wait, waits, wait_of, without_wait, waits_given_with, cell_concerned_with, cell_of_guard, cell_of_section}
+use Rattle.schedule_rules.proofs.Found.{found_passes}
+use Rattle.waiting_rows.specs.Given.{given_on}
+use Rattle.waiting_rows.proofs.Counted.{none_without}
+use Rattle.waiting_rows.proofs.GivenOn.{given_concerned}
+use Rattle.phase_moves.specs.declared.rows.Taken.TheVariants as taken
+use Rattle.phase_moves.specs.Histories.{standing, event}
+use Rattle.phase_moves.specs.Standing.{Standing, left, downgraded, cloned, took, ended, finalized, turn_of}
+use Rattle.phase_moves.proofs.Guards.{its_number}
+
+owned_by : (p : ℕ) (x : Guard) (o : Option Guard) → own p o ≡ Some x → (o ≡ Some x) × (x.party ≡ p)
+owned_by p x None e = absurd (cc)
+owned_by p x (Some y) e = by (y.party == p) refl e
+  where
+    by : (b : Bool) → (y.party == p) ≡ b → (if b then Some y else None) ≡ Some x → (Some y ≡ Some x) × (x.party ≡ p)
+    by true q e = let same : y ≡ x = cc in (e, sym (ap (λ (z : Guard). z.party) same) ∙ grind (arith, q))
+    by false q e = absurd (cc)
+
+module _ (cells : List CellPlan) (h : List Event) (p : ℕ) where
+  abbrev ws : List Wait
+  ws = waits cells h
+
+  abbrev n : ℕ
+  n = length h
+
+  -- a refused step changes nothing
+  pub refused_stays : (a : Act) (r : Refusal) (d : Given) → standing cells (event p a (record { answer = answer.Refused r; given = d }) ∷ h) ≡ standing cells h
+  refused_stays a r d = refl
+
+  -- what a step gave on the cell that it concerns
+  gave : (a : Act) (d : Given) (c : ℕ) → cell_concerned_with cells ws h p a ≡ Some c → waits_given_with cells ws h (record { party = p; act = a }) d (without_wait p ws) ≡ given_on c d (without_wait p ws)
+  gave a d c e = given_concerned cells ws h (record { party = p; act = a }) c d (without_wait p ws) e
+
+  -- the same, where its party does not wait
+  module _ (awake : wait_of p ws ≡ None) where
+    given_awake : (a : Act) (d : Given) (c : ℕ) → cell_concerned_with cells ws h p a ≡ Some c → waits_given_with cells ws h (record { party = p; act = a }) d (without_wait p ws) ≡ given_on c d ws
+    given_awake a d c e = gave a d c e ∙ ap (given_on c d) (none_without p ws awake)
+
+    -- an exit that no step names is nobody's still
+    owner_stays : (o : Option ℕ) → first_owner (act.Release 0) p o ≡ o
+    owner_stays None = refl
+    owner_stays (Some q) = refl
+
+    -- ---- guards
+
+    module _ (g : ℕ) (x : Guard) (mine : guard_of g p (guards h) ≡ Some x) where
+      found : numbered g (guards h) ≡ Some x
+      found = (owned_by p x (numbered g (guards h)) mine).0
+
+      number : x.number ≡ g
+      number = its_number g (guards h) x found
+
+      pub release_left : (d : Given) → standing cells (event p (act.Release g) (record { answer = answer.Done; given = d }) ∷ h) ≡ left x d (standing cells h)
+      release_left d =
+          let given = given_awake (act.Release g) d x.cell (ap cell_of_guard found) in
+          let owner_is = owner_stays (owner h) in
+          λ i. record { plans = cells; waits = given i; sections = sections h; guards = without_guard (sym number i) (guards h); content = λ c. content_after_back cells c (back_of_guard (found i)) (replay cells c h); registry = registry cells h; owner = owner_is i; turns = ended_turns h }
+
+      pub downgrade_read : (d : Given) → standing cells (event p (act.Downgrade g) (record { answer = answer.ReadGuard; given = d }) ∷ h) ≡ downgraded (length h) x d (standing cells h)
+      downgrade_read d =
+          let given = given_awake (act.Downgrade g) d x.cell (ap cell_of_guard found) in
+          let owner_is = owner_stays (owner h) in
+          let party = (owned_by p x (numbered g (guards h)) mine).1 in
+          let guards_are = ap (λ o. reader_beside (length h) p o (without_guard g (guards h))) found ∙ (λ i. reader (length h) (sym party i) x.cell ∷ without_guard (sym number i) (guards h)) in
+          λ i. record { plans = cells; waits = given i; sections = sections h; guards = guards_are i; content = λ c. content_after_back cells c (back_of_guard (found i)) (replay cells c h); registry = registry cells h; owner = owner_is i; turns = ended_turns h }
+
+      pub clone_beside : standing cells (event p (act.Clone g) (record { answer = answer.ReadGuard; given = given.Nobody }) ∷ h) ≡ cloned (length h) x (standing cells h)
+      clone_beside =
+          let owner_is = owner_stays (owner h) in
+          let party = (owned_by p x (numbered g (guards h)) mine).1 in
+          let guards_are = ap (λ o. reader_beside (length h) p o (guards h)) found ∙ (λ i. reader (length h) (sym party i) x.cell ∷ guards h) in
+          λ i. record { plans = cells; waits = none_without p ws awake i; sections = sections h; guards = guards_are i; content = λ c. replay cells c h; registry = registry cells h; owner = owner_is i; turns = ended_turns h }
+
+    -- ---- the ends of sections
+
+    module _ (s : Section) (top : innermost p (sections h) ≡ Some s) where
+      party : s.party ≡ p
+      party = let e = found_passes (λ (x : Section). x.party == p) (sections h) s top in grind (arith, e)
+
+      pub made_read : (v : ℕ) (d : Given) (t : ReadTicket) (q : Phase) → standing cells (event p (act.Made v) (record { answer = answer.ReadGuard; given = d }) ∷ h) ≡ ended (length h) s (Some v) d (finished.Read t q) (standing cells h)
+      made_read v d t q =
+          let given = given_awake (act.Made v) d s.cell (ap cell_of_section top) in
+          let owner_is = owner_stays (owner h) in
+          let guards_are = ap (λ o. reader_made (length h) p o (guards h)) top ∙ ap (λ r. reader (length h) r s.cell ∷ guards h) (sym party) in
+          λ i. record { plans = cells; waits = given i; sections = without_innermost (sym party i) (sections h); guards = guards_are i; content = λ c. content_after_back cells c (back_of_run (Some v) (top i)) (replay cells c h); registry = registry cells h; owner = owner_is i; turns = ended_turns h }
+
+      pub made_write : (v : ℕ) (t : WriteTicket) (q : Phase) → standing cells (event p (act.Made v) (record { answer = answer.WriteGuard; given = given.Nobody }) ∷ h) ≡ ended (length h) s (Some v) given.Nobody (finished.Write t q) (standing cells h)
+      made_write v t q =
+          let owner_is = owner_stays (owner h) in
+          let guards_are = ap (λ o. writer_made (length h) p v o (guards h)) top ∙ ap (λ r. record { number = length h; party = r; cell = s.cell; writes = true; start = s.start; changes = Ran s.is_open (Some v) ∷ [] } ∷ guards h) (sym party) in
+          λ i. record { plans = cells; waits = none_without p ws awake i; sections = without_innermost (sym party i) (sections h); guards = guards_are i; content = λ c. replay cells c h; registry = registry cells h; owner = owner_is i; turns = ended_turns h }
+
+      pub made_failed : (d : Given) (q : Phase) → standing cells (event p act.MadeFailed (record { answer = answer.Failed; given = d }) ∷ h) ≡ ended (length h) s None d (finished.Failed q) (standing cells h)
+      made_failed d q =
+          let given = given_awake act.MadeFailed d s.cell (ap cell_of_section top) in
+          let owner_is = owner_stays (owner h) in
+          λ i. record { plans = cells; waits = given i; sections = without_innermost (sym party i) (sections h); guards = guards h; content = λ c. content_after_back cells c (back_of_run None (top i)) (replay cells c h); registry = registry cells h; owner = owner_is i; turns = ended_turns h }
+
+      pub final_ended : (fine : Bool) (d : Given) (q : Phase) → standing cells (event p (finishing fine) (record { answer = answer.Phase q; given = d }) ∷ h) ≡ finalized s fine d (standing cells h)
+      final_ended true d q =
+          let given = given_awake act.Finished d s.cell (ap cell_of_section top) in
+          let owner_is = owner_stays (owner h) in
+          λ i. record { plans = cells; waits = given i; sections = without_innermost (sym party i) (sections h); guards = guards h; content = λ c. content_after_back cells c (back_of_turn true (top i)) (replay cells c h); registry = registry cells h; owner = owner_is i; turns = turn_of_section (turn_of true) (top i) (ended_turns h) }
+      final_ended false d q =
+          let given = given_awake act.FinishFailed d s.cell (ap cell_of_section top) in
+          let owner_is = owner_stays (owner h) in
+          λ i. record { plans = cells; waits = given i; sections = without_innermost (sym party i) (sections h); guards = guards h; content = λ c. content_after_back cells c (back_of_turn false (top i)) (replay cells c h); registry = registry cells h; owner = owner_is i; turns = turn_of_section (turn_of false) (top i) (ended_turns h) }
+
+  -- ---- calls
+
+  pub wait_took : (c : ℕ) (k : Call) (d : Given) (way : How) → standing cells (event p (act.Call c k) (record { answer = answer.Waiting way; given = d }) ∷ h) ≡ took (length h) p c (Calls k) d (taken.Wait way) (standing cells h)
+  wait_took c k d way =
+      let owner_is = owner_calls c k (owner h) in
+      λ i. record (took (length h) p c (Calls k) d (taken.Wait way) (standing cells h)) { waits = record { party = p; cell = c; want = Calls k; way = way; woken = false } ∷ gave (act.Call c k) d c refl i; owner = owner_is i }
+    where
+      owner_calls : (c : ℕ) (k : Call) (o : Option ℕ) → first_owner (act.Call c k) p o ≡ o
+      owner_calls c k None = refl
+      owner_calls c k (Some q) = refl
+
+  -- a run notes whether its registry was open, which the lines say too
+  pub run_took : accepts h ≡ (registry cells h).is_open → (c : ℕ) (k : Call) (d : Given) → standing cells (event p (act.Call c k) (record { answer = answer.Running; given = d }) ∷ h) ≡ took (length h) p c (Calls k) d taken.Runs (standing cells h)
+  run_took accepted c k d =
+      let owner_is = owner_calls c k (owner h) in
+      λ i. record (took (length h) p c (Calls k) d taken.Runs (standing cells h)) { waits = gave (act.Call c k) d c refl i; sections = record { party = p; cell = c; want = Calls k; start = length h; is_open = accepted i } ∷ sections h; owner = owner_is i }
+    where
+      owner_calls : (c : ℕ) (k : Call) (o : Option ℕ) → first_owner (act.Call c k) p o ≡ o
+      owner_calls c k None = refl
+      owner_calls c k (Some q) = refl

@@ -1,0 +1,30 @@
+-- Places of lists, phases, records of lockers
+pub mod Places
+pub mod Known
+pub mod Lockers
+pub mod Registering
+-- What a move at one cell leaves alone
+pub mod Moved
+pub mod Guards
+pub mod Runs
+pub mod Opening
+-- The moves on guards
+pub mod Hand
+pub mod Taking
+pub mod Leaving
+pub mod Giving
+pub mod Calling
+-- The ends of sections
+pub mod Innermost
+pub mod Ending
+pub mod Finalizing
+-- An attempt
+pub mod Attempts
+pub mod Parking
+pub mod Asked
+pub mod Took
+-- The exit, and the end
+pub mod Exiting
+pub mod Closing
+-- Histories
+pub mod Histories

@@ -1,0 +1,88 @@
+-- What the calls of a locker leave of a cell's record.
+use Rattle.std.proofs.Common.{◌≡◌, ◌<◌, ◌+◌, ◌∙◌, ℕ, length, ap, sym, refl, arith, length-set, inl, inr}
+use Rattle.std.proofs.lemmas.Bool.{cases_lt}
+use Rattle.phase_bits.specs.declared.phase.Phase.{Phase}
+use Rattle.phase_bits.specs.declared.holders.Holders.{Holders}
+use Rattle.phase_bits.specs.Number.{phase_of}
+use Rattle.phase_bits.specs.Records.{leave_read, leave_write, downgrade}
+use Rattle.phase_locker.specs.declared.ways.Given.{Given}
+use Rattle.phase_locker.specs.declared.ways.Given.TheVariants as given
+use Rattle.phase_locker.specs.declared.ways.LockerKind.{LockerKind}
+use Rattle.phase_locker.specs.Rows.{Rows as Parking}
+use Rattle.phase_locker.specs.Fits.{Fits, IsWriteOpen, open_reads}
+use Rattle.phase_locker.specs.Gifts.{Hands, Downgrades, rows_handed, held_handed}
+use Rattle.phase_locker.specs.Others.{SameAt}
+use Rattle.phase_locker.proofs.Leaving.{write_has_no_reader}
+use Rattle.phase_locker.proofs.Others.{fits_same}
+use Rattle.phase_moves.specs.Stands.{IsLocked}
+
+-- a gift leaves the phase
+pub handed_phase : (g : Given) (c : ℕ) (s : Parking) (h : Holders) → (held_handed c g s h).phase ≡ h.phase
+handed_phase given.Nobody c s h = refl
+handed_phase (given.Writer q) c s h = refl
+handed_phase given.Readers c s h = refl
+
+-- and the number of the lists of writers
+pub handed_writers : (g : Given) (c : ℕ) (s : Parking) → length (rows_handed c g s).writers ≡ length s.writers
+handed_writers given.Nobody c s = refl
+handed_writers (given.Writer q) c s = length-set s.writers c _
+handed_writers given.Readers c s = refl
+
+pub hands_phase : (c : ℕ) (h : Holders) (s : Parking) (g : Given) (h' : Holders) (s' : Parking) → Hands c h s g h' s' → h'.phase ≡ h.phase
+hands_phase c h s g h' s' k = ap (λ (x : Holders). x.phase) k.held ∙ handed_phase g c s h
+
+pub hands_writers : (c : ℕ) (h : Holders) (s : Parking) (g : Given) (h' : Holders) (s' : Parking) → Hands c h s g h' s' → length s'.writers ≡ length s.writers
+hands_writers c h s g h' s' k = ap (λ (x : Parking). length x.writers) k.rows ∙ handed_writers g c s
+
+pub downgrades_phase : (c : ℕ) (q : Phase) (h : Holders) (s : Parking) (g : Given) (h' : Holders) (s' : Parking) → Downgrades c q h s g h' s' → h'.phase ≡ q
+downgrades_phase c q h s g h' s' k = ap (λ (x : Holders). x.phase) k.held ∙ handed_phase g c s (downgrade q h)
+
+pub downgrades_writers : (c : ℕ) (q : Phase) (h : Holders) (s : Parking) (g : Given) (h' : Holders) (s' : Parking) → Downgrades c q h s g h' s' → length s'.writers ≡ length s.writers
+downgrades_writers c q h s g h' s' k = ap (λ (x : Parking). length x.writers) k.rows ∙ handed_writers g c s
+
+-- what is said of a cell stays where the rows say the same of it
+pub locked_same : (k : LockerKind) (h : Holders) (s s' : Parking) (d r w p : ℕ) → SameAt d s s' → IsLocked k h s d r w p → IsLocked k h s' d r w p
+locked_same k h s s' d r w p same l =
+    record {
+      fits = fits_same k h s s' d same l.fits;
+      phase_is = l.phase_is;
+      reads_are = let a = same.shares in let b = l.reads_are in rw a b;
+      write_is = λ lt. let o = l.write_is lt in record { locked = o.locked; unclaimed = same.claims ∙ o.unclaimed };
+      write_was = λ o. l.write_was (record { locked = o.locked; unclaimed = sym same.claims ∙ o.unclaimed });
+      one = l.one;
+    }
+
+-- beside an open read nothing writes
+pub reading_alone : (k : LockerKind) (h : Holders) (s : Parking) (c r w p : ℕ) → IsLocked k h s c r w p → 0 < r → w ≡ 0
+reading_alone k h s c r w p l lt =
+    elim (cases_lt 0 w) [
+      | inl some ↦ (let o = write_has_no_reader k h s c l.fits (l.write_is some) in let a = l.reads_are in absurd (omega (arith, o, a, lt)))
+      | inr n ↦ omega (arith, n)
+    ]
+
+-- and beside a write nothing reads
+pub writing_alone : (k : LockerKind) (h : Holders) (s : Parking) (c r w p : ℕ) → IsLocked k h s c r w p → 0 < w → r ≡ 0
+writing_alone k h s c r w p l lt = let o = write_has_no_reader k h s c l.fits (l.write_is lt) in let a = l.reads_are in omega (arith, o, a)
+
+-- a read lock is given back
+pub locked_read : (k k' : LockerKind) (h h' : Holders) (s s' : Parking) (c r w p : ℕ) (g : Given) → IsLocked k h s c (r + 1) w p → k' ≡ k → Hands c (leave_read h) s g h' s' → open_reads h' s' c + 1 ≡ open_reads h s c → (IsWriteOpen h' s' c → ⊥) → Fits k' h' s' c → IsLocked k' h' s' c r w p
+locked_read k k' h h' s s' c r w p g l same hands reads closed fits =
+    let none : w ≡ 0 = reading_alone k h s c (r + 1) w p l (omega arith) in
+    record {
+      fits = fits;
+      phase_is = hands_phase c (leave_read h) s g h' s' hands ∙ l.phase_is;
+      reads_are = let a = l.reads_are in omega (arith, a, reads);
+      write_is = λ lt. absurd (omega (arith, none, lt));
+      write_was = λ o. absurd (closed o);
+      one = l.one;
+    }
+
+-- a write lock is given back
+pub locked_write : (k k' : LockerKind) (h h' : Holders) (s s' : Parking) (c p : ℕ) (q : Phase) (g : Given) → Hands c (leave_write q h) s g h' s' → open_reads h' s' c ≡ 0 → (IsWriteOpen h' s' c → ⊥) → Fits k' h' s' c → q ≡ phase_of p → IsLocked k' h' s' c 0 0 p
+locked_write k k' h h' s s' c p q g hands reads closed fits e =
+    record { fits = fits; phase_is = hands_phase c (leave_write q h) s g h' s' hands ∙ e; reads_are = reads; write_is = λ lt. absurd (omega (arith, lt)); write_was = λ o. absurd (closed o); one = omega arith }
+
+-- it becomes a read lock
+pub locked_down : (k' : LockerKind) (h h' : Holders) (s s' : Parking) (c p : ℕ) (q : Phase) (g : Given) → Downgrades c q h s g h' s' → open_reads h' s' c ≡ 1 → (IsWriteOpen h' s' c → ⊥) → Fits k' h' s' c → q ≡ phase_of p → IsLocked k' h' s' c 1 0 p
+locked_down k' h h' s s' c p q g down reads closed fits e =
+    record { fits = fits; phase_is = downgrades_phase c q h s g h' s' down ∙ e; reads_are = reads; write_is = λ lt. absurd (omega (arith, lt)); write_was = λ o. absurd (closed o); one = omega arith }

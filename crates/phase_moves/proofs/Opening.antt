@@ -1,0 +1,187 @@
+-- A guard is opened, put into its row, and taken out of it.
+use Rattle.std.proofs.Common.{◌≡◌, ◌≢◌, ◌==◌, ◌<◌, ◌≤◌, ◌+◌, ◌∙◌, ℕ, List, [], ◌∷◌, ◌++◌, length, set, ap, sym, subst, refl, arith, Bool, true, false, cond, None, Some, inl, inr, length-set}
+use Rattle.std.proofs.lemmas.Bool.{cases_eq, cases_lt}
+use Rattle.std.proofs.lemmas.Grind.{common_steps}
+use Rattle.std.proofs.lemmas.Option.{gets}
+use Rattle.std.specs.Prelude.{slice_get, ◌⊎◌}
+use Rattle.std.specs.declared.option.Option.{Option}
+use Rattle.phase_bits.specs.declared.holders.Holders.{Holders}
+use Rattle.phase_locker.specs.declared.ways.LockerKind.{LockerKind}
+use Rattle.schedule_rules.specs.History.{count}
+use Rattle.schedule_rules.specs.Sections.{runs_in}
+use Rattle.schedule_rules.specs.Guards.{Guard, numbered, reader}
+use Rattle.schedule_rules.specs.Changes.{Change}
+use Rattle.schedule_rules.specs.Kinds.{cell_at}
+use Rattle.schedule_rules.specs.Holds.{writes_cell}
+use Rattle.phase_moves.specs.declared.rows.GuardRow.{GuardRow}
+use Rattle.phase_moves.specs.declared.rows.GuardRow.TheVariants as guard
+use Rattle.phase_moves.specs.declared.rows.Rows.{Rows}
+use Rattle.phase_moves.specs.Standing.{Standing, guarded, run_in, reads_in, writes_in, writer_asked}
+use Rattle.phase_moves.specs.Stands.{Stands, IsCell, IsExit, AreShown, AreSized, AreInside, seen_at, slot_row, guard_row}
+use Rattle.phase_locker.specs.Rows.{Rows as Parking}
+use Rattle.phase_moves.specs.Moves.{Rests}
+use Rattle.phase_moves.proofs.Guards.{once_with, reads_elsewhere, writes_elsewhere}
+use Rattle.phase_moves.proofs.Moved.{IsMoved}
+use Rattle.phase_moves.proofs.Places.{slice_get_set_same, slice_get_set_other}
+
+-- the guards with one more
+numbered_with : (y : Guard) (g : ℕ) (gs : List Guard) → g ≢ y.number → numbered g (y ∷ gs) ≡ numbered g gs
+numbered_with y g gs ne = grind (arith, ne)
+
+-- a hand that holds no guard shows what another shows
+empty_hand : (m : Standing) (hand n g : ℕ) → numbered hand m.guards ≡ None → g ≢ n → slot_row n m g ≡ slot_row hand m g
+empty_hand m hand n g none ne = by (g == hand) refl
+  where
+    no : (g == n) ≡ false
+    no = grind (arith, ne)
+
+    by : (b : Bool) → (g == hand) ≡ b → slot_row n m g ≡ slot_row hand m g
+    by true e = let s : g ≡ hand = grind (arith, e) in let f : numbered g m.guards ≡ None = ap (λ i. numbered i m.guards) s ∙ none in rw (no, e, f) refl
+    by false e = rw (no, e) refl
+
+-- what is seen of a cell with a read guard more
+pub seen_reader : (n p c : ℕ) (m : Standing) → seen_at c (guarded (reader n p c) m) ≡ record { plan = cell_at m.plans c; content = m.content c; reads = reads_in c m + 1; writes = writes_in c m; run = run_in c m.sections }
+seen_reader n p c m = let e : (c == c) ≡ true = grind arith in rw e refl
+
+-- and with a write guard more
+pub seen_writer : (n p c : ℕ) (chs : List Change) (m : Standing) → seen_at c (guarded (writer_asked n p c chs) m) ≡ record { plan = cell_at m.plans c; content = m.content c; reads = reads_in c m; writes = writes_in c m + 1; run = run_in c m.sections }
+seen_writer n p c chs m =
+    let e : (c == c) ≡ true = grind arith in
+    let w : count (writes_cell c) m.guards + 1 + count (runs_in c) m.sections ≡ writes_in c m + 1 = omega arith in
+    rw e (λ i. record { plan = cell_at m.plans c; content = m.content c; reads = reads_in c m; writes = w i; run = run_in c m.sections })
+
+module _ {L : Type 0} (held : L → Holders) (place : L → LockerKind) where
+  -- after a move that left the hand empty, a guard is opened
+  pub guard_opened : (c hand hand' n : ℕ) (m m' : Standing) (v v' : Rows L) (y : Guard) → IsMoved held place c hand hand' m m' v v' → y.number ≡ n → y.cell ≡ c → length v.guards.items ≤ n → numbered n m'.guards ≡ None → numbered hand' m'.guards ≡ None → c < length v.cells.items → IsMoved held place c hand n m (guarded y m') v v'
+  guard_opened c hand hand' n m m' v v' y k number at room fresh empty lt =
+      record {
+        around = λ d ne. around d ne ∙ k.around d ne;
+        others = k.others;
+        same = k.same;
+        lists = k.lists;
+        guards = k.guards;
+        slots = λ g l. slots g l ∙ k.slots g l;
+        exit = record { registry_is = k.exit.registry_is; owner_is = k.exit.owner_is; turns_are = k.exit.turns_are; cells_are = k.exit.cells_are };
+        waits = k.waits;
+        numbers =
+            record {
+              once = λ g. once_with y g m'.guards (ap (λ i. numbered i m'.guards) number ∙ fresh) (k.numbers.once g);
+              in_rows = λ g x e ne. k.numbers.in_rows g x (sym (numbered_with y g m'.guards (λ q. ne (q ∙ number))) ∙ e) (other g x (sym (numbered_with y g m'.guards (λ q. ne (q ∙ number))) ∙ e));
+              in_cells = λ g x e. here g x e (cases_eq g y.number);
+            };
+        sections = k.sections;
+      }
+    where
+      around : (d : ℕ) → d ≢ c → seen_at d (guarded y m') ≡ seen_at d m'
+      around d ne =
+          let r = reads_elsewhere y d (λ e. ne (e ∙ at)) in
+          let w = writes_elsewhere y d (λ e. ne (e ∙ at)) in
+          rw (r, w) refl
+
+      slots : (g : ℕ) → g < length v.guards.items → slot_row n (guarded y m') g ≡ slot_row hand' m' g
+      slots g l =
+          let ne : g ≢ n = λ e. absurd (omega (arith, l, room, e)) in
+          ap (λ o. cond (g == n) guard.Free (guard_row m' o)) (numbered_with y g m'.guards (λ q. ne (q ∙ number))) ∙ empty_hand m' hand' n g empty ne
+
+      other : (g : ℕ) (x : Guard) → numbered g m'.guards ≡ Some x → g ≢ hand'
+      other g x e = λ q. let n : None ≡ Some x = sym empty ∙ ap (λ i. numbered i m'.guards) (sym q) ∙ e in absurd (cc)
+
+      here : (g : ℕ) (x : Guard) → numbered g (y ∷ m'.guards) ≡ Some x → (g ≡ y.number) ⊎ (g ≢ y.number) → x.cell < length v.cells.items
+      here g x e (inl q) = let is : y ≡ x = grind (arith, e, q) in subst (λ (z : Guard). z.cell < length v.cells.items) is (subst (λ i. i < length v.cells.items) (sym at) lt)
+      here g x e (inr ne) = k.numbers.in_cells g x (sym (numbered_with y g m'.guards ne) ∙ e)
+
+  -- only the rows of guards change
+  reslotted : (hand n : ℕ) (m : Standing) (v v' : Rows L) → Stands held place hand m v → v'.cells ≡ v.cells → v'.parties ≡ v.parties → v'.parks ≡ v.parks → v'.exit ≡ v.exit
+      → ((g : ℕ) → g < length v'.guards.items → slice_get v'.guards.items g ≡ Some (slot_row n m g)) → ((g : ℕ) (x : Guard) → numbered g m.guards ≡ Some x → g ≢ n → g < length v'.guards.items) → Stands held place n m v'
+  reslotted hand n m v v' t cells parties parks exit slot in_rows =
+      record {
+        cell = λ c r e. subst (λ (s : Parking). IsCell held place (seen_at c m) s c r) (sym parks) (t.cell c r (ap (λ (xs : _). slice_get xs.items c) (sym cells) ∙ e));
+        slot = slot;
+        party = λ p l. ap (λ (xs : _). slice_get xs.items p) parties ∙ t.party p (subst (λ (xs : _). p < length xs.items) parties l);
+        exit = subst (λ (xs : _). IsExit (length xs.items) m v'.exit) (sym cells) (subst (λ x. IsExit (length v.cells.items) m x) (sym exit) t.exit);
+        waits = subst (λ (xs : _). AreShown (length xs.items) m.waits v'.parks) (sym cells) (subst (λ (s : Parking). AreShown (length v.cells.items) m.waits s) (sym parks) t.waits);
+        guards = record { once = t.guards.once; in_rows = in_rows; in_cells = λ g x e. subst (λ (xs : _). x.cell < length xs.items) (sym cells) (t.guards.in_cells g x e) };
+        sections = subst (λ (xs : _). AreInside (length xs.items) m.sections) (sym cells) t.sections;
+        sizes = subst (λ (xs : _). AreSized (length xs.items) (length v'.parties.items) v'.parks) (sym cells) (subst (λ (xs : _). AreSized (length v.cells.items) (length xs.items) v'.parks) (sym parties) (subst (λ (s : Parking). AreSized (length v.cells.items) (length v.parties.items) s) (sym parks) t.sizes));
+      }
+
+  -- the empty hand is named anew
+  pub rehand : (hand n : ℕ) (m : Standing) (v : Rows L) → Stands held place hand m v → numbered hand m.guards ≡ None → length v.guards.items ≤ n → Stands held place n m v
+  rehand hand n m v t none room =
+      reslotted hand n m v v t refl refl refl refl (λ g l. t.slot g l ∙ ap (λ x. Some x) (sym (empty_hand m hand n g none (λ e. absurd (omega (arith, l, room, e))))))
+      (λ g x e ne. t.guards.in_rows g x e (λ q. let f : None ≡ Some x = sym none ∙ ap (λ i. numbered i m.guards) (sym q) ∙ e in absurd (cc)))
+
+  -- the row of the step is pushed
+  pub pushed : (m : Standing) (v v' : Rows L) (row : GuardRow) → Stands held place (length v.guards.items) m v → row ≡ guard_row m (numbered (length v.guards.items) m.guards) → v'.guards.items ≡ v.guards.items ++ row ∷ [] → v'.cells ≡ v.cells → v'.parties ≡ v.parties → v'.parks ≡ v.parks → v'.exit ≡ v.exit
+      → Stands held place (length v.guards.items + 1) m v'
+  pushed m v v' row t is guards cells parties parks exit =
+      reslotted n (n + 1) m v v' t cells parties parks exit (λ g l. ap (λ (xs : List GuardRow). slice_get xs g) guards ∙ by g (cases_lt g n) (subst (λ i. g < i) size l)) in_rows
+    where
+      n : ℕ
+      n = length v.guards.items
+
+      size : length v'.guards.items ≡ n + 1
+      size = ap (λ (xs : List GuardRow). length xs) guards ∙ grind (arith, common_steps)
+
+      next : (g : ℕ) → g < n + 1 → slot_row (n + 1) m g ≡ guard_row m (numbered g m.guards)
+      next g l = let no : (g == n + 1) ≡ false = grind (arith, l) in rw no refl
+
+      before : (g : ℕ) → g < n → slot_row n m g ≡ guard_row m (numbered g m.guards)
+      before g l = let no : (g == n) ≡ false = grind (arith, l) in rw no refl
+
+      last : (xs : List GuardRow) (r : GuardRow) → slice_get (xs ++ r ∷ []) (length xs) ≡ Some r
+      last xs r = grind (arith, common_steps, gets)
+
+      first : (xs : List GuardRow) (r : GuardRow) (g : ℕ) → g < length xs → slice_get (xs ++ r ∷ []) g ≡ slice_get xs g
+      first xs r g l = grind (arith, common_steps, gets)
+
+      by : (g : ℕ) → (g < n) ⊎ (n ≤ g) → g < n + 1 → slice_get (v.guards.items ++ row ∷ []) g ≡ Some (slot_row (n + 1) m g)
+      by g (inl l) k = first v.guards.items row g l ∙ t.slot g l ∙ ap (λ x. Some x) (before g l ∙ sym (next g k))
+      by g (inr l) k =
+          let q : g ≡ n = omega (arith, l, k) in
+          ap (λ i. slice_get (v.guards.items ++ row ∷ []) i) q ∙ last v.guards.items row ∙ ap (λ x. Some x) (is ∙ ap (λ i. guard_row m (numbered i m.guards)) (sym q) ∙ sym (next g k))
+
+      in_rows : (g : ℕ) (x : Guard) → numbered g m.guards ≡ Some x → g ≢ n + 1 → g < length v'.guards.items
+      in_rows g x e ne =
+          elim (cases_eq g n) [
+            | inl q ↦ omega (arith, q, size)
+            | inr ne2 ↦ (let l = t.guards.in_rows g x e ne2 in omega (arith, l, size))
+          ]
+
+  -- the row of a guard is taken
+  pub taken : (m : Standing) (v v' : Rows L) (g : ℕ) → Stands held place (length v.guards.items) m v → numbered (length v.guards.items) m.guards ≡ None → g < length v.guards.items → v'.guards.items ≡ set v.guards.items g guard.Free → v'.cells ≡ v.cells → v'.parties ≡ v.parties → v'.parks ≡ v.parks → v'.exit ≡ v.exit
+      → Stands held place g m v'
+  taken m v v' g t none lt guards cells parties parks exit =
+      reslotted (length v.guards.items) g m v v' t cells parties parks exit (λ j l. ap (λ (xs : List GuardRow). slice_get xs j) guards ∙ by j (cases_eq j g) (subst (λ i. j < i) size l)) in_rows
+    where
+      size : length v'.guards.items ≡ length v.guards.items
+      size = ap (λ (xs : List GuardRow). length xs) guards ∙ length-set v.guards.items g guard.Free
+
+      slots : (j : ℕ) → j ≢ g → j < length v.guards.items → slot_row (length v.guards.items) m j ≡ slot_row g m j
+      slots j ne l = let a : (j == g) ≡ false = grind (arith, ne) in let b : (j == length v.guards.items) ≡ false = grind (arith, l) in rw (a, b) refl
+
+      itself : slot_row g m g ≡ guard.Free
+      itself = let a : (g == g) ≡ true = grind arith in rw a refl
+
+      by : (j : ℕ) → (j ≡ g) ⊎ (j ≢ g) → j < length v.guards.items → slice_get (set v.guards.items g guard.Free) j ≡ Some (slot_row g m j)
+      by j (inl q) l = rw q (slice_get_set_same v.guards.items g guard.Free lt ∙ ap (λ x. Some x) (sym itself))
+      by j (inr ne) l = slice_get_set_other v.guards.items g j guard.Free ne ∙ t.slot j l ∙ ap (λ x. Some x) (slots j ne l)
+
+      in_rows : (j : ℕ) (x : Guard) → numbered j m.guards ≡ Some x → j ≢ g → j < length v'.guards.items
+      in_rows j x e ne =
+          elim (cases_eq j (length v.guards.items)) [
+            | inl q ↦ (let f : None ≡ Some x = sym none ∙ ap (λ i. numbered i m.guards) (sym q) ∙ e in absurd (cc))
+            | inr ne2 ↦ (let l = t.guards.in_rows j x e ne2 in omega (arith, l, size))
+          ]
+
+  -- so nothing is in hand
+  pub pushed_rests : (m : Standing) (v v' : Rows L) (row : GuardRow) → Stands held place (length v.guards.items) m v → row ≡ guard_row m (numbered (length v.guards.items) m.guards) → v'.guards.items ≡ v.guards.items ++ row ∷ [] → v'.cells ≡ v.cells → v'.parties ≡ v.parties → v'.parks ≡ v.parks → v'.exit ≡ v.exit → Rests held place m v'
+  pushed_rests m v v' row t is guards cells parties parks exit =
+      record { stands = subst (λ i. Stands held place i m v') (sym size) (pushed m v v' row t is guards cells parties parks exit); empty = ap (λ i. numbered i m.guards) size ∙ by (numbered (length v.guards.items + 1) m.guards) refl }
+    where
+      size : length v'.guards.items ≡ length v.guards.items + 1
+      size = ap (λ (xs : List GuardRow). length xs) guards ∙ grind (arith, common_steps)
+
+      by : (o : Option Guard) → numbered (length v.guards.items + 1) m.guards ≡ o → o ≡ None
+      by None e = refl
+      by (Some x) e = let l = t.guards.in_rows (length v.guards.items + 1) x e (λ q. absurd (omega (arith, q))) in absurd (omega (arith, l))

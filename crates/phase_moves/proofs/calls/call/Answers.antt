@@ -1,0 +1,9 @@
+use Rattle.std.proofs.Common.{◌∙◌}
+use Rattle.phase_seq.specs.Exactly.{is_run}
+use Rattle.phase_moves.proofs.Registering.{asked_as_run, some_same}
+use Rattle.phase_moves.proofs.calls.call.Goals as goal
+
+pub returns-else-waits-2-clause-registry : goal.returns-else-waits-2-clause-registry
+returns-else-waits-2-clause-registry g c =
+    let r = c.begin-else-waits-2 in
+    rw c.in-LockedLazyFinalize.is (some_same _ _ r.ensures.registry ∙ asked_as_run c.args.ask.tol.leak c.args.registry.now c.args.who.cell (g.L.PhaseLocker.held c.args.cell.now.locker).phase _ (is_run r.result.0) r.ensures.exactly.runs)

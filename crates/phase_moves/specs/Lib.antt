@@ -1,0 +1,11 @@
+pub mod Standing
+pub mod Calls
+pub mod Stands
+pub mod Moves
+pub mod Reading
+pub mod Gifts
+pub mod Ends
+pub mod Tries
+pub mod Exits
+pub mod Closing
+pub mod Histories

@@ -1,0 +1,85 @@
+-- What an attempt requires and does.
+use Rattle.std.specs.Prelude.{ℕ, Bool, true, false, ◌≡◌, ◌≢◌, ◌<◌, length, MatchBool}
+use Rattle.std.specs.declared.option.Option.{Option}
+use Rattle.std.specs.declared.option.Option.TheVariants.{None, Some}
+use Rattle.phase_bits.specs.declared.phase.Phase.{Phase}
+use Rattle.phase_bits.specs.declared.holders.Holders.{Holders}
+use Rattle.phase_bits.specs.Number.{phase_of}
+use Rattle.exit_registry.specs.Registry.{is_known}
+use Rattle.phase_locker.specs.declared.ways.LockerKind.{LockerKind}
+use Rattle.phase_locker.specs.declared.ways.Given.{Given}
+use Rattle.phase_seq.specs.declared.ask.Ask.{Ask}
+use Rattle.phase_seq.specs.Begins.{is_cyclic}
+use Rattle.schedule_rules.specs.declared.plan.Call.TheVariants as call
+use Rattle.schedule_rules.specs.declared.plan.CellPlan.{CellPlan}
+use Rattle.schedule_rules.specs.declared.step.Want.{Want}
+use Rattle.schedule_rules.specs.declared.step.Want.TheVariants.{Calls}
+use Rattle.schedule_rules.specs.Changes.{effect}
+use Rattle.schedule_rules.specs.Kinds.{cell_at, is_finalizable}
+use Rattle.schedule_rules.specs.Waits.{Wait, wait_of}
+use Rattle.phase_moves.specs.declared.rows.Rows.{Rows}
+use Rattle.phase_moves.specs.declared.rows.Taken.{Taken}
+use Rattle.phase_moves.specs.declared.rows.Taken.TheVariants as taken
+use Rattle.phase_moves.specs.declared.rows.Target.{Target}
+use Rattle.phase_moves.specs.Moves.{Rests}
+use Rattle.phase_moves.specs.Standing.{Standing, changes_at, run_in, runner_of, took, writes_in}
+use Rattle.phase_moves.specs.Stands.{Stands, want_of}
+
+-- what an attempt asks of its cell
+abbrev pub ask_of : CellPlan → Want → Ask
+ask_of x w = record { want = want_of w; fast = false; tol = record { retry = x.retry; leak = x.leak } }
+
+-- the call waits at this cell
+abbrev pub WaitsAt : ℕ → Option Wait → Type 0
+WaitsAt c None = ⊥
+WaitsAt c (Some w) = w.cell ≡ c
+
+-- the attempt is turned back
+abbrev pub is_turned : Taken → Bool
+is_turned (taken.Wait how) = false
+is_turned taken.Cyclic = true
+is_turned (taken.Nothing q) = false
+is_turned (taken.Read t q) = false
+is_turned (taken.Write t q) = false
+is_turned taken.Runs = false
+
+-- an answer tells the phase that the attempt leaves
+abbrev pub TellsPhase : Phase → Taken → Type 0
+TellsPhase p (taken.Wait how) = Unit {0}
+TellsPhase p taken.Cyclic = Unit {0}
+TellsPhase p (taken.Nothing q) = q ≡ p
+TellsPhase p (taken.Read t q) = q ≡ p
+TellsPhase p (taken.Write t q) = q ≡ p
+TellsPhase p taken.Runs = Unit {0}
+
+-- the phase that an attempt leaves which has no section to run: where it is declined, that says so
+abbrev pub phase_asked : ℕ → Want → Standing → Phase
+phase_asked c w m = phase_of (effect (cell_at m.plans c) (changes_at c w m) (m.content c)).phase
+
+-- a cell that is to be registered is not known to the registry yet
+abbrev pub IsUnknown : ℕ → Standing → Type 0
+IsUnknown c m = is_finalizable (cell_at m.plans c).kind ≡ true → (m.content c).phase ≡ 0 → writes_in c m ≡ 0 → is_known m.registry c ≡ false
+
+module _ {L : Type 0} (held : L → Holders) (place : L → LockerKind) where
+  -- the party attempts this: its call or turn waits at the cell, or it does not wait
+  pub record IsAttempting (m : Standing) (v : Rows L) (p : ℕ) (t : Target) (waits : Bool) : Type 0 where
+    pub rests : Rests held place m v
+    pub party : p < length v.parties.items
+    pub cell : t.cell < length v.cells.items
+    pub asks : t.want ≢ Calls call.Phase
+    pub waited : MatchBool waits (WaitsAt t.cell (wait_of p m.waits)) (wait_of p m.waits ≡ None)
+    pub unknown : IsUnknown t.cell m
+
+  pub record MayAttempt (v : Rows L) (p : ℕ) (t : Target) (waits : Bool) : Type 0 where
+    pub m : Standing
+    pub is : IsAttempting m v p t waits
+
+  -- what an attempt that was answered so tells: it is turned back exactly where it asks for a run of the generator that
+  -- its own party is running
+  pub record IsTook (m : Standing) (v : Rows L) (p : ℕ) (t : Target) (b : Taken) (g : Given) (new : Rows L) : Type 0 where
+    pub stands : Stands held place (length v.guards.items) (took (length v.guards.items) p t.cell t.want g b m) new
+    pub told : TellsPhase (phase_asked t.cell t.want m) b
+    pub cyclic : is_turned b ≡ is_cyclic (want_of t.want) p (runner_of (run_in t.cell m.sections))
+
+  abbrev pub Attempts : Rows L → ℕ → Target → Bool → Taken × Given → Rows L → Type 0
+  Attempts old p t waits r new = (m : Standing) → IsAttempting m old p t waits → IsTook m old p t r.0 r.1 new

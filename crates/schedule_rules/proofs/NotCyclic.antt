@@ -1,0 +1,195 @@
+-- A call that waits asks for no run of a generator that its own party is running.
+use Rattle.std.proofs.Common.{◌≡◌, ◌≢◌, ◌<◌, ◌≤◌, ◌+◌, ℕ, List, [], ◌∷◌, refl, sym, ◌∙◌, ap, subst, arith, Bool, true, false, not, ◌&&◌, cond, None, Some}
+use Rattle.std.specs.Prelude.{◌==◌, if◌then◌else◌, is_none}
+use Rattle.std.specs.List.{find}
+use Rattle.std.specs.declared.option.Option.{Option}
+use Rattle.phase_locker.specs.declared.ways.Given.{Given}
+use Rattle.phase_locker.specs.declared.ways.How.{How}
+use Rattle.schedule_rules.specs.declared.plan.CellPlan.{CellPlan}
+use Rattle.schedule_rules.specs.declared.step.Act.TheVariants as act
+use Rattle.schedule_rules.specs.declared.step.Step.{Step}
+use Rattle.schedule_rules.specs.declared.line.Line.{Line}
+use Rattle.schedule_rules.specs.declared.line.Answer.{Answer}
+use Rattle.schedule_rules.specs.declared.line.Answer.TheVariants as answer
+use Rattle.schedule_rules.specs.Calls.{initializes}
+use Rattle.schedule_rules.specs.Deeds.{Deed, Opens, Ends, EndsToRead, EndsToWrite, deed_waiting}
+use Rattle.schedule_rules.specs.History.{Event, is_exit, deed_of, count}
+use Rattle.schedule_rules.specs.Sections.{Section, without_innermost, sections_by, runs_in, is_turn, generates_for, runs, sections}
+use Rattle.schedule_rules.specs.Waits.{Attempt, attempt_of_wait, attempt, Wait, wait_of, without_wait, with_wait, waits_given_with, waits_answered, waits}
+use Rattle.schedule_rules.specs.Refusals.{refusal}
+use Rattle.schedule_rules.specs.Legal.{IsLegal, IsLegalLine, IsExclusive}
+use Rattle.schedule_rules.specs.Causes.{is_waiting, is_cyclic, is_cyclic_step, is_attempted, is_barred_attempt, waits_judged}
+use Rattle.schedule_rules.proofs.Alone.{alone}
+use Rattle.schedule_rules.proofs.Facts.{first, second, apart}
+use Rattle.schedule_rules.proofs.Found.{found_counts, found_passes, none_counted, only_one}
+use Rattle.schedule_rules.proofs.GoesOn.{attempt_given}
+use Rattle.schedule_rules.proofs.Opened.{wait_removed, wait_kept}
+use Rattle.schedule_rules.proofs.Waiting.{waits_where_barred}
+use Rattle.schedule_rules.proofs.Causes.{cyclic_where_own}
+
+-- the section is the party's, on the cell, and its generator runs
+abbrev is_own_run : ℕ → ℕ → Section → Bool
+is_own_run p c s = (s.party == p) && (runs_in c s && not (is_turn s.want))
+
+abbrev own_runs : ℕ → ℕ → List Section → ℕ
+own_runs p c ss = count (is_own_run p c) ss
+
+-- what is attempted asks for no run that the party is running
+abbrev NotOwn : ℕ → Option Attempt → List Section → Type 0
+NotOwn p None ss = Unit {0}
+NotOwn p (Some a) ss = initializes a.want ≡ true → own_runs p a.cell ss ≡ 0
+
+module _ (p : ℕ) where
+  weaken : (o : Option Attempt) (ss us : List Section) → ((c : ℕ) → own_runs p c us ≤ own_runs p c ss) → NotOwn p o ss → NotOwn p o us
+  weaken None ss us less n = tt
+  weaken (Some a) ss us less n = λ i. let none : _ = n i in omega (arith, none, less a.cell)
+
+  -- ---- sections of the party after a step of another
+
+  ended_fewer : (q c : ℕ) (ss : List Section) → own_runs p c (without_innermost q ss) ≤ own_runs p c ss
+  ended_fewer q c [] = omega arith
+  ended_fewer q c (s ∷ ss) = by (s.party == q) (is_own_run p c s) (ended_fewer q c ss)
+    where
+      more : (d : Bool) (x y : ℕ) → x ≤ y → cond d (x + 1) x ≤ cond d (y + 1) y
+      more true x y n = omega (arith, n)
+      more false x y n = n
+
+      most : (d : Bool) (x : ℕ) → x ≤ cond d (x + 1) x
+      most true x = omega arith
+      most false x = omega arith
+
+      by : (b d : Bool) → own_runs p c (without_innermost q ss) ≤ own_runs p c ss → own_runs p c (cond b ss (s ∷ without_innermost q ss)) ≤ cond (is_own_run p c s) (own_runs p c ss + 1) (own_runs p c ss)
+      by true d n = most (is_own_run p c s) (own_runs p c ss)
+      by false d n = more (is_own_run p c s) (own_runs p c (without_innermost q ss)) (own_runs p c ss) n
+
+  -- another's deed opens none of the party's
+  others_fewer : (h : List Event) (q : ℕ) (d : Deed) (c : ℕ) (ss : List Section) → (q == p) ≡ false → own_runs p c (sections_by h q d ss) ≤ own_runs p c ss
+  others_fewer h q (Opens b w taken) c ss e = rw e (omega arith)
+  others_fewer h q (Ends i) c ss e = ended_fewer q c ss
+  others_fewer h q (EndsToRead v) c ss e = ended_fewer q c ss
+  others_fewer h q (EndsToWrite v) c ss e = ended_fewer q c ss
+  others_fewer h q d c ss e = omega arith
+
+  -- what waits opens and ends none
+  waiting_fewer : (h : List Event) (q : ℕ) (b : Bool) (c : ℕ) (ss : List Section) → own_runs p c (sections_by h q (deed_waiting b) ss) ≤ own_runs p c ss
+  waiting_fewer h q true c ss = omega arith
+  waiting_fewer h q false c ss = omega arith
+
+module _ (cells : List CellPlan) where
+  -- ---- what the party runs where a section of it runs, and back
+
+  -- where the party does not run the generator of the cell, it has no such section
+  none_own : (h : List Event) (p c : ℕ) → IsExclusive cells h c → runs p c h ≡ false → own_runs p c (sections h) ≡ 0
+  none_own h p c only e = by (find (is_own_run p c) (sections h)) refl
+    where
+      by : (o : Option Section) → find (is_own_run p c) (sections h) ≡ o → own_runs p c (sections h) ≡ 0
+      by None f = none_counted (is_own_run p c) (sections h) f
+      by (Some x) f =
+          let own : is_own_run p c x ≡ true = found_passes (is_own_run p c) (sections h) x f in
+          let mine : (x.party == p) ≡ true = first _ _ own in
+          let here : runs_in c x ≡ true = first _ _ (second (x.party == p) _ own) in
+          let calls : not (is_turn x.want) ≡ true = second (runs_in c x) _ (second (x.party == p) _ own) in
+          let one : count (runs_in c) (sections h) ≤ 1 = omega (arith, only.one_writer) in
+          let found : find (runs_in c) (sections h) ≡ Some x = only_one (is_own_run p c) (runs_in c) (sections h) x f here one in
+          absurd (apart (sym (generates (is_turn x.want) (x.party == p) calls mine) ∙ sym (ap (generates_for p) found) ∙ e))
+        where
+          generates : (t m : Bool) → not t ≡ true → m ≡ true → (if t then false else m) ≡ true
+          generates true m u v = absurd (cc)
+          generates false m u v = v
+
+  -- where it has none, it does not run it
+  runs_none : (h : List Event) (p c : ℕ) → own_runs p c (sections h) ≡ 0 → runs p c h ≡ false
+  runs_none h p c none = by (find (runs_in c) (sections h)) refl
+    where
+      turns : (t m d : Bool) → (m && (d && not t)) ≡ false → d ≡ true → (if t then false else m) ≡ false
+      turns true m d f e = refl
+      turns false false d f e = refl
+      turns false true true f e = absurd (apart f)
+      turns false true false f e = absurd (apart (sym e))
+
+      uncounted : (x : Section) → find (runs_in c) (sections h) ≡ Some x → (b : Bool) → is_own_run p c x ≡ b → b ≡ false
+      uncounted x f true e = let n : 0 < own_runs p c (sections h) = found_counts (runs_in c) (is_own_run p c) (sections h) x f e in absurd (omega (arith, n, none))
+      uncounted x f false e = refl
+
+      by : (o : Option Section) → find (runs_in c) (sections h) ≡ o → generates_for p o ≡ false
+      by None f = refl
+      by (Some x) f = turns (is_turn x.want) (x.party == p) (runs_in c x) (uncounted x f (is_own_run p c x) refl) (found_passes (runs_in c) (sections h) x f)
+
+  -- ---- a step
+
+  module _ (h : List Event) (s : Step) (g : Given) (p : ℕ) (IH : NotOwn p (attempt_of_wait (wait_of p (waits cells h))) (sections h)) where
+    left_over : (b : Bool) → (s.party == p) ≡ b → (us : List Section) → (b ≡ false → (c : ℕ) → own_runs p c us ≤ own_runs p c (sections h))
+        → NotOwn p (attempt_of_wait (wait_of p (waits_given_with cells (waits cells h) h s g (without_wait s.party (waits cells h))))) us
+    left_over true is us less = rw (attempt_given cells (waits cells h) h s g p (without_wait s.party (waits cells h))) (rw (own is) (rw (wait_removed p (waits cells h)) tt))
+      where
+        own : (s.party == p) ≡ true → s.party ≡ p
+        own e = grind arith
+    left_over false is us less =
+        rw (attempt_given cells (waits cells h) h s g p (without_wait s.party (waits cells h))) (rw (wait_kept s.party p (waits cells h) (other is))
+        (weaken p (attempt_of_wait (wait_of p (waits cells h))) (sections h) us (less refl) IH))
+      where
+        other : (s.party == p) ≡ false → p ≢ s.party
+        other e = grind arith
+
+    again : (way : How) (b : Bool) → (s.party == p) ≡ b → (o : Option Attempt) (us : List Section) → ((c : ℕ) → own_runs p c us ≤ own_runs p c (sections h))
+        → (b ≡ true → NotOwn p o us)
+        → NotOwn p (attempt_of_wait (wait_of p (with_wait s.party way o (waits_given_with cells (waits cells h) h s g (without_wait s.party (waits cells h)))))) us
+    again way b is None us less now = left_over b is us (λ e. less)
+    again way false is (Some a) us less now = rw is (left_over false is us (λ e. less))
+    again way true is (Some a) us less now = rw is (now refl)
+
+    -- the sections after the step with this answer
+    abbrev left : Answer → List Section
+    left r = sections_by h s.party (deed_of h s r) (sections h)
+
+    goes_on : (r : Answer) → NotOwn p (attempt_of_wait (wait_of p (waits_given_with cells (waits cells h) h s g (without_wait s.party (waits cells h))))) (left r)
+    goes_on r = left_over (s.party == p) refl (left r) (λ e c. others_fewer p h s.party (deed_of h s r) c (sections h) e)
+
+    after : (r : Answer) → (is_waiting r ≡ true → (s.party == p) ≡ true → NotOwn p (attempt cells h s) (sections h))
+        → NotOwn p (attempt_of_wait (wait_of p (waits_answered cells h s g r (waits cells h)))) (left r)
+    after (answer.Refused q) now = IH
+    after (answer.Waiting way) now =
+        again way (s.party == p) refl (attempt cells h s) (left (answer.Waiting way)) (λ c. waiting_fewer p h s.party (is_exit s.act) c (sections h))
+        (λ is. weaken p (attempt cells h s) (sections h) (left (answer.Waiting way)) (λ c. waiting_fewer p h s.party (is_exit s.act) c (sections h)) (now refl is))
+    after r now = goes_on r
+
+  -- a step that waits attempts nothing that is cyclic
+  waits_apart : (h : List Event) (s : Step) (l : Line) → IsLegal cells h → IsLegalLine cells h s l → is_waiting l.answer ≡ true → NotOwn s.party (attempt cells h s) (sections h)
+  waits_apart h s l legal k w = by (attempt cells h s) (second (is_none (refusal cells h s)) _ (sym (waits_where_barred cells h s l k) ∙ w))
+    where
+      not_both : (i o rest : Bool) → (not (i && o) && rest) ≡ true → i ≡ true → o ≡ false
+      not_both i false rest f e = refl
+      not_both true true rest f e = absurd (apart (sym f))
+      not_both false true rest f e = absurd (apart (sym e))
+
+      by : (o : Option Attempt) → is_attempted (is_barred_attempt cells h s.party (waits_judged cells k.moment h s l.given)) o ≡ true → NotOwn s.party o (sections h)
+      by None f = tt
+      by (Some a) f = λ i. none_own h s.party a.cell (alone cells h legal a.cell) (not_both (initializes a.want) (runs s.party a.cell h) _ f i)
+
+  not-own : (h : List Event) (p : ℕ) → IsLegal cells h → NotOwn p (attempt_of_wait (wait_of p (waits cells h))) (sections h)
+  not-own [] p k = tt
+  not-own (e ∷ h) p k =
+      after h e.step e.line.given p (not-own h p k.2) e.line.answer
+      (λ w is. subst (λ q. NotOwn q (attempt cells h e.step) (sections h)) (own is) (waits_apart h e.step e.line k.2 k.0 w))
+    where
+      own : (e.step.party == p) ≡ true → e.step.party ≡ p
+      own is = grind arith
+
+  -- so a call that waits is not cyclic
+  pub waiting-not-cyclic : (h : List Event) (p : ℕ) (w : Wait) → IsLegal cells h → wait_of p (waits cells h) ≡ Some w → (initializes w.want && runs p w.cell h) ≡ false
+  waiting-not-cyclic h p w k f = by (initializes w.want) refl
+    where
+      mine : NotOwn p (Some (record { cell = w.cell; want = w.want })) (sections h)
+      mine = subst (λ o. NotOwn p (attempt_of_wait o) (sections h)) f (not-own h p k)
+
+      by : (b : Bool) → initializes w.want ≡ b → (b && runs p w.cell h) ≡ false
+      by true i = runs_none h p w.cell (mine i)
+      by false i = refl
+
+  -- and an Again is not answered so
+  pub again-not-cyclic : (h : List Event) (s : Step) (l : Line) → IsLegal cells h → IsLegalLine cells h s l → s.act ≡ act.Again → l.answer ≢ answer.Cyclic
+  again-not-cyclic h s l legal k a e = apart (sym (ap is_cyclic e) ∙ cyclic_where_own cells h s l k ∙ none (wait_of s.party (waits cells h)) refl)
+    where
+      none : (o : Option Wait) → wait_of s.party (waits cells h) ≡ o → is_cyclic_step cells h s ≡ false
+      none None f = rw (a, f) refl
+      none (Some w) f = rw (a, f) (rw (waiting-not-cyclic h s.party w legal f) refl)

@@ -1,0 +1,110 @@
+-- A phase changes only where a section of its cell is given back, and while no guard reads the cell.
+use Rattle.std.proofs.Common.{◌≡◌, ◌≢◌, ◌<◌, ℕ, List, ◌∷◌, refl, ◌∙◌, ap, subst, arith, Bool, true, false, not, Some, ◌⊎◌, inl, inr}
+use Rattle.std.specs.Prelude.{◌==◌, if◌then◌else◌}
+use Rattle.schedule_rules.specs.declared.plan.CellPlan.{CellPlan}
+use Rattle.schedule_rules.specs.declared.step.Step.{Step}
+use Rattle.schedule_rules.specs.declared.step.Want.TheVariants.{Calls}
+use Rattle.schedule_rules.specs.declared.line.Answer.{Answer}
+use Rattle.schedule_rules.specs.Kinds.{cell_at, tolerance_at}
+use Rattle.schedule_rules.specs.Changes.{Content, Change, is_declined, effect}
+use Rattle.schedule_rules.specs.Deeds.{Makes, Finishes, Deed, Ends, EndsToRead, Drops, DropsToRead, Visits}
+use Rattle.schedule_rules.specs.History.{Event, accepts, deed_of, count}
+use Rattle.schedule_rules.specs.Sections.{Section, innermost, runs_in, sections}
+use Rattle.schedule_rules.specs.Guards.{Guard, numbered, guards}
+use Rattle.schedule_rules.specs.Replay.{replay, phase_at}
+use Rattle.schedule_rules.specs.Holds.{writes_cell, read_guards, write_holds}
+use Rattle.schedule_rules.specs.Legal.{IsLegal}
+use Rattle.schedule_rules.specs.Laws.{GivesBack, DeclinesAt}
+use Rattle.schedule_rules.proofs.Alone.{alone}
+use Rattle.schedule_rules.proofs.Found.{found_counts}
+use Rattle.schedule_rules.proofs.Cases.{Asking, Resting}
+use Rattle.schedule_rules.proofs.Finds.{Finds, Tells, finds, tells}
+use Rattle.schedule_rules.proofs.Leaves.{left_at, holds_left, Settles, settles, rests, GivesOf, moves}
+use Rattle.schedule_rules.proofs.Facts.{same_number}
+
+module _ (cells : List CellPlan) (h : List Event) (s : Step) (r : Answer) (legal : IsLegal cells h) where
+  -- it is a call that leaves nothing open
+  abbrev IsVisit : Deed → Type 0
+  IsVisit (Visits c chs) = Unit {0}
+  IsVisit d = ⊥
+
+  -- where a phase changes that is given back, the cell was held to write, or the deed is such a call
+  abbrev WasHeld : Deed → ℕ → Content → Content → Type 0
+  WasHeld d z y w = w.phase ≢ y.phase → (0 < write_holds z h) ⊎ IsVisit d
+
+  ran : (t : Section) → innermost s.party (sections h) ≡ Some t → 0 < write_holds t.cell h
+  ran t f = let n : 0 < count (runs_in t.cell) (sections h) = found_counts (λ u. u.party == s.party) (runs_in t.cell) (sections h) t f (same_number t.cell t.cell refl) in omega (arith, n)
+
+  wrote : (g : ℕ) (x : Guard) → numbered g (guards h) ≡ Some x → x.writes ≡ true → 0 < write_holds x.cell h
+  wrote g x f w = let n : 0 < count (writes_cell x.cell) (guards h) = found_counts (λ y. y.number == g) (writes_cell x.cell) (guards h) x f (rw w (same_number x.cell x.cell refl)) in omega (arith, n)
+
+  gives : (d : Deed) (f : Finds cells h s.party d) → GivesOf cells h s.party (alone cells h legal) (WasHeld d) d f
+  gives (Ends (Makes made)) f = λ ne. inl (ran f.section f.found)
+  gives (Ends (Finishes fine)) f = λ ne. inl (ran f.section f.found)
+  gives (EndsToRead v) f = λ ne. inl (ran f.section f.found)
+  gives (Drops g) f = λ w ne. inl (wrote g f.guard f.found w)
+  gives (DropsToRead g) f = λ ne. inl (wrote g f.guard f.found f.way)
+  gives (Visits c chs) f = λ ne. inr tt
+  gives _ f = tt
+
+  held : (d : Deed) (f : Finds cells h s.party d) (c : ℕ) → WasHeld d c (replay cells c h) (left_at cells h s.party d c)
+  held d f c = moves cells h s.party (alone cells h legal) (WasHeld d) d f (λ z none ne. absurd (ne refl)) (gives d f) c
+
+  module _ (c : ℕ) where
+    -- a section of the cell is given back, and no guard reads it
+    abbrev IsGiven : Deed → Type 0
+    IsGiven d = ((holds_left cells h s.party d c < write_holds c h) ⊎ DeclinesAt cells h s c) × (read_guards c h ≡ 0)
+
+    one_less : (d : Deed) (f : Finds cells h s.party d) → (left_at cells h s.party d c).phase ≢ phase_at cells c h → 0 < write_holds c h → IsGiven d
+    one_less d f ne was = (by (settles cells h s.party (alone cells h legal) d f c), unread)
+      where
+        by : Settles cells h s.party d c → (holds_left cells h s.party d c < write_holds c h) ⊎ DeclinesAt cells h s c
+        by (inl same) = absurd (ne (ap (λ y. y.phase) same))
+        by (inr none) = let a : _ = none.0 in let b : _ = none.1 in inl (omega (arith, a, b, was))
+
+        unread : read_guards c h ≡ 0
+        unread = let k : _ = (alone cells h legal c).no_reader (omega (arith, was)) in omega (arith, k)
+
+    -- a call that leaves nothing open is declined
+    visits : (z : ℕ) (chs : List Change) → Tells cells h s.party s.act r (Visits z chs) → (left_at cells h s.party (Visits z chs) c).phase ≢ phase_at cells c h → IsGiven (Visits z chs)
+    visits z chs (v, t) ne = by (z == c) refl v.finds
+      where
+        declined : (z == c) ≡ true → Asking cells h s.party z v.asked false → IsGiven (Visits z chs)
+        declined same q = (
+          inr (record {
+            call = v.asked;
+            tried = t.tried ∙ ap (λ y. Some (record { cell = y; want = Calls v.asked })) at;
+            declines = subst (λ y. is_declined (cell_at cells y).kind (tolerance_at cells y) v.asked (accepts h) (phase_at cells y h) ≡ true) at declines;
+          }),
+          subst (λ y. read_guards y h ≡ 0) at (q.unread (alone cells h legal z)),
+        )
+          where
+            at : z ≡ c
+            at = grind arith
+
+            declines : is_declined (cell_at cells z).kind (tolerance_at cells z) v.asked (accepts h) (phase_at cells z h) ≡ true
+            declines = rw q.asked (ap not q.generates)
+
+        still : (z == c) ≡ true → Resting cells h s.party z v.asked false → (left_at cells h s.party (Visits z chs) c).phase ≡ phase_at cells c h
+        still same q =
+            let at : z ≡ c = grind arith in
+            ap (λ (b : Bool). (if b then effect (cell_at cells c) chs (replay cells c h) else replay cells c h).phase) same
+            ∙ subst (λ y. (effect (cell_at cells y) chs (replay cells y h)).phase ≡ phase_at cells y h) at (ap (λ y. y.phase) (rests cells h s.party (alone cells h legal) z chs v.asked v.does q))
+
+        by : (b : Bool) → (z == c) ≡ b → Asking cells h s.party z v.asked false ⊎ Resting cells h s.party z v.asked false → IsGiven (Visits z chs)
+        by true same (inl q) = declined same q
+        by true same (inr q) = absurd (ne (still same q))
+        by false other q = absurd (ne (ap (λ (b : Bool). (if b then effect (cell_at cells c) chs (replay cells c h) else replay cells c h).phase) other))
+
+    published : (d : Deed) → Finds cells h s.party d → Tells cells h s.party s.act r d → (left_at cells h s.party d c).phase ≢ phase_at cells c h → IsGiven d
+    published (Visits z chs) f t ne = visits z chs t ne
+    published d f t ne = by (held d f c ne)
+      where
+        by : (0 < write_holds c h) ⊎ ⊥ → IsGiven d
+        by (inl was) = one_less d f ne was
+        by (inr no_visit) = absurd no_visit
+
+-- in a legal history
+pub published-given : (cells : List CellPlan) (h : List Event) (e : Event) (c : ℕ) → IsLegal cells (e ∷ h) → phase_at cells c (e ∷ h) ≢ phase_at cells c h
+    → GivesBack cells h e c × (read_guards c h ≡ 0)
+published-given cells h e c k = published cells h e.step e.line.answer k.2 c (deed_of h e.step e.line.answer) (finds cells h e.step e.line k.0) (tells cells h e.step e.line k.0)

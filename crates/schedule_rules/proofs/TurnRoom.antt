@@ -1,0 +1,147 @@
+-- The turns of a legal history are no more than its cells.
+use Rattle.std.proofs.Common.{◌≡◌, ◌<◌, ◌≤◌, ◌+◌, ◌++◌, ℕ, List, [], ◌∷◌, length, refl, ◌∙◌, ap, arith, Bool, true, false, ◌&&◌, cond, Some, All}
+use Rattle.std.specs.Prelude.{◌==◌, if◌then◌else◌}
+use Rattle.std.proofs.lemmas.List.{get_or_past, length-append, length-map}
+use Rattle.std.proofs.lemmas.List.Elements.{All-nil, All-cons}
+use Rattle.exit_registry.specs.Registry.{is_known, first_of, rest_of, occurs, due}
+use Rattle.exit_registry.specs.Exits.{cells_of_turns}
+use Rattle.exit_registry.proofs.Exiting.{few_below}
+use Rattle.schedule_rules.specs.declared.plan.CellPlan.{CellPlan}
+use Rattle.schedule_rules.specs.declared.step.Act.{Act}
+use Rattle.schedule_rules.specs.declared.step.Act.TheVariants as act
+use Rattle.schedule_rules.specs.declared.step.Step.{Step}
+use Rattle.schedule_rules.specs.declared.step.Want.TheVariants.{Turns}
+use Rattle.schedule_rules.specs.History.{Event, count}
+use Rattle.schedule_rules.specs.Sections.{Section, innermost, is_turn, sections}
+use Rattle.schedule_rules.specs.Exits.{registry, ended_turns}
+use Rattle.schedule_rules.specs.Waits.{Wait, wait_of, attempt, attempt_with, waits}
+use Rattle.schedule_rules.specs.Legal.{IsLegal}
+use Rattle.schedule_rules.specs.Causes.{is_attempted}
+use Rattle.schedule_rules.specs.Laws.{waits_to_turn, finalizes_in, turns_of, turns_at_hand}
+use Rattle.schedule_rules.proofs.Accepts.{known-length}
+use Rattle.schedule_rules.proofs.Counts.{occurs_joined}
+use Rattle.schedule_rules.proofs.Found.{found_counts}
+use Rattle.schedule_rules.proofs.Turns.{one-turn, waits_so, first_so, begins}
+
+-- ---- the cells of those that pass a test
+
+-- the cells of those that pass
+abbrev cells_where : {X : Type 0} → (X → Bool) → (X → ℕ) → List X → List ℕ
+cells_where t f [] = []
+cells_where t f (x ∷ xs) = if t x then f x ∷ cells_where t f xs else cells_where t f xs
+
+module _ {X : Type 0} (t : X → Bool) (f : X → ℕ) where
+  -- a cell is as often in them as one of it passes
+  occurs_where : (c : ℕ) (xs : List X) → occurs c (cells_where t f xs) ≡ count (λ x. t x && (f x == c)) xs
+  occurs_where c [] = refl
+  occurs_where c (x ∷ xs) = by (t x) (f x == c) refl (occurs_where c xs)
+    where
+      by : (b d : Bool) → (f x == c) ≡ d → occurs c (cells_where t f xs) ≡ count (λ x. t x && (f x == c)) xs
+          → occurs c (cond b (f x ∷ cells_where t f xs) (cells_where t f xs)) ≡ cond (b && d) (count (λ x. t x && (f x == c)) xs + 1) (count (λ x. t x && (f x == c)) xs)
+      by true true e n = rw e (omega (arith, n))
+      by true false e n = rw e (omega (arith, n))
+      by false d e n = n
+
+  -- they are as many as those that pass
+  length_where : (xs : List X) → length (cells_where t f xs) ≡ count t xs
+  length_where [] = refl
+  length_where (x ∷ xs) = by (t x) (length_where xs)
+    where
+      by : (b : Bool) → length (cells_where t f xs) ≡ count t xs → length (cond b (f x ∷ cells_where t f xs) (cells_where t f xs)) ≡ cond b (count t xs + 1) (count t xs)
+      by true n = omega (arith, n)
+      by false n = n
+
+differ : false ≡ true → ⊥
+differ e = cc
+
+-- what is not in a list above a number, is below it
+below_where : (n : ℕ) (cs : List ℕ) → ((c : ℕ) → n ≤ c → occurs c cs ≡ 0) → All (λ c. c < n) cs
+below_where n [] none = All-nil (λ c. c < n)
+below_where n (d ∷ ds) none = All-cons (λ c. c < n) d ds first (below_where n ds (λ c le. let e : occurs c (d ∷ ds) ≡ 0 = none c le in omega (arith, e)))
+  where
+    one : (b : Bool) (m : ℕ) → b ≡ true → (if b then 1 else 0) + m ≡ 0 → ⊥
+    one true m e z = omega (arith, z)
+    one false m e z = cc
+
+    past : n ≤ d → ⊥
+    past le = one (d == d) (occurs d ds) (grind arith) (none d le)
+
+    first : d < n
+    first = grind (arith, past)
+
+module _ (cells : List CellPlan) (h : List Event) (legal : IsLegal cells h) where
+  abbrev waiting : List ℕ
+  waiting = cells_where (λ w. is_turn w.want) (λ w. w.cell) (waits cells h)
+
+  abbrev going_on : List ℕ
+  going_on = cells_where (λ s. is_turn s.want) (λ s. s.cell) (sections h)
+
+  abbrev ended : List ℕ
+  ended = cells_of_turns (ended_turns h)
+
+  -- the cells of all turns
+  abbrev every : List ℕ
+  every = due (registry cells h) ++ (waiting ++ (going_on ++ ended))
+
+  occurs_every : (c : ℕ) → occurs c every ≡ turns_of cells c h
+  occurs_every c =
+      let a : _ = occurs_joined c (due (registry cells h)) (waiting ++ (going_on ++ ended)) in
+      let b : _ = occurs_joined c waiting (going_on ++ ended) in
+      let d : _ = occurs_joined c going_on ended in
+      let w : occurs c waiting ≡ count (waits_to_turn c) (waits cells h) = occurs_where (λ w. is_turn w.want) (λ w. w.cell) c (waits cells h) in
+      let s : occurs c going_on ≡ count (finalizes_in c) (sections h) = occurs_where (λ s. is_turn s.want) (λ s. s.cell) c (sections h) in
+      omega (arith, a, b, d, w, s)
+
+  at_most_one : (b : Bool) (n : ℕ) → n ≡ (if b then 1 else 0) → n ≤ 1
+  at_most_one true n e = omega (arith, e)
+  at_most_one false n e = omega (arith, e)
+
+  once : (c : ℕ) → occurs c every ≤ 1
+  once c = at_most_one (is_known (registry cells h) c) (occurs c every) (occurs_every c ∙ one-turn cells c h legal)
+
+  -- a cell beyond the plan has none
+  none_beyond : (c : ℕ) → length cells ≤ c → occurs c every ≡ 0
+  none_beyond c le = occurs_every c ∙ one-turn cells c h legal ∙ ap (λ (b : Bool). if b then 1 else 0) unknown
+    where
+      unknown : is_known (registry cells h) c ≡ false
+      unknown = let long : _ = known-length cells h in get_or_past (registry cells h).known c false (omega (arith, long, le))
+
+  length_every : length every ≡ turns_at_hand cells h + length (ended_turns h)
+  length_every =
+      let a : _ = length-append (due (registry cells h)) (waiting ++ (going_on ++ ended)) in
+      let b : _ = length-append waiting (going_on ++ ended) in
+      let d : _ = length-append going_on ended in
+      let w : length waiting ≡ count (λ w. is_turn w.want) (waits cells h) = length_where (λ w. is_turn w.want) (λ w. w.cell) (waits cells h) in
+      let s : length going_on ≡ count (λ s. is_turn s.want) (sections h) = length_where (λ s. is_turn s.want) (λ s. s.cell) (sections h) in
+      let e : length ended ≡ length (ended_turns h) = length-map (ended_turns h) (λ t. t.cell) in
+      omega (arith, a, b, d, w, s, e)
+
+  -- all turns are at most as many as the cells
+  pub few-turns : turns_at_hand cells h + length (ended_turns h) ≤ length cells
+  few-turns = let few : _ = few_below (length cells) every once (below_where (length cells) every none_beyond) in omega (arith, few, length_every)
+
+  -- a finalizer that runs leaves room for its turn
+  pub room-running : (p : ℕ) (s : Section) → innermost p (sections h) ≡ Some s → is_turn s.want ≡ true → length (ended_turns h) < length cells
+  room-running p s f d =
+      let some : 0 < count (λ t. is_turn t.want) (sections h) = found_counts (λ t. t.party == p) (λ t. is_turn t.want) (sections h) s f d in omega (arith, few-turns, some)
+
+  -- so does a turn that is taken
+  pub room-taken : (s : Step) (c : ℕ) → attempt cells h s ≡ Some (record { cell = c; want = Turns }) → length (ended_turns h) < length cells
+  room-taken s c e = by s.act e
+    where
+      from_left : (registry cells h).left ≡ c ∷ rest_of (registry cells h).left → length (ended_turns h) < length cells
+      from_left is =
+          let more : length (due (registry cells h)) ≡ length (registry cells h).left + length (registry cells h).pending = length-append (registry cells h).left (registry cells h).pending in
+          let one : _ = ap length is in
+          omega (arith, few-turns, more, one)
+
+      from_wait : (w : Wait) × (wait_of s.party (waits cells h) ≡ Some w) × (w.cell ≡ c) × (w.want ≡ Turns) → length (ended_turns h) < length cells
+      from_wait w =
+          let some : 0 < count (λ v. is_turn v.want) (waits cells h) = found_counts (λ v. v.party == s.party) (λ v. is_turn v.want) (waits cells h) w.0 w.1 (ap is_turn w.3) in
+          omega (arith, few-turns, some)
+
+      by : (a : Act) → attempt_with cells (waits cells h) h s.party a ≡ Some (record { cell = c; want = Turns }) → length (ended_turns h) < length cells
+      by act.Exit f = from_left (begins (registry cells h).left c (first_so (first_of (registry cells h).left) c f))
+      by act.Again f = from_wait (waits_so (wait_of s.party (waits cells h)) c Turns f)
+      by (act.Call d k) f = absurd (differ (ap (is_attempted (λ a. is_turn a.want)) f))
+      by _ f = absurd (differ (ap (is_attempted (λ a. is_turn a.want)) f))
