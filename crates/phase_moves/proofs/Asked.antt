@@ -57,7 +57,7 @@ abbrev pub declined : CellPlan → Want → Bool → ℕ → Bool
 declined x (Calls k) is_open p = is_declined x.kind (tolerance_of x) k is_open p
 declined x Turns is_open p = false
 
-refuses_same : (x : CellPlan) (m : Registry) (p : ℕ) → is_refused x.leak (registry_for x.kind m) (phase_of p) ≡ not (runs_generator x.kind (tolerance_of x) m.is_open p)
+pub refuses_same : (x : CellPlan) (m : Registry) (p : ℕ) → is_refused x.leak (registry_for x.kind m) (phase_of p) ≡ not (runs_generator x.kind (tolerance_of x) m.is_open p)
 refuses_same x m p = by (is_finalizable x.kind)
   where
     by : (b : Bool) → is_refused x.leak (if b then Some m else None) (phase_of p) ≡ not (if b then flags_generate x.leak (if b then flags_staying m.is_open p else 0) else true)

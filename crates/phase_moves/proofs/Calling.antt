@@ -87,8 +87,8 @@ module _ {L : Type 0} (held : L → Holders) (place : L → LockerKind) where
 
     -- one more reads
     pub clone_more : v'.cells.items ≡ set v.cells.items c row' → v'.guards ≡ v.guards → v'.parties ≡ v.parties → v'.parks ≡ v.parks → v'.exit ≡ v.exit → row'.plan ≡ row.plan → row'.value ≡ row.value → row'.run ≡ row.run → row'.seq.running ≡ row.seq.running → place row'.seq.locker ≡ place row.seq.locker
-        → held row'.seq.locker ≡ admit_read (held row.seq.locker) → KeepsFit (place row.seq.locker) (held row.seq.locker) (held row'.seq.locker) → Stands held place (length v.guards.items) (cloned (length v.guards.items) x m) v'
-    clone_more cells guards parties parks exit plan value run running stays more keeps =
+        → held row'.seq.locker ≡ admit_read (held row.seq.locker) → (held row.seq.locker).readers ≢ most_readers → KeepsFit (place row.seq.locker) (held row.seq.locker) (held row'.seq.locker) → Stands held place (length v.guards.items) (cloned (length v.guards.items) x m) v'
+    clone_more cells guards parties parks exit plan value run running stays more fewer keeps =
         moved held place c n n m (cloned n x m) v v' row' is.rests.stands clone_in cells here
         (guard_opened held place c n n n m m v v' (reader n x.party x.cell)
         (nothing_moved c n m v v' is.rests.stands guards exit parks)
@@ -112,6 +112,7 @@ module _ {L : Type 0} (held : L → Holders) (place : L → LockerKind) where
               write_is = λ lt. absurd (omega (arith, none, lt));
               write_was = λ o. l.write_was (record { locked = sym (ap (λ (h : Holders). h.locked) more) ∙ o.locked; unclaimed = ap (λ (s : Parking). claims s c) (sym parks) ∙ o.unclaimed });
               one = l.one;
+              limit = let le = l.limit in omega (arith, readers, le, fewer);
             }
 
         here : IsCell held place (seen_at c (cloned n x m)) v'.parks c row'
@@ -146,4 +147,4 @@ module _ {L : Type 0} (held : L → Holders) (place : L → LockerKind) where
     pub clones : (o : Option ReadTicket) → v'.cells.items ≡ set v.cells.items c row' → v'.guards ≡ v.guards → v'.parties ≡ v.parties → v'.parks ≡ v.parks → v'.exit ≡ v.exit → row'.plan ≡ row.plan → row'.value ≡ row.value → row'.run ≡ row.run → row'.seq.running ≡ row.seq.running → place row'.seq.locker ≡ place row.seq.locker
         → (IsNone o ↔ ((held row.seq.locker).readers ≡ most_readers)) → OnSome o (held row'.seq.locker ≡ admit_read (held row.seq.locker)) → (IsNone o → held row'.seq.locker ≡ held row.seq.locker) → KeepsFit (place row.seq.locker) (held row.seq.locker) (held row'.seq.locker) → ClonesAs held place v m x o v'
     clones None cells guards parties parks exit plan value run running stays most some none keeps = (clone_none cells guards parties parks exit plan value run running stays (none refl), clone_full (most.0 refl))
-    clones (Some t) cells guards parties parks exit plan value run running stays most some none keeps = clone_more cells guards parties parks exit plan value run running stays some keeps
+    clones (Some t) cells guards parties parks exit plan value run running stays most some none keeps = clone_more cells guards parties parks exit plan value run running stays some (λ e. (let f = most.1 e in absurd (cc))) keeps

@@ -1,11 +1,11 @@
 -- A run ends, and its call goes on.
-use Rattle.std.proofs.Common.{◌≡◌, ◌==◌, ◌<◌, ◌+◌, ◌∙◌, ℕ, [], ◌∷◌, length, set, get_or, ap, sym, subst, refl, arith, Bool, true, false, None, Some}
+use Rattle.std.proofs.Common.{◌≡◌, ◌==◌, ◌<◌, ◌≤◌, ◌+◌, ◌∙◌, ℕ, [], ◌∷◌, length, set, get_or, ap, sym, subst, refl, arith, Bool, true, false, None, Some}
 use Rattle.std.specs.declared.option.Option.{Option}
 use Rattle.std.specs.Option.{is_some}
 use Rattle.phase_bits.specs.declared.phase.Phase.{Phase}
 use Rattle.phase_bits.specs.declared.holders.Holders.{Holders}
 use Rattle.phase_bits.specs.Number.{phase_of, IsKnown}
-use Rattle.phase_bits.specs.Records.{leave_write}
+use Rattle.phase_bits.specs.Records.{leave_write, most_readers}
 use Rattle.phase_locker.specs.declared.ways.Given.{Given}
 use Rattle.phase_locker.specs.declared.ways.Given.TheVariants as given
 use Rattle.phase_locker.specs.declared.ways.LockerKind.{LockerKind}
@@ -45,9 +45,13 @@ use Rattle.phase_moves.specs.Standing.{Standing, run_in, reads_in, writes_in, ru
 use Rattle.phase_moves.specs.Stands.{Seen, seen_at, IsCell, IsLocked, Stands, section_of, stays_in, target_of, want_of}
 use Rattle.phase_moves.specs.Ends.{IsEnding, EndsAs, GoesAs}
 use Rattle.phase_moves.proofs.Known.{change_known, stays_known}
+use Rattle.phase_locker.proofs.Leaving.{write_has_no_reader}
+use Rattle.phase_moves.proofs.Leaving.{parked_few, parked_fewer}
 use Rattle.phase_moves.proofs.Lockers.{locked_write, locked_down, hands_writers, downgrades_writers}
 use Rattle.phase_moves.proofs.Guards.{target_given}
 use Rattle.phase_moves.proofs.Opening.{guard_opened, seen_reader}
+use Rattle.phase_moves.specs.Gifts.{MayGive, MayGiveDown}
+use Rattle.phase_moves.proofs.EndGives.{gives_closed, gives_down}
 use Rattle.phase_moves.proofs.Innermost.{in_cells, cell_here, runs_here, o_is, its_row, write_open, seen_closed, seen_without, closed_moved, without_moved, without_it, cell_ended, parties_ended}
 use Rattle.phase_moves.proofs.Moved.{HasParties, exit_kept, moved}
 
@@ -90,13 +94,13 @@ reached_as x (Calls k) is_open y None true e m = absurd (cc)
 reached_as x (Calls k) is_open y None false e m = refl
 reached_as x Turns is_open y made b e m = absurd (cc)
 
-asked_run : (w : Want) → is_turn w ≡ false → initializes (want_of w) ≡ true
+pub asked_run : (w : Want) → is_turn w ≡ false → initializes (want_of w) ≡ true
 asked_run (Calls call.Phase) e = refl
 asked_run (Calls call.Read) e = refl
 asked_run (Calls call.Write) e = refl
 asked_run Turns e = absurd (cc)
 
-never_init : (w : Want) → want_of w ≡ want.Init → ⊥
+pub never_init : (w : Want) → want_of w ≡ want.Init → ⊥
 never_init (Calls call.Phase) e = cc
 never_init (Calls call.Read) e = cc
 never_init (Calls call.Write) e = cc
@@ -189,6 +193,10 @@ module _ {L : Type 0} (held : L → Holders) (place : L → LockerKind) (m : Sta
     inside : c < length v.cells.items
     inside = in_cells held place m v p c s is.inner row row_is
 
+    -- what is seen of the cell then, where nothing was given yet
+    seen_gone : seen_at c (run_closed s made given.Nobody m) ≡ record { plan = cell_at m.plans c; content = made_as; reads = 0; writes = 0; run = None }
+    seen_gone = seen_closed held place m v p c s is.inner row row_is (Ran s.is_open made ∷ []) given.Nobody
+
     -- it failed
     pub ends_failed : (q : Phase) → r.0 ≡ finished.Failed q → row'.value ≡ row.value → EndsAs held place m v s made (Some (finished.Failed q, r.1)) v'
     ends_failed q e value =
@@ -196,10 +204,12 @@ module _ {L : Type 0} (held : L → Holders) (place : L → LockerKind) (m : Sta
         record {
           stands = moved held place c n n m (run_closed s made r.1 m) v v' row' ok inside cells
               (subst (λ (z : Seen). IsCell held place z v'.parks c row') (sym (seen_closed held place m v p c s is.inner row row_is (Ran s.is_open made ∷ []) r.1))
-              (cell_now made_as 0 0 (value ∙ here.valued ∙ kept_value d.0) known_made (locked_write (place row.seq.locker) (place row'.seq.locker) (held row.seq.locker) (held row'.seq.locker) v.parks v'.parks c made_as.phase (reached its.stays false) r.1 d.2 (reads_here (finished.Failed q) e) (stands_here (finished.Failed q) e).0 left_here.fits (phase_is false d.0))))
+              (cell_now made_as 0 0 (value ∙ here.valued ∙ kept_value d.0) known_made (locked_write (place row.seq.locker) (place row'.seq.locker) (held row.seq.locker) (held row'.seq.locker) v.parks v'.parks c made_as.phase (reached its.stays false) r.1 d.2 (reads_here (finished.Failed q) e) (stands_here (finished.Failed q) e).0 left_here.fits (phase_is false d.0) here.locked.limit (parked_few held place n m v ok c inside))))
               (closed_moved held place m v p c s is.inner row row_is (Ran s.is_open made ∷ []) r.1 m.turns v' left_here guards (exit_kept (length v.cells.items) m m v.exit v'.exit exit refl refl refl ok.exit) (hands_writers c _ v.parks r.1 _ v'.parks d.2) (listed_hand c _ v.parks r.1 d.2.may) d.2.rows)
               (parties_now (run_closed s made r.1 m) refl (λ x. target_given s.cell r.1 m.waits x));
           told = failing made (subst (IsMadeAs made) d.0 made_is) (told_as q (d.1 ∙ phase_is false d.0));
+          gave = subst (λ z. MayGive z (run_closed s made given.Nobody m) r.1) (sym is.inner.at)
+              (gives_closed held place m v p c s is.inner row row_is (run_closed s made given.Nobody m) refl refl (ap (λ (z : Seen). z.reads) seen_gone) (ap (λ (z : Seen). z.writes) seen_gone) (reached its.stays false) r.1 _ v'.parks d.2);
         }
       where
         failing : (x : Option ℕ) → IsMadeAs x false → q ≡ phase_of (content_of_run (cell_at m.plans s.cell).kind s.is_open x (m.content s.cell)).phase → GoesAs s.want x (phase_of (content_of_run (cell_at m.plans s.cell).kind s.is_open x (m.content s.cell)).phase) (finished.Failed q) r.1
@@ -213,12 +223,13 @@ module _ {L : Type 0} (held : L → Holders) (place : L → LockerKind) (m : Sta
         record {
           stands = moved held place c n n m (guarded (reader n s.party s.cell) (run_closed s made r.1 m)) v v' row' ok inside cells
               (subst (λ (z : Seen). IsCell held place z v'.parks c row') (sym seen)
-              (cell_now made_as 1 0 (value ∙ made_value d.0) known_made (locked_down (place row'.seq.locker) (held row.seq.locker) (held row'.seq.locker) v.parks v'.parks c made_as.phase (reached its.stays true) r.1 d.3 (reads_here (finished.Read l q) e) (stands_here (finished.Read l q) e).0 left_here.fits (phase_is true d.0))))
+              (cell_now made_as 1 0 (value ∙ made_value d.0) known_made (locked_down (place row'.seq.locker) (held row.seq.locker) (held row'.seq.locker) v.parks v'.parks c made_as.phase (reached its.stays true) r.1 d.3 (reads_here (finished.Read l q) e) (stands_here (finished.Read l q) e).0 left_here.fits (phase_is true d.0) (write_has_no_reader (place row.seq.locker) (held row.seq.locker) v.parks c here.locked.fits (write_open held place m v p c s is.inner row row_is)) (parked_fewer held place n m v ok c inside (end_room o taken b made_is d.0)))))
               (guard_opened held place c n n n m (run_closed s made r.1 m) v v' (reader n s.party s.cell)
               (closed_moved held place m v p c s is.inner row row_is (Ran s.is_open made ∷ []) r.1 m.turns v' left_here guards (exit_kept (length v.cells.items) m m v.exit v'.exit exit refl refl refl ok.exit) (downgrades_writers c _ _ v.parks r.1 _ v'.parks d.3) (listed_share c v.parks r.1 d.3.may) d.3.rows)
               refl is.inner.at (omega arith) is.inner.rests.empty is.inner.rests.empty inside)
               (parties_now (guarded (reader n s.party s.cell) (run_closed s made r.1 m)) refl (λ x. target_given s.cell r.1 m.waits x));
           told = going made (subst (IsMadeAs made) d.0 made_is) (d.1, told_as q (d.2 ∙ phase_is true d.0));
+          gave = subst (λ z. MayGiveDown z m r.1) (sym is.inner.at) (gives_down held place m v p c s is.inner row row_is (reached its.stays true) r.1 _ v'.parks d.3);
         }
       where
         seen : seen_at c (guarded (reader n s.party s.cell) (run_closed s made r.1 m)) ≡ record { plan = cell_at m.plans c; content = made_as; reads = 1; writes = 0; run = None }
@@ -246,10 +257,12 @@ module _ {L : Type 0} (held : L → Holders) (place : L → LockerKind) (m : Sta
                 write_is = λ lt. (stands_here (finished.Write l q) e).0;
                 write_was = λ o. omega arith;
                 one = omega arith;
+                limit = subst (λ (h : Holders). h.readers ≤ most_readers) (sym d.3) here.locked.limit;
               })))
               (guard_opened held place c n n n m gone v v' (writer_of n s made) (without_moved held place m v p c s is.inner row row_is v' left_here guards exit d.4) refl is.inner.at (omega arith) is.inner.rests.empty is.inner.rests.empty inside)
               (parties_now (guarded (writer_of n s made) gone) refl (λ x. refl));
           told = going made (subst (IsMadeAs made) d.0 made_is) (d.1, told_as q (d.2 ∙ phase_is true d.0), d.5);
+          gave = d.5;
         }
       where
         gone : Standing

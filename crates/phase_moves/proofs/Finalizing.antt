@@ -4,6 +4,7 @@ use Rattle.phase_bits.specs.declared.phase.Phase.{Phase}
 use Rattle.phase_bits.specs.declared.holders.Holders.{Holders}
 use Rattle.phase_bits.specs.Number.{phase_of}
 use Rattle.phase_bits.specs.Records.{leave_write}
+use Rattle.phase_locker.specs.declared.ways.Given.TheVariants as given
 use Rattle.phase_locker.specs.declared.ways.Given.{Given}
 use Rattle.phase_locker.specs.declared.ways.LockerKind.{LockerKind}
 use Rattle.phase_locker.specs.Fits.{IsWriteOpen, open_reads}
@@ -28,12 +29,15 @@ use Rattle.phase_moves.specs.Standing.{Standing, runner_of, finalized, turn_of}
 use Rattle.phase_moves.specs.Stands.{Seen, seen_at, IsCell, IsExit, want_of}
 use Rattle.phase_moves.specs.Ends.{IsFinalizing, FinalizesAs}
 use Rattle.phase_moves.proofs.Known.{change_known}
+use Rattle.phase_moves.proofs.Leaving.{parked_few}
 use Rattle.phase_moves.proofs.Lockers.{locked_write, hands_writers}
 use Rattle.phase_moves.proofs.Guards.{target_given}
+use Rattle.phase_moves.specs.Gifts.{MayGive}
+use Rattle.phase_moves.proofs.EndGives.{gives_closed}
 use Rattle.phase_moves.proofs.Innermost.{in_cells, cell_here, runs_here, o_is, its_row, write_open, seen_closed, closed_moved, cell_ended, parties_ended}
 use Rattle.phase_moves.proofs.Moved.{moved}
 
-asked_final : (w : Want) → is_turn w ≡ true → finalizes (want_of w) ≡ true
+pub asked_final : (w : Want) → is_turn w ≡ true → finalizes (want_of w) ≡ true
 asked_final (Calls k) e = absurd (cc)
 asked_final Turns e = refl
 
@@ -81,6 +85,10 @@ module _ {L : Type 0} (held : L → Holders) (place : L → LockerKind) (m : Sta
           cells_are = t.cells_are;
         }
 
+    -- what is seen of the cell then, where nothing was given yet
+    seen_gone : seen_at c (finalized s fine given.Nobody m) ≡ record { plan = cell_at m.plans c; content = y; reads = 0; writes = 0; run = None }
+    seen_gone = seen_closed held place m v p c s is.inner row row_is (Ended fine ∷ []) given.Nobody
+
     pub finalizes_as : FinalizesAs held place m v s fine (Some r) v'
     finalizes_as =
         let ok = is.inner.rests.stands in
@@ -89,8 +97,10 @@ module _ {L : Type 0} (held : L → Holders) (place : L → LockerKind) (m : Sta
           stands = moved held place c n n m (finalized s fine r.1 m) v v' row' ok (in_cells held place m v p c s is.inner row row_is) cells
               (subst (λ (z : Seen). IsCell held place z v'.parks c row') (sym (seen_closed held place m v p c s is.inner row row_is (Ended fine ∷ []) r.1))
               (cell_ended held place m v p c s is.inner row row_is v' row' y 0 0 plan run (running ∙ here.runner ∙ ap runner_of (runs_here held place m v p c s is.inner row row_is) ∙ (let t = is.turn in rw t refl)) left_here.place (value ∙ here.valued) (change_known (cell_at m.plans c) (Ended fine) (m.content c) here.known)
-              (locked_write (place row.seq.locker) (place row'.seq.locker) (held row.seq.locker) (held row'.seq.locker) v.parks v'.parks c y.phase (finalized_phase (held row.seq.locker).phase fine) r.1 hands (subst (λ d. open_reads (held row'.seq.locker) v'.parks d ≡ 0) at_c reads) (subst (λ d. IsWriteOpen (held row'.seq.locker) v'.parks d → ⊥) at_c closed) left_here.fits phase_is)))
+              (locked_write (place row.seq.locker) (place row'.seq.locker) (held row.seq.locker) (held row'.seq.locker) v.parks v'.parks c y.phase (finalized_phase (held row.seq.locker).phase fine) r.1 hands (subst (λ d. open_reads (held row'.seq.locker) v'.parks d ≡ 0) at_c reads) (subst (λ d. IsWriteOpen (held row'.seq.locker) v'.parks d → ⊥) at_c closed) left_here.fits phase_is here.locked.limit (parked_few held place n m v is.inner.rests.stands c (in_cells held place m v p c s is.inner row row_is)))))
               (closed_moved held place m v p c s is.inner row row_is (Ended fine ∷ []) r.1 _ v' left_here guards exit_now (hands_writers c _ v.parks r.1 _ v'.parks hands) (listed_hand c _ v.parks r.1 hands.may) hands.rows)
               (parties_ended held place m v p c s is.inner row row_is v' of of' of_is parties o taken of'_is (finalized s fine r.1 m) refl (λ x. target_given s.cell r.1 m.waits x));
           told = finishes.phase ∙ phase_is ∙ (λ i. phase_of (phase_finalized (m.content (sym is.inner.at i)).phase fine));
+          gave = subst (λ z. MayGive z (finalized s fine given.Nobody m) r.1) (sym is.inner.at)
+              (gives_closed held place m v p c s is.inner row row_is (finalized s fine given.Nobody m) refl refl (ap (λ (z : Seen). z.reads) seen_gone) (ap (λ (z : Seen). z.writes) seen_gone) (finalized_phase (held row.seq.locker).phase fine) r.1 _ v'.parks hands);
         }

@@ -29,13 +29,13 @@ use Rattle.phase_moves.proofs.Lockers.{reading_alone}
 use Rattle.phase_moves.proofs.Leaving.{read_open, write_open, no_reads, no_writes}
 
 -- where parked calls are listed, calls park
-parking : (k : LockerKind) (h : Holders) (s : Parking) (c : ℕ) (p : Place) (g : Given) → Fits k h s c → k ≡ kind_at p → IsListed c s g → g ≢ given.Nobody → is_parking p ≡ true
+pub parking : (k : LockerKind) (h : Holders) (s : Parking) (c : ℕ) (p : Place) (g : Given) → Fits k h s c → k ≡ kind_at p → IsListed c s g → g ≢ given.Nobody → is_parking p ≡ true
 parking k h s c place_of.Park g fits e l ne = refl
 parking k h s c place_of.Spin given.Nobody fits e l ne = absurd (ne refl)
 parking k h s c place_of.Spin (given.Writer q) fits e l ne = absurd (listed_in q (writers_of s c) l (fits.still (ap is_park e)).0.1)
 parking k h s c place_of.Spin given.Readers fits e l ne = absurd (let a = (fits.still (ap is_park e)).0.0 in let b : false ≡ true = sym l ∙ a in cc)
 
-idle_at : (c : ℕ) (h : Holders) (s : Parking) (g : Given) → MayHand c h s g → g ≢ given.Nobody → IsIdle h
+pub idle_at : (c : ℕ) (h : Holders) (s : Parking) (g : Given) → MayHand c h s g → g ≢ given.Nobody → IsIdle h
 idle_at c h s given.Nobody may ne = absurd (ne refl)
 idle_at c h s (given.Writer q) may ne = may.0
 idle_at c h s given.Readers may ne = may.0

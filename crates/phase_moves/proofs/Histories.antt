@@ -1,5 +1,5 @@
 -- What stands open after one step more is a move of what stood open.
-use Rattle.std.proofs.Common.{◌≡◌, ◌∙◌, ◌+◌, ◌++◌, ℕ, List, [], ◌∷◌, length, ap, sym, refl, arith, Bool, true, false, None, Some}
+use Rattle.std.proofs.Common.{◌≡◌, ◌∙◌, ℕ, List, [], ◌∷◌, length, ap, sym, refl, arith, Bool, true, false, None, Some}
 use Rattle.std.specs.Prelude.{◌==◌, if◌then◌else◌}
 use Rattle.std.specs.declared.option.Option.{Option}
 use Rattle.phase_bits.specs.declared.phase.Phase.{Phase}
@@ -10,7 +10,6 @@ use Rattle.phase_locker.specs.declared.tickets.ReadTicket.{ReadTicket}
 use Rattle.phase_locker.specs.declared.tickets.WriteTicket.{WriteTicket}
 use Rattle.phase_seq.specs.declared.section.Finished.TheVariants as finished
 use Rattle.schedule_rules.specs.declared.line.Answer.TheVariants as answer
-use Rattle.schedule_rules.specs.declared.line.Line.{Line}
 use Rattle.schedule_rules.specs.declared.line.Refusal.{Refusal}
 use Rattle.schedule_rules.specs.declared.plan.Call.{Call}
 use Rattle.schedule_rules.specs.declared.plan.CellPlan.{CellPlan}
@@ -30,7 +29,7 @@ use Rattle.waiting_rows.proofs.Counted.{none_without}
 use Rattle.waiting_rows.proofs.GivenOn.{given_concerned}
 use Rattle.phase_moves.specs.declared.rows.Taken.TheVariants as taken
 use Rattle.phase_moves.specs.Histories.{standing, event}
-use Rattle.phase_moves.specs.Standing.{Standing, left, downgraded, cloned, took, ended, finalized, turn_of}
+use Rattle.phase_moves.specs.Standing.{left, downgraded, cloned, took, ended, finalized, turn_of}
 use Rattle.phase_moves.proofs.Guards.{its_number}
 
 owned_by : (p : ℕ) (x : Guard) (o : Option Guard) → own p o ≡ Some x → (o ≡ Some x) × (x.party ≡ p)

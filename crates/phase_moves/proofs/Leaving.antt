@@ -5,10 +5,10 @@ use Rattle.std.specs.declared.option.Option.{Option}
 use Rattle.phase_bits.specs.declared.holders.Holders.{Holders}
 use Rattle.phase_bits.specs.declared.phase.Phase.{Phase}
 use Rattle.phase_bits.specs.Number.{phase_of, IsKnown}
-use Rattle.phase_bits.specs.Records.{leave_read, leave_write}
+use Rattle.phase_bits.specs.Records.{leave_read, leave_write, most_readers}
 use Rattle.phase_locker.specs.declared.ways.Given.{Given}
 use Rattle.phase_locker.specs.declared.ways.LockerKind.{LockerKind}
-use Rattle.phase_locker.specs.Rows.{Rows as Parking, IsSound}
+use Rattle.phase_locker.specs.Rows.{Rows as Parking, IsSound, HasFree, readers_of}
 use Rattle.phase_locker.specs.Fits.{Fits, IsWriteOpen, open_reads}
 use Rattle.phase_locker.specs.Gifts.{Hands, Downgrades, rows_handed}
 use Rattle.schedule_rules.specs.Replay.{content_after_back}
@@ -32,6 +32,8 @@ use Rattle.phase_moves.specs.Moves.{IsReader, IsWriter}
 use Rattle.phase_moves.proofs.Guards.{its_number, found_itself, gone, once_without, left_there, reads_elsewhere, writes_elsewhere, writes_here, reads_here, never_reads, never_writes, count_same, count_less, slots_same, target_given}
 use Rattle.phase_moves.proofs.Lockers.{locked_read, locked_write, locked_down, writing_alone, hands_writers, downgrades_writers}
 use Rattle.phase_moves.proofs.Opening.{guard_opened, seen_reader}
+use Rattle.phase_locker.proofs.Leaving.{write_has_no_reader}
+use Rattle.phase_moves.proofs.Few.{few_readers, fewer_readers}
 use Rattle.phase_moves.proofs.Known.{effect_known}
 use Rattle.phase_moves.proofs.Runs.{none_runs}
 use Rattle.phase_moves.proofs.Moved.{IsCalled, IsMoved, HasParties, exit_kept, parties_same, moved}
@@ -40,6 +42,14 @@ use Rattle.phase_moves.proofs.Places.{read_at}
 -- rows that stand for something are sound
 pub sound : {L : Type 0} (held : L → Holders) (place : L → LockerKind) (hand : ℕ) (m : Standing) (v : Rows L) → Stands held place hand m v → IsSound v.parks
 sound held place hand m v t = sound_of m.waits v.parks t.waits.single t.waits.shows (t.sizes.writers ∙ sym t.sizes.readers) t.sizes.few
+
+-- the parked readers of a cell are within the limit
+pub parked_few : {L : Type 0} (held : L → Holders) (place : L → LockerKind) (hand : ℕ) (m : Standing) (v : Rows L) → Stands held place hand m v → (c : ℕ) → c < length v.cells.items → length (readers_of v.parks c) ≤ most_readers
+parked_few held place hand m v t c lt = few_readers c v.parks (let r = t.sizes.readers in omega (arith, lt, r)) (sound held place hand m v t)
+
+-- and leave room for one more where a party does not wait
+pub parked_fewer : {L : Type 0} (held : L → Holders) (place : L → LockerKind) (hand : ℕ) (m : Standing) (v : Rows L) → Stands held place hand m v → (c : ℕ) → c < length v.cells.items → HasFree v.parks → 1 + length (readers_of v.parks c) ≤ most_readers
+parked_fewer held place hand m v t c lt free = fewer_readers c v.parks (let r = t.sizes.readers in omega (arith, lt, r)) (sound held place hand m v t) free
 
 module _ {L : Type 0} (held : L → Holders) (place : L → LockerKind) (hand : ℕ) (m : Standing) (v : Rows L) (x : Guard) (t : Stands held place hand m v) (found : numbered hand m.guards ≡ Some x) where
   itself : numbered x.number m.guards ≡ Some x
@@ -153,7 +163,7 @@ module _ {L : Type 0} (held : L → Holders) (place : L → LockerKind) (hand : 
       let fewer = count_less (reads_cell x.cell) x.number m.guards x there (reads_here x r) in
       let same = count_same (writes_cell x.cell) x.number m.guards x there (never_writes x x.cell r) in
       let now : IsLocked (place row'.seq.locker) (held row'.seq.locker) s' x.cell (reads_in x.cell (left x g m)) (writes_in x.cell m) (m.content x.cell).phase =
-      locked_read (place row.seq.locker) (place row'.seq.locker) (held row.seq.locker) (held row'.seq.locker) v.parks s' x.cell _ _ _ g (subst (λ n. IsLocked (place row.seq.locker) (held row.seq.locker) v.parks x.cell n (writes_in x.cell m) (m.content x.cell).phase) fewer k0.locked) k.place hands less closed k.fits in
+      locked_read (place row.seq.locker) (place row'.seq.locker) (held row.seq.locker) (held row'.seq.locker) v.parks s' x.cell _ _ _ g (subst (λ n. IsLocked (place row.seq.locker) (held row.seq.locker) v.parks x.cell n (writes_in x.cell m) (m.content x.cell).phase) fewer k0.locked) k.place hands less closed k.fits (parked_few held place hand m v t x.cell (inside held place hand m v x t found)) in
       let content = kept_back g r in
       subst (λ (z : Seen). IsCell held place z s' x.cell row') (λ i. record { plan = cell_at m.plans x.cell; content = sym content i; reads = reads_in x.cell (left x g m); writes = sym same i + count (runs_in x.cell) m.sections; run = run_in x.cell m.sections })
       (record {
@@ -220,17 +230,17 @@ module _ {L : Type 0} (held : L → Holders) (place : L → LockerKind) (hand : 
         let r = no_reads g in
         let o = no_writes g in
         subst (λ (z : Seen). IsCell held place z s' x.cell row') (λ i. record { plan = cell_at m.plans x.cell; content = (left x g m).content x.cell; reads = sym r i; writes = sym o i; run = run_in x.cell m.sections })
-        (write_gone g row' s' 0 plan value run running k.place (locked_write (place row.seq.locker) (place row'.seq.locker) (held row.seq.locker) (held row'.seq.locker) v.parks s' x.cell (seen_by m x).phase q g hands none closed k.fits phase))
+        (write_gone g row' s' 0 plan value run running k.place (locked_write (place row.seq.locker) (place row'.seq.locker) (held row.seq.locker) (held row'.seq.locker) v.parks s' x.cell (seen_by m x).phase q g hands none closed k.fits phase its_cell.locked.limit (parked_few held place hand m v t x.cell (inside held place hand m v x t found))))
 
     -- the lock becomes one to read
     pub down_back : (n : ℕ) (g : Given) (row' : CellRow L) (s' : Parking) (q : Phase) → row'.plan ≡ row.plan → q ≡ phase_of (seen_by m x).phase → row'.value ≡ (seen_by m x).value → row'.run ≡ row.run → row'.seq.running ≡ row.seq.running
-        → Downgrades x.cell q (held row.seq.locker) v.parks g (held row'.seq.locker) s' → open_reads (held row'.seq.locker) s' x.cell ≡ 1 → (IsWriteOpen (held row'.seq.locker) s' x.cell → ⊥) → Left held place x.cell row.seq.locker row'.seq.locker v.parks s'
+        → Downgrades x.cell q (held row.seq.locker) v.parks g (held row'.seq.locker) s' → open_reads (held row'.seq.locker) s' x.cell ≡ 1 → (IsWriteOpen (held row'.seq.locker) s' x.cell → ⊥) → Left held place x.cell row.seq.locker row'.seq.locker v.parks s' → HasFree v.parks
         → IsCell held place (seen_at x.cell (downgraded n x g m)) s' x.cell row'
-    down_back n g row' s' q plan phase value run running down reads closed k =
+    down_back n g row' s' q plan phase value run running down reads closed k free =
         let r = no_reads g in
         let o = no_writes g in
         subst (λ (z : Seen). IsCell held place z s' x.cell row') ((λ i. record { plan = cell_at m.plans x.cell; content = (left x g m).content x.cell; reads = sym r i + 1; writes = sym o i; run = run_in x.cell m.sections }) ∙ sym (seen_reader n x.party x.cell (left x g m)))
-        (write_gone g row' s' 1 plan value run running k.place (locked_down (place row'.seq.locker) (held row.seq.locker) (held row'.seq.locker) v.parks s' x.cell (seen_by m x).phase q g down reads closed k.fits phase))
+        (write_gone g row' s' 1 plan value run running k.place (locked_down (place row'.seq.locker) (held row.seq.locker) (held row'.seq.locker) v.parks s' x.cell (seen_by m x).phase q g down reads closed k.fits phase (write_has_no_reader (place row.seq.locker) (held row.seq.locker) v.parks x.cell its_cell.locked.fits (write_open w)) (parked_fewer held place hand m v t x.cell (inside held place hand m v x t found) free)))
 
 -- the rows of parties stay
 pub parties_left : {L : Type 0} (held : L → Holders) (place : L → LockerKind) (hand : ℕ) (m : Standing) (v v' : Rows L) (x : Guard) → Stands held place hand m v → v'.parties ≡ v.parties → (g : Given) → HasParties held place (left x g m) v v'
@@ -262,10 +272,10 @@ module _ {L : Type 0} (held : L → Holders) (place : L → LockerKind) (hand : 
         (parties_left held place hand m v v' x t k.parties g)
 
     -- a write guard, and its holder reads on
-    pub leaves_down : Downgrades x.cell q (held row.seq.locker) v.parks g (held row'.seq.locker) v'.parks → open_reads (held row'.seq.locker) v'.parks x.cell ≡ 1 → (n : ℕ) → length v.guards.items ≤ n → numbered n (without_guard x.number m.guards) ≡ None → Stands held place n (downgraded n x g m) v'
-    leaves_down down reads n room fresh =
+    pub leaves_down : Downgrades x.cell q (held row.seq.locker) v.parks g (held row'.seq.locker) v'.parks → open_reads (held row'.seq.locker) v'.parks x.cell ≡ 1 → HasFree v.parks → (n : ℕ) → length v.guards.items ≤ n → numbered n (without_guard x.number m.guards) ≡ None → Stands held place n (downgraded n x g m) v'
+    leaves_down down reads free n room fresh =
         moved held place x.cell hand n m (downgraded n x g m) v v' row' t (inside held place hand m v x t found) k.cells
-        (down_back held place hand m v x t found row k.row_at w n g row' v'.parks q k.plan phase value k.run k.running down reads closed k.left)
+        (down_back held place hand m v x t found row k.row_at w n g row' v'.parks q k.plan phase value k.run k.running down reads closed k.left free)
         (guard_opened held place x.cell hand hand n m (left x g m) v v' (reader n x.party x.cell)
         (gone_back (downgrades_writers x.cell q _ v.parks g _ v'.parks down) (listed_share x.cell v.parks g down.may) down.rows)
         refl refl room fresh (ap (λ i. numbered i (without_guard x.number m.guards)) (sym (its_number hand m.guards x found)) ∙ gone x.number m.guards x (found_itself hand m.guards x found) (t.guards.once x.number)) (inside held place hand m v x t found))
@@ -308,7 +318,7 @@ module _ {L : Type 0} (held : L → Holders) (place : L → LockerKind) (m : Sta
         subst (λ d. IsCalled held place d row row' v v' → Hands d (leave_write q (held row.seq.locker)) v.parks g (held row'.seq.locker) v'.parks → open_reads (held row'.seq.locker) v'.parks d ≡ 0 → (IsWriteOpen (held row'.seq.locker) v'.parks d → ⊥) → Stands held place hand (left x g m) v') is.at
         (λ k hands none closed. leaves_write held place hand m v v' x row row' g is.stands is.found k is.writes q is.phase_is (value ∙ is.value_is) closed hands none) k
 
-    pub write_down : Downgrades c q (held row.seq.locker) v.parks g (held row'.seq.locker) v'.parks → open_reads (held row'.seq.locker) v'.parks c ≡ 1 → (IsWriteOpen (held row'.seq.locker) v'.parks c → ⊥) → (n : ℕ) → length v.guards.items ≤ n → numbered n (without_guard x.number m.guards) ≡ None → Stands held place n (downgraded n x g m) v'
+    pub write_down : Downgrades c q (held row.seq.locker) v.parks g (held row'.seq.locker) v'.parks → open_reads (held row'.seq.locker) v'.parks c ≡ 1 → (IsWriteOpen (held row'.seq.locker) v'.parks c → ⊥) → HasFree v.parks → (n : ℕ) → length v.guards.items ≤ n → numbered n (without_guard x.number m.guards) ≡ None → Stands held place n (downgraded n x g m) v'
     write_down =
-        subst (λ d. IsCalled held place d row row' v v' → Downgrades d q (held row.seq.locker) v.parks g (held row'.seq.locker) v'.parks → open_reads (held row'.seq.locker) v'.parks d ≡ 1 → (IsWriteOpen (held row'.seq.locker) v'.parks d → ⊥) → (n : ℕ) → length v.guards.items ≤ n → numbered n (without_guard x.number m.guards) ≡ None → Stands held place n (downgraded n x g m) v') is.at
-        (λ k down reads closed. leaves_down held place hand m v v' x row row' g is.stands is.found k is.writes q is.phase_is (value ∙ is.value_is) closed down reads) k
+        subst (λ d. IsCalled held place d row row' v v' → Downgrades d q (held row.seq.locker) v.parks g (held row'.seq.locker) v'.parks → open_reads (held row'.seq.locker) v'.parks d ≡ 1 → (IsWriteOpen (held row'.seq.locker) v'.parks d → ⊥) → HasFree v.parks → (n : ℕ) → length v.guards.items ≤ n → numbered n (without_guard x.number m.guards) ≡ None → Stands held place n (downgraded n x g m) v') is.at
+        (λ k down reads closed free. leaves_down held place hand m v v' x row row' g is.stands is.found k is.writes q is.phase_is (value ∙ is.value_is) closed down reads free) k

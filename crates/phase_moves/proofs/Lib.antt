@@ -16,15 +16,32 @@ pub mod Giving
 pub mod Calling
 -- The ends of sections
 pub mod Innermost
+pub mod EndGives
 pub mod Ending
 pub mod Finalizing
 -- An attempt
 pub mod Attempts
+pub mod Answered
 pub mod Parking
 pub mod Asked
+pub mod OpeningRuns
 pub mod Took
+pub mod Arms
+pub mod Trying
 -- The exit, and the end
 pub mod Exiting
 pub mod Closing
 -- Histories
 pub mod Histories
+pub mod Setting
+pub mod Looking
+pub mod Starting
+pub mod HistoryCalls
+pub mod HistoryExits
+pub mod Few
+pub mod Judged
+pub mod Settling
+pub mod Barring
+pub mod Admitting
+pub mod GivenUp
+pub mod Meeting

@@ -1,16 +1,16 @@
 -- What the calls of a locker leave of a cell's record.
-use Rattle.std.proofs.Common.{◌≡◌, ◌<◌, ◌+◌, ◌∙◌, ℕ, length, ap, sym, refl, arith, length-set, inl, inr}
+use Rattle.std.proofs.Common.{◌≡◌, ◌<◌, ◌≤◌, ◌+◌, ◌∙◌, ℕ, length, ap, sym, subst, refl, arith, length-set, inl, inr}
 use Rattle.std.proofs.lemmas.Bool.{cases_lt}
 use Rattle.phase_bits.specs.declared.phase.Phase.{Phase}
 use Rattle.phase_bits.specs.declared.holders.Holders.{Holders}
 use Rattle.phase_bits.specs.Number.{phase_of}
-use Rattle.phase_bits.specs.Records.{leave_read, leave_write, downgrade}
+use Rattle.phase_bits.specs.Records.{leave_read, leave_write, downgrade, most_readers}
 use Rattle.phase_locker.specs.declared.ways.Given.{Given}
 use Rattle.phase_locker.specs.declared.ways.Given.TheVariants as given
 use Rattle.phase_locker.specs.declared.ways.LockerKind.{LockerKind}
-use Rattle.phase_locker.specs.Rows.{Rows as Parking}
+use Rattle.phase_locker.specs.Rows.{Rows as Parking, readers_of}
 use Rattle.phase_locker.specs.Fits.{Fits, IsWriteOpen, open_reads}
-use Rattle.phase_locker.specs.Gifts.{Hands, Downgrades, rows_handed, held_handed}
+use Rattle.phase_locker.specs.Gifts.{Hands, Downgrades, MayHand, MayShare, rows_handed, held_handed}
 use Rattle.phase_locker.specs.Others.{SameAt}
 use Rattle.phase_locker.proofs.Leaving.{write_has_no_reader}
 use Rattle.phase_locker.proofs.Others.{fits_same}
@@ -40,6 +40,24 @@ downgrades_phase c q h s g h' s' k = ap (λ (x : Holders). x.phase) k.held ∙ h
 pub downgrades_writers : (c : ℕ) (q : Phase) (h : Holders) (s : Parking) (g : Given) (h' : Holders) (s' : Parking) → Downgrades c q h s g h' s' → length s'.writers ≡ length s.writers
 downgrades_writers c q h s g h' s' k = ap (λ (x : Parking). length x.writers) k.rows ∙ handed_writers g c s
 
+-- ---- how many read then
+
+pub handed_few : (g : Given) (c : ℕ) (h : Holders) (s : Parking) → MayHand c h s g → h.readers ≤ most_readers → length (readers_of s c) ≤ most_readers → (held_handed c g s h).readers ≤ most_readers
+handed_few given.Nobody c h s may le room = le
+handed_few (given.Writer q) c h s may le room = le
+handed_few given.Readers c h s may le room = let none = may.0.readers in omega (arith, none, room)
+
+pub hands_few : (c : ℕ) (h : Holders) (s : Parking) (g : Given) (h' : Holders) (s' : Parking) → Hands c h s g h' s' → h.readers ≤ most_readers → length (readers_of s c) ≤ most_readers → h'.readers ≤ most_readers
+hands_few c h s g h' s' k le parked = subst (λ n. n ≤ most_readers) (sym (ap (λ (x : Holders). x.readers) k.held)) (handed_few g c h s k.may le parked)
+
+pub downgrades_few : (c : ℕ) (q : Phase) (h : Holders) (s : Parking) (g : Given) (h' : Holders) (s' : Parking) → Downgrades c q h s g h' s' → h.readers ≡ 0 → 1 + length (readers_of s c) ≤ most_readers → h'.readers ≤ most_readers
+downgrades_few c q h s g h' s' k none room = subst (λ n. n ≤ most_readers) (sym (ap (λ (x : Holders). x.readers) k.held)) (shared g k.may)
+  where
+    shared : (g : Given) → MayShare c s g → (held_handed c g s (downgrade q h)).readers ≤ most_readers
+    shared given.Nobody may = omega (arith, none)
+    shared (given.Writer p) may = absurd may
+    shared given.Readers may = omega (arith, none, room)
+
 -- what is said of a cell stays where the rows say the same of it
 pub locked_same : (k : LockerKind) (h : Holders) (s s' : Parking) (d r w p : ℕ) → SameAt d s s' → IsLocked k h s d r w p → IsLocked k h s' d r w p
 locked_same k h s s' d r w p same l =
@@ -50,6 +68,7 @@ locked_same k h s s' d r w p same l =
       write_is = λ lt. let o = l.write_is lt in record { locked = o.locked; unclaimed = same.claims ∙ o.unclaimed };
       write_was = λ o. l.write_was (record { locked = o.locked; unclaimed = sym same.claims ∙ o.unclaimed });
       one = l.one;
+      limit = l.limit;
     }
 
 -- beside an open read nothing writes
@@ -65,8 +84,8 @@ pub writing_alone : (k : LockerKind) (h : Holders) (s : Parking) (c r w p : ℕ)
 writing_alone k h s c r w p l lt = let o = write_has_no_reader k h s c l.fits (l.write_is lt) in let a = l.reads_are in omega (arith, o, a)
 
 -- a read lock is given back
-pub locked_read : (k k' : LockerKind) (h h' : Holders) (s s' : Parking) (c r w p : ℕ) (g : Given) → IsLocked k h s c (r + 1) w p → k' ≡ k → Hands c (leave_read h) s g h' s' → open_reads h' s' c + 1 ≡ open_reads h s c → (IsWriteOpen h' s' c → ⊥) → Fits k' h' s' c → IsLocked k' h' s' c r w p
-locked_read k k' h h' s s' c r w p g l same hands reads closed fits =
+pub locked_read : (k k' : LockerKind) (h h' : Holders) (s s' : Parking) (c r w p : ℕ) (g : Given) → IsLocked k h s c (r + 1) w p → k' ≡ k → Hands c (leave_read h) s g h' s' → open_reads h' s' c + 1 ≡ open_reads h s c → (IsWriteOpen h' s' c → ⊥) → Fits k' h' s' c → length (readers_of s c) ≤ most_readers → IsLocked k' h' s' c r w p
+locked_read k k' h h' s s' c r w p g l same hands reads closed fits parked =
     let none : w ≡ 0 = reading_alone k h s c (r + 1) w p l (omega arith) in
     record {
       fits = fits;
@@ -75,14 +94,15 @@ locked_read k k' h h' s s' c r w p g l same hands reads closed fits =
       write_is = λ lt. absurd (omega (arith, none, lt));
       write_was = λ o. absurd (closed o);
       one = l.one;
+      limit = hands_few c (leave_read h) s g h' s' hands (let le = l.limit in omega (arith, le)) parked;
     }
 
 -- a write lock is given back
-pub locked_write : (k k' : LockerKind) (h h' : Holders) (s s' : Parking) (c p : ℕ) (q : Phase) (g : Given) → Hands c (leave_write q h) s g h' s' → open_reads h' s' c ≡ 0 → (IsWriteOpen h' s' c → ⊥) → Fits k' h' s' c → q ≡ phase_of p → IsLocked k' h' s' c 0 0 p
-locked_write k k' h h' s s' c p q g hands reads closed fits e =
-    record { fits = fits; phase_is = hands_phase c (leave_write q h) s g h' s' hands ∙ e; reads_are = reads; write_is = λ lt. absurd (omega (arith, lt)); write_was = λ o. absurd (closed o); one = omega arith }
+pub locked_write : (k k' : LockerKind) (h h' : Holders) (s s' : Parking) (c p : ℕ) (q : Phase) (g : Given) → Hands c (leave_write q h) s g h' s' → open_reads h' s' c ≡ 0 → (IsWriteOpen h' s' c → ⊥) → Fits k' h' s' c → q ≡ phase_of p → h.readers ≤ most_readers → length (readers_of s c) ≤ most_readers → IsLocked k' h' s' c 0 0 p
+locked_write k k' h h' s s' c p q g hands reads closed fits e le parked =
+    record { fits = fits; phase_is = hands_phase c (leave_write q h) s g h' s' hands ∙ e; reads_are = reads; write_is = λ lt. absurd (omega (arith, lt)); write_was = λ o. absurd (closed o); one = omega arith; limit = hands_few c (leave_write q h) s g h' s' hands le parked }
 
 -- it becomes a read lock
-pub locked_down : (k' : LockerKind) (h h' : Holders) (s s' : Parking) (c p : ℕ) (q : Phase) (g : Given) → Downgrades c q h s g h' s' → open_reads h' s' c ≡ 1 → (IsWriteOpen h' s' c → ⊥) → Fits k' h' s' c → q ≡ phase_of p → IsLocked k' h' s' c 1 0 p
-locked_down k' h h' s s' c p q g down reads closed fits e =
-    record { fits = fits; phase_is = downgrades_phase c q h s g h' s' down ∙ e; reads_are = reads; write_is = λ lt. absurd (omega (arith, lt)); write_was = λ o. absurd (closed o); one = omega arith }
+pub locked_down : (k' : LockerKind) (h h' : Holders) (s s' : Parking) (c p : ℕ) (q : Phase) (g : Given) → Downgrades c q h s g h' s' → open_reads h' s' c ≡ 1 → (IsWriteOpen h' s' c → ⊥) → Fits k' h' s' c → q ≡ phase_of p → h.readers ≡ 0 → 1 + length (readers_of s c) ≤ most_readers → IsLocked k' h' s' c 1 0 p
+locked_down k' h h' s s' c p q g down reads closed fits e none room =
+    record { fits = fits; phase_is = downgrades_phase c q h s g h' s' down ∙ e; reads_are = reads; write_is = λ lt. absurd (omega (arith, lt)); write_was = λ o. absurd (closed o); one = omega arith; limit = downgrades_few c q h s g h' s' down none room }

@@ -29,7 +29,7 @@ owner m p (Some x) b e = let f : (x.party == p) ≡ b = sym (row_party m p x) �
 
 module _ {L : Type 0} (held : L → Holders) (place : L → LockerKind) (m : Standing) (v v' : Rows L) (p g : ℕ) (r : Rests held place m v) where
   -- the row of a guard
-  row_shown : (row : GuardRow) → slice_get v.guards.items g ≡ Some row → g < length v.guards.items → row ≡ guard_row m (numbered g m.guards)
+  pub row_shown : (row : GuardRow) → slice_get v.guards.items g ≡ Some row → g < length v.guards.items → row ≡ guard_row m (numbered g m.guards)
   row_shown row e lt =
       let s : Some row ≡ Some (slot_row (length v.guards.items) m g) = sym e ∙ r.stands.slot g lt in
       let q : row ≡ slot_row (length v.guards.items) m g = cc in

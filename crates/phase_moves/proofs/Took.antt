@@ -1,65 +1,58 @@
 -- The rows stand for what is open after an attempt.
-use Rattle.std.proofs.Common.{◌≡◌, ◌≢◌, ◌==◌, ◌<◌, ◌+◌, ◌∙◌, ℕ, List, ◌∷◌, length, set, get_or, ap, sym, subst, refl, arith, Bool, true, false, None, Some, inl, inr}
-use Rattle.std.specs.Prelude.{◌⊎◌, MatchBool, if◌then◌else◌}
-use Rattle.std.proofs.lemmas.Bool.{cases_eq, cases_lt}
+use Rattle.std.proofs.Common.{◌≡◌, ◌≢◌, ◌==◌, ◌<◌, ◌≤◌, ◌+◌, ◌∙◌, ℕ, List, ◌∷◌, length, set, get_or, ap, sym, subst, refl, arith, Bool, true, false, None, Some, inl, inr}
+use Rattle.std.specs.Prelude.{if◌then◌else◌}
+use Rattle.std.proofs.lemmas.Bool.{cases_eq}
 use Rattle.std.specs.declared.option.Option.{Option}
 use Rattle.phase_bits.specs.declared.phase.Phase.{Phase}
 use Rattle.phase_bits.specs.declared.holders.Holders.{Holders}
-use Rattle.phase_bits.specs.Number.{number, phase_of, IsKnown}
+use Rattle.phase_bits.specs.Number.{phase_of, IsKnown}
+use Rattle.phase_bits.specs.Records.{most_readers}
 use Rattle.exit_registry.specs.Registry.{Registry, cells_of}
 use Rattle.phase_locker.specs.declared.ways.Given.{Given}
 use Rattle.phase_locker.specs.declared.ways.How.{How}
 use Rattle.phase_locker.specs.declared.ways.Who.{Who}
 use Rattle.phase_locker.specs.declared.ways.LockerKind.{LockerKind}
-use Rattle.phase_locker.specs.declared.ways.Row.{Row}
-use Rattle.phase_locker.specs.declared.ways.Waiting.TheVariants as waiting_as
 use Rattle.phase_locker.specs.declared.tickets.ReadTicket.{ReadTicket}
 use Rattle.phase_locker.specs.declared.tickets.WriteTicket.{WriteTicket}
 use Rattle.phase_locker.specs.Natures.{write_ticket}
-use Rattle.phase_locker.specs.Rows.{Rows as Parking, freed, row_of, free_row}
-use Rattle.phase_locker.specs.Fits.{Fits, IsWriteOpen}
+use Rattle.phase_locker.specs.Rows.{Rows as Parking, freed}
 use Rattle.phase_locker.specs.Gifts.{rows_handed}
 use Rattle.phase_locker.specs.Attempts.{rows_waiting}
 use Rattle.phase_locker.specs.Left.{Left}
-use Rattle.phase_locker.specs.Stands.{Opens, MayCall, MayCallAgain}
+use Rattle.phase_locker.specs.Stands.{Opens}
 use Rattle.phase_seq.specs.declared.ask.Ask.{Ask}
 use Rattle.phase_seq.specs.declared.section.Section.{Section as SeqSection}
 use Rattle.phase_seq.specs.declared.section.Begun.{Begun}
 use Rattle.phase_seq.specs.declared.section.Begun.TheVariants as begun
-use Rattle.phase_seq.specs.Asks.{asks_run as seq_asks_run}
-use Rattle.phase_seq.specs.Registers.{MayRegister}
 use Rattle.phase_seq.specs.Begins.{is_cyclic, section_by, running_after}
 use Rattle.phase_seq.specs.Exactly.{is_turned_back, is_run}
 use Rattle.phase_seq.specs.Phases.{flags_refused}
 use Rattle.phase_seq.specs.Stands.{BegunStands, opens_write, reads_begun}
 use Rattle.schedule_rules.specs.declared.plan.CellPlan.{CellPlan}
-use Rattle.schedule_rules.specs.declared.step.Want.{Want}
-use Rattle.schedule_rules.specs.declared.step.Want.TheVariants.{Calls, Turns}
-use Rattle.schedule_rules.specs.Kinds.{cell_at, is_finalizable}
+use Rattle.schedule_rules.specs.Kinds.{cell_at}
 use Rattle.schedule_rules.specs.Changes.{Content, Change, effect}
 use Rattle.schedule_rules.specs.History.{count}
-use Rattle.schedule_rules.specs.Phases.{tries_registration}
-use Rattle.schedule_rules.specs.Sections.{Section, innermost, runs_in, is_turn}
+use Rattle.schedule_rules.specs.Sections.{Section, innermost, runs_in}
 use Rattle.schedule_rules.specs.Guards.{Guard, numbered, reader}
 use Rattle.schedule_rules.specs.Holds.{writes_cell}
-use Rattle.schedule_rules.specs.Waits.{Wait, wait_of, without_wait, cell_of_section}
+use Rattle.schedule_rules.specs.Waits.{wait_of, without_wait, cell_of_section}
 use Rattle.schedule_rules.proofs.Found.{found_counts}
 use Rattle.schedule_rules.proofs.Opened.{wait_removed, wait_kept}
-use Rattle.waiting_rows.specs.Shown.{wait_row}
 use Rattle.waiting_rows.specs.Given.{given_on}
 use Rattle.waiting_rows.proofs.GivenOn.{none_on}
-use Rattle.waiting_rows.proofs.RowCounts.{never_free}
 use Rattle.phase_moves.specs.declared.rows.CellRow.{CellRow}
 use Rattle.phase_moves.specs.declared.rows.PartyRow.{PartyRow}
 use Rattle.phase_moves.specs.declared.rows.Target.{Target}
 use Rattle.phase_moves.specs.declared.rows.Rows.{Rows}
 use Rattle.phase_moves.specs.declared.rows.Taken.TheVariants as taken
-use Rattle.phase_moves.specs.Calls.{Calling, Calls as CallOf, registry_for, registry_begun}
+use Rattle.phase_moves.specs.Calls.{registry_for, registry_begun}
 use Rattle.phase_moves.specs.Standing.{Standing, Run, run_in, runner_of, reads_in, writes_in, changes_at, called, answered, waiting, guarded, opened, section_asked, writer_asked, registry_asked}
 use Rattle.phase_moves.specs.Stands.{Seen, seen_at, IsCell, IsExit, IsLocked, AreShown, party_row, open_run, stays_in, target_of, want_of}
-use Rattle.phase_moves.specs.Tries.{IsAttempting, IsTook, WaitsAt, ask_of, phase_asked}
-use Rattle.phase_moves.proofs.Asked.{declined, declines_same, asked_left, told_same, stays_same, run_calls, final_turns, registry_still, registry_run, cells_stay}
-use Rattle.phase_moves.proofs.Attempts.{IsBegun, IsTurned, Tells, declines, phase_left, phase_told, rows_begun, stays_asked, writes_begun, wrote, answered as begun_as}
+use Rattle.phase_moves.specs.Tries.{IsAttempting, IsTook, ask_of, phase_asked, taken_of}
+use Rattle.phase_moves.specs.declared.rows.Taken.{Taken}
+use Rattle.phase_moves.specs.Meets.{IsMet}
+use Rattle.phase_moves.proofs.Asked.{declined, declines_same, asked_left, told_same, registry_still}
+use Rattle.phase_moves.proofs.Attempts.{IsBegun, Tells, declines, phase_left, phase_told, rows_begun, writes_begun, wrote}
 use Rattle.phase_moves.proofs.Calling.{answered_moved}
 use Rattle.phase_moves.proofs.Guards.{target_given, writes_here}
 use Rattle.phase_moves.proofs.Known.{effect_known}
@@ -69,100 +62,50 @@ use Rattle.phase_moves.proofs.Opening.{guard_opened, seen_reader, seen_writer}
 use Rattle.phase_moves.proofs.Parking.{shown_called, shown_waiting, freed_writers, waiting_writers}
 use Rattle.phase_moves.proofs.Places.{read_at}
 use Rattle.phase_moves.proofs.Runs.{none_runs}
-
--- what opens a write hold leaves it open
-opens : (who : Who) (b : Begun) (running : Option ℕ) (h : Holders) (s : Parking) → opens_write b ≡ true → BegunStands who b running h s → IsWriteOpen h s who.cell
-opens who (begun.Wait way) running h s e k = absurd (cc)
-opens who begun.Missed running h s e k = absurd (cc)
-opens who begun.Cyclic running h s e k = absurd (cc)
-opens who (begun.Nothing q) running h s e k = absurd (cc)
-opens who (begun.Read t q) running h s e k = absurd (cc)
-opens who (begun.Write t q) running h s e k = k.1
-opens who (begun.Run o) running h s e k = subst (λ (w : Who). IsWriteOpen h s w.cell) k.1 k.2.locked
-opens who (begun.Final o) running h s e k = subst (λ (w : Who). IsWriteOpen h s w.cell) k.1 k.2.locked
-
--- as many are opened as this says
-as_many : (b : Begun) (o : Bool) → opens_write b ≡ o → writes_begun b ≡ (if o then 1 else 0)
-as_many (begun.Wait way) o e = ap (λ x. if x then 1 else 0) e
-as_many begun.Missed o e = ap (λ x. if x then 1 else 0) e
-as_many begun.Cyclic o e = ap (λ x. if x then 1 else 0) e
-as_many (begun.Nothing q) o e = ap (λ x. if x then 1 else 0) e
-as_many (begun.Read t q) o e = ap (λ x. if x then 1 else 0) e
-as_many (begun.Write t q) o e = ap (λ x. if x then 1 else 0) e
-as_many (begun.Run x) o e = ap (λ x. if x then 1 else 0) e
-as_many (begun.Final x) o e = ap (λ x. if x then 1 else 0) e
-
-wrote_all : (d : Bool) (b : Begun) → opens_write b ≡ true → wrote d b ≡ true
-wrote_all d (begun.Wait way) e = e
-wrote_all d begun.Missed e = e
-wrote_all d begun.Cyclic e = e
-wrote_all d (begun.Nothing q) e = absurd (cc)
-wrote_all d (begun.Read t q) e = absurd (cc)
-wrote_all d (begun.Write t q) e = e
-wrote_all d (begun.Run o) e = e
-wrote_all d (begun.Final o) e = e
+use Rattle.phase_moves.proofs.OpeningRuns.{as_many, no_more, opens, section_opened, wrote_all}
 
 module _ {L : Type 0} (held : L → Holders) (place : L → LockerKind) where
-  -- a section more
-  section_opened : (c hand hand' : ℕ) (m m' : Standing) (v v' : Rows L) (s : Section) → IsMoved held place c hand hand' m m' v v' → s.cell ≡ c → c < length v.cells.items → IsMoved held place c hand hand' m (opened s m'.registry m') v v'
-  section_opened c hand hand' m m' v v' s k at lt =
-      record {
-        around = λ d ne. around d ne ∙ k.around d ne;
-        others = k.others;
-        same = k.same;
-        lists = k.lists;
-        guards = k.guards;
-        slots = k.slots;
-        exit = record { registry_is = k.exit.registry_is; owner_is = k.exit.owner_is; turns_are = k.exit.turns_are; cells_are = k.exit.cells_are };
-        waits = k.waits;
-        numbers = k.numbers;
-        sections = (subst (λ d. d < length v.cells.items) (sym at) lt, k.sections);
-      }
-    where
-      around : (d : ℕ) → d ≢ c → seen_at d (opened s m'.registry m') ≡ seen_at d m'
-      around d ne = let e : (s.cell == d) ≡ false = grind (arith, ne, at) in rw e refl
-
   module _ (m : Standing) (v v' : Rows L) (p : ℕ) (t : Target) (waits : Bool) (is : IsAttempting held place m v p t waits) (row row' : CellRow L) (row_is : row ≡ get_or v.cells.items t.cell row) (of of' : PartyRow) (of_is : of ≡ get_or v.parties.items p of)
       (cells : v'.cells.items ≡ set v.cells.items t.cell row') (guards : v'.guards ≡ v.guards) (parties : v'.parties.items ≡ set v.parties.items p of') (plan : row'.plan ≡ row.plan) (value : row'.value ≡ row.value) (owner : v'.exit.owner ≡ v.exit.owner) (turns : v'.exit.turns ≡ v.exit.turns)
       (b : Begun) (g : Given) (registry : v'.exit.registry ≡ registry_begun row.plan.kind t.cell (held row.seq.locker).phase b v.exit.registry) (running : row'.seq.running ≡ running_after b row.seq.running) (stands : BegunStands (record { cell = t.cell; party = p }) b row'.seq.running (held row'.seq.locker) v'.parks)
       (op : Opens t.cell (reads_begun b) (opens_write b) (held row.seq.locker) v.parks (held row'.seq.locker) v'.parks) (k : Left held place t.cell row.seq.locker row'.seq.locker v.parks v'.parks) (cyc : is_turned_back b ≡ is_cyclic (want_of t.want) p row.seq.running) where
-    abbrev who : Who
+    abbrev pub who : Who
     who = record { cell = t.cell; party = p }
 
-    abbrev n : ℕ
+    abbrev pub n : ℕ
     n = length v.guards.items
 
-    abbrev x : CellPlan
+    abbrev pub x : CellPlan
     x = cell_at m.plans t.cell
 
-    abbrev y : Content
+    abbrev pub y : Content
     y = m.content t.cell
 
-    abbrev chs : List Change
+    abbrev pub chs : List Change
     chs = changes_at t.cell t.want m
 
-    abbrev ask : Ask
+    abbrev pub ask : Ask
     ask = ask_of row.plan t.want
 
-    abbrev reg : Option Registry
+    abbrev pub reg : Option Registry
     reg = registry_for row.plan.kind v.exit.registry
 
     pub cell_here : IsCell held place (seen_at t.cell m) v.parks t.cell row
     cell_here = is.rests.stands.cell t.cell row (read_at v.cells.items t.cell row is.cell row_is)
 
-    cyclic_as : (b₁ : Begun) → b ≡ b₁ → is_turned_back b₁ ≡ is_cyclic (want_of t.want) p (runner_of (run_in t.cell m.sections))
+    pub cyclic_as : (b₁ : Begun) → b ≡ b₁ → is_turned_back b₁ ≡ is_cyclic (want_of t.want) p (runner_of (run_in t.cell m.sections))
     cyclic_as b₁ e = ap is_turned_back (sym e) ∙ cyc ∙ ap (is_cyclic (want_of t.want) p) cell_here.runner
 
-    of_here : of ≡ party_row m p
+    pub of_here : of ≡ party_row m p
     of_here = let e : Some of ≡ Some (party_row m p) = sym (read_at v.parties.items p of is.party of_is) ∙ is.rests.stands.party p is.party in cc
 
-    in_parks : t.cell < length v.parks.readers
+    pub in_parks : t.cell < length v.parks.readers
     in_parks = let a = is.cell in let d = is.rests.stands.sizes.readers in omega (arith, a, d)
 
-    party_in : p < length v.parks.rows
+    pub party_in : p < length v.parks.rows
     party_in = let a = is.party in let d = is.rests.stands.sizes.rows in omega (arith, a, d)
 
-    sizes_in : length v.parks.writers ≡ length v.parks.readers
+    pub sizes_in : length v.parks.writers ≡ length v.parks.readers
     sizes_in = is.rests.stands.sizes.writers ∙ sym is.rests.stands.sizes.readers
 
     -- it is declined where the rules say so
@@ -179,428 +122,278 @@ module _ {L : Type 0} (held : L → Holders) (place : L → LockerKind) where
 
     -- ---- the registry
 
-    exit_with : (r : Registry) → v'.exit.registry ≡ r → cells_of r ≡ cells_of m.registry → IsExit (length v.cells.items) (record m { registry = r }) v'.exit
+    pub exit_with : (r : Registry) → v'.exit.registry ≡ r → cells_of r ≡ cells_of m.registry → IsExit (length v.cells.items) (record m { registry = r }) v'.exit
     exit_with r e n_is =
         let z = is.rests.stands.exit in
         record { registry_is = e; owner_is = owner ∙ z.owner_is; turns_are = ap (λ (ts : _). ts.items) turns ∙ z.turns_are; cells_are = n_is ∙ z.cells_are }
 
-    exit_still : is_run b ≡ false → IsExit (length v.cells.items) m v'.exit
+    pub exit_still : is_run b ≡ false → IsExit (length v.cells.items) m v'.exit
     exit_still e = exit_with m.registry (registry ∙ registry_still row.plan.kind t.cell (held row.seq.locker).phase b v.exit.registry e ∙ is.rests.stands.exit.registry_is) refl
 
     module _ (d : IsBegun who ask reg (held row.seq.locker) v.parks b g (held row'.seq.locker) v'.parks) where
       -- where it had the lock to write there was no write hold
-      was_none : wrote (declines ask reg (held row.seq.locker).phase) b ≡ true → writes_in t.cell m ≡ 0
-      was_none e = by (writes_in t.cell m) (λ lt. d.alone e (cell_here.locked.write_is lt))
-        where
-          by : (j : ℕ) → (0 < j → ⊥) → j ≡ 0
-          by j f = elim (cases_lt 0 j) [ inl lt ↦ absurd (f lt) | inr le ↦ omega (arith, le) ]
-
-      locked_called : (q : ℕ) → (held row'.seq.locker).phase ≡ phase_of q → IsLocked (place row'.seq.locker) (held row'.seq.locker) v'.parks t.cell (reads_in t.cell m + reads_begun b) (writes_in t.cell m + writes_begun b) q
-      locked_called q phase = by (opens_write b) refl
-        where
-          by : (o : Bool) → opens_write b ≡ o → IsLocked (place row'.seq.locker) (held row'.seq.locker) v'.parks t.cell (reads_in t.cell m + reads_begun b) (writes_in t.cell m + writes_begun b) q
-          by false e =
-              let l = cell_here.locked in
-              let z : writes_begun b ≡ 0 = as_many b false e in
-              record {
-                fits = k.fits;
-                phase_is = phase;
-                reads_are = (let a = l.reads_are in let c = op.reads in omega (arith, a, c));
-                write_is = λ lt. op.writes (l.write_is (omega (arith, z, lt)));
-                write_was = λ w. (let lt = l.write_was (op.only e w) in omega (arith, lt));
-                one = (let o = l.one in omega (arith, o, z));
-              }
-          by true e =
-              let l = cell_here.locked in
-              let z : writes_begun b ≡ 1 = as_many b true e in
-              let none = was_none (wrote_all _ b e) in
-              record {
-                fits = k.fits;
-                phase_is = phase;
-                reads_are = (let a = l.reads_are in let c = op.reads in omega (arith, a, c));
-                write_is = λ lt. opens who b _ _ _ e stands;
-                write_was = λ w. omega (arith, z);
-                one = omega (arith, z, none);
-              }
-
-      -- the row of the cell
-      cell_as : (m' : Standing) (z : Content) (o : Option Run) → seen_at t.cell m' ≡ record { plan = x; content = z; reads = reads_in t.cell m + reads_begun b; writes = writes_in t.cell m + writes_begun b; run = o }
-          → (held row'.seq.locker).phase ≡ phase_of z.phase → z.value ≡ y.value → IsKnown (phase_of z.phase) → row'.seq.running ≡ runner_of o → row'.run ≡ open_run x t.cell z.phase o → IsCell held place (seen_at t.cell m') v'.parks t.cell row'
-      cell_as m' z o e phase same known runner run =
-          let k0 = cell_here in
-          subst (λ (w : Seen). IsCell held place w v'.parks t.cell row') (sym e)
-          (record { planned = plan ∙ k0.planned; valued = value ∙ k0.valued ∙ sym same; known = known; locked = locked_called z.phase phase; placed = k.place ∙ k0.placed; runner = runner; runs = run })
-
-      -- ---- who waits
-
-      lists_called : length (rows_handed t.cell g (freed p v.parks)).writers ≡ length v.parks.writers
-      lists_called = handed_writers g t.cell (freed p v.parks) ∙ freed_writers p v.parks
-
-      called_moved : (r : Registry) → IsExit (length v.cells.items) (record m { registry = r }) v'.exit → v'.parks ≡ rows_handed t.cell g (freed p v.parks) → IsMoved held place t.cell n n m (record (called p t.cell g m) { registry = r }) v v'
-      called_moved r exit rows =
-          let st = is.rests.stands in
-          answered_moved held place t.cell n m v v' _ m.content r st k.others k.same (ap (λ (s : Parking). length s.writers) rows ∙ lists_called) guards exit
-          (subst (λ (s : Parking). AreShown (length v.cells.items) (given_on t.cell g (without_wait p m.waits)) s) (sym rows) (shown_called (length v.cells.items) who m.waits v.parks g st.waits sizes_in st.sizes.few in_parks party_in d.listed))
-          (λ d ne. refl) (λ g x e w. refl)
-
-      waiting_moved : (way : How) → IsExit (length v.cells.items) m v'.exit → v'.parks ≡ rows_waiting way who (rows_handed t.cell g (freed p v.parks)) → IsMoved held place t.cell n n m (waiting p t.cell t.want way (called p t.cell g m)) v v'
-      waiting_moved way exit rows =
-          let st = is.rests.stands in
-          answered_moved held place t.cell n m v v' _ m.content m.registry st k.others k.same (ap (λ (s : Parking). length s.writers) rows ∙ waiting_writers way who (rows_handed t.cell g (freed p v.parks)) ∙ lists_called) guards exit
-          (subst (λ (s : Parking). AreShown (length v.cells.items) (record { party = p; cell = t.cell; want = t.want; way = way; woken = false } ∷ given_on t.cell g (without_wait p m.waits)) s) (sym rows) (shown_waiting (length v.cells.items) who m.waits v.parks g st.waits sizes_in st.sizes.few in_parks party_in d.listed is.cell way t.want))
-          (λ d ne. refl) (λ g x e w. refl)
-
-      -- what is published changes where it is declined, and no write guard shows it then
-      abbrev now : ℕ → Content
-      now = (answered p t.cell g chs m).content
-
-      now_here : now t.cell ≡ effect x chs y
-      now_here = let e : (t.cell == t.cell) ≡ true = grind arith in rw e refl
-
-      now_beside : (c : ℕ) → c ≢ t.cell → now c ≡ m.content c
-      now_beside c ne = let e : (t.cell == c) ≡ false = grind (arith, ne) in rw e refl
-
-      now_calm : declined x t.want m.registry.is_open y.phase ≡ false → now t.cell ≡ y
-      now_calm e = now_here ∙ left_is ∙ ap (λ b. record { phase = if b then flags_refused else y.phase; value = y.value }) e
-
-      publishes : wrote true b ≡ true → wrote false b ≡ false → IsExit (length v.cells.items) m v'.exit → v'.parks ≡ rows_handed t.cell g (freed p v.parks) → IsMoved held place t.cell n n m (answered p t.cell g chs m) v v'
-      publishes had none_else exit rows =
-          let st = is.rests.stands in
-          answered_moved held place t.cell n m v v' _ now m.registry st k.others k.same (ap (λ (s : Parking). length s.writers) rows ∙ lists_called) guards exit
-          (subst (λ (s : Parking). AreShown (length v.cells.items) (given_on t.cell g (without_wait p m.waits)) s) (sym rows) (shown_called (length v.cells.items) who m.waits v.parks g st.waits sizes_in st.sizes.few in_parks party_in d.listed))
-          now_beside drafts
-        where
-          drafts : (j : ℕ) (z : Guard) → numbered j m.guards ≡ Some z → z.writes ≡ true → now z.cell ≡ m.content z.cell
-          drafts j z e w = elim (cases_eq z.cell t.cell) [
-            | inr ne ↦ now_beside z.cell ne
-            | inl q ↦ subst (λ c. now c ≡ m.content c) (sym q) (by (declined x t.want m.registry.is_open y.phase) refl q)
-          ]
-            where
-              by : (o : Bool) → declined x t.want m.registry.is_open y.phase ≡ o → z.cell ≡ t.cell → now t.cell ≡ y
-              by false f q = now_calm f
-              by true f q =
-                  let none = was_none (ap (λ b'. wrote b' b) (d_is ∙ f) ∙ had) in
-                  let some = found_counts (λ (a : Guard). a.number == j) (writes_cell t.cell) m.guards z e (ap (λ c. writes_cell c z) (sym q) ∙ writes_here z w) in
-                  absurd (omega (arith, none, some))
-
-      -- ---- the rows of parties
-
-      gone : wait_of p (given_on t.cell g (without_wait p m.waits)) ≡ None
-      gone = none_on p t.cell g (without_wait p m.waits) (wait_removed p m.waits)
-
-      others_wait : (q : ℕ) → q ≢ p → target_of (wait_of q (given_on t.cell g (without_wait p m.waits))) ≡ target_of (wait_of q m.waits)
-      others_wait q ne = target_given t.cell g (without_wait p m.waits) q ∙ ap target_of (wait_kept p q m.waits ne)
-
-      called_parties : (m' : Standing) → m'.waits ≡ given_on t.cell g (without_wait p m.waits) → m'.sections ≡ m.sections → of' ≡ record { waiting = None; innermost = of.innermost } → HasParties held place m' v v'
-      called_parties m' w s e =
-          parties_set held place n m m' v v' p of' is.rests.stands parties
-          (e ∙ (λ i. record { waiting = target_of (sym gone i); innermost = (of_here i).innermost }) ∙ (λ i. record { waiting = target_of (wait_of p (sym w i)); innermost = cell_of_section (innermost p (sym s i)) }))
-          (λ q ne. (λ i. record { waiting = target_of (wait_of q (w i)); innermost = cell_of_section (innermost q (s i)) }) ∙ (λ i. record { waiting = others_wait q ne i; innermost = cell_of_section (innermost q m.sections) }))
+      pub was_none : wrote (declines ask reg (held row.seq.locker).phase) b ≡ true → writes_in t.cell m ≡ 0
+      was_none e = no_more (writes_in t.cell m) (λ lt. d.alone e (cell_here.locked.write_is lt))
 
       -- ---- what is told
 
       abbrev d_of : Bool
       d_of = declines ask reg (held row.seq.locker).phase
 
-      rows_as : (b₁ : Begun) → b ≡ b₁ → v'.parks ≡ rows_begun b₁ who (rows_handed t.cell g (freed p v.parks))
+      pub rows_as : (b₁ : Begun) → b ≡ b₁ → v'.parks ≡ rows_begun b₁ who (rows_handed t.cell g (freed p v.parks))
       rows_as b₁ e = d.rows ∙ ap (λ x. rows_begun x who (rows_handed t.cell g (freed p v.parks))) e
 
-      told_as : (b₁ : Begun) → b ≡ b₁ → Tells who ask reg (held row.seq.locker).phase b₁
+      pub told_as : (b₁ : Begun) → b ≡ b₁ → Tells who ask reg (held row.seq.locker).phase b₁
       told_as b₁ e = subst (λ x. Tells who ask reg (held row.seq.locker).phase x) e d.told
 
-      phase_as : (b₁ : Begun) → b ≡ b₁ → (held row'.seq.locker).phase ≡ phase_left d_of b₁ (held row.seq.locker).phase
+      pub phase_as : (b₁ : Begun) → b ≡ b₁ → (held row'.seq.locker).phase ≡ phase_left d_of b₁ (held row.seq.locker).phase
       phase_as b₁ e = d.phase ∙ ap (λ x. phase_left d_of x (held row.seq.locker).phase) e
 
-      kept_phase : (held row'.seq.locker).phase ≡ (held row.seq.locker).phase → (held row'.seq.locker).phase ≡ phase_of y.phase
-      kept_phase e = e ∙ cell_here.locked.phase_is
+      -- what holds of the number of readers, and what it met
+      module _ (few : (held row'.seq.locker).readers ≤ most_readers) (tell : (z : Taken) → taken_of b ≡ z → IsMet p t z g m) where
+        locked_called : (q : ℕ) → (held row'.seq.locker).phase ≡ phase_of q → IsLocked (place row'.seq.locker) (held row'.seq.locker) v'.parks t.cell (reads_in t.cell m + reads_begun b) (writes_in t.cell m + writes_begun b) q
+        locked_called q phase = by (opens_write b) refl
+          where
+            by : (o : Bool) → opens_write b ≡ o → IsLocked (place row'.seq.locker) (held row'.seq.locker) v'.parks t.cell (reads_in t.cell m + reads_begun b) (writes_in t.cell m + writes_begun b) q
+            by false e =
+                let l = cell_here.locked in
+                let z : writes_begun b ≡ 0 = as_many b false e in
+                record {
+                  fits = k.fits;
+                  phase_is = phase;
+                  reads_are = (let a = l.reads_are in let c = op.reads in omega (arith, a, c));
+                  write_is = λ lt. op.writes (l.write_is (omega (arith, z, lt)));
+                  write_was = λ w. (let lt = l.write_was (op.only e w) in omega (arith, lt));
+                  one = (let o = l.one in omega (arith, o, z));
+                  limit = few;
+                }
+            by true e =
+                let l = cell_here.locked in
+                let z : writes_begun b ≡ 1 = as_many b true e in
+                let none = was_none (wrote_all _ b e) in
+                record {
+                  fits = k.fits;
+                  phase_is = phase;
+                  reads_are = (let a = l.reads_are in let c = op.reads in omega (arith, a, c));
+                  write_is = λ lt. opens who b _ _ _ e stands;
+                  write_was = λ w. omega (arith, z);
+                  one = omega (arith, z, none);
+                  limit = few;
+                }
 
-      kept_runner : running_after b row.seq.running ≡ row.seq.running → row'.seq.running ≡ runner_of (run_in t.cell m.sections)
-      kept_runner e = running ∙ e ∙ cell_here.runner
+        -- the row of the cell
+        cell_as : (m' : Standing) (z : Content) (o : Option Run) → seen_at t.cell m' ≡ record { plan = x; content = z; reads = reads_in t.cell m + reads_begun b; writes = writes_in t.cell m + writes_begun b; run = o }
+            → (held row'.seq.locker).phase ≡ phase_of z.phase → z.value ≡ y.value → IsKnown (phase_of z.phase) → row'.seq.running ≡ runner_of o → row'.run ≡ open_run x t.cell z.phase o → IsCell held place (seen_at t.cell m') v'.parks t.cell row'
+        cell_as m' z o e phase same known runner run =
+            let k0 = cell_here in
+            subst (λ (w : Seen). IsCell held place w v'.parks t.cell row') (sym e)
+            (record { planned = plan ∙ k0.planned; valued = value ∙ k0.valued ∙ sym same; known = known; locked = locked_called z.phase phase; placed = k.place ∙ k0.placed; runner = runner; runs = run })
 
-      known_now : IsKnown (phase_of (effect x chs y).phase)
-      known_now = effect_known x chs y cell_here.known
+        -- ---- who waits
 
-      value_now : (effect x chs y).value ≡ y.value
-      value_now = ap (λ (z : Content). z.value) left_is
+        lists_called : length (rows_handed t.cell g (freed p v.parks)).writers ≡ length v.parks.writers
+        lists_called = handed_writers g t.cell (freed p v.parks) ∙ freed_writers p v.parks
 
-      -- the section that runs was asked at the phase that is published: where that changes none runs
-      runs_now : wrote true b ≡ true → row'.run ≡ row.run → row'.run ≡ open_run x t.cell (effect x chs y).phase (run_in t.cell m.sections)
-      runs_now had e = e ∙ cell_here.runs ∙ by (declined x t.want m.registry.is_open y.phase) refl
-        where
-          by : (o : Bool) → declined x t.want m.registry.is_open y.phase ≡ o → open_run x t.cell y.phase (run_in t.cell m.sections) ≡ open_run x t.cell (effect x chs y).phase (run_in t.cell m.sections)
-          by false f = ap (λ (z : Content). open_run x t.cell z.phase (run_in t.cell m.sections)) (sym (left_is ∙ ap (λ b. record { phase = if b then flags_refused else y.phase; value = y.value }) f))
-          by true f =
-              let none = was_none (ap (λ b'. wrote b' b) (d_is ∙ f) ∙ had) in
-              let no_run = none_runs t.cell m.sections (omega (arith, none)) in
-              ap (open_run x t.cell y.phase) no_run ∙ ap (open_run x t.cell (effect x chs y).phase) (sym no_run)
+        called_moved : (r : Registry) → IsExit (length v.cells.items) (record m { registry = r }) v'.exit → v'.parks ≡ rows_handed t.cell g (freed p v.parks) → IsMoved held place t.cell n n m (record (called p t.cell g m) { registry = r }) v v'
+        called_moved r exit rows =
+            let st = is.rests.stands in
+            answered_moved held place t.cell n m v v' _ m.content r st k.others k.same (ap (λ (s : Parking). length s.writers) rows ∙ lists_called) guards exit
+            (subst (λ (s : Parking). AreShown (length v.cells.items) (given_on t.cell g (without_wait p m.waits)) s) (sym rows) (shown_called (length v.cells.items) who m.waits v.parks g st.waits sizes_in st.sizes.few in_parks party_in d.listed))
+            (λ d ne. refl) (λ g x e w. refl)
 
-      abbrev seen_as : Content → ℕ → ℕ → Option Run → Seen
-      seen_as z r w o = record { plan = x; content = z; reads = reads_in t.cell m + r; writes = writes_in t.cell m + w; run = o }
+        waiting_moved : (way : How) → IsExit (length v.cells.items) m v'.exit → v'.parks ≡ rows_waiting way who (rows_handed t.cell g (freed p v.parks)) → IsMoved held place t.cell n n m (waiting p t.cell t.want way (called p t.cell g m)) v v'
+        waiting_moved way exit rows =
+            let st = is.rests.stands in
+            answered_moved held place t.cell n m v v' _ m.content m.registry st k.others k.same (ap (λ (s : Parking). length s.writers) rows ∙ waiting_writers way who (rows_handed t.cell g (freed p v.parks)) ∙ lists_called) guards exit
+            (subst (λ (s : Parking). AreShown (length v.cells.items) (record { party = p; cell = t.cell; want = t.want; way = way; woken = false } ∷ given_on t.cell g (without_wait p m.waits)) s) (sym rows) (shown_waiting (length v.cells.items) who m.waits v.parks g st.waits sizes_in st.sizes.few in_parks party_in d.listed is.cell way t.want))
+            (λ d ne. refl) (λ g x e w. refl)
 
-      with_holds : (z : Content) (r w : ℕ) (o : Option Run) → reads_begun b ≡ r → writes_begun b ≡ w → seen_as z r w o ≡ seen_as z (reads_begun b) (writes_begun b) o
-      with_holds z r w o e f = λ i. seen_as z (sym e i) (sym f i) o
+        -- what is published changes where it is declined, and no write guard shows it then
+        abbrev now : ℕ → Content
+        now = (answered p t.cell g chs m).content
 
-      seen_still : (z : Content) → record { plan = x; content = z; reads = reads_in t.cell m; writes = writes_in t.cell m; run = run_in t.cell m.sections } ≡ seen_as z 0 0 (run_in t.cell m.sections)
-      seen_still z = let r : reads_in t.cell m ≡ reads_in t.cell m + 0 = omega arith in let w : writes_in t.cell m ≡ writes_in t.cell m + 0 = omega arith in λ i. record { plan = x; content = z; reads = r i; writes = w i; run = run_in t.cell m.sections }
+        now_here : now t.cell ≡ effect x chs y
+        now_here = let e : (t.cell == t.cell) ≡ true = grind arith in rw e refl
 
-      seen_now : seen_at t.cell (answered p t.cell g chs m) ≡ seen_as (effect x chs y) 0 0 (run_in t.cell m.sections)
-      seen_now = ap (λ z. record { plan = x; content = z; reads = reads_in t.cell m; writes = writes_in t.cell m; run = run_in t.cell m.sections }) now_here ∙ seen_still (effect x chs y)
+        now_beside : (c : ℕ) → c ≢ t.cell → now c ≡ m.content c
+        now_beside c ne = let e : (t.cell == c) ≡ false = grind (arith, ne) in rw e refl
 
-      -- ---- the arms
+        now_calm : declined x t.want m.registry.is_open y.phase ≡ false → now t.cell ≡ y
+        now_calm e = now_here ∙ left_is ∙ ap (λ b. record { phase = if b then flags_refused else y.phase; value = y.value }) e
 
-      took_nothing : (q : Phase) → b ≡ begun.Nothing q → of' ≡ record { waiting = None; innermost = of.innermost } → row'.run ≡ row.run → IsTook held place m v p t (taken.Nothing q) g v'
-      took_nothing q e o run =
-          let had : wrote true b ≡ true = ap (wrote true) e in
-          record {
-            stands = moved held place t.cell n n m (answered p t.cell g chs m) v v' row' is.rests.stands is.cell cells
-                (cell_as (answered p t.cell g chs m) (effect x chs y) (run_in t.cell m.sections) (seen_now ∙ with_holds (effect x chs y) 0 0 (run_in t.cell m.sections) (ap reads_begun e) (ap writes_begun e)) (phase_as (begun.Nothing q) e ∙ told_phase) value_now known_now (kept_runner (ap (λ x. running_after x row.seq.running) e)) (runs_now had run))
-                (publishes had (ap (wrote false) e) (exit_still (ap is_run e)) (rows_as (begun.Nothing q) e)) (called_parties (answered p t.cell g chs m) refl refl o);
-            told = told_as (begun.Nothing q) e ∙ told_phase;
-            cyclic = cyclic_as (begun.Nothing q) e;
-          }
+        publishes : wrote true b ≡ true → wrote false b ≡ false → IsExit (length v.cells.items) m v'.exit → v'.parks ≡ rows_handed t.cell g (freed p v.parks) → IsMoved held place t.cell n n m (answered p t.cell g chs m) v v'
+        publishes had none_else exit rows =
+            let st = is.rests.stands in
+            answered_moved held place t.cell n m v v' _ now m.registry st k.others k.same (ap (λ (s : Parking). length s.writers) rows ∙ lists_called) guards exit
+            (subst (λ (s : Parking). AreShown (length v.cells.items) (given_on t.cell g (without_wait p m.waits)) s) (sym rows) (shown_called (length v.cells.items) who m.waits v.parks g st.waits sizes_in st.sizes.few in_parks party_in d.listed))
+            now_beside drafts
+          where
+            drafts : (j : ℕ) (z : Guard) → numbered j m.guards ≡ Some z → z.writes ≡ true → now z.cell ≡ m.content z.cell
+            drafts j z e w = elim (cases_eq z.cell t.cell) [
+              | inr ne ↦ now_beside z.cell ne
+              | inl q ↦ subst (λ c. now c ≡ m.content c) (sym q) (by (declined x t.want m.registry.is_open y.phase) refl q)
+            ]
+              where
+                by : (o : Bool) → declined x t.want m.registry.is_open y.phase ≡ o → z.cell ≡ t.cell → now t.cell ≡ y
+                by false f q = now_calm f
+                by true f q =
+                    let none = was_none (ap (λ b'. wrote b' b) (d_is ∙ f) ∙ had) in
+                    let some = found_counts (λ (a : Guard). a.number == j) (writes_cell t.cell) m.guards z e (ap (λ c. writes_cell c z) (sym q) ∙ writes_here z w) in
+                    absurd (omega (arith, none, some))
 
-      took_read : (l : ReadTicket) (q : Phase) → b ≡ begun.Read l q → of' ≡ record { waiting = None; innermost = of.innermost } → row'.run ≡ row.run → IsTook held place m v p t (taken.Read l q) g v'
-      took_read l q e o run =
-          let had : wrote true b ≡ true = ap (wrote true) e in
-          record {
-            stands = moved held place t.cell n n m (guarded (reader n p t.cell) (answered p t.cell g chs m)) v v' row' is.rests.stands is.cell cells
-                (cell_as (guarded (reader n p t.cell) (answered p t.cell g chs m)) (effect x chs y) (run_in t.cell m.sections) (seen ∙ with_holds (effect x chs y) 1 0 (run_in t.cell m.sections) (ap reads_begun e) (ap writes_begun e)) (phase_as (begun.Read l q) e ∙ told_phase) value_now known_now (kept_runner (ap (λ x. running_after x row.seq.running) e)) (runs_now had run))
-                (guard_opened held place t.cell n n n m (answered p t.cell g chs m) v v' (reader n p t.cell) (publishes had (ap (wrote false) e) (exit_still (ap is_run e)) (rows_as (begun.Read l q) e)) refl refl (omega arith) is.rests.empty is.rests.empty is.cell)
-                (called_parties (guarded (reader n p t.cell) (answered p t.cell g chs m)) refl refl o);
-            told = told_as (begun.Read l q) e ∙ told_phase;
-            cyclic = cyclic_as (begun.Read l q) e;
-          }
-        where
-          seen : seen_at t.cell (guarded (reader n p t.cell) (answered p t.cell g chs m)) ≡ seen_as (effect x chs y) 1 0 (run_in t.cell m.sections)
-          seen =
-              seen_reader n p t.cell (answered p t.cell g chs m)
-              ∙ (let w : writes_in t.cell m ≡ writes_in t.cell m + 0 = omega arith in λ i. record { plan = x; content = now_here i; reads = reads_in t.cell m + 1; writes = w i; run = run_in t.cell m.sections })
+        -- ---- the rows of parties
 
-      took_write : (l : WriteTicket) (q : Phase) → b ≡ begun.Write l q → of' ≡ record { waiting = None; innermost = of.innermost } → row'.run ≡ row.run → IsTook held place m v p t (taken.Write l q) g v'
-      took_write l q e o run =
-          record {
-            stands = moved held place t.cell n n m (guarded (writer_asked n p t.cell chs) (called p t.cell g m)) v v' row' is.rests.stands is.cell cells
-                (cell_as (guarded (writer_asked n p t.cell chs) (called p t.cell g m)) y (run_in t.cell m.sections) (seen ∙ with_holds y 0 1 (run_in t.cell m.sections) (ap reads_begun e) (ap writes_begun e)) (kept_phase (phase_as (begun.Write l q) e)) refl cell_here.known (kept_runner (ap (λ x. running_after x row.seq.running) e)) (run ∙ cell_here.runs))
-                (guard_opened held place t.cell n n n m (called p t.cell g m) v v' (writer_asked n p t.cell chs) (called_moved m.registry (exit_still (ap is_run e)) (rows_as (begun.Write l q) e)) refl refl (omega arith) is.rests.empty is.rests.empty is.cell)
-                (called_parties (guarded (writer_asked n p t.cell chs) (called p t.cell g m)) refl refl o);
-            told = told_as (begun.Write l q) e ∙ told_phase;
-            cyclic = cyclic_as (begun.Write l q) e;
-          }
-        where
-          seen : seen_at t.cell (guarded (writer_asked n p t.cell chs) (called p t.cell g m)) ≡ seen_as y 0 1 (run_in t.cell m.sections)
-          seen =
-              seen_writer n p t.cell chs (called p t.cell g m)
-              ∙ (let r : reads_in t.cell m ≡ reads_in t.cell m + 0 = omega arith in λ i. record { plan = x; content = y; reads = r i; writes = writes_in t.cell m + 1; run = run_in t.cell m.sections })
+        gone : wait_of p (given_on t.cell g (without_wait p m.waits)) ≡ None
+        gone = none_on p t.cell g (without_wait p m.waits) (wait_removed p m.waits)
 
-      abbrev waiting_m : How → Standing
-      waiting_m way = waiting p t.cell t.want way (called p t.cell g m)
+        others_wait : (q : ℕ) → q ≢ p → target_of (wait_of q (given_on t.cell g (without_wait p m.waits))) ≡ target_of (wait_of q m.waits)
+        others_wait q ne = target_given t.cell g (without_wait p m.waits) q ∙ ap target_of (wait_kept p q m.waits ne)
 
-      took_wait : (way : How) → b ≡ begun.Wait way → of' ≡ record { waiting = Some (record { cell = t.cell; want = t.want }); innermost = of.innermost } → row'.run ≡ row.run → IsTook held place m v p t (taken.Wait way) g v'
-      took_wait way e o run =
-          record {
-            stands = moved held place t.cell n n m (waiting_m way) v v' row' is.rests.stands is.cell cells
-                (cell_as (waiting_m way) y (run_in t.cell m.sections) (seen_still y ∙ with_holds y 0 0 (run_in t.cell m.sections) (ap reads_begun e) (ap writes_begun e)) (kept_phase (phase_as (begun.Wait way) e)) refl cell_here.known (kept_runner (ap (λ x. running_after x row.seq.running) e)) (run ∙ cell_here.runs))
-                (waiting_moved way (exit_still (ap is_run e)) (rows_as (begun.Wait way) e))
-                (parties_set held place n m (waiting_m way) v v' p of' is.rests.stands parties (o ∙ (λ i. record { waiting = Some (record { cell = t.cell; want = t.want }); innermost = (of_here i).innermost }) ∙ ap (λ w. record { waiting = target_of w; innermost = (party_row m p).innermost }) (sym itself))
-                (λ q ne. (λ i. record { waiting = target_of (beside q ne i); innermost = (party_row m q).innermost }) ∙ (λ i. record { waiting = others_wait q ne i; innermost = (party_row m q).innermost })));
-            told = tt;
-            cyclic = cyclic_as (begun.Wait way) e;
-          }
-        where
-          itself : wait_of p (waiting_m way).waits ≡ Some (record { party = p; cell = t.cell; want = t.want; way = way; woken = false })
-          itself = let q : (p == p) ≡ true = grind arith in rw q refl
+        called_parties : (m' : Standing) → m'.waits ≡ given_on t.cell g (without_wait p m.waits) → m'.sections ≡ m.sections → of' ≡ record { waiting = None; innermost = of.innermost } → HasParties held place m' v v'
+        called_parties m' w s e =
+            parties_set held place n m m' v v' p of' is.rests.stands parties
+            (e ∙ (λ i. record { waiting = target_of (sym gone i); innermost = (of_here i).innermost }) ∙ (λ i. record { waiting = target_of (wait_of p (sym w i)); innermost = cell_of_section (innermost p (sym s i)) }))
+            (λ q ne. (λ i. record { waiting = target_of (wait_of q (w i)); innermost = cell_of_section (innermost q (s i)) }) ∙ (λ i. record { waiting = others_wait q ne i; innermost = cell_of_section (innermost q m.sections) }))
 
-          beside : (q : ℕ) → q ≢ p → wait_of q (waiting_m way).waits ≡ wait_of q (called p t.cell g m).waits
-          beside q ne = let f : (p == q) ≡ false = grind (arith, ne) in rw f refl
+        kept_phase : (held row'.seq.locker).phase ≡ (held row.seq.locker).phase → (held row'.seq.locker).phase ≡ phase_of y.phase
+        kept_phase e = e ∙ cell_here.locked.phase_is
 
-      -- a section that runs
-      abbrev sec : Section
-      sec = section_asked n p t.cell t.want m
+        kept_runner : running_after b row.seq.running ≡ row.seq.running → row'.seq.running ≡ runner_of (run_in t.cell m.sections)
+        kept_runner e = running ∙ e ∙ cell_here.runner
 
-      abbrev run_r : Run
-      run_r = record { section = section_asked n p t.cell t.want m; outer = cell_of_section (innermost p m.sections) }
+        known_now : IsKnown (phase_of (effect x chs y).phase)
+        known_now = effect_known x chs y cell_here.known
 
-      took_run : (s : SeqSection) → reads_begun b ≡ 0 → writes_begun b ≡ 1 → (held row'.seq.locker).phase ≡ (held row.seq.locker).phase → v'.parks ≡ rows_handed t.cell g (freed p v.parks) → IsExit (length v.cells.items) (record m { registry = registry_asked t.cell t.want m }) v'.exit → row'.seq.running ≡ runner_of (Some run_r)
-          → s ≡ section_by who (ask_of x t.want).want (stays_in x t.want m.registry.is_open y.phase) write_ticket → false ≡ is_cyclic (want_of t.want) p (runner_of (run_in t.cell m.sections)) → of' ≡ record { waiting = None; innermost = Some t.cell } → row'.run ≡ Some (record { run = record { party = p; want = t.want; outer = of.innermost }; section = s }) → IsTook held place m v p t taken.Runs g v'
-      took_run s none one phase rows exit runner section turned o run =
-          record {
-            stands = moved held place t.cell n n m run_m v v' row' is.rests.stands is.cell cells
-                (cell_as run_m y (Some run_r) (seen ∙ with_holds y 0 1 (Some run_r) none one) (kept_phase phase) refl cell_here.known runner (run ∙ (λ i. Some (record { run = record { party = p; want = t.want; outer = (of_here i).innermost }; section = section i }))))
-                (section_opened t.cell n n m (record (called p t.cell g m) { registry = registry_asked t.cell t.want m }) v v' sec (called_moved (registry_asked t.cell t.want m) exit rows) refl is.cell)
-                (parties_set held place n m run_m v v' p of' is.rests.stands parties (o ∙ (λ i. record { waiting = target_of (sym gone i); innermost = Some t.cell }) ∙ ap (λ w. record { waiting = target_of (wait_of p (called p t.cell g m).waits); innermost = cell_of_section w }) (sym itself))
-                (λ q ne. (λ i. record { waiting = target_of (wait_of q (called p t.cell g m).waits); innermost = cell_of_section (beside q ne i) }) ∙ (λ i. record { waiting = others_wait q ne i; innermost = (party_row m q).innermost })));
-            told = tt;
-            cyclic = turned;
-          }
-        where
-          run_m : Standing
-          run_m = opened (section_asked n p t.cell t.want m) (registry_asked t.cell t.want m) (called p t.cell g m)
+        value_now : (effect x chs y).value ≡ y.value
+        value_now = ap (λ (z : Content). z.value) left_is
 
-          seen : seen_at t.cell (opened (section_asked n p t.cell t.want m) (registry_asked t.cell t.want m) (called p t.cell g m)) ≡ seen_as y 0 1 (Some run_r)
-          seen =
-              let q : (t.cell == t.cell) ≡ true = grind arith in
-              let r : reads_in t.cell m ≡ reads_in t.cell m + 0 = omega arith in
-              let w : count (writes_cell t.cell) m.guards + (count (runs_in t.cell) m.sections + 1) ≡ writes_in t.cell m + 1 = omega arith in
-              rw q (λ i. record { plan = x; content = y; reads = r i; writes = w i; run = Some run_r })
+        -- the section that runs was asked at the phase that is published: where that changes none runs
+        runs_now : wrote true b ≡ true → row'.run ≡ row.run → row'.run ≡ open_run x t.cell (effect x chs y).phase (run_in t.cell m.sections)
+        runs_now had e = e ∙ cell_here.runs ∙ by (declined x t.want m.registry.is_open y.phase) refl
+          where
+            by : (o : Bool) → declined x t.want m.registry.is_open y.phase ≡ o → open_run x t.cell y.phase (run_in t.cell m.sections) ≡ open_run x t.cell (effect x chs y).phase (run_in t.cell m.sections)
+            by false f = ap (λ (z : Content). open_run x t.cell z.phase (run_in t.cell m.sections)) (sym (left_is ∙ ap (λ b. record { phase = if b then flags_refused else y.phase; value = y.value }) f))
+            by true f =
+                let none = was_none (ap (λ b'. wrote b' b) (d_is ∙ f) ∙ had) in
+                let no_run = none_runs t.cell m.sections (omega (arith, none)) in
+                ap (open_run x t.cell y.phase) no_run ∙ ap (open_run x t.cell (effect x chs y).phase) (sym no_run)
 
-          itself : innermost p (sec ∷ m.sections) ≡ Some sec
-          itself = let q : (p == p) ≡ true = grind arith in rw q refl
+        abbrev seen_as : Content → ℕ → ℕ → Option Run → Seen
+        seen_as z r w o = record { plan = x; content = z; reads = reads_in t.cell m + r; writes = writes_in t.cell m + w; run = o }
 
-          beside : (q : ℕ) → q ≢ p → innermost q (sec ∷ m.sections) ≡ innermost q m.sections
-          beside q ne = let f : (p == q) ≡ false = grind (arith, ne) in rw f refl
+        with_holds : (z : Content) (r w : ℕ) (o : Option Run) → reads_begun b ≡ r → writes_begun b ≡ w → seen_as z r w o ≡ seen_as z (reads_begun b) (writes_begun b) o
+        with_holds z r w o e f = λ i. seen_as z (sym e i) (sym f i) o
 
-    -- ---- it was turned back: nothing changed
-    took_cyclic : IsTurned (held row.seq.locker) v.parks b g (held row'.seq.locker) v'.parks → of' ≡ of → row'.run ≡ row.run → IsTook held place m v p t taken.Cyclic g v'
-    took_cyclic d o run =
-        record {
-          stands = moved held place t.cell n n m m v v' row' is.rests.stands is.cell cells
-              (let k0 = cell_here in
-              record {
-                planned = plan ∙ k0.planned;
-                valued = value ∙ k0.valued;
-                known = k0.known;
-                locked = subst (λ (s : Parking). IsLocked (place row'.seq.locker) (held row'.seq.locker) s t.cell (reads_in t.cell m) (writes_in t.cell m) y.phase) (sym d.rows) (subst (λ (h : Holders). IsLocked (place row'.seq.locker) h v.parks t.cell (reads_in t.cell m) (writes_in t.cell m) y.phase) (sym d.held) (subst (λ k. IsLocked k (held row.seq.locker) v.parks t.cell (reads_in t.cell m) (writes_in t.cell m) y.phase) (sym k.place) k0.locked));
-                placed = k.place ∙ k0.placed;
-                runner = running ∙ ap (λ x. running_after x row.seq.running) d.cyclic ∙ k0.runner;
-                runs = run ∙ k0.runs;
-              })
-              (answered_moved held place t.cell n m v v' m.waits m.content m.registry is.rests.stands k.others k.same (ap (λ (s : Parking). length s.writers) d.rows) guards (exit_still (ap is_run d.cyclic)) (subst (λ (s : Parking). AreShown (length v.cells.items) m.waits s) (sym d.rows) is.rests.stands.waits) (λ d ne. refl) (λ g x e w. refl))
-              (parties_set held place n m m v v' p of' is.rests.stands parties (o ∙ of_here) (λ q ne. refl));
-          told = tt;
-          cyclic = cyclic_as begun.Cyclic d.cyclic;
-        }
+        seen_still : (z : Content) → record { plan = x; content = z; reads = reads_in t.cell m; writes = writes_in t.cell m; run = run_in t.cell m.sections } ≡ seen_as z 0 0 (run_in t.cell m.sections)
+        seen_still z = let r : reads_in t.cell m ≡ reads_in t.cell m + 0 = omega arith in let w : writes_in t.cell m ≡ writes_in t.cell m + 0 = omega arith in λ i. record { plan = x; content = z; reads = r i; writes = w i; run = run_in t.cell m.sections }
 
-    -- ---- what the locker requires
+        seen_now : seen_at t.cell (answered p t.cell g chs m) ≡ seen_as (effect x chs y) 0 0 (run_in t.cell m.sections)
+        seen_now = ap (λ z. record { plan = x; content = z; reads = reads_in t.cell m; writes = writes_in t.cell m; run = run_in t.cell m.sections }) now_here ∙ seen_still (effect x chs y)
 
-    calling : (waits : Bool) → MatchBool waits (WaitsAt t.cell (wait_of p m.waits)) (wait_of p m.waits ≡ None) → MatchBool waits ((row_of v.parks p).cell ≡ t.cell) (row_of v.parks p ≡ free_row)
-    calling true w = by (wait_of p m.waits) (is.rests.stands.waits.shows.row p) w
-      where
-        by : (o : Option Wait) → row_of v.parks p ≡ wait_row o → WaitsAt t.cell o → (row_of v.parks p).cell ≡ t.cell
-        by None e w = absurd w
-        by (Some x) e w = ap (λ (r : _). r.cell) e ∙ w
-    calling false w = is.rests.stands.waits.shows.row p ∙ ap wait_row w
+        -- ---- the arms
 
-    abbrev Turned : Type 0
-    Turned = IsTurned (held row.seq.locker) v.parks b g (held row'.seq.locker) v'.parks
+        pub took_nothing : (q : Phase) → b ≡ begun.Nothing q → of' ≡ record { waiting = None; innermost = of.innermost } → row'.run ≡ row.run → IsTook held place m v p t (taken.Nothing q) g v'
+        took_nothing q e o run =
+            let had : wrote true b ≡ true = ap (wrote true) e in
+            record {
+              stands = moved held place t.cell n n m (answered p t.cell g chs m) v v' row' is.rests.stands is.cell cells
+                  (cell_as (answered p t.cell g chs m) (effect x chs y) (run_in t.cell m.sections) (seen_now ∙ with_holds (effect x chs y) 0 0 (run_in t.cell m.sections) (ap reads_begun e) (ap writes_begun e)) (phase_as (begun.Nothing q) e ∙ told_phase) value_now known_now (kept_runner (ap (λ x. running_after x row.seq.running) e)) (runs_now had run))
+                  (publishes had (ap (wrote false) e) (exit_still (ap is_run e)) (rows_as (begun.Nothing q) e)) (called_parties (answered p t.cell g chs m) refl refl o);
+              told = told_as (begun.Nothing q) e ∙ told_phase;
+              cyclic = cyclic_as (begun.Nothing q) e;
+              met = tell (taken.Nothing q) (ap taken_of e);
+            }
 
-    abbrev Begun_ : Type 0
-    Begun_ = IsBegun who ask reg (held row.seq.locker) v.parks b g (held row'.seq.locker) v'.parks
+        pub took_read : (l : ReadTicket) (q : Phase) → b ≡ begun.Read l q → of' ≡ record { waiting = None; innermost = of.innermost } → row'.run ≡ row.run → IsTook held place m v p t (taken.Read l q) g v'
+        took_read l q e o run =
+            let had : wrote true b ≡ true = ap (wrote true) e in
+            record {
+              stands = moved held place t.cell n n m (guarded (reader n p t.cell) (answered p t.cell g chs m)) v v' row' is.rests.stands is.cell cells
+                  (cell_as (guarded (reader n p t.cell) (answered p t.cell g chs m)) (effect x chs y) (run_in t.cell m.sections) (seen ∙ with_holds (effect x chs y) 1 0 (run_in t.cell m.sections) (ap reads_begun e) (ap writes_begun e)) (phase_as (begun.Read l q) e ∙ told_phase) value_now known_now (kept_runner (ap (λ x. running_after x row.seq.running) e)) (runs_now had run))
+                  (guard_opened held place t.cell n n n m (answered p t.cell g chs m) v v' (reader n p t.cell) (publishes had (ap (wrote false) e) (exit_still (ap is_run e)) (rows_as (begun.Read l q) e)) refl refl (omega arith) is.rests.empty is.rests.empty is.cell)
+                  (called_parties (guarded (reader n p t.cell) (answered p t.cell g chs m)) refl refl o);
+              told = told_as (begun.Read l q) e ∙ told_phase;
+              cyclic = cyclic_as (begun.Read l q) e;
+              met = tell (taken.Read l q) (ap taken_of e);
+            }
+          where
+            seen : seen_at t.cell (guarded (reader n p t.cell) (answered p t.cell g chs m)) ≡ seen_as (effect x chs y) 1 0 (run_in t.cell m.sections)
+            seen =
+                seen_reader n p t.cell (answered p t.cell g chs m)
+                ∙ (let w : writes_in t.cell m ≡ writes_in t.cell m + 0 = omega arith in λ i. record { plan = x; content = now_here i; reads = reads_in t.cell m + 1; writes = w i; run = run_in t.cell m.sections })
 
-    module _ (calls : CallOf waits reg (place row.seq.locker) who ask row.seq.running (held row.seq.locker) v.parks (b, g) (held row'.seq.locker) v'.parks) where
-      all : Turned ⊎ Begun_
-      all = begun_as (place row.seq.locker) who ask (held row.seq.locker) v.parks row.seq.running (b, g) (held row'.seq.locker) v'.parks refl reg waits (calling waits is.waited) party_in cell_here.locked.fits calls
+        pub took_write : (l : WriteTicket) (q : Phase) → b ≡ begun.Write l q → of' ≡ record { waiting = None; innermost = of.innermost } → row'.run ≡ row.run → IsTook held place m v p t (taken.Write l q) g v'
+        took_write l q e o run =
+            record {
+              stands = moved held place t.cell n n m (guarded (writer_asked n p t.cell chs) (called p t.cell g m)) v v' row' is.rests.stands is.cell cells
+                  (cell_as (guarded (writer_asked n p t.cell chs) (called p t.cell g m)) y (run_in t.cell m.sections) (seen ∙ with_holds y 0 1 (run_in t.cell m.sections) (ap reads_begun e) (ap writes_begun e)) (kept_phase (phase_as (begun.Write l q) e)) refl cell_here.known (kept_runner (ap (λ x. running_after x row.seq.running) e)) (run ∙ cell_here.runs))
+                  (guard_opened held place t.cell n n n m (called p t.cell g m) v v' (writer_asked n p t.cell chs) (called_moved m.registry (exit_still (ap is_run e)) (rows_as (begun.Write l q) e)) refl refl (omega arith) is.rests.empty is.rests.empty is.cell)
+                  (called_parties (guarded (writer_asked n p t.cell chs) (called p t.cell g m)) refl refl o);
+              told = told_as (begun.Write l q) e ∙ told_phase;
+              cyclic = cyclic_as (begun.Write l q) e;
+              met = tell (taken.Write l q) (ap taken_of e);
+            }
+          where
+            seen : seen_at t.cell (guarded (writer_asked n p t.cell chs) (called p t.cell g m)) ≡ seen_as y 0 1 (run_in t.cell m.sections)
+            seen =
+                seen_writer n p t.cell chs (called p t.cell g m)
+                ∙ (let r : reads_in t.cell m ≡ reads_in t.cell m + 0 = omega arith in λ i. record { plan = x; content = y; reads = r i; writes = writes_in t.cell m + 1; run = run_in t.cell m.sections })
 
-      did : (b ≡ begun.Cyclic → ⊥) → Begun_
-      did ne = elim all [
-        | inl d ↦ absurd (ne d.cyclic)
-        | inr d ↦ d
-      ]
+        abbrev waiting_m : How → Standing
+        waiting_m way = waiting p t.cell t.want way (called p t.cell g m)
 
-      -- ---- the arms of the code
+        pub took_wait : (way : How) → b ≡ begun.Wait way → of' ≡ record { waiting = Some (record { cell = t.cell; want = t.want }); innermost = of.innermost } → row'.run ≡ row.run → IsTook held place m v p t (taken.Wait way) g v'
+        took_wait way e o run =
+            record {
+              stands = moved held place t.cell n n m (waiting_m way) v v' row' is.rests.stands is.cell cells
+                  (cell_as (waiting_m way) y (run_in t.cell m.sections) (seen_still y ∙ with_holds y 0 0 (run_in t.cell m.sections) (ap reads_begun e) (ap writes_begun e)) (kept_phase (phase_as (begun.Wait way) e)) refl cell_here.known (kept_runner (ap (λ x. running_after x row.seq.running) e)) (run ∙ cell_here.runs))
+                  (waiting_moved way (exit_still (ap is_run e)) (rows_as (begun.Wait way) e))
+                  (parties_set held place n m (waiting_m way) v v' p of' is.rests.stands parties (o ∙ (λ i. record { waiting = Some (record { cell = t.cell; want = t.want }); innermost = (of_here i).innermost }) ∙ ap (λ w. record { waiting = target_of w; innermost = (party_row m p).innermost }) (sym itself))
+                  (λ q ne. (λ i. record { waiting = target_of (beside q ne i); innermost = (party_row m q).innermost }) ∙ (λ i. record { waiting = others_wait q ne i; innermost = (party_row m q).innermost })));
+              told = tt;
+              cyclic = cyclic_as (begun.Wait way) e;
+              met = tell (taken.Wait way) (ap taken_of e);
+            }
+          where
+            itself : wait_of p (waiting_m way).waits ≡ Some (record { party = p; cell = t.cell; want = t.want; way = way; woken = false })
+            itself = let q : (p == p) ≡ true = grind arith in rw q refl
 
-      pub does_nothing : (q : Phase) → b ≡ begun.Nothing q → of' ≡ record { waiting = None; innermost = of.innermost } → row'.run ≡ row.run → IsTook held place m v p t (taken.Nothing q) g v'
-      does_nothing q e o run = took_nothing (did (λ x. (let f : begun.Nothing q ≡ begun.Cyclic = sym e ∙ x in cc))) q e o run
+            beside : (q : ℕ) → q ≢ p → wait_of q (waiting_m way).waits ≡ wait_of q (called p t.cell g m).waits
+            beside q ne = let f : (p == q) ≡ false = grind (arith, ne) in rw f refl
 
-      pub does_read : (l : ReadTicket) (q : Phase) → b ≡ begun.Read l q → of' ≡ record { waiting = None; innermost = of.innermost } → row'.run ≡ row.run → IsTook held place m v p t (taken.Read l q) g v'
-      does_read l q e o run = took_read (did (λ x. (let f : begun.Read l q ≡ begun.Cyclic = sym e ∙ x in cc))) l q e o run
+        -- a section that runs
+        abbrev sec : Section
+        sec = section_asked n p t.cell t.want m
 
-      pub does_write : (l : WriteTicket) (q : Phase) → b ≡ begun.Write l q → of' ≡ record { waiting = None; innermost = of.innermost } → row'.run ≡ row.run → IsTook held place m v p t (taken.Write l q) g v'
-      does_write l q e o run = took_write (did (λ x. (let f : begun.Write l q ≡ begun.Cyclic = sym e ∙ x in cc))) l q e o run
+        abbrev run_r : Run
+        run_r = record { section = section_asked n p t.cell t.want m; outer = cell_of_section (innermost p m.sections) }
 
-      pub does_wait : (way : How) → b ≡ begun.Wait way → of' ≡ record { waiting = Some (record { cell = t.cell; want = t.want }); innermost = of.innermost } → row'.run ≡ row.run → IsTook held place m v p t (taken.Wait way) g v'
-      does_wait way e o run = took_wait (did (λ x. (let f : begun.Wait way ≡ begun.Cyclic = sym e ∙ x in cc))) way e o run
+        pub took_run : (s : SeqSection) → reads_begun b ≡ 0 → writes_begun b ≡ 1 → (held row'.seq.locker).phase ≡ (held row.seq.locker).phase → v'.parks ≡ rows_handed t.cell g (freed p v.parks) → IsExit (length v.cells.items) (record m { registry = registry_asked t.cell t.want m }) v'.exit → row'.seq.running ≡ runner_of (Some run_r)
+            → s ≡ section_by who (ask_of x t.want).want (stays_in x t.want m.registry.is_open y.phase) write_ticket → false ≡ is_cyclic (want_of t.want) p (runner_of (run_in t.cell m.sections)) → IsMet p t taken.Runs g m → of' ≡ record { waiting = None; innermost = Some t.cell } → row'.run ≡ Some (record { run = record { party = p; want = t.want; outer = of.innermost }; section = s }) → IsTook held place m v p t taken.Runs g v'
+        took_run s none one phase rows exit runner section turned told o run =
+            record {
+              stands = moved held place t.cell n n m run_m v v' row' is.rests.stands is.cell cells
+                  (cell_as run_m y (Some run_r) (seen ∙ with_holds y 0 1 (Some run_r) none one) (kept_phase phase) refl cell_here.known runner (run ∙ (λ i. Some (record { run = record { party = p; want = t.want; outer = (of_here i).innermost }; section = section i }))))
+                  (section_opened held place t.cell n n m (record (called p t.cell g m) { registry = registry_asked t.cell t.want m }) v v' sec (called_moved (registry_asked t.cell t.want m) exit rows) refl is.cell)
+                  (parties_set held place n m run_m v v' p of' is.rests.stands parties (o ∙ (λ i. record { waiting = target_of (sym gone i); innermost = Some t.cell }) ∙ ap (λ w. record { waiting = target_of (wait_of p (called p t.cell g m).waits); innermost = cell_of_section w }) (sym itself))
+                  (λ q ne. (λ i. record { waiting = target_of (wait_of q (called p t.cell g m).waits); innermost = cell_of_section (beside q ne i) }) ∙ (λ i. record { waiting = others_wait q ne i; innermost = (party_row m q).innermost })));
+              told = tt;
+              cyclic = turned;
+              met = told;
+            }
+          where
+            run_m : Standing
+            run_m = opened (section_asked n p t.cell t.want m) (registry_asked t.cell t.want m) (called p t.cell g m)
 
-      pub does_cyclic : b ≡ begun.Cyclic → of' ≡ of → row'.run ≡ row.run → IsTook held place m v p t taken.Cyclic g v'
-      does_cyclic e o run = elim all [
-        | inl d ↦ took_cyclic d o run
-        | inr d ↦ absurd (told_as d begun.Cyclic e)
-      ]
+            seen : seen_at t.cell (opened (section_asked n p t.cell t.want m) (registry_asked t.cell t.want m) (called p t.cell g m)) ≡ seen_as y 0 1 (Some run_r)
+            seen =
+                let q : (t.cell == t.cell) ≡ true = grind arith in
+                let r : reads_in t.cell m ≡ reads_in t.cell m + 0 = omega arith in
+                let w : count (writes_cell t.cell) m.guards + (count (runs_in t.cell) m.sections + 1) ≡ writes_in t.cell m + 1 = omega arith in
+                rw q (λ i. record { plan = x; content = y; reads = r i; writes = w i; run = Some run_r })
 
-      pub does_missed : b ≡ begun.Missed → IsTook held place m v p t taken.Cyclic g v'
-      does_missed e = absurd (told_as (did (λ x. (let f : begun.Missed ≡ begun.Cyclic = sym e ∙ x in cc))) begun.Missed e)
+            itself : innermost p (sec ∷ m.sections) ≡ Some sec
+            itself = let q : (p == p) ≡ true = grind arith in rw q refl
 
-      -- no section ran where one is opened
-      none_ran : (d : Begun_) → wrote (declines ask reg (held row.seq.locker).phase) b ≡ true → row.run ≡ None
-      none_ran d e = let z = was_none d e in cell_here.runs ∙ ap (open_run x t.cell y.phase) (none_runs t.cell m.sections (omega (arith, z)))
-
-      run_began : (s : SeqSection) → b ≡ begun.Run s → Begun_
-      run_began s e = did (λ x. (let f : begun.Run s ≡ begun.Cyclic = sym e ∙ x in cc))
-
-      final_began : (s : SeqSection) → b ≡ begun.Final s → Begun_
-      final_began s e = did (λ x. (let f : begun.Final s ≡ begun.Cyclic = sym e ∙ x in cc))
-
-      pub none_before_run : (s : SeqSection) → b ≡ begun.Run s → row.run ≡ None
-      none_before_run s e = none_ran (run_began s e) (ap (wrote _) e)
-
-      pub none_before_final : (s : SeqSection) → b ≡ begun.Final s → row.run ≡ None
-      none_before_final s e = none_ran (final_began s e) (ap (wrote _) e)
-
-      pub does_run : (s : SeqSection) → b ≡ begun.Run s → of' ≡ record { waiting = None; innermost = Some t.cell } → row'.run ≡ Some (record { run = record { party = p; want = t.want; outer = of.innermost }; section = s }) → IsTook held place m v p t taken.Runs g v'
-      does_run s e o run =
-          let d = run_began s e in
-          let tells = told_as d (begun.Run s) e in
-          let asked : seq_asks_run (ask_of row.plan t.want) (held row.seq.locker).phase ≡ true = tells.1 in
-          let call : is_turn t.want ≡ false = run_calls row.plan t.want (held row.seq.locker).phase asked in
-          let here = cell_here in
-          took_run d s (ap reads_begun e) (ap writes_begun e) (phase_as d (begun.Run s) e) (rows_as d (begun.Run s) e) (exit_run e call)
-          (running ∙ ap (λ x. running_after x row.seq.running) e ∙ ap (λ (z : SeqSection). Some z.who.party) tells.0 ∙ (rw call refl))
-          (tells.0 ∙ (λ i. section_by who (ask_of (here.planned i) t.want).want (stays_asked (registry_for (here.planned i).kind (is.rests.stands.exit.registry_is i)) (here.locked.phase_is i)) write_ticket) ∙ ap (λ q. section_by who (ask_of x t.want).want q write_ticket) (stays_same x t.want m.registry y.phase call)) (cyclic_as (begun.Run s) e) o run
-        where
-          exit_run : b ≡ begun.Run s → is_turn t.want ≡ false → IsExit (length v.cells.items) (record m { registry = registry_asked t.cell t.want m }) v'.exit
-          exit_run e call = by t.want refl call
-            where
-              here : IsCell held place (seen_at t.cell m) v.parks t.cell row
-              here = cell_here
-
-              by : (w : Want) → t.want ≡ w → is_turn w ≡ false → IsExit (length v.cells.items) (record m { registry = registry_asked t.cell w m }) v'.exit
-              by (Calls c) q f =
-                  exit_with (registry_asked t.cell (Calls c) m)
-                  (registry ∙ (λ i. registry_begun (here.planned i).kind t.cell (here.locked.phase_is i) b (is.rests.stands.exit.registry_is i)) ∙ registry_run x t.cell y.phase b m.registry (ap is_run e))
-                  (cells_stay t.cell (tries_registration x.kind y.phase) m.registry)
-              by Turns q f = absurd (cc)
-
-      pub does_final : (s : SeqSection) → b ≡ begun.Final s → of' ≡ record { waiting = None; innermost = Some t.cell } → row'.run ≡ Some (record { run = record { party = p; want = t.want; outer = of.innermost }; section = s }) → IsTook held place m v p t taken.Runs g v'
-      does_final s e o run =
-          let d = final_began s e in
-          let tells = told_as d (begun.Final s) e in
-          let turn : t.want ≡ Turns = final_turns t.want tells.1 in
-          let here = cell_here in
-          took_run d s (ap reads_begun e) (ap writes_begun e) (phase_as d (begun.Final s) e) (rows_as d (begun.Final s) e)
-          (subst (λ w. IsExit (length v.cells.items) (record m { registry = registry_asked t.cell w m }) v'.exit) (sym turn) (exit_still (ap is_run e)))
-          (running ∙ ap (λ x. running_after x row.seq.running) e ∙ here.runner ∙ ap runner_of (none_runs t.cell m.sections (let z = was_none d (ap (wrote _) e) in omega (arith, z))) ∙ sym (ap (λ w. if is_turn w then None else Some p) turn))
-          (tells.0 ∙ (λ i. section_by who (ask_of (here.planned i) t.want).want (here.locked.phase_is i) write_ticket) ∙ ap (λ w. section_by who (ask_of x t.want).want (stays_in x w m.registry.is_open y.phase) write_ticket) (sym turn)) (cyclic_as (begun.Final s) e) o run
-
--- what the code reads of the cell
-module _ {L : Type 0} (held : L → Holders) (place : L → LockerKind) (m : Standing) (v : Rows L) (p : ℕ) (t : Target) (waits : Bool) (is : IsAttempting held place m v p t waits) (row : CellRow L) (row_is : row ≡ get_or v.cells.items t.cell row) where
-  here : IsCell held place (seen_at t.cell m) v.parks t.cell row
-  here = is.rests.stands.cell t.cell row (read_at v.cells.items t.cell row is.cell row_is)
-
-  pub call_fits : Fits (place row.seq.locker) (held row.seq.locker) v.parks t.cell
-  call_fits = here.locked.fits
-
-  pub may_call : Calling waits (record { cell = t.cell; party = p }) v.parks
-  may_call = by waits is.waited
-    where
-      cell_in : t.cell < length v.parks.readers
-      cell_in = let a = is.cell in let d = is.rests.stands.sizes.readers in omega (arith, a, d)
-
-      party_in : p < length v.parks.rows
-      party_in = let a = is.party in let d = is.rests.stands.sizes.rows in omega (arith, a, d)
-
-      waiting_at : (o : Option Wait) → row_of v.parks p ≡ wait_row o → WaitsAt t.cell o → ((row_of v.parks p).waiting ≢ waiting_as.Free) × ((row_of v.parks p).cell ≡ t.cell)
-      waiting_at None e w = absurd w
-      waiting_at (Some x) e w = (λ f. never_free x.way x.woken (sym (ap (λ (r : Row). r.waiting) e) ∙ f), ap (λ (r : Row). r.cell) e ∙ w)
-
-      by : (b : Bool) → MatchBool b (WaitsAt t.cell (wait_of p m.waits)) (wait_of p m.waits ≡ None) → MatchBool b (MayCallAgain (record { cell = t.cell; party = p }) v.parks) (MayCall (record { cell = t.cell; party = p }) v.parks)
-      by true w = (let k = waiting_at (wait_of p m.waits) (is.rests.stands.waits.shows.row p) w in record { cell = cell_in; party = party_in; waits = k.0; here = k.1 })
-      by false w = record { cell = cell_in; party = party_in; free = ap (λ (r : Row). r.waiting) (is.rests.stands.waits.shows.row p ∙ ap wait_row w) }
-
-  pub may_register : is_finalizable row.plan.kind ≡ true → MayRegister t.cell (held row.seq.locker) v.parks v.exit.registry
-  may_register e =
-      let x = is.rests.stands.exit in
-      let sure : is_finalizable (cell_at m.plans t.cell).kind ≡ true = ap (λ (c : CellPlan). is_finalizable c.kind) (sym here.planned) ∙ e in
-      subst (λ r. MayRegister t.cell (held row.seq.locker) v.parks r) (sym x.registry_is)
-      (record { inside = (let a = is.cell in let c = x.cells_are in omega (arith, a, c)); unknown = λ z closed. is.unknown sure (sym (ap number here.locked.phase_is) ∙ z) (none closed) })
-    where
-      none : (IsWriteOpen (held row.seq.locker) v.parks t.cell → ⊥) → writes_in t.cell m ≡ 0
-      none closed = elim (cases_lt 0 (writes_in t.cell m)) [ inl lt ↦ absurd (closed (here.locked.write_is lt)) | inr le ↦ omega (arith, le) ]
+            beside : (q : ℕ) → q ≢ p → innermost q (sec ∷ m.sections) ≡ innermost q m.sections
+            beside q ne = let f : (p == q) ≡ false = grind (arith, ne) in rw f refl

@@ -19,7 +19,8 @@ use Rattle.schedule_rules.specs.Sections.{Section, innermost, is_turn}
 use Rattle.schedule_rules.specs.Waits.{wait_of}
 use Rattle.phase_moves.specs.declared.rows.Rows.{Rows}
 use Rattle.phase_moves.specs.Moves.{Rests}
-use Rattle.phase_moves.specs.Standing.{Standing, ended, finalized}
+use Rattle.phase_moves.specs.Standing.{Standing, run_closed, ended, finalized}
+use Rattle.phase_moves.specs.Gifts.{MayGive, MayGiveDown}
 use Rattle.phase_moves.specs.Stands.{Stands, want_of}
 
 -- a run that made a value for this want goes on so, and one that failed fails; the phase is told, and a write keeps its
@@ -33,6 +34,13 @@ GoesAs w (Some v) p (finished.Failed q) g = ⊥
 GoesAs w (Some v) p (finished.Phase q) g = ⊥
 GoesAs w (Some v) p (finished.Read t q) g = (want_of w ≡ want.Read) × (q ≡ p)
 GoesAs w (Some v) p (finished.Write t q) g = (want_of w ≡ want.Write) × (q ≡ p) × (g ≡ given.Nobody)
+
+-- what may be given as the run of this section goes on so: a write keeps its lock, and a read keeps a reader
+abbrev pub GivesAs : Standing → Section → Option ℕ → Finished → Given → Type 0
+GivesAs m s made (finished.Failed q) g = MayGive s.cell (run_closed s made given.Nobody m) g
+GivesAs m s made (finished.Phase q) g = ⊥
+GivesAs m s made (finished.Read t q) g = MayGiveDown s.cell m g
+GivesAs m s made (finished.Write t q) g = g ≡ given.Nobody
 
 module _ {L : Type 0} (held : L → Holders) (place : L → LockerKind) where
   -- the innermost section of the party runs in the cell
@@ -58,6 +66,7 @@ module _ {L : Type 0} (held : L → Holders) (place : L → LockerKind) where
   pub record IsEnded (m : Standing) (v : Rows L) (s : Section) (made : Option ℕ) (f : Finished) (g : Given) (new : Rows L) : Type 0 where
     pub stands : Stands held place (length v.guards.items) (ended (length v.guards.items) s made g f m) new
     pub told : GoesAs s.want made (phase_of (content_of_run (cell_at m.plans s.cell).kind s.is_open made (m.content s.cell)).phase) f g
+    pub gave : GivesAs m s made f g
 
   -- there is a run to end
   abbrev pub EndsAs : Standing → Rows L → Section → Option ℕ → Option (Finished × Given) → Rows L → Type 0
@@ -83,6 +92,7 @@ module _ {L : Type 0} (held : L → Holders) (place : L → LockerKind) where
   pub record IsFinalized (m : Standing) (v : Rows L) (s : Section) (fine : Bool) (q : Phase) (g : Given) (new : Rows L) : Type 0 where
     pub stands : Stands held place (length v.guards.items) (finalized s fine g m) new
     pub told : q ≡ phase_of (phase_finalized (m.content s.cell).phase fine)
+    pub gave : MayGive s.cell (finalized s fine given.Nobody m) g
 
   -- there is a finalizer to end
   abbrev pub FinalizesAs : Standing → Rows L → Section → Bool → Option (Phase × Given) → Rows L → Type 0

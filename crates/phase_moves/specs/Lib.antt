@@ -5,7 +5,9 @@ pub mod Moves
 pub mod Reading
 pub mod Gifts
 pub mod Ends
+pub mod Meets
 pub mod Tries
 pub mod Exits
 pub mod Closing
 pub mod Histories
+pub mod Fresh

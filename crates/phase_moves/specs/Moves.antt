@@ -16,7 +16,7 @@ use Rattle.schedule_rules.specs.History.{count}
 use Rattle.schedule_rules.specs.Waits.{shares_read}
 use Rattle.phase_moves.specs.declared.rows.GuardRow.{GuardRow}
 use Rattle.phase_moves.specs.declared.rows.Rows.{Rows}
-use Rattle.phase_moves.specs.Standing.{Standing, left, seen_by, downgraded, cloned, reads_in}
+use Rattle.phase_moves.specs.Standing.{Standing, left, seen_by, downgraded, cloned, put, reads_in}
 use Rattle.phase_moves.specs.Stands.{Stands, guard_row}
 
 -- the readers of the cell are at their limit: its read guards and its read shares
@@ -136,3 +136,19 @@ module _ {L : Type 0} (held : L → Holders) (place : L → LockerKind) where
 
   abbrev pub Clones : Rows L → ℕ → ℕ → Option ReadTicket → Rows L → Type 0
   Clones old g c result new = (m : Standing) (x : Guard) → IsOpenReader m old g x → x.cell ≡ c → ClonesAs old m x result new
+
+  -- ---- a value is set
+
+  -- a write guard of this number is open
+  pub record IsOpenWriter (m : Standing) (v : Rows L) (g : ℕ) (x : Guard) : Type 0 where
+    pub rests : Rests m v
+    pub found : numbered g m.guards ≡ Some x
+    pub writes : x.writes ≡ true
+
+  pub record MaySet (v : Rows L) (g : ℕ) : Type 0 where
+    pub m : Standing
+    pub x : Guard
+    pub is : IsOpenWriter m v g x
+
+  abbrev pub Sets : Rows L → ℕ → ℕ → Rows L → Type 0
+  Sets old g value new = (m : Standing) (x : Guard) → IsOpenWriter m old g x → Rests (put g value m) new

@@ -18,7 +18,7 @@ use Rattle.schedule_rules.specs.Changes.{Content, Change, Ran, Asked, effect, is
 use Rattle.schedule_rules.specs.Exits.{registry_of_run}
 use Rattle.schedule_rules.specs.History.{count}
 use Rattle.schedule_rules.specs.Sections.{Section, innermost, without_innermost, runs_in, is_turn}
-use Rattle.schedule_rules.specs.Guards.{Guard, without_guard, reader}
+use Rattle.schedule_rules.specs.Guards.{Guard, without_guard, put_in, reader}
 use Rattle.schedule_rules.specs.Replay.{Back, content_after_back, back_of_guard, back_of_run, back_of_turn}
 use Rattle.schedule_rules.specs.Waits.{Wait, without_wait, cell_of_section}
 use Rattle.schedule_rules.specs.Holds.{reads_cell, writes_cell}
@@ -142,6 +142,10 @@ downgraded n x g m = guarded (reader n x.party x.cell) (left x g m)
 -- one more read guard beside this one
 abbrev pub cloned : ℕ → Guard → Standing → Standing
 cloned n x m = guarded (reader n x.party x.cell) m
+
+-- the holder of the write guard with this number sets a value, which is published when the guard is given back
+abbrev pub put : ℕ → ℕ → Standing → Standing
+put g v m = record m { guards = put_in g v m.guards }
 
 -- the write guard that a run leaves
 abbrev pub writer_of : ℕ → Section → Option ℕ → Guard

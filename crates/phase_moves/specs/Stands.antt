@@ -1,10 +1,12 @@
 -- When rows stand for what is open.
 use Rattle.std.specs.Prelude.{ℕ, Bool, List, [], ◌∷◌, ◌≡◌, ◌≢◌, ◌≤◌, ◌<◌, ◌^◌, ◌==◌, length, slice_get, if◌then◌else◌}
+use Rattle.std.specs.Option.{unwrap_or}
 use Rattle.std.specs.declared.option.Option.{Option}
 use Rattle.std.specs.declared.option.Option.TheVariants.{None, Some}
 use Rattle.phase_bits.specs.declared.phase.Phase.{Phase}
 use Rattle.phase_bits.specs.declared.holders.Holders.{Holders}
 use Rattle.phase_bits.specs.Number.{IsKnown, phase_of}
+use Rattle.phase_bits.specs.Records.{most_readers}
 use Rattle.exit_registry.specs.Registry.{cells_of}
 use Rattle.phase_locker.specs.declared.ways.LockerKind.{LockerKind}
 use Rattle.phase_locker.specs.declared.ways.LockerKind.TheVariants as kind
@@ -14,7 +16,7 @@ use Rattle.phase_locker.specs.Fits.{Fits, IsWriteOpen, open_reads}
 use Rattle.phase_seq.specs.declared.ask.Want.{Want as SeqWant}
 use Rattle.phase_seq.specs.declared.ask.Want.TheVariants as want
 use Rattle.phase_seq.specs.declared.section.Section.{Section as SeqSection}
-use Rattle.schedule_rules.specs.declared.plan.Call.TheVariants as call
+use Rattle.schedule_rules.specs.Calls.{seeks}
 use Rattle.schedule_rules.specs.declared.plan.CellPlan.{CellPlan}
 use Rattle.schedule_rules.specs.declared.plan.Place.{Place}
 use Rattle.schedule_rules.specs.declared.plan.Place.TheVariants as place_of
@@ -40,12 +42,9 @@ use Rattle.phase_moves.specs.Standing.{Standing, Run, run_in, runner_of, reads_i
 
 -- ---- each row is a function of what stands open
 
--- what opens a section wants of its cell
+-- what opens a section seeks of its cell, by the call table. Write for what seeks nothing does not occur: it opens none
 abbrev pub want_of : Want → SeqWant
-want_of (Calls call.Phase) = want.Write  -- does not occur: the call asks for no run
-want_of (Calls call.Read) = want.Read
-want_of (Calls call.Write) = want.Write
-want_of Turns = want.Finalize
+want_of w = unwrap_or (seeks w) want.Write
 
 -- the flags that stay beside those of a section that runs
 abbrev pub stays_in : CellPlan → Want → Bool → ℕ → Phase
@@ -91,7 +90,8 @@ kind_at place_of.Spin = kind.Spin
 
 -- ---- the locker of a cell
 
--- it has so many read holds, and a write hold where there is one: shares and claims the rows of who is parked tell
+-- it has so many read holds, and a write hold where there is one, and its readers are within the limit: shares and claims
+-- the rows of who is parked tell
 pub record IsLocked (k : LockerKind) (h : Holders) (s : Parking) (c reads writes phase : ℕ) : Type 0 where
   pub fits : Fits k h s c
   pub phase_is : h.phase ≡ phase_of phase
@@ -99,6 +99,7 @@ pub record IsLocked (k : LockerKind) (h : Holders) (s : Parking) (c reads writes
   pub write_is : 0 < writes → IsWriteOpen h s c
   pub write_was : IsWriteOpen h s c → 0 < writes
   pub one : writes ≤ 1
+  pub limit : h.readers ≤ most_readers
 
 -- what stands open says of a cell
 pub record Seen : Type 0 where

@@ -9,25 +9,87 @@ use Rattle.exit_registry.specs.Registry.{is_known}
 use Rattle.phase_locker.specs.declared.ways.LockerKind.{LockerKind}
 use Rattle.phase_locker.specs.declared.ways.Given.{Given}
 use Rattle.phase_seq.specs.declared.ask.Ask.{Ask}
+use Rattle.phase_seq.specs.declared.section.Begun.{Begun}
+use Rattle.phase_seq.specs.declared.section.Begun.TheVariants as begun
+use Rattle.phase_seq.specs.declared.section.Section.{Section as SeqSection}
 use Rattle.phase_seq.specs.Begins.{is_cyclic}
 use Rattle.schedule_rules.specs.declared.plan.Call.TheVariants as call
 use Rattle.schedule_rules.specs.declared.plan.CellPlan.{CellPlan}
 use Rattle.schedule_rules.specs.declared.step.Want.{Want}
 use Rattle.schedule_rules.specs.declared.step.Want.TheVariants.{Calls}
 use Rattle.schedule_rules.specs.Changes.{effect}
-use Rattle.schedule_rules.specs.Kinds.{cell_at, is_finalizable}
+use Rattle.schedule_rules.specs.Kinds.{cell_at, is_finalizable, tolerance_of}
 use Rattle.schedule_rules.specs.Waits.{Wait, wait_of}
+use Rattle.phase_moves.specs.declared.rows.OpenRun.{OpenRun}
+use Rattle.phase_moves.specs.declared.rows.PartyRow.{PartyRow}
 use Rattle.phase_moves.specs.declared.rows.Rows.{Rows}
 use Rattle.phase_moves.specs.declared.rows.Taken.{Taken}
 use Rattle.phase_moves.specs.declared.rows.Taken.TheVariants as taken
 use Rattle.phase_moves.specs.declared.rows.Target.{Target}
+use Rattle.phase_moves.specs.Meets.{IsMet}
 use Rattle.phase_moves.specs.Moves.{Rests}
 use Rattle.phase_moves.specs.Standing.{Standing, changes_at, run_in, runner_of, took, writes_in}
 use Rattle.phase_moves.specs.Stands.{Stands, want_of}
 
 -- what an attempt asks of its cell
 abbrev pub ask_of : CellPlan → Want → Ask
-ask_of x w = record { want = want_of w; fast = false; tol = record { retry = x.retry; leak = x.leak } }
+ask_of x w = record { want = want_of w; fast = false; tol = tolerance_of x }
+
+-- ---- what is taken of what was begun
+
+-- what was begun, as an attempt answers it
+abbrev pub taken_of : Begun → Taken
+taken_of (begun.Wait way) = taken.Wait way
+taken_of begun.Missed = taken.Cyclic
+taken_of begun.Cyclic = taken.Cyclic
+taken_of (begun.Nothing q) = taken.Nothing q
+taken_of (begun.Read t q) = taken.Read t q
+taken_of (begun.Write t q) = taken.Write t q
+taken_of (begun.Run o) = taken.Runs
+taken_of (begun.Final o) = taken.Runs
+
+-- a section is opened
+abbrev pub opens_section : Begun → Bool
+opens_section (begun.Wait way) = false
+opens_section begun.Missed = false
+opens_section begun.Cyclic = false
+opens_section (begun.Nothing q) = false
+opens_section (begun.Read t q) = false
+opens_section (begun.Write t q) = false
+opens_section (begun.Run o) = true
+opens_section (begun.Final o) = true
+
+-- the row of a party that runs this
+abbrev pub party_running : Target → PartyRow
+party_running t = record { waiting = None; innermost = Some t.cell }
+
+-- the row of the party then
+abbrev pub party_after : Target → Begun → PartyRow → PartyRow
+party_after t (begun.Wait way) of = record { waiting = Some t; innermost = of.innermost }
+party_after t begun.Missed of = of
+party_after t begun.Cyclic of = of
+party_after t (begun.Nothing q) of = record { waiting = None; innermost = of.innermost }
+party_after t (begun.Read l q) of = record { waiting = None; innermost = of.innermost }
+party_after t (begun.Write l q) of = record { waiting = None; innermost = of.innermost }
+party_after t (begun.Run o) of = party_running t
+party_after t (begun.Final o) of = party_running t
+
+-- the row of a section that the party, of which this was the row, runs
+abbrev pub run_of : ℕ → Target → PartyRow → SeqSection → OpenRun
+run_of p t of o = record { run = record { party = p; want = t.want; outer = of.innermost }; section = o }
+
+-- what runs in the cell then, where this ran
+abbrev pub run_after : ℕ → Target → PartyRow → Begun → Option OpenRun → Option OpenRun
+run_after p t of (begun.Wait way) run = run
+run_after p t of begun.Missed run = run
+run_after p t of begun.Cyclic run = run
+run_after p t of (begun.Nothing q) run = run
+run_after p t of (begun.Read l q) run = run
+run_after p t of (begun.Write l q) run = run
+run_after p t of (begun.Run o) run = Some (run_of p t of o)
+run_after p t of (begun.Final o) run = Some (run_of p t of o)
+
+-- ---- what an attempt requires and tells
 
 -- the call waits at this cell
 abbrev pub WaitsAt : ℕ → Option Wait → Type 0
@@ -75,11 +137,12 @@ module _ {L : Type 0} (held : L → Holders) (place : L → LockerKind) where
     pub is : IsAttempting m v p t waits
 
   -- what an attempt that was answered so tells: it is turned back exactly where it asks for a run of the generator that
-  -- its own party is running
+  -- its own party is running, and its answer is the one that is due of what it met
   pub record IsTook (m : Standing) (v : Rows L) (p : ℕ) (t : Target) (b : Taken) (g : Given) (new : Rows L) : Type 0 where
     pub stands : Stands held place (length v.guards.items) (took (length v.guards.items) p t.cell t.want g b m) new
     pub told : TellsPhase (phase_asked t.cell t.want m) b
     pub cyclic : is_turned b ≡ is_cyclic (want_of t.want) p (runner_of (run_in t.cell m.sections))
+    pub met : IsMet p t b g m
 
   abbrev pub Attempts : Rows L → ℕ → Target → Bool → Taken × Given → Rows L → Type 0
   Attempts old p t waits r new = (m : Standing) → IsAttempting m old p t waits → IsTook m old p t r.0 r.1 new

@@ -1,13 +1,14 @@
 //! An attempt of a call or a turn.
 
-ghost use Rattle.std.specs.Prelude.{◌≡◌, None, Some};
+ghost use Rattle.std.specs.Prelude.{◌≡◌, true, None, Some};
+ghost use Rattle.phase_moves.specs.declared.rows.Taken.TheVariants.{Runs};
 ghost use Rattle.phase_moves.specs.Moves.{KeptGuards};
-ghost use Rattle.phase_moves.specs.Tries.{MayAttempt, Attempts, ask_of};
+ghost use Rattle.phase_moves.specs.Tries.{MayAttempt, Attempts, ask_of, opens_section, party_after, party_running, run_after, run_of, taken_of};
 
-use crate::calls::call;
-use crate::rows::{CellRow, OpenRun, Rows, RunRow, Taken, Target};
-use phase_locker::{Given, PhaseLocker, Who};
-use phase_seq::{Ask, Begun, Tolerance};
+use crate::calls::{call, finish_final};
+use crate::rows::{CellRow, OpenRun, PartyRow, Rows, RunRow, Taken, Target};
+use phase_locker::{Given, Parks, PhaseLocker, Who};
+use phase_seq::{Ask, Begun, Section, Tolerance};
 use schedule_rules::{Call, CellPlan, Want};
 
 /// What is asked of a cell.
@@ -30,15 +31,84 @@ fn ask_of(plan: CellPlan, want: Want) -> Ask
     }
 }
 
-impl<L> CellRow<L> {
-    /// Opens a section in a cell where none runs.
-    fn open(&mut self, run: OpenRun)
+impl<L: PhaseLocker> CellRow<L> {
+    /// Opens a section in a cell where none runs. One that ran would be given back.
+    fn open(&mut self, parks: &mut Parks, run: OpenRun)
         requires { self.old.run ≡ None }
-        ensures { self.new ≡ record self.old { run = Some run } }
+        ensures row { self.new ≡ record self.old { run = Some run } }
+        ensures parks { parks.new ≡ parks.old }
     {
         match self.run.replace(run) {
             None => {}
-            Some(_) => unreachable!(),
+            Some(open) => {
+                let OpenRun { run: _, section } = open;
+                let (_phase, _given) = finish_final(&mut self.seq, parks, section, false);
+            }
+        }
+    }
+
+    /// The party runs a section here.
+    fn runs(
+        &mut self,
+        of: &mut PartyRow,
+        parks: &mut Parks,
+        party: u32,
+        target: Target,
+        section: Section,
+    ) -> Taken
+        requires { self.old.run ≡ None }
+        ensures taken { result ≡ Runs }
+        ensures party { of.new ≡ party_running target }
+        ensures row { self.new ≡ record self.old { run = Some (run_of party target of.old section) } }
+        ensures parks { parks.new ≡ parks.old }
+    {
+        let run = RunRow {
+            party,
+            want: target.want,
+            outer: of.innermost,
+        };
+        of.waiting = None;
+        of.innermost = Some(target.cell);
+        self.open(parks, OpenRun { run, section });
+        Taken::Runs
+    }
+
+    /// What an attempt of the party took of what it began here.
+    fn takes(
+        &mut self,
+        of: &mut PartyRow,
+        parks: &mut Parks,
+        party: u32,
+        target: Target,
+        begun: Begun,
+    ) -> Taken
+        requires { opens_section begun ≡ true → self.old.run ≡ None }
+        ensures taken { result ≡ taken_of begun }
+        ensures party { of.new ≡ party_after target begun of.old }
+        ensures row { self.new ≡ record self.old { run = run_after party target of.old begun self.old.run } }
+        ensures parks { parks.new ≡ parks.old }
+    {
+        match begun {
+            Begun::Wait(how) => {
+                of.waiting = Some(target);
+                Taken::Wait(how)
+            }
+            Begun::Cyclic => Taken::Cyclic,
+            Begun::Missed => Taken::Cyclic,
+            Begun::Nothing(phase) => {
+                of.waiting = None;
+                Taken::Nothing(phase)
+            }
+            Begun::Read(lock, phase) => {
+                of.waiting = None;
+                Taken::Read(lock, phase)
+            }
+            Begun::Write(lock, phase) => {
+                of.waiting = None;
+                Taken::Write(lock, phase)
+            }
+            Begun::Run(section) => self.runs(of, parks, party, target, section),
+            Begun::Final(section) => self.runs(of, parks, party, target, section),
         }
     }
 }
@@ -68,47 +138,7 @@ impl<L: PhaseLocker> Rows<L> {
             waits,
         );
         let of = &mut self.parties[party as usize];
-        match begun {
-            Begun::Wait(how) => {
-                of.waiting = Some(target);
-                (Taken::Wait(how), given)
-            }
-            Begun::Cyclic => (Taken::Cyclic, given),
-            Begun::Missed => (Taken::Cyclic, given),
-            Begun::Nothing(phase) => {
-                of.waiting = None;
-                (Taken::Nothing(phase), given)
-            }
-            Begun::Read(lock, phase) => {
-                of.waiting = None;
-                (Taken::Read(lock, phase), given)
-            }
-            Begun::Write(lock, phase) => {
-                of.waiting = None;
-                (Taken::Write(lock, phase), given)
-            }
-            Begun::Run(section) => {
-                let run = RunRow {
-                    party,
-                    want: target.want,
-                    outer: of.innermost,
-                };
-                of.waiting = None;
-                of.innermost = Some(target.cell);
-                row.open(OpenRun { run, section });
-                (Taken::Runs, given)
-            }
-            Begun::Final(section) => {
-                let run = RunRow {
-                    party,
-                    want: target.want,
-                    outer: of.innermost,
-                };
-                of.waiting = None;
-                of.innermost = Some(target.cell);
-                row.open(OpenRun { run, section });
-                (Taken::Runs, given)
-            }
-        }
+        let taken = row.takes(of, &mut self.parks, party, target, begun);
+        (taken, given)
     }
 }

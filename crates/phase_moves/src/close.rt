@@ -1,33 +1,61 @@
-//! Every guard is given back at the end, by the moves of releases.
+//! The end of the rows: what is open is given back, guards by the moves of releases, sections by their sequentializers.
 
-ghost use Rattle.std.specs.Prelude.{◌≡◌, ◌<◌, length, slice_set};
-ghost use Rattle.phase_moves.specs.declared.rows.GuardRow.TheVariants.{Free};
-ghost use Rattle.phase_moves.specs.Closing.{CanClose, AreFreeBelow};
+ghost use Rattle.std.specs.Prelude.{◌≡◌, ◌<◌, ◌^◌, [], length};
+ghost use Rattle.phase_moves.specs.Closing.{CanClose, IsPopped, AreClosing, IsClosing, IsOpenRun, StayBeside};
 
-use crate::rows::{GuardRow, Rows};
-use phase_locker::PhaseLocker;
-use std::mem;
+use crate::calls::{finish, finish_final, release_read, release_write};
+use crate::rows::{CellRow, Exit, GuardRow, OpenRun, Rows};
+use phase_locker::{Parks, PhaseLocker};
+use phase_seq::{Finished, LazySequentializer, Section};
+use schedule_rules::{Turned, Want};
 
 impl<L: PhaseLocker> Rows<L> {
-    /// Gives every guard back.
-    pub fn close_guards(&mut self)
+    /// Gives back what is open, and ends the rows. The turns of the exit that ended are left. It takes no memory.
+    pub fn close(mut self) -> Vec<Turned>
+        requires can { CanClose L.held L.place self }
+        requires few { length self.cells.items < 2 ^ 32 }
+        ensures { result.items ≡ self.exit.turns.items }
+    {
+        self.close_guards();
+        let Rows {
+            cells,
+            mut guards,
+            parties: _,
+            mut parks,
+            exit,
+        } = self;
+        guards.destroy_empty();
+        close_cells(cells, &mut parks);
+        let Exit {
+            registry: _,
+            owner: _,
+            turns,
+        } = exit;
+        turns
+    }
+
+    /// Gives every guard back, the latest first.
+    fn close_guards(&mut self)
         requires { CanClose L.held L.place self.old }
         ensures can { CanClose L.held L.place self.new }
-        ensures free { AreFreeBelow (length self.new.guards.items) self.new.guards.items }
+        ensures none { self.new.guards.items ≡ [] }
+        ensures cells { length self.new.cells.items ≡ length self.old.cells.items }
+        ensures turns { self.new.exit.turns.items ≡ self.old.exit.turns.items }
     {
-        for guard in 0..self.guards.len() {
-            self.close_guard(guard);
+        while let Some(row) = self.guards.pop() {
+            self.close_guard(row);
         }
     }
 
-    /// Gives the guard of this row back, where there is one.
-    fn close_guard(&mut self, guard: usize)
-        requires can { CanClose L.held L.place self.old }
-        requires inside { guard < length self.old.guards.items }
+    /// Gives the guard of this row back, where there is one. It was that of the latest step.
+    fn close_guard(&mut self, row: GuardRow)
+        requires { IsPopped L.held L.place row self.old }
         ensures can { CanClose L.held L.place self.new }
-        ensures guards { self.new.guards.items ≡ slice_set self.old.guards.items guard Free }
+        ensures guards { self.new.guards ≡ self.old.guards }
+        ensures cells { length self.new.cells.items ≡ length self.old.cells.items }
+        ensures turns { self.new.exit.turns.items ≡ self.old.exit.turns.items }
     {
-        match mem::replace(&mut self.guards[guard], GuardRow::Free) {
+        match row {
             GuardRow::Free => {}
             GuardRow::Read {
                 party: _,
@@ -44,6 +72,68 @@ impl<L: PhaseLocker> Rows<L> {
                 lock,
             } => {
                 let _given = self.leave_write(cell, lock, phase, value);
+            }
+        }
+    }
+}
+
+/// Ends the rows of cells, and gives back what runs there.
+fn close_cells<L: PhaseLocker>(mut cells: Vec<CellRow<L>>, parks: &mut Parks)
+    requires closing { AreClosing L.held L.place parks.old cells.items }
+    requires few { length cells.items < 2 ^ 32 }
+{
+    while let Some(row) = cells.pop() {
+        close_cell(cells.len() as u32, row, parks);
+    }
+    cells.destroy_empty();
+}
+
+/// Ends the row of a cell, and gives back what runs there.
+fn close_cell<L: PhaseLocker>(cell: u32, row: CellRow<L>, parks: &mut Parks)
+    requires { IsClosing L.held L.place cell parks.old row }
+    ensures { StayBeside cell parks.old parks.new }
+{
+    let CellRow {
+        plan: _,
+        value: _,
+        run,
+        mut seq,
+    } = row;
+    match run {
+        None => {}
+        Some(open) => {
+            let OpenRun { run, section } = open;
+            close_run(cell, &mut seq, parks, run.want, section);
+        }
+    }
+}
+
+/// Gives a section back, as one that failed.
+fn close_run<L: PhaseLocker>(
+    cell: u32,
+    seq: &mut LazySequentializer<L, ()>,
+    parks: &mut Parks,
+    want: Want,
+    section: Section,
+)
+    requires { IsOpenRun L.held L.place cell parks.old seq.old want section }
+    ensures { StayBeside cell parks.old parks.new }
+{
+    match want {
+        Want::Turns => {
+            let (_phase, _given) = finish_final(seq, parks, section, false);
+        }
+        Want::Calls(_) => {
+            let (finished, _given) = finish(seq, parks, section, false);
+            match finished {
+                Finished::Failed(_) => {}
+                Finished::Phase(_) => {}
+                Finished::Read(lock, _) => {
+                    let _given = release_read(seq, parks, cell, lock);
+                }
+                Finished::Write(lock, phase) => {
+                    let _given = release_write(seq, parks, cell, lock, phase);
+                }
             }
         }
     }

@@ -9,7 +9,10 @@ mod calls;
 mod close;
 mod ends;
 mod exit;
+mod fresh;
+mod look_up;
 mod moves;
 mod rows;
 
+pub use look_up::Held;
 pub use rows::{CellRow, Exit, GuardRow, OpenRun, PartyRow, Rows, RunRow, Taken, Target};

@@ -1,9 +1,9 @@
 //! The moves on guards.
 
 ghost use Rattle.std.specs.Prelude.{◌≡◌, ◌<◌, vec_capacity, length};
-ghost use Rattle.phase_moves.specs.Reading.{is_row_of};
+ghost use Rattle.phase_moves.specs.Reading.{is_row_of, row_put};
 ghost use Rattle.phase_moves.specs.Gifts.{GivesRead, GivesWrite, GivesDown};
-ghost use Rattle.phase_moves.specs.Moves.{KeptGuards, KeptWith, MayLeaveRead, LeavesRead, MayLeaveWrite, LeavesWrite, Pushes, Takes, MayDowngrade, Downgrades, MayClone, Clones};
+ghost use Rattle.phase_moves.specs.Moves.{KeptGuards, KeptWith, MayLeaveRead, LeavesRead, MayLeaveWrite, LeavesWrite, Pushes, Takes, MayDowngrade, Downgrades, MayClone, Clones, MaySet, Sets};
 
 use crate::calls::{clone_read, downgrade, release_read, release_write};
 use crate::rows::{GuardRow, Rows};
@@ -20,6 +20,17 @@ impl GuardRow {
             GuardRow::Free => false,
             GuardRow::Read { party: owner, .. } => *owner == party,
             GuardRow::Write { party: owner, .. } => *owner == party,
+        }
+    }
+
+    /// The holder of a write guard sets the value.
+    fn put(&mut self, value: u64)
+        ensures { self.new ≡ row_put value self.old }
+    {
+        match self {
+            GuardRow::Free => {}
+            GuardRow::Read { .. } => {}
+            GuardRow::Write { value: seen, .. } => *seen = Some(value),
         }
     }
 }
@@ -105,5 +116,14 @@ impl<L: PhaseLocker> Rows<L> {
             return None;
         };
         clone_read(&mut self.cells[cell as usize].seq, lock)
+    }
+
+    /// The holder of this write guard sets the value, which is published when the guard is given back.
+    pub fn set(&mut self, guard: u32, value: u64)
+        requires { MaySet L.held L.place self.old guard }
+        ensures sets { Sets L.held L.place self.old guard value self.new }
+        ensures kept { KeptWith 0 self.old self.new }
+    {
+        self.guards[guard as usize].put(value);
     }
 }

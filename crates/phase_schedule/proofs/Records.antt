@@ -1,106 +1,90 @@
--- The record of a cell agrees with the history through the moves of its lock, while no hold opens or ends.
-use Rattle.std.proofs.Common.{◌≡◌, ◌==◌, ℕ, ◌+◌, ◌≤◌, List, length, refl, arith, Bool, true, false, cond, Some, ◌∙◌, ap, sym, map}
+-- The record of a locker is that of its cell's holders.
+use Rattle.std.proofs.Common.{zero, suc, inl, inr, ◌≡◌, ℕ, ◌+◌, ◌-◌, ◌<◌, ◌≤◌, List, [], ◌∷◌, ◌++◌, length, refl, sym, ◌∙◌, ap, subst, arith, Bool, true, false, not, ◌||◌}
+use Rattle.std.specs.Prelude.{nat_lt}
+use Rattle.std.specs.List.{list_any}
 use Rattle.phase_bits.specs.declared.holders.Holders.{Holders}
-use Rattle.phase_bits.specs.Records.{give_readers, give_writer}
-use Rattle.phase_locker.specs.declared.ways.How.{How}
-use Rattle.phase_locker.specs.declared.ways.How.TheVariants as how
-use Rattle.phase_locker.specs.Rows.{Rows, row_of, readers_of}
-use Rattle.phase_locker.specs.Attempts.{held_waiting, given_up}
+use Rattle.phase_bits.specs.Number.{phase_of}
+use Rattle.phase_locker.specs.declared.ways.LockerKind.{LockerKind}
+use Rattle.phase_locker.specs.Rows.{Rows as Parking, claims, is_empty, readers_of, shares, writers_of}
 use Rattle.schedule_rules.specs.declared.plan.CellPlan.{CellPlan}
+use Rattle.schedule_rules.specs.Core.{core, is_locked_with}
 use Rattle.schedule_rules.specs.History.{Event, count}
-use Rattle.schedule_rules.specs.Waits.{Wait, Attempt, wait_of, without_wait, with_wait, is_read_share, is_write_share, is_drain, parks_to_write, shares_read, shares_write, drains_on, parked_readers, wake_reader, wake_writer}
-use Rattle.schedule_rules.specs.Holds.{read_guards, writers_with, drains_with}
-use Rattle.waiting_rows.specs.Shown.{Shows, IsSingle, waiting_of, wait_row}
-use Rattle.phase_schedule.specs.Agrees.{Agrees}
-use Rattle.waiting_rows.proofs.Counted.{count_without_wait, read_shares_woken, write_shares_beside_readers, drains_beside_readers}
-use Rattle.waiting_rows.proofs.Members.{write_shares_woken, read_shares_beside_writer}
-use Rattle.waiting_rows.proofs.Added.{drains_added}
-use Rattle.phase_schedule.proofs.Same.{locked_same, locked_by_write, locked_by_drain, unlocked, agrees_same}
+use Rattle.schedule_rules.specs.Holds.{drains_with, read_guards, readers_with, write_holds, writers_with}
+use Rattle.schedule_rules.specs.Replay.{phase_at}
+use Rattle.schedule_rules.specs.Waits.{Wait, drains_on, parked_readers, parked_writers, parks_to_read, parks_to_write, party_if, shares_read, shares_write, waits}
+use Rattle.waiting_rows.specs.Shown.{Shows}
+use Rattle.waiting_rows.proofs.RowCounts.{shares_shown, claims_shown}
+use Rattle.phase_moves.specs.Stands.{AreShown, IsLocked}
 
--- a call has what its way says, at its cell
-pub here_read : (c : ℕ) (w : Wait) → w.cell ≡ c → cond {A = ℕ} (shares_read c w) 1 0 ≡ cond {A = ℕ} (is_read_share w.way w.woken) 1 0
-here_read c w e = grind (arith, e)
+-- a list that ends so is not empty
+not_empty : (ps : List ℕ) (p : ℕ) → is_empty (ps ++ p ∷ []) ≡ false
+not_empty [] p = refl
+not_empty (q ∷ qs) p = refl
 
-pub here_write : (c : ℕ) (w : Wait) → w.cell ≡ c → cond {A = ℕ} (shares_write c w) 1 0 ≡ cond {A = ℕ} (is_write_share w.way w.woken) 1 0
-here_write c w e = grind (arith, e)
+joined : (ps : List ℕ) (b : Bool) (p : ℕ) → not (is_empty (ps ++ party_if b p)) ≡ b || not (is_empty ps)
+joined ps true p = ap not (not_empty ps p)
+joined [] false p = refl
+joined (q ∷ qs) false p = refl
 
-pub here_drain : (c : ℕ) (w : Wait) → w.cell ≡ c → cond {A = ℕ} (drains_on c w) 1 0 ≡ cond {A = ℕ} (is_drain w.way) 1 0
-here_drain c w e = grind (arith, e)
+-- a list of parked parties is empty exactly where no call parks
+readers_any : (c : ℕ) (ws : List Wait) → not (is_empty (parked_readers c ws)) ≡ list_any (parks_to_read c) ws
+readers_any c [] = refl
+readers_any c (w ∷ ws) = joined (parked_readers c ws) (parks_to_read c w) w.party ∙ ap (λ b. parks_to_read c w || b) (readers_any c ws)
 
--- the row of a party says how its call waits
-pub row_waits : (p : ℕ) (ws : List Wait) (s : Rows) (w : Wait) → Shows ws s → wait_of p ws ≡ Some w → row_of s p ≡ record { waiting = waiting_of w.way w.woken; cell = w.cell }
-row_waits p ws s w shows e = shows.row p ∙ ap wait_row e
+writers_any : (c : ℕ) (ws : List Wait) → not (is_empty (parked_writers c ws)) ≡ list_any (parks_to_write c) ws
+writers_any c [] = refl
+writers_any c (w ∷ ws) = joined (parked_writers c ws) (parks_to_write c w) w.party ∙ ap (λ b. parks_to_write c w || b) (writers_any c ws)
 
-module _ (cells : List CellPlan) (c : ℕ) (h : List Event) where
-  -- the parked readers are given shares
-  pub agrees_readers : (ws : List Wait) (s : Rows) (x : Holders) → Shows ws s → Agrees cells c h ws x → Agrees cells c h (map (wake_reader c) ws) (give_readers (length (readers_of s c)) x)
-  agrees_readers ws s x shows a =
-      let more = read_shares_woken c ws in
-      let same : length (readers_of s c) ≡ length (parked_readers c ws) = ap (λ (ps : List ℕ). length ps) (shows.readers c) in
-      let old = a.readers in
-      record {
-        phase = a.phase;
-        readers = omega (arith, more, same, old);
-        locked = a.locked ∙ locked_same c h ws (map (wake_reader c) ws) (write_shares_beside_readers c c ws) (drains_beside_readers c c ws);
-      }
-
-  -- a parked writer is given a share
-  pub agrees_writer : (q : ℕ) (ws : List Wait) (w : Wait) (x : Holders) → IsSingle ws → wait_of q ws ≡ Some w → parks_to_write c w ≡ true → Agrees cells c h ws x → Agrees cells c h (map (wake_writer q) ws) (give_writer x)
-  agrees_writer q ws w x single is parks a = record {
-    phase = a.phase;
-    readers = a.readers ∙ ap (λ n. read_guards c h + n) (sym (read_shares_beside_writer q c ws w single is parks c));
-    locked = sym (locked_by_write c h (map (wake_writer q) ws) (writers_with c h ws) (let e = write_shares_woken q c ws w single is parks in omega (arith, e)));
-  }
-
-  -- a call began to wait at the cell
-  pub agrees_waiting : (p : ℕ) (way : How) (a : Attempt) (ws : List Wait) (x : Holders) → a.cell ≡ c → Agrees cells c h ws x → Agrees cells c h (with_wait p way (Some a) ws) (held_waiting way x)
-  agrees_waiting p how.Spin t ws x here a = agrees_same cells c h ws (with_wait p how.Spin (Some t) ws) x refl refl refl a
-  agrees_waiting p how.ParkedRead t ws x here a = agrees_same cells c h ws (with_wait p how.ParkedRead (Some t) ws) x refl refl refl a
-  agrees_waiting p how.ParkedWrite t ws x here a = agrees_same cells c h ws (with_wait p how.ParkedWrite (Some t) ws) x refl refl refl a
-  agrees_waiting p how.Drain t ws x here a = record {
-    phase = a.phase;
-    readers = a.readers;
-    locked = sym (locked_by_drain c h (with_wait p how.Drain (Some t) ws) (count (drains_on c) ws) (drains_added c p how.Drain t ws ∙ one (t.cell == c) (grind (arith, here))));
-  }
+-- a locker of which this is open, beside rows that show these calls, has the record of the cell's holders
+module _ (cells : List CellPlan) (h : List Event) (c n : ℕ) (k : LockerKind) (x : Holders) (s : Parking) where
+  pub record_is : AreShown n (waits cells h) s → IsLocked k x s c (read_guards c h) (write_holds c h) (phase_at cells c h) → x ≡ core cells c h
+  record_is w l =
+      λ i. record { phase = l.phase_is i; readers = readers_are i; locked = locked_is i; read_waiters = read_is i; write_waiters = write_is i }
     where
-      one : (b : Bool) → b ≡ true → count (drains_on c) ws + cond b 1 0 ≡ count (drains_on c) ws + 1
-      one true e = refl
-      one false e = absurd (cc)
+      ws : List Wait
+      ws = waits cells h
 
-  -- what a call had is given up, where no second write hold, write share or drain of the cell stands beside
-  pub agrees_given_up : (p : ℕ) (ws : List Wait) (w : Wait) (x : Holders) → IsSingle ws → wait_of p ws ≡ Some w → w.cell ≡ c → writers_with c h ws + drains_with c ws ≤ 1 → Agrees cells c h ws x → Agrees cells c h (without_wait p ws) (given_up (waiting_of w.way w.woken) x)
-  agrees_given_up p ws w x single is here one a =
-      by w.way w.woken
-      (count_without_wait (shares_read c) p ws w single is ∙ ap (λ n. count (shares_read c) (without_wait p ws) + n) (here_read c w here))
-      (count_without_wait (shares_write c) p ws w single is ∙ ap (λ n. count (shares_write c) (without_wait p ws) + n) (here_write c w here))
-      (count_without_wait (drains_on c) p ws w single is ∙ ap (λ n. count (drains_on c) (without_wait p ws) + n) (here_drain c w here))
-    where
-      still : count (shares_read c) ws ≡ count (shares_read c) (without_wait p ws) + 0 → count (shares_write c) ws ≡ count (shares_write c) (without_wait p ws) + 0 → count (drains_on c) ws ≡ count (drains_on c) (without_wait p ws) + 0 → Agrees cells c h (without_wait p ws) x
-      still r s d = agrees_same cells c h ws (without_wait p ws) x (omega (arith, r)) (omega (arith, s)) (omega (arith, d)) a
+      readers_are : x.readers ≡ readers_with c h ws
+      readers_are =
+          let shown : shares s c ≡ count (shares_read c) ws = shares_shown c ws s w.single w.shows in
+          let open_is : x.readers - shares s c ≡ read_guards c h = l.reads_are in
+          let few : shares s c ≤ x.readers = l.fits.shared in
+          omega (arith, shown, open_is, few)
 
-      by : (way : How) (woken : Bool) → count (shares_read c) ws ≡ count (shares_read c) (without_wait p ws) + cond (is_read_share way woken) 1 0
-          → count (shares_write c) ws ≡ count (shares_write c) (without_wait p ws) + cond (is_write_share way woken) 1 0
-          → count (drains_on c) ws ≡ count (drains_on c) (without_wait p ws) + cond (is_drain way) 1 0
-          → Agrees cells c h (without_wait p ws) (given_up (waiting_of way woken) x)
-      by how.Spin woken r s d = still r s d
-      by how.ParkedRead false r s d = still r s d
-      by how.ParkedWrite false r s d = still r s d
-      by how.ParkedRead true r s d = let old = a.readers in record {
-        phase = a.phase;
-        readers = omega (arith, old, r);
-        locked = a.locked ∙ locked_same c h ws (without_wait p ws) (omega (arith, s)) (omega (arith, d));
-      }
-      by how.ParkedWrite true r s d = let old = a.readers in record {
-        phase = a.phase;
-        readers = omega (arith, old, r);
-        locked = sym (unlocked c h (without_wait p ws) (omega (arith, one, s, d)) (omega (arith, one, s, d)));
-      }
-      by how.Drain woken r s d = let old = a.readers in record {
-        phase = a.phase;
-        readers = omega (arith, old, r);
-        locked = sym (unlocked c h (without_wait p ws) (omega (arith, one, s, d)) (omega (arith, one, s, d)));
-      }
+      read_is : x.read_waiters ≡ list_any (parks_to_read c) ws
+      read_is = l.fits.read_flag ∙ ap (λ ps. not (is_empty ps)) (w.shows.readers c) ∙ readers_any c ws
 
-  -- the same, as the row of the party says what it had
-  pub agrees_row_given_up : (p : ℕ) (ws : List Wait) (s : Rows) (w : Wait) (x : Holders) → IsSingle ws → Shows ws s → wait_of p ws ≡ Some w → w.cell ≡ c → writers_with c h ws + drains_with c ws ≤ 1 → Agrees cells c h ws x → Agrees cells c h (without_wait p ws) (given_up (row_of s p).waiting x)
-  agrees_row_given_up p ws s w x single shows is here one a = rw (row_waits p ws s w shows is) (agrees_given_up p ws w x single is here one a)
+      write_is : x.write_waiters ≡ list_any (parks_to_write c) ws
+      write_is = l.fits.write_flag ∙ ap (λ ps. not (is_empty ps)) (w.shows.writers c) ∙ writers_any c ws
+
+      claimed : claims s c ≡ count (shares_write c) ws + count (drains_on c) ws
+      claimed = claims_shown c ws s w.single w.shows
+
+      -- locked: for an open hold or for a claim
+      by : (b : Bool) → x.locked ≡ b → b ≡ nat_lt 0 (writers_with c h ws) || nat_lt 0 (drains_with c ws)
+      by true e = some (claims s c) refl
+        where
+          some : (n : ℕ) → claims s c ≡ n → true ≡ nat_lt 0 (writers_with c h ws) || nat_lt 0 (drains_with c ws)
+          some zero none =
+              let held : 0 < write_holds c h = l.write_was (record { locked = e; unclaimed = none }) in
+              grind arith
+          some (suc n) one = let shown : _ = claimed in grind arith
+      by false e = none
+        where
+          no_claim : claims s c ≡ 0
+          no_claim = l.fits.locked e
+
+          no_hold : (n : ℕ) → write_holds c h ≡ n → write_holds c h ≡ 0
+          no_hold zero z = z
+          no_hold (suc n) z = absurd (clash (l.write_is (omega (arith, z))).locked)
+            where
+              clash : x.locked ≡ true → ⊥
+              clash t = let both : true ≡ false = sym t ∙ e in cc
+
+          none : false ≡ nat_lt 0 (writers_with c h ws) || nat_lt 0 (drains_with c ws)
+          none =
+              let a : _ = no_claim in let b : _ = claimed in let d : _ = no_hold (write_holds c h) refl in
+              grind arith
+
+      locked_is : x.locked ≡ is_locked_with c h ws
+      locked_is = by x.locked refl

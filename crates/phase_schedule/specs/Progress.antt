@@ -1,84 +1,68 @@
 -- What a run has made of the steps so far.
-use Rattle.std.specs.Prelude.{ℕ, Bool, true, List, [], ◌∷◌, ◌++◌, ◌≡◌, ◌≤◌, ◌<◌, ◌^◌, length}
+use Rattle.std.specs.Prelude.{ℕ, List, [], ◌∷◌, ◌≡◌, ◌≤◌, ◌<◌, ◌^◌, length, vec_capacity}
 use Rattle.phase_bits.specs.declared.holders.Holders.{Holders}
 use Rattle.phase_locker.specs.declared.ways.LockerKind.{LockerKind}
 use Rattle.schedule_rules.specs.declared.plan.CellPlan.{CellPlan}
 use Rattle.schedule_rules.specs.declared.plan.Plan.{Plan}
 use Rattle.schedule_rules.specs.declared.step.Step.{Step}
 use Rattle.schedule_rules.specs.declared.line.Line.{Line}
-use Rattle.schedule_rules.specs.declared.transcript.Final.{Final}
-use Rattle.schedule_rules.specs.Kinds.{cell_at}
+use Rattle.schedule_rules.specs.Exits.{ended_turns}
 use Rattle.schedule_rules.specs.History.{Event}
-use Rattle.schedule_rules.specs.Transcripts.{NamesKnown, told}
-use Rattle.phase_schedule.specs.declared.rows.CellRow.{CellRow}
-use Rattle.phase_schedule.specs.View.{View, Made}
-use Rattle.phase_schedule.specs.Exiting.{IsExiting}
-use Rattle.phase_schedule.specs.Kept.{kind_at, last_of}
-use Rattle.phase_schedule.specs.Tracks.{Follows, plans}
+use Rattle.schedule_rules.specs.Transcripts.{AreFinals, NamesKnown}
+pub use Rattle.phase_moves.specs.Fresh.{TakesPlaces}
+use Rattle.phase_acts.specs.Steps.{Follows}
+use Rattle.phase_schedule.specs.Known.{AreKnown}
+use Rattle.phase_schedule.specs.declared.ending.Ending.{Ending}
+use Rattle.phase_schedule.specs.declared.progress.Progress.{Progress}
 
--- lockers can be made for the places of all cells
-abbrev pub TakesPlaces : (LockerKind → Bool) → List CellPlan → Type 0
-TakesPlaces takes cells = (c : ℕ) → c < length cells → takes (kind_at (cell_at cells c).place) ≡ true
+-- what a run is of: so many parties, these cells, and room for so many steps
+pub record Frame : Type 0 where
+  pub parties : ℕ
+  pub cells : List CellPlan
+  pub count : ℕ
 
--- rows for the plan before the first step, with room for so many steps
-pub record AreFresh (plan : Plan) (count : ℕ) (v : View) : Type 0 where
-  pub follows : Follows [] v
-  pub planned : plans v ≡ plan.cells.items
-  pub cells : length v.cells ≡ length plan.cells.items
-  pub guards : length v.guards ≡ count
-  pub parties : length v.parties ≡ plan.parties
-  pub exit : IsExiting plan.cells.items [] count v.exit
+-- that of a plan
+abbrev pub frame_of_plan : Plan → ℕ → Frame
+frame_of_plan plan count = record { parties = plan.parties; cells = plan.cells.items; count = count }
 
--- the history of these steps with the lines so far
-abbrev pub past : Made → List Step → List Event
-past x steps = told [] steps x.lines
+-- what cells are left with and the turns of the exit that ended, after this history
+pub record Ends (cells : List CellPlan) (h : List Event) (e : Ending) : Type 0 where
+  pub finals : AreFinals e.finals.items cells h
+  pub exits : e.exits.items ≡ ended_turns h
+  pub known : AreKnown e.finals.items
 
--- these steps were made, and all room was taken before
-pub record HasMade (x : Made) (steps : List Step) : Type 0 where
-  pub follows : Follows (past x steps) x.rows
-  pub exit : IsExiting (plans x.rows) (past x steps) (length x.rows.guards) x.rows.exit
-  pub lines : length x.lines ≡ length steps
-  pub line_room : length x.rows.guards ≤ x.line_room
-  pub finals : x.finals ≡ []
-  pub final_room : length x.rows.cells ≤ x.final_room
-  pub cells : length x.rows.cells < 2 ^ 32
-  pub fits : length x.rows.guards < 2 ^ 32
+module _ {L : Type 0} (held : L → Holders) (place : L → LockerKind) where
+  -- the run has made this history, and has all its memory
+  pub record HasMade (f : Frame) (h : List Event) (p : Progress L) : Type 0 where
+    pub follows : Follows held place f.cells h p.machine.rows
+    pub parties : length p.machine.rows.parties.items ≡ f.parties
+    pub few : length f.cells < 2 ^ 32
+    pub room : vec_capacity p.machine.rows.guards ≡ f.count
+    pub finals : p.finals.items ≡ []
+    pub final_room : length f.cells ≤ vec_capacity p.finals
 
--- before the first step of a plan, with room for so many steps
-pub record IsNew (plan : Plan) (count : ℕ) (x : Made) : Type 0 where
-  pub made : HasMade x []
-  pub planned : plans x.rows ≡ plan.cells.items
-  pub cells : length x.rows.cells ≡ length plan.cells.items
-  pub guards : length x.rows.guards ≡ count
-  pub parties : length x.rows.parties ≡ plan.parties
-  pub lines : x.lines ≡ []
+  -- the step can be made next
+  pub record CanStep (f : Frame) (h : List Event) (p : Progress L) (s : Step) : Type 0 where
+    pub made : HasMade f h p
+    pub known : NamesKnown f.parties (length f.cells) s
+    pub room : length h < f.count
 
--- after these steps this one can be made
-pub record CanStep (h : List Event) (x : Made) (steps : List Step) (s : Step) : Type 0 where
-  pub made : HasMade x steps
-  pub history : h ≡ past x steps
-  pub known : NamesKnown (length x.rows.parties) (length x.rows.cells) s
-  pub room : length steps < length x.rows.guards
+  -- it can be made after some history
+  pub record MayStep (p : Progress L) (s : Step) : Type 0 where
+    pub frame : Frame
+    pub h : List Event
+    pub can : CanStep frame h p s
 
--- the step was made with this line
-pub record HasStepped (old : Made) (steps : List Step) (s : Step) (line : Line) (new : Made) : Type 0 where
-  pub made : HasMade new (steps ++ s ∷ [])
-  pub lines : new.lines ≡ old.lines ++ line ∷ []
-  pub planned : plans new.rows ≡ plans old.rows
-  pub guards : length new.rows.guards ≡ length old.rows.guards
-  pub parties : length new.rows.parties ≡ length old.rows.parties
+  -- whatever history was made, the longer one is made by now
+  abbrev pub Steps : Progress L → Step → Line → Progress L → Type 0
+  Steps old s line new = (f : Frame) (h : List Event) → CanStep f h old s → HasMade f (record { step = s; line = line } ∷ h) new
 
--- after some steps the run can end
-pub record CanFinish (x : Made) : Type 0 where
-  pub steps : List Step
-  pub made : HasMade x steps
+  -- some history was made
+  pub record MayEnd (p : Progress L) : Type 0 where
+    pub frame : Frame
+    pub h : List Event
+    pub made : HasMade frame h p
 
--- what cells with these records and rows are left with
-abbrev pub finals_by : List Holders → List CellRow → List Final
-finals_by (h ∷ hs) (r ∷ rs) = last_of h r ∷ finals_by hs rs
-finals_by [] rs = []
-finals_by (h ∷ hs) [] = []
-
--- what each cell is left with
-abbrev pub finals_of : View → List Final
-finals_of v = finals_by v.held v.cells
+  -- whatever history was made, this is its end
+  abbrev pub EndsSo : Progress L → Ending → Type 0
+  EndsSo p e = (f : Frame) (h : List Event) → HasMade f h p → Ends f.cells h e

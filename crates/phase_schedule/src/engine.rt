@@ -8,12 +8,14 @@ ghost use Rattle.schedule_rules.specs.Legal.{IsLegal};
 ghost use Rattle.schedule_rules.specs.Transcripts.{AreFinals, NamesKnown};
 ghost use Rattle.schedule_rules.specs.Waits.{waits};
 ghost use Rattle.phase_schedule.specs.Errors.{cause_of_plan, IsCause};
-ghost use Rattle.phase_schedule.specs.Kept.{kind_at};
+ghost use Rattle.phase_schedule.specs.Known.{AreKnown, TellsKnown};
 ghost use Rattle.phase_schedule.specs.Standing.{history};
 ghost use Rattle.phase_schedule.specs.Shown.{Shows};
+ghost use Rattle.phase_schedule.specs.Stands.{kind_at};
 ghost use Rattle.phase_schedule.specs.Progress.{TakesPlaces};
 
 use crate::cause::plan_cause;
+use crate::ending::Ending;
 use crate::error::RunError;
 use crate::progress::Progress;
 use phase_locker::{Parks, PhaseLocker};
@@ -28,6 +30,7 @@ use std::marker::Model;
 pub struct Engine<L: PhaseLocker> {
     progress: Progress<L>,
     steps: Vec<Step>,
+    lines: Vec<Line>,
 }
 
 impl<L: PhaseLocker> Model for Engine<L> {
@@ -63,8 +66,13 @@ impl<L: PhaseLocker> Engine<L> {
             return Err(error);
         }
         let steps = Vec::with_capacity(alloc, count as usize)?;
+        let lines = Vec::with_capacity(alloc, count as usize)?;
         let progress = Progress::new(alloc, plan, count)?;
-        Ok(Engine { progress, steps })
+        Ok(Engine {
+            progress,
+            steps,
+            lines,
+        })
     }
 
     /// Makes one step, and answers its line. It takes no memory.
@@ -74,12 +82,14 @@ impl<L: PhaseLocker> Engine<L> {
         ensures steps { self.new.steps ≡ self.old.steps ++ s.now ∷ [] }
         ensures lines { self.new.lines ≡ self.old.lines ++ result ∷ [] }
         ensures legal { IsLegal self.new.cells (history self.new) }
+        ensures known { TellsKnown result.answer }
         ensures parties { self.new.parties ≡ self.old.parties }
         ensures cells { self.new.cells ≡ self.old.cells }
         ensures count { self.new.count ≡ self.old.count }
     {
-        let line = self.progress.step(&self.steps, s);
+        let line = self.progress.step(s);
         self.steps.push_reserved(*s);
+        self.lines.push_reserved(line);
         line
     }
 
@@ -89,7 +99,7 @@ impl<L: PhaseLocker> Engine<L> {
         ensures held { L.held result.now ≡ core self.now.cells cell (history self.now) }
         ensures place { L.place result.now ≡ kind_at (cell_at self.now.cells cell).place }
     {
-        self.progress.rows.sequentializers[cell as usize].locker()
+        self.progress.machine.rows.cells[cell as usize].seq.locker()
     }
 
     /// How each party waits, and who is parked at each cell.
@@ -98,7 +108,7 @@ impl<L: PhaseLocker> Engine<L> {
         ensures parties { length result.now.rows ≡ self.now.parties }
         ensures cells { length result.now.readers ≡ length self.now.cells }
     {
-        &self.progress.rows.parks
+        &self.progress.machine.rows.parks
     }
 
     /// The lines so far, what each cell is left with, and the turns of the exit that ended. What is still open is given
@@ -107,11 +117,21 @@ impl<L: PhaseLocker> Engine<L> {
         ensures lines { result.lines.items ≡ self.lines }
         ensures finals { AreFinals result.finals.items self.cells (history self) }
         ensures exits { result.exits.items ≡ ended_turns (history self) }
+        ensures known { AreKnown result.finals.items }
         ensures told { length self.lines ≡ length self.steps }
         ensures legal { IsLegal self.cells (history self) }
     {
-        let Engine { progress, steps } = self;
+        let Engine {
+            progress,
+            steps,
+            lines,
+        } = self;
         drop(steps);
-        progress.finish()
+        let Ending { finals, exits } = progress.finish();
+        Transcript {
+            lines,
+            finals,
+            exits,
+        }
     }
 }

@@ -1,41 +1,29 @@
-//! Runs schedules: an engine with one row for each cell, party and step over lockers of any type, and whole runs.
-//! It stands on `phase_seq` for calls on one cell, on `exit_registry` for the rounds of the exit, on `phase_locker` for
-//! the lockers, on `phase_bits` for phases, on `schedule_rules` for what a legal transcript is, and on `schedule_text`,
-//! whose reader and printer it hands on.
+//! Runs schedules: an engine over lockers of any type that keeps its own steps and lines, a run that hands out each line
+//! as it is made, and whole runs. It stands on `phase_acts` for one step, on `phase_moves` for the rows that a step
+//! changes, on `phase_locker` for the lockers, on `phase_bits` for phases, on `schedule_rules` for what a legal transcript
+//! is, and on `schedule_text`, whose reader and printer it hands on.
 #![tactic(auto)]
 
-mod attempt;
-mod begins;
 mod cause;
-mod close;
-mod deny;
+mod ending;
 mod engine;
 mod error;
-mod exit;
 #[cfg(test)]
 mod exit_tests;
-mod finalizer;
-mod finished;
-mod fresh;
-mod held;
-mod line;
-mod lockers;
-mod look_up;
-mod outcome;
-mod perform;
 mod progress;
-mod rows;
 mod run;
+mod running;
 #[cfg(test)]
 mod test_runs;
 #[cfg(test)]
 mod tests;
-mod tickets;
 
+pub use ending::Ending;
 pub use engine::Engine;
 pub use error::RunError;
 pub use phase_locker::{HolderLocker, Parks, PhaseLocker, Waiting};
 pub use run::run_schedule;
+pub use running::Run;
 pub use schedule_rules::{
     Act, Answer, Call, CellPlan, Final, Given, How, Kind, Line, Place, Plan, Refusal, Step,
     Transcript, Turn, Turned,

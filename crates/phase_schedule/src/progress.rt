@@ -1,88 +1,77 @@
 //! A run so far.
 
-ghost use Rattle.std.specs.Prelude.{◌≡◌, ◌<◌, ◌≤◌, ◌^◌, List, [], IfOk, length, vec_capacity};
-ghost use Rattle.schedule_rules.specs.History.{Event};
-ghost use Rattle.phase_schedule.specs.View.{view, seen};
-ghost use Rattle.phase_schedule.specs.Progress.{CanFinish, CanStep, HasStepped, IsNew, TakesPlaces, finals_of};
+ghost use Rattle.std.specs.Prelude.{◌≡◌, ◌<◌, ◌≤◌, ◌^◌, [], IfOk, length, map, vec_capacity};
+ghost use Rattle.phase_schedule.specs.Finals.{final_of_row};
+ghost use Rattle.phase_schedule.specs.Progress.{EndsSo, HasMade, MayEnd, MayStep, Steps, TakesPlaces, frame_of_plan};
 
-use crate::rows::Rows;
+use crate::ending::Ending;
+use phase_acts::Machine;
 use phase_locker::PhaseLocker;
-use schedule_rules::{Final, Line, Plan, Step, Transcript};
+use phase_moves::{CellRow, Rows};
+use schedule_rules::{Final, Line, Plan, Step};
 use std::alloc::{AllocError, Global};
 
-/// A run so far: the rows and the lines. Whoever runs it keeps the steps. It is spent by `finish`.
+/// A run so far: the rows. Whoever runs it keeps the steps, and the lines where it wants them. It is spent by `finish`.
 pub struct Progress<L: PhaseLocker> {
-    pub rows: Rows<L>,
-    pub lines: Vec<Line>,
+    /// The rows, on which steps are made.
+    pub machine: Machine<L>,
     /// Empty, with room for what each cell is left with.
     pub finals: Vec<Final>,
 }
 
 impl<L: PhaseLocker> Progress<L> {
-    /// A run of this plan before its first step. All room is taken for so many steps.
+    /// A run of this plan before its first step. All memory is taken here, for so many steps.
+    ///
+    /// # Errors
+    ///
+    /// `AllocError` where memory is short.
     pub fn new(alloc: Global, plan: &Plan, count: u32) -> Result<Progress<L>, AllocError>
         requires parties { plan.now.parties < 2 ^ 20 }
         requires cells { length plan.now.cells.items < 2 ^ 32 }
         requires places { TakesPlaces L.takes plan.now.cells.items }
-        ensures { IfOk result (λ p. IsNew plan.now count (seen L.held L.place p)) }
+        ensures { IfOk result (HasMade L.held L.place (frame_of_plan plan.now count) []) }
     {
-        let lines = Vec::with_capacity(alloc, count as usize)?;
         let finals = Vec::with_capacity(alloc, plan.cells.len())?;
         let rows = Rows::new(alloc, plan, count)?;
-        Ok(Progress {
-            rows,
-            lines,
-            finals,
-        })
+        let machine = Machine { rows };
+        Ok(Progress { machine, finals })
     }
 
-    /// Makes one step after these. It takes no memory.
-    pub fn step(&mut self, steps: &[Step], s: &Step) -> Line
-        ghost h: { List Event }
-        requires { CanStep h (seen L.held L.place self.old) steps.now s.now }
-        ensures { HasStepped (seen L.held L.place self.old) steps.now s.now result (seen L.held L.place self.new) }
+    /// Makes one step more. It takes no memory.
+    pub fn step(&mut self, step: &Step) -> Line
+        requires { MayStep L.held L.place self.old step.now }
+        ensures { Steps L.held L.place self.old step.now result self.new }
     {
-        let line = self.rows.perform(steps.len() as u32, s);
-        self.lines.push_reserved(line);
-        line
+        self.machine.perform(step)
     }
 
-    /// The lines, what each cell is left with, and the turns of the exit that ended. What is still open is given back. It
-    /// takes no memory.
-    pub fn finish(self) -> Transcript
-        requires { CanFinish (seen L.held L.place self) }
-        ensures lines { result.lines.items ≡ self.lines.items }
-        ensures finals { result.finals.items ≡ finals_of (view L.held L.place self.rows) }
-        ensures exits { result.exits.items ≡ (view L.held L.place self.rows).exit.turns }
+    /// What each cell is left with, and the turns of the exit that ended. What is still open is given back. It takes no
+    /// memory.
+    pub fn finish(self) -> Ending
+        requires { MayEnd L.held L.place self }
+        ensures { EndsSo L.held L.place self result }
     {
         let Progress {
-            rows,
-            lines,
+            machine,
             mut finals,
         } = self;
-        rows.tell_finals(&mut finals);
+        let Machine { rows } = machine;
+        tell_finals(&rows.cells, &mut finals);
         let exits = rows.close();
-        Transcript {
-            lines,
-            finals,
-            exits,
-        }
+        Ending { finals, exits }
     }
 }
 
-impl<L: PhaseLocker> Rows<L> {
-    /// What each cell is left with, in a list that has the room.
-    fn tell_finals(&self, finals: &mut Vec<Final>)
-        requires empty { finals.old.items ≡ [] }
-        requires room { length self.now.cells.items ≤ vec_capacity finals.old }
-        requires lockers { length self.now.sequentializers.items ≡ length self.now.cells.items }
-        ensures { finals.new.items ≡ finals_of (view L.held L.place self.now) }
-    {
-        for (cell, row) in self.cells.iter().enumerate() {
-            finals.push_reserved(Final {
-                phase: self.sequentializers[cell].locker().phase(),
-                value: row.value,
-            });
-        }
+/// What each cell is left with, in a list that has the room.
+fn tell_finals<L: PhaseLocker>(rows: &[CellRow<L>], finals: &mut Vec<Final>)
+    requires empty { finals.old.items ≡ [] }
+    requires room { length rows.now ≤ vec_capacity finals.old }
+    ensures { finals.new.items ≡ map (final_of_row L.held) rows.now }
+{
+    for row in rows {
+        finals.push_reserved(Final {
+            phase: row.seq.locker().phase(),
+            value: row.value,
+        });
     }
 }

@@ -3,9 +3,11 @@
 ghost use Rattle.std.specs.Prelude.{◌≡◌, ◌<◌, ◌^◌, length, None, IfOk, IfErr, IsOkUnless};
 ghost use Rattle.schedule_rules.specs.Transcripts.{schedule_of, account_of, IsValid, IsLegalTranscript};
 ghost use Rattle.phase_schedule.specs.Errors.{cause_of, IsCause};
+ghost use Rattle.phase_schedule.specs.Known.{AreKnown};
 ghost use Rattle.phase_schedule.specs.Progress.{TakesPlaces};
 
 use crate::cause::cause;
+use crate::ending::Ending;
 use crate::error::RunError;
 use crate::progress::Progress;
 use phase_locker::{HolderLocker, PhaseLocker};
@@ -24,6 +26,7 @@ pub fn run_schedule(alloc: Global, plan: &Plan, steps: &[Step]) -> Result<Transc
     requires steps { length steps.now < 2 ^ 32 }
     ensures valid { IfOk result (λ _. IsValid (schedule_of plan.now steps.now)) }
     ensures legal { IfOk result (λ t. IsLegalTranscript (schedule_of plan.now steps.now) (account_of t)) }
+    ensures known { IfOk result (λ t. AreKnown t.finals.items) }
     ensures cause { IfErr result (IsCause (cause_of (schedule_of plan.now steps.now))) }
     // What can be run is run, unless memory runs out.
     ensures complete { IsValid (schedule_of plan.now steps.now) → IsOkUnless result RunError.Memory }
@@ -43,12 +46,19 @@ fn run_on<L: PhaseLocker>(
     requires cells { length plan.now.cells.items < 2 ^ 32 }
     requires steps { length steps.now < 2 ^ 32 }
     requires places { TakesPlaces L.takes plan.now.cells.items }
-    requires known { cause_of (schedule_of plan.now steps.now) ≡ None }
-    ensures { IfOk result (λ t. IsLegalTranscript (schedule_of plan.now steps.now) (account_of t)) }
+    requires runs { cause_of (schedule_of plan.now steps.now) ≡ None }
+    ensures legal { IfOk result (λ t. IsLegalTranscript (schedule_of plan.now steps.now) (account_of t)) }
+    ensures known { IfOk result (λ t. AreKnown t.finals.items) }
 {
+    let mut lines = Vec::with_capacity(alloc, steps.len())?;
     let mut progress = Progress::<L>::new(alloc, plan, steps.len() as u32)?;
-    for (i, s) in steps.iter().enumerate() {
-        let _line = progress.step(&steps[..i], s);
+    for step in steps {
+        lines.push_reserved(progress.step(step));
     }
-    Ok(progress.finish())
+    let Ending { finals, exits } = progress.finish();
+    Ok(Transcript {
+        lines,
+        finals,
+        exits,
+    })
 }

@@ -25,6 +25,7 @@ pub mod Bars
 mod OneTranscript
 mod Waiting
 pub mod NotCyclic
+pub mod WaitsToLock
 pub mod Access
 pub mod Answered
 pub mod Causes

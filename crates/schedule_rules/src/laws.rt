@@ -359,3 +359,9 @@ pub fn waiting_calls_are_not_cyclic()
     ensures again { (cells : List CellPlan) (h : List Event) (s : Step) (l : Line) → IsLegal cells h →
         IsLegalLine cells h s l → s.act ≡ act.Again → l.answer ≢ answer.Cyclic }
 {}
+
+/// What waits is a call for a lock or a turn: a call for the phase never waits.
+pub fn phase_calls_do_not_wait()
+    ensures { (cells : List CellPlan) (h : List Event) (p : ℕ) (w : Wait) → IsLegal cells h →
+        wait_of p (waits cells h) ≡ Some w → w.want ≢ Calls call.Phase }
+{}

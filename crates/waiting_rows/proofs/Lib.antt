@@ -15,6 +15,7 @@ pub mod ShowsFreed
 pub mod ShowsWaiting
 pub mod ShowsHanded
 pub mod Within
+pub mod Gave
 pub mod GivenOn
 pub mod Sound
 pub mod RowCounts

@@ -1,5 +1,5 @@
 use Rattle.std.proofs.Common.{sym, ◌∙◌}
-use Rattle.phase_schedule.proofs.RunUnknown.{cause_found, cause_later, no_cause}
+use Rattle.phase_schedule.proofs.Unknown.{cause_found, cause_later, no_cause}
 use Rattle.phase_schedule.proofs.cause.cause.Goals as goal
 
 pub returns-in-Some-unknown : goal.returns-in-Some-unknown

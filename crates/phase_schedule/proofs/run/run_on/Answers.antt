@@ -1,17 +1,49 @@
-use Rattle.std.proofs.Common.{take}
-use Rattle.phase_schedule.specs.View.{seen}
-use Rattle.phase_schedule.proofs.RunWhole.{can_step, legal_transcript}
+use Rattle.std.proofs.Common.{◌≡◌, ◌≤◌, ◌∙◌, [], ◌∷◌, ◌++◌, ap, arith, length, refl, subst, sym}
+use Rattle.std.specs.Prelude.{vec_capacity}
+use Rattle.schedule_rules.specs.declared.line.Line.{Line}
+use Rattle.schedule_rules.specs.Transcripts.{schedule_of, told}
+use Rattle.phase_schedule.specs.Progress.{HasMade}
+use Rattle.phase_schedule.specs.Running.{frame_of}
+use Rattle.phase_schedule.proofs.Runs.{all_told, can_step, few_told, made_none, one_more, step_at, steps_on, whole}
+use Rattle.phase_schedule.proofs.Made.{same_room}
+use Rattle.phase_schedule.proofs.Valid.{valid}
 use Rattle.phase_schedule.proofs.run.run_on.Goals as goal
 
-pub step-line-requires : goal.step-line-requires
-step-line-requires g c κs within = (
-  within,
-  can_step c.args.plan.now c.args.steps.now (seen g.L.PhaseLocker.held g.L.PhaseLocker.place c.loop-i.progress) c.loop-i.i c.loop-i.invariant.made c.loop-i.invariant.planned _ c.requires.cells c.requires.steps c.requires.known c.loop-i-test.true c.loop-i.invariant.guards c.loop-i.invariant.parties,
-)
+pub loop-step-init : goal.loop-step-init
+loop-step-init g c =
+    record {
+      made = made_none g.L.PhaseLocker.held g.L.PhaseLocker.place (schedule_of c.args.plan.now c.args.steps.now) c.in_ok-lines.lines.items c.in_ok-progress.progress c.in_ok-lines.ensures.items c.in_ok-progress.ensures;
+      count = ap length c.in_ok-lines.ensures.items;
+      room = same_room _ _ c.in_ok-lines.ensures.exact;
+    }
 
-pub finish-requires : goal.finish-requires
-finish-requires g c = record { steps = take c.loop-i.i c.args.steps.now; made = c.loop-i.invariant.made }
+pub step-requires : goal.step-requires
+step-requires g c =
+    let x = schedule_of c.args.plan.now c.args.steps.now in let i = c.loop-step.invariant in let ls = c.loop-step.lines.items in
+    record {
+      frame = frame_of x;
+      h = told [] c.args.steps.now ls;
+      can = can_step g.L.PhaseLocker.held g.L.PhaseLocker.place x ls c.loop-step.progress i.made (few_told x ls _ i.count c.loop-step-test.true) _ (valid x c.requires.cells c.requires.steps c.requires.runs) (step_at x ls c.loop-step.step-index _ i.count c.loop-step-test.true);
+    }
 
-pub returns : goal.returns
-returns g c =
-    legal_transcript c.args.plan.now c.args.steps.now (seen g.L.PhaseLocker.held g.L.PhaseLocker.place c.loop-i.progress) c.loop-i.i c.loop-i.invariant.made c.loop-i.invariant.planned c.finish.result c.loop-i-test.false c.finish.ensures.lines c.finish.ensures.finals c.finish.ensures.exits
+pub loop-step-preserved : goal.loop-step-preserved
+loop-step-preserved g c =
+    let x = schedule_of c.args.plan.now c.args.steps.now in let i = c.loop-step.invariant in let ls = c.loop-step.lines.items in
+    record {
+      made = subst (λ (xs : _). HasMade g.L.PhaseLocker.held g.L.PhaseLocker.place (frame_of x) (told [] c.args.steps.now xs) c.step.new.self) (sym c.push_reserved.ensures.items)
+          (steps_on g.L.PhaseLocker.held g.L.PhaseLocker.place x ls c.loop-step.progress i.made (few_told x ls _ i.count c.loop-step-test.true) _ c.step.result c.step.new.self (valid x c.requires.cells c.requires.steps c.requires.runs) (step_at x ls c.loop-step.step-index _ i.count c.loop-step-test.true) c.step.ensures);
+      count = ap length c.push_reserved.ensures.items ∙ one_more ls c.step.result _ i.count;
+      room = subst (λ n. length c.args.steps.now ≤ n) (sym c.push_reserved.ensures.capacity) i.room;
+    }
+
+pub finish-finals-requires : goal.finish-finals-requires
+finish-finals-requires g c = record { frame = frame_of (schedule_of c.args.plan.now c.args.steps.now); h = told [] c.args.steps.now c.loop-step.lines.items; made = c.loop-step.invariant.made }
+
+pub returns-clause-legal : goal.returns-clause-legal
+returns-clause-legal g c =
+    let x = schedule_of c.args.plan.now c.args.steps.now in let i = c.loop-step.invariant in
+    whole g.L.PhaseLocker.held g.L.PhaseLocker.place x c.loop-step.lines.items c.loop-step.progress c.finish-finals.result i.made (c.finish-finals.ensures (frame_of x) (told [] c.args.steps.now c.loop-step.lines.items) i.made) (all_told x c.loop-step.lines.items _ i.count c.loop-step-test.false c.loop-step.auto.step-index-end)
+
+pub returns-clause-known : goal.returns-clause-known
+returns-clause-known g c =
+    (c.finish-finals.ensures (frame_of (schedule_of c.args.plan.now c.args.steps.now)) (told [] c.args.steps.now c.loop-step.lines.items) c.loop-step.invariant.made).known

@@ -1,18 +1,14 @@
-use Rattle.std.proofs.Common.{◌≡◌, [], length, take}
-use Rattle.schedule_rules.specs.Transcripts.{told}
-use Rattle.phase_schedule.specs.Tracks.{plans}
-use Rattle.phase_schedule.specs.View.{seen, view}
+use Rattle.std.proofs.Common.{◌≡◌, ◌≤◌, [], length}
+use Rattle.std.specs.Prelude.{vec_capacity}
+use Rattle.schedule_rules.specs.Transcripts.{schedule_of, told}
 use Rattle.phase_schedule.specs.Progress.{HasMade}
+use Rattle.phase_schedule.specs.Running.{frame_of}
 use Rattle.phase_schedule.proofs.run.run_on.Given as goal
 
-abbrev pub ghost-step : goal.ghost-step
-ghost-step g a = told [] a.steps.now a.self.now.lines.items
-
-abbrev pub invariant-loop-i : goal.invariant-loop-i
-invariant-loop-i g l =
+abbrev pub invariant-loop-step : goal.invariant-loop-step
+invariant-loop-step g l =
     record {
-      made : HasMade (seen g.L.PhaseLocker.held g.L.PhaseLocker.place l.progress) (take l.i l.steps);
-      planned : plans (view g.L.PhaseLocker.held g.L.PhaseLocker.place l.progress.rows) ≡ l.plan.cells.items;
-      guards : length l.progress.rows.guards.items ≡ length l.steps;
-      parties : length l.progress.rows.parties.items ≡ l.plan.parties;
+      made : HasMade g.L.PhaseLocker.held g.L.PhaseLocker.place (frame_of (schedule_of l.plan l.steps)) (told [] l.steps l.lines.items) l.progress;
+      count : length l.lines.items ≡ l.step-index;
+      room : length l.steps ≤ vec_capacity l.lines;
     }

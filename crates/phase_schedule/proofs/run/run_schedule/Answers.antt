@@ -1,7 +1,7 @@
 use Rattle.std.proofs.Common.{◌≡◌, sym, ◌∙◌, None, Some}
 use Rattle.schedule_rules.specs.Transcripts.{schedule_of}
 use Rattle.phase_schedule.specs.declared.error.RunError.{RunError}
-use Rattle.phase_schedule.proofs.RunValid.{valid, no_cause}
+use Rattle.phase_schedule.proofs.Valid.{valid, no_cause}
 use Rattle.phase_schedule.proofs.run.run_schedule.Goals as goal
 
 pub returns-clause-valid : goal.returns-clause-valid

@@ -1,11 +1,14 @@
 use Rattle.std.proofs.Common.{◌≡◌, length}
-use Rattle.phase_moves.specs.Closing.{CanClose, AreFreeBelow}
+use Rattle.phase_moves.specs.Closing.{CanClose}
 use Rattle.phase_moves.proofs.rows.Rows.close_guards.Given as goal
 
-abbrev pub invariant-loop-guard : goal.invariant-loop-guard
-invariant-loop-guard g l =
+abbrev pub invariant-loop-row : goal.invariant-loop-row
+invariant-loop-row g l =
     record {
       can : CanClose g.L.PhaseLocker.held g.L.PhaseLocker.place l.self;
-      free : AreFreeBelow l.guard l.self.guards.items;
-      count : length l.self.guards.items ≡ l.guard-end;
+      cells : length l.self.cells.items ≡ length l.fn.self.cells.items;
+      turns : l.self.exit.turns.items ≡ l.fn.self.exit.turns.items;
     }
+
+abbrev pub decreases-loop-row : goal.decreases-loop-row
+decreases-loop-row g l = length l.self.guards.items

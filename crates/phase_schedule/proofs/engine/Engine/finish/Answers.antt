@@ -1,17 +1,23 @@
-use Rattle.std.proofs.Common.{◌≡◌, ◌∙◌, subst}
+use Rattle.std.proofs.Common.{◌≡◌, subst}
 use Rattle.schedule_rules.specs.Exits.{ended_turns}
 use Rattle.schedule_rules.specs.Transcripts.{AreFinals}
-use Rattle.phase_schedule.specs.Standing.{history}
-use Rattle.phase_schedule.specs.View.{view}
-use Rattle.phase_schedule.proofs.RunTold.{finals_are}
+use Rattle.phase_schedule.specs.Inside.{frame_of, standing_of}
+use Rattle.phase_schedule.specs.Standing.{Standing, history}
 use Rattle.phase_schedule.proofs.engine.Engine.finish.Goals as goal
 
 pub returns-clause-finals : goal.returns-clause-finals
 returns-clause-finals g c =
-    subst (λ v. AreFinals c.finish.result.finals.items v.cells (history v)) c.self.view_is
-    (finals_are _ (view g.L.PhaseLocker.held g.L.PhaseLocker.place c.self.inside.progress.rows) _ c.self.invariant.made.follows c.finish.ensures.finals)
+    let h = g.L.PhaseLocker.held in let p = g.L.PhaseLocker.place in let e = c.self.inside in
+    subst (λ (v : Standing). AreFinals c.finish-finals.result.finals.items v.cells (history v)) c.self.view_is
+    (c.finish-finals.ensures (frame_of h p e) (history (standing_of h p e)) c.self.invariant.made).finals
 
 pub returns-clause-exits : goal.returns-clause-exits
 returns-clause-exits g c =
-    subst (λ v. c.finish.result.exits.items ≡ ended_turns (history v)) c.self.view_is
-    (c.finish.ensures.exits ∙ c.self.invariant.made.exit.turns_are)
+    let h = g.L.PhaseLocker.held in let p = g.L.PhaseLocker.place in let e = c.self.inside in
+    subst (λ (v : Standing). c.finish-finals.result.exits.items ≡ ended_turns (history v)) c.self.view_is
+    (c.finish-finals.ensures (frame_of h p e) (history (standing_of h p e)) c.self.invariant.made).exits
+
+pub returns-clause-known : goal.returns-clause-known
+returns-clause-known g c =
+    let h = g.L.PhaseLocker.held in let p = g.L.PhaseLocker.place in let e = c.self.inside in
+    (c.finish-finals.ensures (frame_of h p e) (history (standing_of h p e)) c.self.invariant.made).known

@@ -1,9 +1,8 @@
-use Rattle.phase_schedule.specs.View.{seen, view}
-use Rattle.phase_schedule.specs.Progress.{past}
-use Rattle.phase_schedule.specs.Tracks.{plans}
-use Rattle.phase_schedule.proofs.RunOpen.{holds_locks}
+use Rattle.std.proofs.Common.{◌≡◌, ◌∙◌, ap, map}
+use Rattle.phase_schedule.specs.Finals.{final_of_row}
+use Rattle.phase_schedule.proofs.Made.{ends}
 use Rattle.phase_schedule.proofs.progress.Progress.finish.Goals as goal
 
-pub close-exits-requires : goal.close-exits-requires
-close-exits-requires g c =
-    holds_locks (plans (view g.L.PhaseLocker.held g.L.PhaseLocker.place c.args.self.rows)) (past (seen g.L.PhaseLocker.held g.L.PhaseLocker.place c.args.self) c.requires.steps) (view g.L.PhaseLocker.held g.L.PhaseLocker.place c.args.self.rows) c.requires.made.follows c.requires.made.cells
+pub returns : goal.returns
+returns g c =
+    λ f h made. ends g.L.PhaseLocker.held g.L.PhaseLocker.place f h c.args.self _ made (c.tell_finals.ensures ∙ ap (map (final_of_row g.L.PhaseLocker.held)) c.deref.ensures.value) c.close-exits.ensures

@@ -1,0 +1,51 @@
+-- A step that attempts something is a legal step.
+use Rattle.std.proofs.Common.{◌≡◌, ◌∙◌, ℕ, List, length, ap, sym, subst, None}
+use Rattle.std.specs.declared.option.Option.{Option}
+use Rattle.exit_registry.specs.Registry.{Registry}
+use Rattle.phase_bits.specs.declared.holders.Holders.{Holders}
+use Rattle.phase_locker.specs.declared.ways.LockerKind.{LockerKind}
+use Rattle.schedule_rules.specs.declared.line.Answer.TheVariants as answer
+use Rattle.schedule_rules.specs.declared.line.Line.{Line}
+use Rattle.schedule_rules.specs.declared.plan.Call.{Call}
+use Rattle.schedule_rules.specs.declared.plan.CellPlan.{CellPlan}
+use Rattle.schedule_rules.specs.declared.step.Act.{Act}
+use Rattle.schedule_rules.specs.declared.step.Want.{Want}
+use Rattle.schedule_rules.specs.declared.step.Want.TheVariants.{Calls}
+use Rattle.schedule_rules.specs.Exits.{registry}
+use Rattle.schedule_rules.specs.History.{Event, accepts}
+use Rattle.schedule_rules.specs.Legal.{IsLegalLine}
+use Rattle.schedule_rules.specs.Refusals.{refusal}
+use Rattle.schedule_rules.specs.Waits.{wait_of, waits}
+use Rattle.phase_moves.specs.declared.rows.Rows.{Rows}
+use Rattle.phase_moves.specs.declared.rows.Taken.TheVariants as taken
+use Rattle.phase_moves.specs.Moves.{KeptWith}
+use Rattle.phase_acts.specs.Settles.{IsSettled, answer_settled, GivesSettled}
+use Rattle.phase_acts.specs.Steps.{IsNext, HasStepped, given_first, step_of}
+use Rattle.phase_acts.specs.Tries.{IsTaking, IsTried}
+use Rattle.phase_acts.proofs.Stepping.{stepped}
+use Rattle.phase_acts.proofs.Tried.{after_tried}
+use Rattle.phase_acts.proofs.TriedLegal.{legal_tried, gift_reaches}
+use Rattle.phase_acts.proofs.Trying.{IsAttempt, standing_at}
+
+module _ {L : Type 0} (held : L → Holders) (place : L → LockerKind) (cells : List CellPlan) (h : List Event) (old new : Rows L) (p : ℕ) (a : Act) (c : ℕ) (w : Want) (r : Registry) (o : Option ℕ) (k : IsAttempt cells h p a c w r o) (next : IsNext held place cells h old (step_of p a)) (free : refusal cells h (step_of p a) ≡ None) (accepted : accepts h ≡ r.is_open) (same : (j : Call) → w ≡ Calls j → r ≡ registry cells h) where
+  -- it was tried: the rows follow the step
+  pub tried_steps : (l : Line) → IsTried held place (length old.guards.items) (standing_at cells h r o) p (record { cell = c; want = w }) l new → KeptWith 1 old new → (IsLegalLine cells h (step_of p a) l → l.answer ≡ answer.Cyclic → wait_of p (waits cells h) ≡ None) → HasStepped held place cells h old (step_of p a) l new
+  tried_steps l tried kept alone = subst (λ x. HasStepped held place cells h old (step_of p a) x new) (sym s.line) (stepped held place cells h old new (step_of p a) next line _ (after_tried cells h p a c w r o k accepted same tried.first s.last (gift_reaches cells h p a c w r o k accepted same free tried.taken tried.first s.last taking.told taking.met gives) tried.taken taking.met.wanted taking.told gives turned) s.rests kept legal)
+    where
+      s : IsSettled held place (length h) (standing_at cells h r o) p (record { cell = c; want = w }) tried.taken tried.first l new
+      s = subst (λ i. IsSettled held place i (standing_at cells h r o) p (record { cell = c; want = w }) tried.taken tried.first l new) next.follows.steps tried.settled
+
+      taking : IsTaking (standing_at cells h r o) p (record { cell = c; want = w }) tried.taken tried.first
+      taking = tried.taking
+
+      gives : GivesSettled (length h) p c w tried.first s.last tried.taken (standing_at cells h r o)
+      gives = s.gave
+
+      line : Line
+      line = record { answer = answer_settled c w tried.taken; given = given_first tried.first s.last }
+
+      legal : IsLegalLine cells h (step_of p a) (record { answer = answer_settled c w tried.taken; given = given_first tried.first s.last })
+      legal = legal_tried cells h p a c w r o k accepted same free tried.taken tried.first s.last taking.told taking.met gives
+
+      turned : tried.taken ≡ taken.Cyclic → wait_of p (waits cells h) ≡ None
+      turned e = alone (subst (IsLegalLine cells h (step_of p a)) (sym s.line) legal) (ap (λ (x : Line). x.answer) s.line ∙ ap (answer_settled c w) e)

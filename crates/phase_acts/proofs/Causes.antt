@@ -1,0 +1,177 @@
+-- Who may attempt what: a call, one more attempt of a call or a turn that waits, and the first attempt of a turn.
+use Rattle.std.proofs.Common.{◌≡◌, ◌≢◌, ◌∙◌, ◌<◌, ◌≤◌, ℕ, List, length, ap, sym, subst, refl, arith, true, false, None, Some}
+use Rattle.std.specs.Prelude.{IsTrue, nat_lt, vec_capacity, is_some}
+use Rattle.std.specs.declared.option.Option.{Option}
+use Rattle.exit_registry.specs.Registry.{after_turn, first_of}
+use Rattle.phase_bits.specs.declared.holders.Holders.{Holders}
+use Rattle.phase_locker.specs.declared.ways.LockerKind.{LockerKind}
+use Rattle.schedule_rules.specs.declared.line.Line.{Line}
+use Rattle.schedule_rules.specs.declared.plan.Call.{Call}
+use Rattle.schedule_rules.specs.declared.plan.Call.TheVariants as call
+use Rattle.schedule_rules.specs.declared.plan.CellPlan.{CellPlan}
+use Rattle.schedule_rules.specs.declared.step.Act.TheVariants as act
+use Rattle.schedule_rules.specs.declared.step.Want.TheVariants.{Calls, Turns}
+use Rattle.schedule_rules.specs.Exits.{registry, owner, first_owner, ended_turns}
+use Rattle.schedule_rules.specs.Guards.{guards, numbered}
+use Rattle.schedule_rules.specs.History.{Event, latest_act}
+use Rattle.schedule_rules.specs.Refusals.{refusal, refusal_by}
+use Rattle.schedule_rules.specs.Waits.{Wait, wait_of, waits, attempt, attempt_of_wait, attempt_of_turn, cell_of_attempt}
+use Rattle.schedule_rules.proofs.Accepts.{open-accepts}
+use Rattle.schedule_rules.proofs.GoesOn.{Matches, wait-matches}
+use Rattle.schedule_rules.proofs.NotCyclic.{again-not-cyclic}
+use Rattle.schedule_rules.proofs.Registered.{fresh-unknown}
+use Rattle.schedule_rules.proofs.TurnRoom.{room-taken}
+use Rattle.schedule_rules.proofs.WaitsToLock.{waiting-no-phase}
+use Rattle.phase_moves.specs.declared.rows.Rows.{Rows}
+use Rattle.phase_moves.specs.declared.rows.Target.{Target}
+use Rattle.phase_moves.specs.Histories.{standing}
+use Rattle.phase_moves.specs.Moves.{KeptGuards, KeptWith}
+use Rattle.phase_moves.specs.Standing.{Standing}
+use Rattle.phase_moves.specs.Stands.{Stands, target_of}
+use Rattle.phase_moves.specs.Tries.{WaitsAt}
+use Rattle.phase_acts.specs.Steps.{IsAwake, IsNext, HasStepped, step_of}
+use Rattle.phase_acts.specs.Tries.{IsTried, IsTrying}
+use Rattle.phase_acts.proofs.Attempting.{tried_steps}
+use Rattle.phase_acts.proofs.Keeping.{guards_with}
+use Rattle.phase_acts.proofs.Lines.{refusal_awake}
+use Rattle.phase_acts.proofs.Trying.{IsAttempt, standing_at}
+
+-- the exit stays whose it is where no Exit is made
+owner_called : (c p : ℕ) (k : Call) (o : Option ℕ) → first_owner (act.Call c k) p o ≡ o
+owner_called c p k None = refl
+owner_called c p k (Some q) = refl
+
+owner_again : (p : ℕ) (o : Option ℕ) → first_owner act.Again p o ≡ o
+owner_again p None = refl
+owner_again p (Some q) = refl
+
+call_no_turn : (k : Call) → Calls k ≡ Turns → ⊥
+call_no_turn k e = cc
+
+turn_no_call : (k : Call) → Turns ≡ Calls k → ⊥
+turn_no_call k e = cc
+
+pub below : (n m : ℕ) → IsTrue (nat_lt n m) → n < m
+below n m e = grind (arith, e)
+
+module _ {L : Type 0} (held : L → Holders) (place : L → LockerKind) (cells : List CellPlan) (h : List Event) (old : Rows L) (p : ℕ) where
+  -- the turns that ended, and the room for more
+  turn_room : (m : Standing) (hand : ℕ) (v : Rows L) → Stands held place hand m v → m.turns ≡ ended_turns h → length (ended_turns h) < length cells → length cells ≤ vec_capacity v.exit.turns → length v.exit.turns.items < vec_capacity v.exit.turns
+  turn_room m hand v t same lt room = let e = ap length (t.exit.turns_are ∙ same) in omega (arith, e, lt, room)
+
+  -- ---- a call
+
+  module _ (c : ℕ) (k : Call) (is : IsAwake held place cells h old p (act.Call c k)) where
+    call_attempts : IsAttempt cells h p (act.Call c k) c (Calls k) (registry cells h) (owner h)
+    call_attempts = record { attempted = refl; concerned = refl; does = refl; tries = λ vs chosen. refl; calm = λ ss. refl; quiet = refl; taken = refl; owned = owner_called c p k (owner h) }
+
+    pub call_trying : k ≢ call.Phase → IsTrying held place (standing cells h) old p (record { cell = c; want = Calls k }) false
+    call_trying asks =
+        record {
+          attempting =
+              record {
+                rests = is.next.follows.rests;
+                party = is.next.known.party;
+                cell = below c (length old.cells.items) is.next.known.cell;
+                asks = λ e. asks (cc);
+                waited = is.awake;
+                unknown = λ f empty none. fresh-unknown cells h c is.next.follows.legal empty none;
+              };
+          turns = λ e. absurd (call_no_turn k e);
+        }
+
+    pub call_steps : (l : Line) (new : Rows L) → IsTried held place (length old.guards.items) (standing cells h) p (record { cell = c; want = Calls k }) l new → KeptWith 1 old new → HasStepped held place cells h old (step_of p (act.Call c k)) l new
+    call_steps l new tried kept =
+        tried_steps held place cells h old new p (act.Call c k) c (Calls k) (registry cells h) (owner h) call_attempts is.next (refusal_awake cells h p is.awake (act.Call c k)) (sym (open-accepts cells h is.next.follows.legal)) (λ j e. refl) l tried kept (λ legal e. is.awake)
+
+  -- ---- one more attempt
+
+  module _ (t : Target) (next : IsNext held place cells h old (step_of p act.Again)) (waits_so : target_of (wait_of p (waits cells h)) ≡ Some t) where
+    record Waiting : Type 0 where
+      pub w : Wait
+      pub found : wait_of p (waits cells h) ≡ Some w
+      pub is : t ≡ record { cell = w.cell; want = w.want }
+
+    waiting : Waiting
+    waiting = by (wait_of p (waits cells h)) refl waits_so
+      where
+        by : (o : Option Wait) → wait_of p (waits cells h) ≡ o → target_of o ≡ Some t → Waiting
+        by None e f = absurd (cc)
+        by (Some w) e f = record { w = w; found = e; is = cc }
+
+    attempted : attempt cells h (step_of p act.Again) ≡ Some (record { cell = t.cell; want = t.want })
+    attempted = ap attempt_of_wait waiting.found ∙ ap (λ (x : Target). Some (record { cell = x.cell; want = x.want })) (sym waiting.is)
+
+    again_attempts : IsAttempt cells h p act.Again t.cell t.want (registry cells h) (owner h)
+    again_attempts =
+        record {
+          attempted = attempted;
+          concerned = ap cell_of_attempt attempted;
+          does = subst (λ x. Matches x (latest_act p h)) attempted (wait-matches cells p h);
+          tries = λ vs chosen. refl;
+          calm = λ ss. refl;
+          quiet = refl;
+          taken = refl;
+          owned = owner_again p (owner h);
+        }
+
+    -- the wait is at a cell that has a row
+    cell_inside : t.cell < length old.cells.items
+    cell_inside = subst (λ (x : Target). x.cell < length old.cells.items) (sym waiting.is) (next.follows.rests.stands.waits.within p waiting.w waiting.found)
+
+    pub again_trying : IsTrying held place (standing cells h) old p t true
+    again_trying =
+        record {
+          attempting =
+              record {
+                rests = next.follows.rests;
+                party = next.known.party;
+                cell = cell_inside;
+                asks = λ e. waiting-no-phase cells h p waiting.w next.follows.legal waiting.found (sym (ap (λ (x : Target). x.want) waiting.is) ∙ e);
+                waited = subst (λ x. WaitsAt t.cell x) (sym waiting.found) (ap (λ (x : Target). x.cell) (sym waiting.is));
+                unknown = λ f empty none. fresh-unknown cells h t.cell next.follows.legal empty none;
+              };
+          turns = λ e. turn_room (standing cells h) (length old.guards.items) old next.follows.rests.stands refl (room-taken cells h next.follows.legal (step_of p act.Again) t.cell (attempted ∙ ap (λ v. Some (record { cell = t.cell; want = v })) e)) next.follows.turns;
+        }
+
+    free : refusal cells h (step_of p act.Again) ≡ None
+    free = ap (λ x. refusal_by cells (is_some x) h p act.Again) waiting.found
+
+    pub again_steps : (l : Line) (new : Rows L) → IsTried held place (length old.guards.items) (standing cells h) p t l new → KeptWith 1 old new → HasStepped held place cells h old (step_of p act.Again) l new
+    again_steps l new tried kept =
+        tried_steps held place cells h old new p act.Again t.cell t.want (registry cells h) (owner h) again_attempts next free (sym (open-accepts cells h next.follows.legal)) (λ j e. refl) l tried kept
+        (λ legal e. absurd (again-not-cyclic cells h (step_of p act.Again) l next.follows.legal legal refl e))
+
+  -- ---- the first attempt of a turn
+
+  module _ (c : ℕ) (is : IsAwake held place cells h old p act.Exit) (first : first_of (registry cells h).left ≡ Some c) (mine : first_owner act.Exit p (owner h) ≡ Some p) (free : refusal cells h (step_of p act.Exit) ≡ None) where
+    -- what stands open once the turn is taken
+    abbrev taken_so : Standing
+    taken_so = standing_at cells h (after_turn (registry cells h)) (Some p)
+
+    turn_attempts : IsAttempt cells h p act.Exit c Turns (after_turn (registry cells h)) (Some p)
+    turn_attempts = record { attempted = ap attempt_of_turn first; concerned = first; does = refl; tries = λ vs chosen. refl; calm = λ ss. refl; quiet = refl; taken = refl; owned = mine }
+
+    module _ (mid : Rows L) (between : KeptGuards old mid) (stands : Stands held place (length old.guards.items) (standing_at cells h (after_turn (registry cells h)) (Some p)) mid) (inside : c < length old.cells.items) where
+      mid_n : length mid.guards.items ≡ length old.guards.items
+      mid_n = ap (λ (v : _). length v.items) between.guards
+
+      pub turn_trying : IsTrying held place (standing_at cells h (after_turn (registry cells h)) (Some p)) mid p (record { cell = c; want = Turns }) false
+      turn_trying =
+          record {
+            attempting =
+                record {
+                  rests = record { stands = subst (λ i. Stands held place i (standing_at cells h (after_turn (registry cells h)) (Some p)) mid) (sym mid_n) stands; empty = ap (λ i. numbered i (guards h)) mid_n ∙ is.next.follows.rests.empty };
+                  party = (let a = is.next.known.party in let b = between.kept.parties in omega (arith, a, b));
+                  cell = (let b = between.kept.cells in omega (arith, inside, b));
+                  asks = λ e. turn_no_call call.Phase e;
+                  waited = is.awake;
+                  unknown = λ f empty none. fresh-unknown cells h c is.next.follows.legal empty none;
+                };
+            turns = λ e. turn_room (standing_at cells h (after_turn (registry cells h)) (Some p)) (length old.guards.items) mid stands refl (room-taken cells h is.next.follows.legal (step_of p act.Exit) c (ap attempt_of_turn first)) (let a = is.next.follows.turns in let b = between.kept.turns in omega (arith, a, b));
+          }
+
+      pub turn_steps : (l : Line) (new : Rows L) → IsTried held place (length mid.guards.items) (standing_at cells h (after_turn (registry cells h)) (Some p)) p (record { cell = c; want = Turns }) l new → KeptWith 1 mid new → HasStepped held place cells h old (step_of p act.Exit) l new
+      turn_steps l new tried kept =
+          tried_steps held place cells h old new p act.Exit c Turns (after_turn (registry cells h)) (Some p) turn_attempts is.next free (sym (open-accepts cells h is.next.follows.legal)) (λ j e. absurd (turn_no_call j e)) l
+          (subst (λ i. IsTried held place i (standing_at cells h (after_turn (registry cells h)) (Some p)) p (record { cell = c; want = Turns }) l new) mid_n tried) (guards_with old mid new 1 between kept) (λ legal e. is.awake)

@@ -1,0 +1,213 @@
+-- The holds of a cell exclude each other, where rows stand for what stands open.
+use Rattle.std.proofs.Common.{◌≡◌, ◌==◌, ◌<◌, ◌≤◌, ◌+◌, ◌∙◌, ℕ, List, [], ◌∷◌, length, subst, refl, arith, Bool, true, false, cond, Some, inl, inr}
+use Rattle.std.proofs.lemmas.Bool.{cases_lt}
+use Rattle.std.proofs.lemmas.Option.{slice_get_cases}
+use Rattle.std.specs.Prelude.{slice_get, if◌then◌else◌}
+use Rattle.std.specs.List.{find}
+use Rattle.phase_bits.specs.declared.holders.Holders.{Holders}
+use Rattle.phase_bits.specs.Records.{most_readers}
+use Rattle.phase_locker.specs.declared.ways.LockerKind.{LockerKind}
+use Rattle.phase_locker.specs.declared.ways.How.{How}
+use Rattle.phase_locker.specs.declared.ways.How.TheVariants as how
+use Rattle.phase_locker.specs.Rows.{Rows as Parking, claims, drains, drains_at}
+use Rattle.phase_locker.proofs.Leaving.{write_has_no_reader}
+use Rattle.schedule_rules.specs.declared.step.Want.{Want}
+use Rattle.schedule_rules.specs.declared.plan.CellPlan.{CellPlan}
+use Rattle.schedule_rules.specs.History.{Event, count}
+use Rattle.schedule_rules.specs.Guards.{Guard}
+use Rattle.schedule_rules.specs.Sections.{Section, runs_in}
+use Rattle.schedule_rules.specs.Holds.{reads_cell, writes_cell}
+use Rattle.schedule_rules.specs.Waits.{Wait, is_read_share, is_write_share, is_drain, shares_read, shares_write, drains_on}
+use Rattle.schedule_rules.specs.Legal.{IsExclusive}
+use Rattle.schedule_rules.proofs.Found.{found_counts, found_passes}
+use Rattle.waiting_rows.specs.Shown.{Shows, IsSingle, wait_row}
+use Rattle.waiting_rows.proofs.Passing.{count_test}
+use Rattle.waiting_rows.proofs.RowCounts.{count_rows, shares_shown, claims_shown}
+use Rattle.phase_moves.specs.declared.rows.CellRow.{CellRow}
+use Rattle.phase_moves.specs.declared.rows.Rows.{Rows}
+use Rattle.phase_moves.specs.Histories.{standing}
+use Rattle.phase_moves.specs.Standing.{Standing, reads_in, writes_in}
+use Rattle.phase_moves.specs.Stands.{Stands, IsLocked, AreInside}
+
+-- what stands on a cell excludes each other
+pub record Excludes (m : Standing) (c : ℕ) : Type 0 where
+  pub one_writer : writes_in c m + count (shares_write c) m.waits ≤ 1
+  pub no_reader : 0 < writes_in c m + count (shares_write c) m.waits → reads_in c m + count (shares_read c) m.waits ≡ 0
+  pub no_drain : 0 < writes_in c m + count (shares_write c) m.waits → count (drains_on c) m.waits ≡ 0
+  pub limit : reads_in c m + count (shares_read c) m.waits ≤ most_readers
+
+-- what can be found by its number is on a known cell: nothing passes a test of a cell beyond
+none_beyond : {X : Type 0} (number cell : X → ℕ) (n c : ℕ) (f : X → Bool) (xs : List X) → ((x : X) → f x ≡ true → cell x ≡ c) → n ≤ c → ((g : ℕ) → count (λ x. number x == g) xs ≤ 1) → ((g : ℕ) (x : X) → find (λ x. number x == g) xs ≡ Some x → cell x < n) → count f xs ≡ 0
+none_beyond number cell n c f [] at beyond once inside = refl
+none_beyond number cell n c f (x ∷ xs) at beyond once inside = by (f x) refl (none_beyond number cell n c f xs at beyond less rest)
+  where
+    here : find (λ y. number y == number x) (x ∷ xs) ≡ Some x
+    here = let e : (number x == number x) ≡ true = grind arith in rw e refl
+
+    lt : cell x < n
+    lt = inside (number x) x here
+
+    less : (g : ℕ) → count (λ y. number y == g) xs ≤ 1
+    less g = let k = once g in grind (arith, k)
+
+    rest : (g : ℕ) (y : _) → find (λ y. number y == g) xs ≡ Some y → cell y < n
+    rest g y e = other (number x == g) refl
+      where
+        other : (b : Bool) → (number x == g) ≡ b → cell y < n
+        other false q = inside g y (rw q e)
+        other true q = let some = found_counts (λ y. number y == g) (λ y. number y == g) xs y e (passes y e) in let k : cond true (count (λ y. number y == g) xs + 1) (count (λ y. number y == g) xs) ≤ 1 = subst (λ b. cond b (count (λ y. number y == g) xs + 1) (count (λ y. number y == g) xs) ≤ 1) q (once g) in absurd (omega (arith, some, k))
+          where
+            passes : (y : _) → find (λ y. number y == g) xs ≡ Some y → (number y == g) ≡ true
+            passes y e = found_passes (λ y. number y == g) xs y e
+
+    by : (b : Bool) → f x ≡ b → count f xs ≡ 0 → count f (x ∷ xs) ≡ 0
+    by true e r = let q = at x e in absurd (omega (arith, q, beyond, lt))
+    by false e r = rw (e, r) refl
+
+-- what passes a test of a cell is there
+if_at : (b : Bool) (d c : ℕ) → (if b then (d == c) else false) ≡ true → d ≡ c
+if_at true d c e = grind (arith, e)
+if_at false d c e = absurd (cc)
+
+reader_at : (c : ℕ) (x : Guard) → reads_cell c x ≡ true → x.cell ≡ c
+reader_at c x e = by x.writes e
+  where
+    by : (b : Bool) → (if b then false else (x.cell == c)) ≡ true → x.cell ≡ c
+    by true e = absurd (cc)
+    by false e = grind (arith, e)
+
+writer_at : (c : ℕ) (x : Guard) → writes_cell c x ≡ true → x.cell ≡ c
+writer_at c x e = if_at x.writes x.cell c e
+
+sharer_at : (c : ℕ) (w : Wait) → shares_read c w ≡ true → w.cell ≡ c
+sharer_at c w e = if_at (is_read_share w.way w.woken) w.cell c e
+
+claimer_at : (c : ℕ) (w : Wait) → shares_write c w ≡ true → w.cell ≡ c
+claimer_at c w e = if_at (is_write_share w.way w.woken) w.cell c e
+
+drainer_at : (c : ℕ) (w : Wait) → drains_on c w ≡ true → w.cell ≡ c
+drainer_at c w e = if_at (is_drain w.way) w.cell c e
+
+-- sections are in known cells
+no_run_beyond : (n c : ℕ) (ss : List Section) → n ≤ c → AreInside n ss → count (runs_in c) ss ≡ 0
+no_run_beyond n c [] beyond inside = refl
+no_run_beyond n c (s ∷ ss) beyond inside =
+    let lt = inside.0 in
+    let e : (s.cell == c) ≡ false = grind (arith, lt, beyond) in
+    rw e (no_run_beyond n c ss beyond inside.1)
+
+-- ---- a cell of the plan
+
+-- what the row of a call says of a drain
+row_drains : (c : ℕ) (w : Wait) → drains_at c (wait_row (Some w)) ≡ drains_on c w
+row_drains c w = by w.party w.cell w.want w.way w.woken
+  where
+    by : (p x : ℕ) (want : Want) (way : How) (woken : Bool) → drains_at c (wait_row (Some (record { party = p; cell = x; want = want; way = way; woken = woken }))) ≡ drains_on c (record { party = p; cell = x; want = want; way = way; woken = woken })
+    by p x want how.Spin woken = refl
+    by p x want how.ParkedRead true = refl
+    by p x want how.ParkedRead false = refl
+    by p x want how.ParkedWrite true = refl
+    by p x want how.ParkedWrite false = refl
+    by p x want how.Drain woken = refl
+
+module _ (c : ℕ) (ws : List Wait) (s : Parking) (single : IsSingle ws) (shows : Shows ws s) where
+  pub drains_shown : drains s c ≡ count (drains_on c) ws
+  drains_shown = count_rows (drains_at c) ws s.rows refl single shows.row ∙ count_test (λ (w : Wait). drains_at c (wait_row (Some w))) (drains_on c) ws (row_drains c)
+
+  module _ (k : LockerKind) (h : Holders) (r w p : ℕ) (l : IsLocked k h s c r w p) where
+    -- the readers of the record: guards and shares
+    pub readers_shown : h.readers ≡ r + count (shares_read c) ws
+    readers_shown =
+        let shown = shares_shown c ws s single shows in
+        let most = l.fits.shared in
+        let are = l.reads_are in
+        omega (arith, shown, most, are)
+
+    -- a claim locks the record
+    claim_locks : 0 < claims s c → h.locked ≡ true
+    claim_locks lt = by h.locked refl
+      where
+        by : (b : Bool) → h.locked ≡ b → b ≡ true
+        by true e = refl
+        by false e = let none = l.fits.locked e in absurd (omega (arith, none, lt))
+
+    -- a write hold has no claim beside it, and nothing reads
+    hold_alone : 0 < w → (claims s c ≡ 0) × (h.readers ≡ 0)
+    hold_alone lt = let o = l.write_is lt in (o.unclaimed, write_has_no_reader k h s c l.fits o)
+
+    -- a write share has no drain beside it, and nothing reads
+    share_alone : 0 < count (shares_write c) ws → (count (drains_on c) ws ≡ 0) × (h.readers ≡ 0)
+    share_alone lt =
+        let shown = claims_shown c ws s single shows in
+        let one = l.fits.one in
+        let none : count (drains_on c) ws ≡ 0 = omega (arith, shown, one, lt) in
+        (none, unread none)
+      where
+        unread : count (drains_on c) ws ≡ 0 → h.readers ≡ 0
+        unread none =
+            elim (cases_lt 0 h.readers) [
+              | inl some ↦ (let d = l.fits.drained (claim_locks (let shown = claims_shown c ws s single shows in omega (arith, shown, lt))) some in let e = drains_shown in absurd (omega (arith, d, e, none)))
+              | inr n ↦ omega (arith, n)
+            ]
+
+    write_alone : 0 < w + count (shares_write c) ws → (count (drains_on c) ws ≡ 0) × (h.readers ≡ 0) × (w + count (shares_write c) ws ≤ 1)
+    write_alone lt =
+        elim (cases_lt 0 w) [
+          | inl some ↦ (let a = hold_alone some in let shown = claims_shown c ws s single shows in let e = a.0 in let one = l.one in (omega (arith, shown, e), a.1, omega (arith, shown, e, one)))
+          | inr n ↦ (let a = share_alone (omega (arith, lt, n)) in let shown = claims_shown c ws s single shows in let one = l.fits.one in (a.0, a.1, omega (arith, shown, one, n)))
+        ]
+
+    one_writes : w + count (shares_write c) ws ≤ 1
+    one_writes =
+        elim (cases_lt 0 (w + count (shares_write c) ws)) [
+          | inl some ↦ (write_alone some).2
+          | inr n ↦ omega (arith, n)
+        ]
+
+module _ {L : Type 0} (held : L → Holders) (place : L → LockerKind) (hand : ℕ) (m : Standing) (v : Rows L) (t : Stands held place hand m v) (c : ℕ) where
+  known : (row : CellRow L) → slice_get v.cells.items c ≡ Some row → Excludes m c
+  known row row_is =
+      let l = (t.cell c row row_is).locked in
+      let all = write_alone c m.waits v.parks t.waits.single t.waits.shows _ _ _ _ _ l in
+      let readers = readers_shown c m.waits v.parks t.waits.single t.waits.shows _ _ _ _ _ l in
+      record {
+        one_writer = one_writes c m.waits v.parks t.waits.single t.waits.shows _ _ _ _ _ l;
+        no_reader = λ some. (let none = (all some).1 in omega (arith, none, readers));
+        no_drain = λ some. (all some).0;
+        limit = (let most = l.limit in omega (arith, most, readers));
+      }
+
+  no_guard : (f : Guard → Bool) → ((x : Guard) → f x ≡ true → x.cell ≡ c) → length v.cells.items ≤ c → count f m.guards ≡ 0
+  no_guard f at le = none_beyond (λ (x : Guard). x.number) (λ x. x.cell) (length v.cells.items) c f m.guards at le t.guards.once t.guards.in_cells
+
+  no_wait : (f : Wait → Bool) → ((x : Wait) → f x ≡ true → x.cell ≡ c) → length v.cells.items ≤ c → count f m.waits ≡ 0
+  no_wait f at le = none_beyond (λ (x : Wait). x.party) (λ x. x.cell) (length v.cells.items) c f m.waits at le t.waits.single t.waits.within
+
+  beyond : length v.cells.items ≤ c → Excludes m c
+  beyond le =
+      let reads = no_guard (reads_cell c) (λ x. reader_at c x) le in
+      let writes = no_guard (writes_cell c) (λ x. writer_at c x) le in
+      let runs = no_run_beyond (length v.cells.items) c m.sections le t.sections in
+      let shared = no_wait (shares_read c) (λ x. sharer_at c x) le in
+      let claimed = no_wait (shares_write c) (λ x. claimer_at c x) le in
+      let drained = no_wait (drains_on c) (λ x. drainer_at c x) le in
+      record {
+        one_writer = omega (arith, writes, runs, claimed);
+        no_reader = λ some. omega (arith, reads, shared);
+        no_drain = λ some. drained;
+        limit = omega (arith, reads, shared);
+      }
+
+  -- so it is with every cell
+  pub excludes : Excludes m c
+  excludes =
+      elim ((slice_get_cases v.cells.items c).1) [
+        | inl k ↦ known k.0 k.2
+        | inr k ↦ beyond k.0
+      ]
+
+-- in the words of histories
+pub exclusive : {L : Type 0} (held : L → Holders) (place : L → LockerKind) (hand : ℕ) (cells : List CellPlan) (h : List Event) (v : Rows L) → Stands held place hand (standing cells h) v → (c : ℕ) → IsExclusive cells h c
+exclusive held place hand cells h v t c =
+    let k = excludes held place hand (standing cells h) v t c in
+    record { one_writer = k.one_writer; no_reader = k.no_reader; no_drain = k.no_drain; limit = k.limit }

@@ -1,0 +1,76 @@
+-- Lines that are legal.
+use Rattle.std.proofs.Common.{◌≡◌, ◌∙◌, ℕ, List, ◌∷◌, ap, sym, subst, refl, true, false, None, Some}
+use Rattle.std.specs.Prelude.{◌==◌, ◌&&◌, ◌||◌, IsTrue, is_some}
+use Rattle.std.proofs.lemmas.Bool.{or_right}
+use Rattle.phase_locker.specs.declared.ways.Given.{Given}
+use Rattle.phase_locker.specs.declared.ways.Given.TheVariants as given
+use Rattle.schedule_rules.specs.declared.line.Answer.{Answer}
+use Rattle.schedule_rules.specs.declared.line.Answer.TheVariants as answer
+use Rattle.schedule_rules.specs.declared.line.Refusal.{Refusal}
+use Rattle.schedule_rules.specs.declared.plan.CellPlan.{CellPlan}
+use Rattle.schedule_rules.specs.declared.step.Act.{Act}
+use Rattle.schedule_rules.specs.declared.step.Step.{Step}
+use Rattle.schedule_rules.specs.Kinds.{cell_at, is_parking}
+use Rattle.schedule_rules.specs.History.{Event}
+use Rattle.schedule_rules.specs.Waits.{waits, wait_of, other_waits, cell_concerned}
+use Rattle.schedule_rules.specs.Gifts.{reaches, is_readers, downgrades, is_freed_last, may_give_on, may_give_last}
+use Rattle.schedule_rules.specs.Refusals.{refusal, refusal_by, refusal_free}
+use Rattle.schedule_rules.specs.Due.{due_answer}
+use Rattle.schedule_rules.specs.Legal.{IsLegalLine, Last, answer_of, may_give}
+use Rattle.waiting_rows.proofs.Counted.{none_without}
+use Rattle.phase_moves.specs.Gifts.{IsGift, MayGive, MayGiveDown}
+use Rattle.phase_moves.specs.Histories.{standing, event}
+use Rattle.phase_acts.specs.Steps.{step_of}
+
+module _ (cells : List CellPlan) (h : List Event) (s : Step) where
+  -- a step that is to be refused
+  pub legal_refused : (r : Refusal) → refusal cells h s ≡ Some r → IsLegalLine cells h s (record { answer = answer.Refused r; given = given.Nobody })
+  legal_refused r some =
+      record {
+        moment = Last;
+        chosen = false;
+        answered = sym (ap (λ o. answer_of o (due_answer cells h s (other_waits cells h s) false)) some);
+        gave = subst (λ o. IsTrue (may_give cells o Last h s (record { answer = answer.Refused r; given = given.Nobody }))) (sym some) refl;
+      }
+
+  -- a step that is not, gives last
+  pub legal_last : (a : Answer) (d : Given) → refusal cells h s ≡ None → due_answer cells h s (other_waits cells h s) false ≡ a → may_give_last cells h s a d ≡ true → IsLegalLine cells h s (record { answer = a; given = d })
+  legal_last a d none due gave =
+      record {
+        moment = Last;
+        chosen = false;
+        answered = sym (ap (λ o. answer_of o (due_answer cells h s (other_waits cells h s) false)) none ∙ due);
+        gave = subst (λ o. IsTrue (may_give cells o Last h s (record { answer = a; given = d }))) (sym none) gave;
+      }
+
+module _ (cells : List CellPlan) (h : List Event) (p : ℕ) (act : Act) (a : Answer) (c : ℕ) (concerned : cell_concerned cells h (step_of p act) ≡ Some c) where
+  on_cell : (d : Given) → is_parking (cell_at cells c).place ≡ true → reaches c d (other_waits cells h (step_of p act)) ≡ true → ((is_readers d && downgrades cells h (step_of p act) a) || is_freed_last cells h (step_of p act) a c) ≡ true → may_give_on cells h (step_of p act) (cell_concerned cells h (step_of p act)) a d ≡ true
+  on_cell d parks reach free = subst (λ o. may_give_on cells h (step_of p act) o a d ≡ true) (sym concerned) (rw (parks, reach, free) refl)
+
+  -- where nothing stands on the cell after the step
+  freed : (d : Given) → IsGift c (standing cells (event p act (record { answer = a; given = given.Nobody }) ∷ h)) d → waits cells (event p act (record { answer = a; given = given.Nobody }) ∷ h) ≡ other_waits cells h (step_of p act) → may_give_on cells h (step_of p act) (cell_concerned cells h (step_of p act)) a d ≡ true
+  freed d k same =
+      on_cell d k.parks (ap (reaches c d) (sym same) ∙ k.reach) (or_right (is_readers d && downgrades cells h (step_of p act) a) (is_freed_last cells h (step_of p act) a c) (ap (λ n. n == 0) k.free))
+
+  pub gave_freed : (d : Given) → MayGive c (standing cells (event p act (record { answer = a; given = given.Nobody }) ∷ h)) d → waits cells (event p act (record { answer = a; given = given.Nobody }) ∷ h) ≡ other_waits cells h (step_of p act) → may_give_last cells h (step_of p act) a d ≡ true
+  gave_freed given.Nobody k same = refl
+  gave_freed (given.Writer q) k same = freed (given.Writer q) k same
+  gave_freed given.Readers k same = freed given.Readers k same
+
+  -- where the step downgrades
+  pub gave_readers : is_parking (cell_at cells c).place ≡ true → reaches c given.Readers (other_waits cells h (step_of p act)) ≡ true → downgrades cells h (step_of p act) a ≡ true → may_give_last cells h (step_of p act) a given.Readers ≡ true
+  gave_readers parks reach down = on_cell given.Readers parks reach (rw down refl)
+
+module _ (cells : List CellPlan) (h : List Event) (p : ℕ) (awake : wait_of p (waits cells h) ≡ None) where
+  -- why the act of a party that does not wait is refused
+  pub refusal_awake : (a : Act) → refusal cells h (step_of p a) ≡ refusal_free cells h p a
+  refusal_awake a = ap (λ o. refusal_by cells (is_some o) h p a) awake
+
+  -- the others that wait are all that wait
+  pub others_all : (a : Act) → other_waits cells h (step_of p a) ≡ waits cells h
+  others_all a = none_without p (waits cells h) awake
+
+  pub gave_down : (act : Act) (a : Answer) (c : ℕ) → cell_concerned cells h (step_of p act) ≡ Some c → (d : Given) → MayGiveDown c (standing cells h) d → downgrades cells h (step_of p act) a ≡ true → may_give_last cells h (step_of p act) a d ≡ true
+  gave_down act a c concerned given.Nobody k down = refl
+  gave_down act a c concerned (given.Writer q) k down = absurd k
+  gave_down act a c concerned given.Readers k down = gave_readers cells h p act a c concerned k.parks (ap (reaches c given.Readers) (others_all act) ∙ k.reach) down

@@ -1,0 +1,75 @@
+-- A step, by whether its party waits.
+use Rattle.std.proofs.Common.{◌≡◌, ◌≢◌, ◌∙◌, ◌+◌, ℕ, List, ◌∷◌, length, ap, sym, subst, refl, Bool, true, None, Some}
+use Rattle.std.specs.Prelude.{is_some}
+use Rattle.std.specs.declared.option.Option.{Option}
+use Rattle.phase_bits.specs.declared.holders.Holders.{Holders}
+use Rattle.phase_locker.specs.declared.ways.LockerKind.{LockerKind}
+use Rattle.schedule_rules.specs.declared.line.Line.{Line}
+use Rattle.schedule_rules.specs.declared.line.Refusal.TheVariants as refused
+use Rattle.schedule_rules.specs.declared.plan.CellPlan.{CellPlan}
+use Rattle.schedule_rules.specs.declared.step.Act.{Act}
+use Rattle.schedule_rules.specs.declared.step.Act.TheVariants as act
+use Rattle.schedule_rules.specs.declared.step.Step.{Step}
+use Rattle.schedule_rules.specs.History.{Event}
+use Rattle.schedule_rules.specs.Refusals.{refusal, refusal_by, refusal_waiting}
+use Rattle.schedule_rules.specs.Waits.{Wait, wait_of, waits}
+use Rattle.phase_moves.specs.declared.rows.Rows.{Rows}
+use Rattle.phase_moves.specs.declared.rows.Target.{Target}
+use Rattle.phase_moves.specs.Histories.{standing}
+use Rattle.phase_moves.specs.Moves.{KeptWith}
+use Rattle.phase_moves.specs.Reading.{AwaitsBy}
+use Rattle.phase_moves.specs.Stands.{target_of}
+use Rattle.phase_acts.specs.Steps.{IsAwake, IsNext, HasStepped, step_of}
+use Rattle.phase_acts.specs.Tries.{IsTried, IsTrying, MayTry}
+use Rattle.phase_acts.proofs.Causes.{again_trying, again_steps}
+
+-- only an Again goes on
+refusal_other : (a : Act) → a ≢ act.Again → refusal_waiting a ≡ Some refused.Waits
+refusal_other (act.Call c k) ne = refl
+refusal_other act.Again ne = absurd (ne refl)
+refusal_other (act.Made v) ne = refl
+refusal_other act.MadeFailed ne = refl
+refusal_other act.Finished ne = refl
+refusal_other act.FinishFailed ne = refl
+refusal_other (act.Look g) ne = refl
+refusal_other (act.Set g v) ne = refl
+refusal_other (act.Release g) ne = refl
+refusal_other (act.Downgrade g) ne = refl
+refusal_other (act.Clone g) ne = refl
+refusal_other act.Exit ne = refl
+
+module _ {L : Type 0} (held : L → Holders) (place : L → LockerKind) (cells : List CellPlan) (h : List Event) (old : Rows L) (s : Step) (next : IsNext held place cells h old s) (r : Option Target) (tells : AwaitsBy held place old s.party r) where
+  told : r ≡ target_of (wait_of s.party (waits cells h))
+  told = tells (length old.guards.items) (standing cells h) next.follows.rests.stands next.known.party
+
+  -- its party does not wait
+  pub awake : r ≡ None → IsAwake held place cells h old s.party s.act
+  awake e = record { next = next; awake = by (wait_of s.party (waits cells h)) (sym e ∙ told) }
+    where
+      by : (o : Option Wait) → None ≡ target_of o → o ≡ None
+      by None f = refl
+      by (Some w) f = absurd (cc)
+
+  module _ (t : Target) (some : r ≡ Some t) where
+    -- it waits, and does not go on
+    pub waits_refused : s.act ≢ act.Again → refusal cells h s ≡ Some refused.Waits
+    waits_refused ne = by (wait_of s.party (waits cells h)) refl (sym told ∙ some) ∙ refusal_other s.act ne
+      where
+        by : (o : Option Wait) → wait_of s.party (waits cells h) ≡ o → target_of o ≡ Some t → refusal cells h s ≡ refusal_waiting s.act
+        by None e f = absurd (cc)
+        by (Some w) e f = ap (λ x. refusal_by cells (is_some x) h s.party s.act) e
+
+    -- it goes on
+    module _ (goes_on : s.act ≡ act.Again) where
+      step_is : s ≡ step_of s.party act.Again
+      step_is = λ i. record { party = s.party; act = goes_on i }
+
+      next_is : IsNext held place cells h old (step_of s.party act.Again)
+      next_is = subst (IsNext held place cells h old) step_is next
+
+      pub may_go_on : IsTrying held place (standing cells h) old s.party t true
+      may_go_on = again_trying held place cells h old s.party t next_is (sym told ∙ some)
+
+      pub went_on : (l : Line) (new : Rows L) → IsTried held place (length old.guards.items) (standing cells h) s.party t l new → KeptWith 1 old new → HasStepped held place cells h old s l new
+      went_on l new tried kept =
+          subst (λ x. HasStepped held place cells h old x l new) (sym step_is) (again_steps held place cells h old s.party t next_is (sym told ∙ some) l new tried kept)

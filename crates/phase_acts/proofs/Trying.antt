@@ -1,0 +1,156 @@
+-- What stands open after an attempt: of a call or a turn, a first one or one more.
+use Rattle.std.proofs.Common.{◌≡◌, ◌∙◌, ◌==◌, ℕ, List, [], ◌∷◌, ◌++◌, length, ap, sym, refl, arith, Bool, true, false, None, Some}
+use Rattle.std.specs.Prelude.{if◌then◌else◌}
+use Rattle.std.specs.declared.option.Option.{Option}
+use Rattle.exit_registry.specs.Registry.{Registry}
+use Rattle.exit_registry.specs.declared.turns.Turn.TheVariants as turn
+use Rattle.phase_bits.specs.declared.phase.Phase.{Phase}
+use Rattle.phase_locker.specs.declared.tickets.ReadTicket.{ReadTicket}
+use Rattle.phase_locker.specs.declared.tickets.WriteTicket.{WriteTicket}
+use Rattle.phase_locker.specs.declared.ways.Given.{Given}
+use Rattle.phase_locker.specs.declared.ways.Given.TheVariants as given
+use Rattle.phase_locker.specs.declared.ways.How.{How}
+use Rattle.schedule_rules.specs.declared.line.Answer.TheVariants as answer
+use Rattle.schedule_rules.specs.declared.plan.Call.{Call}
+use Rattle.schedule_rules.specs.declared.plan.CellPlan.{CellPlan}
+use Rattle.schedule_rules.specs.declared.step.Act.{Act}
+use Rattle.schedule_rules.specs.declared.step.Act.TheVariants as act
+use Rattle.schedule_rules.specs.declared.step.Want.{Want}
+use Rattle.schedule_rules.specs.declared.step.Want.TheVariants.{Calls, Turns}
+use Rattle.schedule_rules.specs.Changes.{Content, Asked, effect, is_declined}
+use Rattle.schedule_rules.specs.Due.{due_answer, due_tried}
+use Rattle.schedule_rules.specs.Exits.{registry, registry_taken, registry_run, registry_of_run, owner, ended_turns, first_owner}
+use Rattle.schedule_rules.specs.Guards.{Guard, guards, with_reader, with_writer, reader, without_guard}
+use Rattle.schedule_rules.specs.History.{Event, act_of, accepts}
+use Rattle.schedule_rules.specs.Kinds.{cell_at, tolerance_at}
+use Rattle.schedule_rules.specs.Phases.{NoRun, phase_reached}
+use Rattle.schedule_rules.specs.Replay.{replay, phase_at, back_read, back_at_once, content_after_back}
+use Rattle.schedule_rules.specs.Sections.{Section, sections, sections_ended, with_run}
+use Rattle.schedule_rules.specs.Waits.{Wait, waits, wait_of, without_wait, with_wait, waits_given_with, attempt, act_for, cell_concerned}
+use Rattle.waiting_rows.specs.Given.{given_on}
+use Rattle.waiting_rows.proofs.Counted.{none_without}
+use Rattle.waiting_rows.proofs.GivenOn.{given_concerned}
+use Rattle.phase_moves.specs.declared.rows.Taken.TheVariants as taken
+use Rattle.phase_moves.specs.Histories.{standing, event}
+use Rattle.phase_moves.specs.Standing.{Standing, took, left, turn_ended, changes_asked, changes_at, writer_asked, content_back, registry_asked}
+use Rattle.phase_acts.specs.Steps.{step_of, given_first}
+
+-- the standing of a history, once the exit was taken so far
+abbrev pub standing_at : List CellPlan → List Event → Registry → Option ℕ → Standing
+standing_at cells h r o = record (standing cells h) { registry = r; owner = o }
+
+-- the act attempts this at the cell: a call, a turn, or one more attempt
+pub record IsAttempt (cells : List CellPlan) (h : List Event) (p : ℕ) (a : Act) (c : ℕ) (w : Want) (r : Registry) (o : Option ℕ) : Type 0 where
+  pub attempted : attempt cells h (step_of p a) ≡ Some (record { cell = c; want = w })
+  pub concerned : cell_concerned cells h (step_of p a) ≡ Some c
+  pub does : act_of h (step_of p a) ≡ act_for c w
+  pub tries : (vs : List Wait) (chosen : Bool) → due_answer cells h (step_of p a) vs chosen ≡ due_tried cells h p (attempt cells h (step_of p a)) vs chosen
+  pub calm : (ss : List Section) → sections_ended a p ss ≡ ss
+  pub quiet : back_read h p a ≡ None
+  pub taken : registry_taken a (registry cells h) ≡ r
+  pub owned : first_owner a p (owner h) ≡ o
+
+-- no section is given back where nothing happened in it
+same_content : (cells : List CellPlan) (c d : ℕ) (y : Content) → content_after_back cells d (Some (record { cell = c; changes = [] })) y ≡ y
+same_content cells c d y = by (c == d)
+  where
+    by : (b : Bool) → (if b then y else y) ≡ y
+    by true = refl
+    by false = refl
+
+module _ (cells : List CellPlan) (h : List Event) (p : ℕ) (a : Act) (c : ℕ) (w : Want) (r : Registry) (o : Option ℕ) (k : IsAttempt cells h p a c w r o) where
+  abbrev ws : List Wait
+  ws = waits cells h
+
+  -- what is left of who waits
+  gave : (d : Given) → waits_given_with cells ws h (step_of p a) d (without_wait p ws) ≡ given_on c d (without_wait p ws)
+  gave d = given_concerned cells ws h (step_of p a) c d (without_wait p ws) k.concerned
+
+  -- it waits
+  pub try_waits : (how : How) (d : Given) → standing cells (event p a (record { answer = answer.Waiting how; given = d }) ∷ h) ≡ took (length h) p c w d (taken.Wait how) (standing_at cells h r o)
+  try_waits how d =
+      let waits_are = ap (λ x. with_wait p how x (waits_given_with cells ws h (step_of p a) d (without_wait p ws))) k.attempted ∙ ap (λ vs. record { party = p; cell = c; want = w; way = how; woken = false } ∷ vs) (gave d) in
+      λ i. record (standing cells h) { waits = waits_are i; sections = k.calm (sections h) i; registry = k.taken i; owner = k.owned i }
+
+  -- it asks for its own run
+  pub try_cyclic : wait_of p ws ≡ None → standing cells (event p a (record { answer = answer.Cyclic; given = given.Nobody }) ∷ h) ≡ standing_at cells h r o
+  try_cyclic awake =
+      λ i. record (standing cells h) { waits = none_without p ws awake i; sections = k.calm (sections h) i; registry = k.taken i; owner = k.owned i }
+
+  -- a turn is skipped
+  pub try_skips : w ≡ Turns → (q : Phase) (d : Given) → standing cells (event p a (record { answer = answer.Skipped c; given = d }) ∷ h) ≡ turn_ended c turn.Skipped (took (length h) p c w d (taken.Nothing q) (standing_at cells h r o))
+  try_skips turns q d =
+      let content_is : (x : ℕ) → replay cells x h ≡ content_back (Some (record { cell = c; changes = changes_at c w (standing_at cells h r o) })) (standing_at cells h r o) x = λ x. sym (ap (λ v. content_back (Some (record { cell = c; changes = changes_at c v (standing_at cells h r o) })) (standing_at cells h r o) x) turns ∙ same_content cells c x (replay cells x h)) in
+      λ i. record (standing cells h) { waits = gave d i; content = λ x. content_is x i; registry = k.taken i; owner = k.owned i; turns = ended_turns h ++ record { cell = c; turn = turn.Skipped } ∷ [] }
+
+  -- a turn's finalizer runs
+  pub try_finalizes : accepts h ≡ r.is_open → w ≡ Turns → (d : Given) → standing cells (event p a (record { answer = answer.Finalizing c; given = d }) ∷ h) ≡ took (length h) p c w d taken.Runs (standing_at cells h r o)
+  try_finalizes accepted turns d =
+      let registry_is : registry_taken a (registry cells h) ≡ registry_asked c w (standing_at cells h r o) = k.taken ∙ ap (λ v. registry_asked c v (standing_at cells h r o)) (sym turns) in
+      λ i. record (standing cells h) { waits = gave d i; sections = record { party = p; cell = c; want = turns_i i; start = length h; is_open = accepted i } ∷ sections h; registry = registry_is i; owner = k.owned i }
+    where
+      turns_i : Turns ≡ w
+      turns_i = sym turns
+
+  -- ---- a call
+
+  module _ (j : Call) (calls : w ≡ Calls j) (same : r ≡ registry cells h) (accepted : accepts h ≡ r.is_open) where
+    does_call : act_of h (step_of p a) ≡ act.Call c j
+    does_call = k.does ∙ ap (act_for c) calls
+
+    -- its generator runs
+    pub try_runs : (d : Given) → standing cells (event p a (record { answer = answer.Running; given = d }) ∷ h) ≡ took (length h) p c w d taken.Runs (standing_at cells h r o)
+    try_runs d =
+        let sections_are : with_run (act_of h (step_of p a)) p (length h) (accepts h) (sections h) ≡ record { party = p; cell = c; want = w; start = length h; is_open = r.is_open } ∷ sections h = ap (λ x. with_run x p (length h) (accepts h) (sections h)) does_call ∙ (λ i. record { party = p; cell = c; want = sym calls i; start = length h; is_open = accepted i } ∷ sections h) in
+        let registry_is : registry_run cells h (act_of h (step_of p a)) (registry cells h) ≡ registry_asked c w (standing_at cells h r o) = ap (λ x. registry_run cells h x (registry cells h)) does_call ∙ ap (λ x. registry_of_run cells c (phase_at cells c h) x) (sym same) ∙ ap (λ v. registry_asked c v (standing_at cells h r o)) (sym calls) in
+        λ i. record (standing cells h) { waits = gave d i; sections = sections_are i; registry = registry_is i; owner = k.owned i }
+
+    -- it gets a guard: nothing happened to its cell
+    module _ (undeclined : is_declined (cell_at cells c).kind (tolerance_at cells c) j r.is_open (phase_at cells c h) ≡ false) where
+      nothing : changes_at c w (standing_at cells h r o) ≡ []
+      nothing = ap (λ v. changes_at c v (standing_at cells h r o)) calls ∙ ap (λ b. if b then Asked r.is_open j ∷ [] else []) undeclined
+
+      content_is : (x : ℕ) → replay cells x h ≡ content_back (Some (record { cell = c; changes = changes_at c w (standing_at cells h r o) })) (standing_at cells h r o) x
+      content_is x = sym (ap (λ chs. content_back (Some (record { cell = c; changes = chs })) (standing_at cells h r o) x) nothing ∙ same_content cells c x (replay cells x h))
+
+      pub try_reads : (t : ReadTicket) (q : Phase) (d : Given) → standing cells (event p a (record { answer = answer.ReadGuard; given = d }) ∷ h) ≡ took (length h) p c w d (taken.Read t q) (standing_at cells h r o)
+      try_reads t q d =
+          let guards_are : with_reader h p (act_of h (step_of p a)) (guards h) ≡ reader (length h) p c ∷ guards h = ap (λ x. with_reader h p x (guards h)) does_call in
+          let content_are : (x : ℕ) → content_after_back cells x (back_read h p a) (replay cells x h) ≡ content_back (Some (record { cell = c; changes = changes_at c w (standing_at cells h r o) })) (standing_at cells h r o) x = λ x. ap (λ b. content_after_back cells x b (replay cells x h)) k.quiet ∙ content_is x in
+          λ i. record (standing cells h) { waits = gave d i; sections = k.calm (sections h) i; guards = guards_are i; content = λ x. content_are x i; registry = k.taken i; owner = k.owned i }
+
+      pub try_writes : (t : WriteTicket) (q : Phase) (d : Given) → standing cells (event p a (record { answer = answer.WriteGuard; given = d }) ∷ h) ≡ took (length h) p c w d (taken.Write t q) (standing_at cells h r o)
+      try_writes t q d =
+          let guards_are : with_writer h p (act_of h (step_of p a)) (guards h) ≡ writer_asked (length h) p c (changes_at c w (standing_at cells h r o)) ∷ guards h = ap (λ x. with_writer h p x (guards h)) does_call ∙ ap (λ chs. writer_asked (length h) p c chs ∷ guards h) (sym nothing) in
+          λ i. record (standing cells h) { waits = gave d i; sections = k.calm (sections h) i; guards = guards_are i; registry = k.taken i; owner = k.owned i }
+
+    -- it may not access the value, and gives its lock back in the same step
+    module _ (first last : Given) (one : given_on c last (given_on c first (without_wait p ws)) ≡ given_on c (given_first first last) (without_wait p ws)) (q : Phase) where
+      head_off : (x : Guard) → x.number ≡ length h → without_guard (length h) (x ∷ guards h) ≡ guards h
+      head_off x e = grind (arith, e)
+
+      waits_are : waits_given_with cells ws h (step_of p a) (given_first first last) (without_wait p ws) ≡ given_on c last (given_on c first (without_wait p ws))
+      waits_are = gave (given_first first last) ∙ sym one
+
+      -- what was asked is published where it was declined
+      asked : (x : ℕ) → content_after_back cells x (back_at_once h (act_of h (step_of p a))) (replay cells x h) ≡ content_back (Some (record { cell = c; changes = changes_at c w (standing_at cells h r o) })) (standing_at cells h r o) x
+      asked x =
+          ap (λ y. content_after_back cells x (back_at_once h y) (replay cells x h)) does_call ∙ ap (λ b. content_after_back cells x (Some (record { cell = c; changes = Asked b j ∷ [] })) (replay cells x h)) accepted ∙ by (c == x) refl ∙ ap (λ v. content_back (Some (record { cell = c; changes = changes_at c v (standing_at cells h r o) })) (standing_at cells h r o) x) (sym calls)
+        where
+          by : (b : Bool) → (c == x) ≡ b → (if b then effect (cell_at cells x) (Asked r.is_open j ∷ []) (replay cells x h) else replay cells x h) ≡ (if b then effect (cell_at cells x) (changes_asked (cell_at cells c) (Calls j) r.is_open (replay cells c h)) (replay cells x h) else replay cells x h)
+          by false e = refl
+          by true e = let same_cell : c ≡ x = grind (arith, e) in ap (λ z. effect (cell_at cells z) (Asked r.is_open j ∷ []) (replay cells z h)) (sym same_cell) ∙ split (is_declined (cell_at cells c).kind (tolerance_at cells c) j r.is_open (phase_at cells c h)) refl ∙ ap (λ z. effect (cell_at cells z) (changes_asked (cell_at cells c) (Calls j) r.is_open (replay cells c h)) (replay cells z h)) same_cell
+            where
+              split : (b : Bool) → is_declined (cell_at cells c).kind (tolerance_at cells c) j r.is_open (phase_at cells c h) ≡ b → effect (cell_at cells c) (Asked r.is_open j ∷ []) (replay cells c h) ≡ effect (cell_at cells c) (changes_asked (cell_at cells c) (Calls j) r.is_open (replay cells c h)) (replay cells c h)
+              split true d = ap (λ z. effect (cell_at cells c) (if z then Asked r.is_open j ∷ [] else []) (replay cells c h)) (sym d)
+              split false d = ap (λ z. if z then record { phase = phase_reached (cell_at cells c).kind r.is_open (phase_at cells c h) NoRun; value = (replay cells c h).value } else replay cells c h) d ∙ ap (λ z. effect (cell_at cells c) (if z then Asked r.is_open j ∷ [] else []) (replay cells c h)) (sym d)
+
+      pub try_denied_read : (t : ReadTicket) → standing cells (event p a (record { answer = answer.Access q; given = given_first first last }) ∷ h) ≡ left (reader (length h) p c) last (took (length h) p c w first (taken.Read t q) (standing_at cells h r o))
+      try_denied_read t =
+          let guards_are : guards h ≡ without_guard (length h) (reader (length h) p c ∷ guards h) = sym (head_off (reader (length h) p c) refl) in
+          λ i. record (standing cells h) { waits = waits_are i; guards = guards_are i; content = λ x. asked x i; registry = k.taken i; owner = k.owned i }
+
+      pub try_denied_write : (t : WriteTicket) → standing cells (event p a (record { answer = answer.Access q; given = given_first first last }) ∷ h) ≡ left (writer_asked (length h) p c (changes_at c w (standing_at cells h r o))) last (took (length h) p c w first (taken.Write t q) (standing_at cells h r o))
+      try_denied_write t =
+          let guards_are : guards h ≡ without_guard (length h) (writer_asked (length h) p c (changes_at c w (standing_at cells h r o)) ∷ guards h) = sym (head_off (writer_asked (length h) p c (changes_at c w (standing_at cells h r o))) refl) in
+          λ i. record (standing cells h) { waits = waits_are i; guards = guards_are i; content = λ x. asked x i; registry = k.taken i; owner = k.owned i }

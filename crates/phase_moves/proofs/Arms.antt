@@ -1,0 +1,320 @@
+-- The rows stand for what is open after an attempt, whatever it was answered.
+use Rattle.std.proofs.Common.{◌≡◌, ◌<◌, ◌≤◌, ◌^◌, ◌+◌, ◌∙◌, ℕ, List, length, set, get_or, ap, sym, subst, refl, arith, Bool, true, false, None, Some, inl, inr}
+use Rattle.std.specs.Prelude.{◌⊎◌, MatchBool, if◌then◌else◌}
+use Rattle.std.specs.declared.option.Option.{Option}
+use Rattle.phase_bits.specs.declared.phase.Phase.{Phase}
+use Rattle.phase_bits.specs.declared.holders.Holders.{Holders}
+use Rattle.phase_bits.specs.Records.{most_readers}
+use Rattle.exit_registry.specs.Registry.{Registry, cells_of}
+use Rattle.phase_locker.specs.declared.ways.Given.{Given}
+use Rattle.phase_locker.specs.declared.ways.Given.TheVariants as given
+use Rattle.phase_locker.specs.declared.ways.How.{How}
+use Rattle.phase_locker.specs.declared.ways.Who.{Who}
+use Rattle.phase_locker.specs.declared.ways.LockerKind.{LockerKind}
+use Rattle.phase_locker.specs.declared.tickets.ReadTicket.{ReadTicket}
+use Rattle.phase_locker.specs.declared.tickets.WriteTicket.{WriteTicket}
+use Rattle.phase_locker.specs.Natures.{write_ticket}
+use Rattle.phase_locker.specs.Rows.{Rows as Parking, IsSound, freed, readers_of, row_of, free_row}
+use Rattle.phase_locker.specs.Gifts.{rows_handed}
+use Rattle.phase_locker.specs.Left.{Left}
+use Rattle.phase_locker.specs.Stands.{Opens}
+use Rattle.phase_seq.specs.declared.ask.Ask.{Ask}
+use Rattle.phase_seq.specs.declared.section.Section.{Section as SeqSection}
+use Rattle.phase_seq.specs.declared.section.Begun.{Begun}
+use Rattle.phase_seq.specs.declared.section.Begun.TheVariants as begun
+use Rattle.phase_seq.specs.Asks.{asks_run as seq_asks_run}
+use Rattle.phase_seq.specs.Begins.{is_cyclic, section_by, running_after}
+use Rattle.phase_seq.specs.Exactly.{is_turned_back, is_run}
+use Rattle.phase_seq.specs.Stands.{BegunStands, opens_write, reads_begun}
+use Rattle.schedule_rules.specs.declared.plan.CellPlan.{CellPlan}
+use Rattle.schedule_rules.specs.declared.step.Want.{Want}
+use Rattle.schedule_rules.specs.declared.step.Want.TheVariants.{Calls, Turns}
+use Rattle.schedule_rules.specs.Kinds.{cell_at}
+use Rattle.schedule_rules.specs.Changes.{Content, Change}
+use Rattle.schedule_rules.specs.Phases.{tries_registration}
+use Rattle.schedule_rules.specs.Sections.{innermost, is_turn}
+use Rattle.schedule_rules.specs.Waits.{Wait, wait_of, without_wait, cell_of_section}
+use Rattle.waiting_rows.specs.Shown.{wait_row}
+use Rattle.phase_moves.specs.declared.rows.CellRow.{CellRow}
+use Rattle.phase_moves.specs.declared.rows.PartyRow.{PartyRow}
+use Rattle.phase_moves.specs.declared.rows.Target.{Target}
+use Rattle.phase_moves.specs.declared.rows.Rows.{Rows}
+use Rattle.phase_moves.specs.declared.rows.Taken.TheVariants as taken
+use Rattle.phase_moves.specs.Calls.{Calls as CallOf, registry_for, registry_begun}
+use Rattle.phase_moves.specs.Standing.{Standing, run_in, runner_of, reads_in, writes_in, changes_at, section_asked, registry_asked}
+use Rattle.phase_moves.specs.Stands.{seen_at, IsCell, IsExit, IsLocked, AreShown, party_row, open_run, stays_in, want_of}
+use Rattle.phase_moves.specs.Tries.{IsAttempting, IsTook, WaitsAt, ask_of, opens_section, party_after, run_after, taken_of}
+use Rattle.phase_moves.specs.declared.rows.Taken.{Taken}
+use Rattle.phase_moves.specs.Meets.{IsMet}
+use Rattle.phase_moves.proofs.Asked.{stays_same, run_calls, final_turns, registry_run, cells_stay}
+use Rattle.phase_moves.proofs.Attempts.{IsBegun, IsTurned, Tells, declines, phase_left, rows_begun, stays_asked, writes_begun, wrote}
+use Rattle.phase_moves.proofs.Answered.{answered as begun_as}
+use Rattle.phase_moves.proofs.Calling.{answered_moved}
+use Rattle.phase_moves.proofs.Ending.{never_init}
+use Rattle.phase_moves.proofs.Few.{fewer_readers}
+use Rattle.phase_moves.proofs.Leaving.{sound}
+use Rattle.phase_moves.proofs.Meeting.{met, met_turned}
+use Rattle.phase_moves.proofs.Settling.{IsSettled, call_settled}
+use Rattle.waiting_rows.proofs.Sound.{sound_of}
+use Rattle.phase_locker.proofs.Keeping.{freed_free, freed_size}
+use Rattle.phase_moves.proofs.Moved.{parties_set, moved}
+use Rattle.phase_moves.proofs.Parking.{shown_called, freed_writers}
+use Rattle.phase_moves.proofs.Runs.{none_runs}
+use Rattle.phase_moves.proofs.Took.{cell_here as cell_here_of, cyclic_as as cyclic_as_of, of_here as of_here_of, in_parks as in_parks_of, party_in as party_in_of, sizes_in as sizes_in_of, exit_with as exit_with_of, exit_still as exit_still_of, was_none as was_none_of, rows_as as rows_as_of, told_as as told_as_of, phase_as as phase_as_of, took_nothing as took_nothing_of, took_read as took_read_of, took_write as took_write_of, took_wait as took_wait_of, took_run as took_run_of}
+
+module _ {L : Type 0} (held : L → Holders) (place : L → LockerKind) where
+  module _ (m : Standing) (v v' : Rows L) (p : ℕ) (t : Target) (waits : Bool) (is : IsAttempting held place m v p t waits) (row row' : CellRow L) (row_is : row ≡ get_or v.cells.items t.cell row) (of of' : PartyRow) (of_is : of ≡ get_or v.parties.items p of)
+      (cells : v'.cells.items ≡ set v.cells.items t.cell row') (guards : v'.guards ≡ v.guards) (parties : v'.parties.items ≡ set v.parties.items p of') (plan : row'.plan ≡ row.plan) (value : row'.value ≡ row.value) (owner : v'.exit.owner ≡ v.exit.owner) (turns : v'.exit.turns ≡ v.exit.turns)
+      (b : Begun) (g : Given) (registry : v'.exit.registry ≡ registry_begun row.plan.kind t.cell (held row.seq.locker).phase b v.exit.registry) (running : row'.seq.running ≡ running_after b row.seq.running) (stands : BegunStands (record { cell = t.cell; party = p }) b row'.seq.running (held row'.seq.locker) v'.parks)
+      (op : Opens t.cell (reads_begun b) (opens_write b) (held row.seq.locker) v.parks (held row'.seq.locker) v'.parks) (k : Left held place t.cell row.seq.locker row'.seq.locker v.parks v'.parks) (cyc : is_turned_back b ≡ is_cyclic (want_of t.want) p row.seq.running) where
+    abbrev who : Who
+    who = record { cell = t.cell; party = p }
+
+    abbrev n : ℕ
+    n = length v.guards.items
+
+    abbrev x : CellPlan
+    x = cell_at m.plans t.cell
+
+    abbrev y : Content
+    y = m.content t.cell
+
+    abbrev chs : List Change
+    chs = changes_at t.cell t.want m
+
+    abbrev ask : Ask
+    ask = ask_of row.plan t.want
+
+    abbrev reg : Option Registry
+    reg = registry_for row.plan.kind v.exit.registry
+
+    -- ---- what was shown of it
+
+    cell_here : IsCell held place (seen_at t.cell m) v.parks t.cell row
+    cell_here = cell_here_of held place m v v' p t waits is row row' row_is of of' of_is cells guards parties plan value owner turns b g registry running stands op k cyc
+
+    cyclic_as : (b₁ : Begun) → b ≡ b₁ → is_turned_back b₁ ≡ is_cyclic (want_of t.want) p (runner_of (run_in t.cell m.sections))
+    cyclic_as = cyclic_as_of held place m v v' p t waits is row row' row_is of of' of_is cells guards parties plan value owner turns b g registry running stands op k cyc
+
+    of_here : of ≡ party_row m p
+    of_here = of_here_of held place m v v' p t waits is row row' row_is of of' of_is cells guards parties plan value owner turns b g registry running stands op k cyc
+
+    in_parks : t.cell < length v.parks.readers
+    in_parks = in_parks_of held place m v v' p t waits is row row' row_is of of' of_is cells guards parties plan value owner turns b g registry running stands op k cyc
+
+    party_in : p < length v.parks.rows
+    party_in = party_in_of held place m v v' p t waits is row row' row_is of of' of_is cells guards parties plan value owner turns b g registry running stands op k cyc
+
+    sizes_in : length v.parks.writers ≡ length v.parks.readers
+    sizes_in = sizes_in_of held place m v v' p t waits is row row' row_is of of' of_is cells guards parties plan value owner turns b g registry running stands op k cyc
+
+    exit_with : (r : Registry) → v'.exit.registry ≡ r → cells_of r ≡ cells_of m.registry → IsExit (length v.cells.items) (record m { registry = r }) v'.exit
+    exit_with = exit_with_of held place m v v' p t waits is row row' row_is of of' of_is cells guards parties plan value owner turns b g registry running stands op k cyc
+
+    exit_still : is_run b ≡ false → IsExit (length v.cells.items) m v'.exit
+    exit_still = exit_still_of held place m v v' p t waits is row row' row_is of of' of_is cells guards parties plan value owner turns b g registry running stands op k cyc
+
+    was_none : (d : IsBegun who ask reg (held row.seq.locker) v.parks b g (held row'.seq.locker) v'.parks) → wrote (declines ask reg (held row.seq.locker).phase) b ≡ true → writes_in t.cell m ≡ 0
+    was_none d = was_none_of held place m v v' p t waits is row row' row_is of of' of_is cells guards parties plan value owner turns b g registry running stands op k cyc d
+
+    rows_as : (d : IsBegun who ask reg (held row.seq.locker) v.parks b g (held row'.seq.locker) v'.parks) → (b₁ : Begun) → b ≡ b₁ → v'.parks ≡ rows_begun b₁ who (rows_handed t.cell g (freed p v.parks))
+    rows_as d = rows_as_of held place m v v' p t waits is row row' row_is of of' of_is cells guards parties plan value owner turns b g registry running stands op k cyc d
+
+    told_as : (d : IsBegun who ask reg (held row.seq.locker) v.parks b g (held row'.seq.locker) v'.parks) → (b₁ : Begun) → b ≡ b₁ → Tells who ask reg (held row.seq.locker).phase b₁
+    told_as d = told_as_of held place m v v' p t waits is row row' row_is of of' of_is cells guards parties plan value owner turns b g registry running stands op k cyc d
+
+    phase_as : (d : IsBegun who ask reg (held row.seq.locker) v.parks b g (held row'.seq.locker) v'.parks) → (b₁ : Begun) → b ≡ b₁ → (held row'.seq.locker).phase ≡ phase_left (declines ask reg (held row.seq.locker).phase) b₁ (held row.seq.locker).phase
+    phase_as d = phase_as_of held place m v v' p t waits is row row' row_is of of' of_is cells guards parties plan value owner turns b g registry running stands op k cyc d
+
+    took_nothing : (d : IsBegun who ask reg (held row.seq.locker) v.parks b g (held row'.seq.locker) v'.parks) (few : (held row'.seq.locker).readers ≤ most_readers) (tell : (z : Taken) → taken_of b ≡ z → IsMet p t z g m) → (q : Phase) → b ≡ begun.Nothing q → of' ≡ record { waiting = None; innermost = of.innermost } → row'.run ≡ row.run → IsTook held place m v p t (taken.Nothing q) g v'
+    took_nothing d few tell = took_nothing_of held place m v v' p t waits is row row' row_is of of' of_is cells guards parties plan value owner turns b g registry running stands op k cyc d few tell
+
+    took_read : (d : IsBegun who ask reg (held row.seq.locker) v.parks b g (held row'.seq.locker) v'.parks) (few : (held row'.seq.locker).readers ≤ most_readers) (tell : (z : Taken) → taken_of b ≡ z → IsMet p t z g m) → (l : ReadTicket) (q : Phase) → b ≡ begun.Read l q → of' ≡ record { waiting = None; innermost = of.innermost } → row'.run ≡ row.run → IsTook held place m v p t (taken.Read l q) g v'
+    took_read d few tell = took_read_of held place m v v' p t waits is row row' row_is of of' of_is cells guards parties plan value owner turns b g registry running stands op k cyc d few tell
+
+    took_write : (d : IsBegun who ask reg (held row.seq.locker) v.parks b g (held row'.seq.locker) v'.parks) (few : (held row'.seq.locker).readers ≤ most_readers) (tell : (z : Taken) → taken_of b ≡ z → IsMet p t z g m) → (l : WriteTicket) (q : Phase) → b ≡ begun.Write l q → of' ≡ record { waiting = None; innermost = of.innermost } → row'.run ≡ row.run → IsTook held place m v p t (taken.Write l q) g v'
+    took_write d few tell = took_write_of held place m v v' p t waits is row row' row_is of of' of_is cells guards parties plan value owner turns b g registry running stands op k cyc d few tell
+
+    took_wait : (d : IsBegun who ask reg (held row.seq.locker) v.parks b g (held row'.seq.locker) v'.parks) (few : (held row'.seq.locker).readers ≤ most_readers) (tell : (z : Taken) → taken_of b ≡ z → IsMet p t z g m) → (way : How) → b ≡ begun.Wait way → of' ≡ record { waiting = Some (record { cell = t.cell; want = t.want }); innermost = of.innermost } → row'.run ≡ row.run → IsTook held place m v p t (taken.Wait way) g v'
+    took_wait d few tell = took_wait_of held place m v v' p t waits is row row' row_is of of' of_is cells guards parties plan value owner turns b g registry running stands op k cyc d few tell
+
+    took_run : (d : IsBegun who ask reg (held row.seq.locker) v.parks b g (held row'.seq.locker) v'.parks) (few : (held row'.seq.locker).readers ≤ most_readers) (tell : (z : Taken) → taken_of b ≡ z → IsMet p t z g m) → (s : SeqSection) → reads_begun b ≡ 0 → writes_begun b ≡ 1 → (held row'.seq.locker).phase ≡ (held row.seq.locker).phase → v'.parks ≡ rows_handed t.cell g (freed p v.parks) → IsExit (length v.cells.items) (record m { registry = registry_asked t.cell t.want m }) v'.exit → row'.seq.running ≡ runner_of (Some (record { section = section_asked n p t.cell t.want m; outer = cell_of_section (innermost p m.sections) })) → s ≡ section_by who (ask_of x t.want).want (stays_in x t.want m.registry.is_open y.phase) write_ticket → false ≡ is_cyclic (want_of t.want) p (runner_of (run_in t.cell m.sections)) → IsMet p t taken.Runs g m → of' ≡ record { waiting = None; innermost = Some t.cell } → row'.run ≡ Some (record { run = record { party = p; want = t.want; outer = of.innermost }; section = s }) → IsTook held place m v p t taken.Runs g v'
+    took_run d few tell = took_run_of held place m v v' p t waits is row row' row_is of of' of_is cells guards parties plan value owner turns b g registry running stands op k cyc d few tell
+
+    -- ---- it was turned back: nothing changed
+    took_cyclic : IsTurned (held row.seq.locker) v.parks b g (held row'.seq.locker) v'.parks → of' ≡ of → row'.run ≡ row.run → IsTook held place m v p t taken.Cyclic g v'
+    took_cyclic d o run =
+        record {
+          stands = moved held place t.cell n n m m v v' row' is.rests.stands is.cell cells
+              (let k0 = cell_here in
+              record {
+                planned = plan ∙ k0.planned;
+                valued = value ∙ k0.valued;
+                known = k0.known;
+                locked = subst (λ (s : Parking). IsLocked (place row'.seq.locker) (held row'.seq.locker) s t.cell (reads_in t.cell m) (writes_in t.cell m) y.phase) (sym d.rows) (subst (λ (h : Holders). IsLocked (place row'.seq.locker) h v.parks t.cell (reads_in t.cell m) (writes_in t.cell m) y.phase) (sym d.held) (subst (λ k. IsLocked k (held row.seq.locker) v.parks t.cell (reads_in t.cell m) (writes_in t.cell m) y.phase) (sym k.place) k0.locked));
+                placed = k.place ∙ k0.placed;
+                runner = running ∙ ap (λ x. running_after x row.seq.running) d.cyclic ∙ k0.runner;
+                runs = run ∙ k0.runs;
+              })
+              (answered_moved held place t.cell n m v v' m.waits m.content m.registry is.rests.stands k.others k.same (ap (λ (s : Parking). length s.writers) d.rows) guards (exit_still (ap is_run d.cyclic)) (subst (λ (s : Parking). AreShown (length v.cells.items) m.waits s) (sym d.rows) is.rests.stands.waits) (λ d ne. refl) (λ g x e w. refl))
+              (parties_set held place n m m v v' p of' is.rests.stands parties (o ∙ of_here) (λ q ne. refl));
+          told = tt;
+          cyclic = cyclic_as begun.Cyclic d.cyclic;
+          met = subst (λ z. IsMet p t taken.Cyclic z m) (sym d.given) (met_turned m p t is.asks (sym (cyclic_as begun.Cyclic d.cyclic)));
+        }
+
+    -- ---- what the locker requires
+
+    calling : (waits : Bool) → MatchBool waits (WaitsAt t.cell (wait_of p m.waits)) (wait_of p m.waits ≡ None) → MatchBool waits ((row_of v.parks p).cell ≡ t.cell) (row_of v.parks p ≡ free_row)
+    calling true w = by (wait_of p m.waits) (is.rests.stands.waits.shows.row p) w
+      where
+        by : (o : Option Wait) → row_of v.parks p ≡ wait_row o → WaitsAt t.cell o → (row_of v.parks p).cell ≡ t.cell
+        by None e w = absurd w
+        by (Some x) e w = ap (λ (r : _). r.cell) e ∙ w
+    calling false w = is.rests.stands.waits.shows.row p ∙ ap wait_row w
+
+    waits_here : (waits : Bool) → MatchBool waits (WaitsAt t.cell (wait_of p m.waits)) (wait_of p m.waits ≡ None) → (w : Wait) → wait_of p m.waits ≡ Some w → w.cell ≡ t.cell
+    waits_here true k w e = subst (WaitsAt t.cell) e k
+    waits_here false k w e = absurd (let f : None ≡ Some w = sym k ∙ e in cc)
+
+    abbrev Turned : Type 0
+    Turned = IsTurned (held row.seq.locker) v.parks b g (held row'.seq.locker) v'.parks
+
+    abbrev Begun_ : Type 0
+    Begun_ = IsBegun who ask reg (held row.seq.locker) v.parks b g (held row'.seq.locker) v'.parks
+
+    module _ (calls : CallOf waits reg (place row.seq.locker) who ask row.seq.running (held row.seq.locker) v.parks (b, g) (held row'.seq.locker) v'.parks) where
+      all : Turned ⊎ Begun_
+      all = begun_as (place row.seq.locker) who ask (held row.seq.locker) v.parks row.seq.running (b, g) (held row'.seq.locker) v'.parks refl reg waits (calling waits is.waited) party_in cell_here.locked.fits calls
+
+      -- who is parked after the party left its list
+      sound_freed : IsSound (freed p v.parks)
+      sound_freed =
+          let a = shown_called (length v.cells.items) who m.waits v.parks given.Nobody is.rests.stands.waits sizes_in is.rests.stands.sizes.few in_parks party_in tt in
+          let size = freed_size p v.parks in
+          sound_of (without_wait p m.waits) (freed p v.parks) a.single a.shows (freed_writers p v.parks ∙ sizes_in ∙ sym size.1) (subst (λ i. i < 2 ^ 20) (sym size.0) is.rests.stands.sizes.few)
+
+      room_freed : 1 + length (readers_of (freed p v.parks) t.cell) ≤ most_readers
+      room_freed = let size = freed_size p v.parks in fewer_readers t.cell (freed p v.parks) (let a = in_parks in omega (arith, a, size.1)) sound_freed (record { party = p; inside = (let a = party_in in omega (arith, a, size.0)); free = freed_free p v.parks party_in })
+
+      settled : is_turned_back b ≡ false → IsSettled (place row.seq.locker) who ask reg (held row.seq.locker) v.parks b g (held row'.seq.locker)
+      settled e =
+          call_settled (place row.seq.locker) who ask (held row.seq.locker) v.parks row.seq.running (b, g) (held row'.seq.locker) v'.parks refl (sym cyc ∙ e) (never_init t.want) cell_here.locked.fits waits (calling waits is.waited) in_parks party_in (sound held place n m v is.rests.stands) sound_freed room_freed reg calls
+
+      few_now : is_turned_back b ≡ false → (held row'.seq.locker).readers ≤ most_readers
+      few_now e = (settled e).few cell_here.locked.limit
+
+      told_met : is_turned_back b ≡ false → (z : Taken) → taken_of b ≡ z → IsMet p t z g m
+      told_met e z same =
+          subst (λ z. IsMet p t z g m) same
+          (met (length v.cells.items) (place row.seq.locker) (held row.seq.locker) v.parks m p t cell_here.locked cell_here.placed is.rests.stands.waits sizes_in is.rests.stands.sizes.few in_parks party_in is.asks (waits_here waits is.waited) (ap (is_cyclic (want_of t.want) p) (sym cell_here.runner) ∙ sym cyc ∙ e) b g (held row'.seq.locker)
+          (subst (λ r. IsSettled (place row.seq.locker) who (ask_of x t.want) (registry_for x.kind r) (held row.seq.locker) v.parks b g (held row'.seq.locker)) is.rests.stands.exit.registry_is
+          (subst (λ (y : CellPlan). IsSettled (place row.seq.locker) who (ask_of y t.want) (registry_for y.kind v.exit.registry) (held row.seq.locker) v.parks b g (held row'.seq.locker)) cell_here.planned (settled e))))
+
+      did : (b ≡ begun.Cyclic → ⊥) → Begun_
+      did ne = elim all [
+        | inl d ↦ absurd (ne d.cyclic)
+        | inr d ↦ d
+      ]
+
+      -- ---- the arms of the code
+
+      does_nothing : (q : Phase) → b ≡ begun.Nothing q → of' ≡ record { waiting = None; innermost = of.innermost } → row'.run ≡ row.run → IsTook held place m v p t (taken.Nothing q) g v'
+      does_nothing q e o run = took_nothing (did (λ x. (let f : begun.Nothing q ≡ begun.Cyclic = sym e ∙ x in cc))) (few_now (ap is_turned_back e)) (told_met (ap is_turned_back e)) q e o run
+
+      does_read : (l : ReadTicket) (q : Phase) → b ≡ begun.Read l q → of' ≡ record { waiting = None; innermost = of.innermost } → row'.run ≡ row.run → IsTook held place m v p t (taken.Read l q) g v'
+      does_read l q e o run = took_read (did (λ x. (let f : begun.Read l q ≡ begun.Cyclic = sym e ∙ x in cc))) (few_now (ap is_turned_back e)) (told_met (ap is_turned_back e)) l q e o run
+
+      does_write : (l : WriteTicket) (q : Phase) → b ≡ begun.Write l q → of' ≡ record { waiting = None; innermost = of.innermost } → row'.run ≡ row.run → IsTook held place m v p t (taken.Write l q) g v'
+      does_write l q e o run = took_write (did (λ x. (let f : begun.Write l q ≡ begun.Cyclic = sym e ∙ x in cc))) (few_now (ap is_turned_back e)) (told_met (ap is_turned_back e)) l q e o run
+
+      does_wait : (way : How) → b ≡ begun.Wait way → of' ≡ record { waiting = Some (record { cell = t.cell; want = t.want }); innermost = of.innermost } → row'.run ≡ row.run → IsTook held place m v p t (taken.Wait way) g v'
+      does_wait way e o run = took_wait (did (λ x. (let f : begun.Wait way ≡ begun.Cyclic = sym e ∙ x in cc))) (few_now (ap is_turned_back e)) (told_met (ap is_turned_back e)) way e o run
+
+      does_cyclic : b ≡ begun.Cyclic → of' ≡ of → row'.run ≡ row.run → IsTook held place m v p t taken.Cyclic g v'
+      does_cyclic e o run = elim all [
+        | inl d ↦ took_cyclic d o run
+        | inr d ↦ absurd (told_as d begun.Cyclic e)
+      ]
+
+      does_missed : b ≡ begun.Missed → IsTook held place m v p t taken.Cyclic g v'
+      does_missed e = absurd (told_as (did (λ x. (let f : begun.Missed ≡ begun.Cyclic = sym e ∙ x in cc))) begun.Missed e)
+
+      -- no section ran where one is opened
+      none_ran : (d : Begun_) → wrote (declines ask reg (held row.seq.locker).phase) b ≡ true → row.run ≡ None
+      none_ran d e = let z = was_none d e in cell_here.runs ∙ ap (open_run x t.cell y.phase) (none_runs t.cell m.sections (omega (arith, z)))
+
+      run_began : (s : SeqSection) → b ≡ begun.Run s → Begun_
+      run_began s e = did (λ x. (let f : begun.Run s ≡ begun.Cyclic = sym e ∙ x in cc))
+
+      final_began : (s : SeqSection) → b ≡ begun.Final s → Begun_
+      final_began s e = did (λ x. (let f : begun.Final s ≡ begun.Cyclic = sym e ∙ x in cc))
+
+      none_before_run : (s : SeqSection) → b ≡ begun.Run s → row.run ≡ None
+      none_before_run s e = none_ran (run_began s e) (ap (wrote _) e)
+
+      none_before_final : (s : SeqSection) → b ≡ begun.Final s → row.run ≡ None
+      none_before_final s e = none_ran (final_began s e) (ap (wrote _) e)
+
+      does_run : (s : SeqSection) → b ≡ begun.Run s → of' ≡ record { waiting = None; innermost = Some t.cell } → row'.run ≡ Some (record { run = record { party = p; want = t.want; outer = of.innermost }; section = s }) → IsTook held place m v p t taken.Runs g v'
+      does_run s e o run =
+          let d = run_began s e in
+          let tells = told_as d (begun.Run s) e in
+          let asked : seq_asks_run (ask_of row.plan t.want) (held row.seq.locker).phase ≡ true = tells.1 in
+          let call : is_turn t.want ≡ false = run_calls row.plan t.want (held row.seq.locker).phase asked in
+          let here = cell_here in
+          took_run d (few_now (ap is_turned_back e)) (told_met (ap is_turned_back e)) s (ap reads_begun e) (ap writes_begun e) (phase_as d (begun.Run s) e) (rows_as d (begun.Run s) e) (exit_run e call)
+          (running ∙ ap (λ x. running_after x row.seq.running) e ∙ ap (λ (z : SeqSection). Some z.who.party) tells.0 ∙ (rw call refl))
+          (tells.0 ∙ (λ i. section_by who (ask_of (here.planned i) t.want).want (stays_asked (registry_for (here.planned i).kind (is.rests.stands.exit.registry_is i)) (here.locked.phase_is i)) write_ticket) ∙ ap (λ q. section_by who (ask_of x t.want).want q write_ticket) (stays_same x t.want m.registry y.phase call)) (cyclic_as (begun.Run s) e) (told_met (ap is_turned_back e) taken.Runs (ap taken_of e)) o run
+        where
+          exit_run : b ≡ begun.Run s → is_turn t.want ≡ false → IsExit (length v.cells.items) (record m { registry = registry_asked t.cell t.want m }) v'.exit
+          exit_run e call = by t.want refl call
+            where
+              here : IsCell held place (seen_at t.cell m) v.parks t.cell row
+              here = cell_here
+
+              by : (w : Want) → t.want ≡ w → is_turn w ≡ false → IsExit (length v.cells.items) (record m { registry = registry_asked t.cell w m }) v'.exit
+              by (Calls c) q f =
+                  exit_with (registry_asked t.cell (Calls c) m)
+                  (registry ∙ (λ i. registry_begun (here.planned i).kind t.cell (here.locked.phase_is i) b (is.rests.stands.exit.registry_is i)) ∙ registry_run x t.cell y.phase b m.registry (ap is_run e))
+                  (cells_stay t.cell (tries_registration x.kind y.phase) m.registry)
+              by Turns q f = absurd (cc)
+
+      does_final : (s : SeqSection) → b ≡ begun.Final s → of' ≡ record { waiting = None; innermost = Some t.cell } → row'.run ≡ Some (record { run = record { party = p; want = t.want; outer = of.innermost }; section = s }) → IsTook held place m v p t taken.Runs g v'
+      does_final s e o run =
+          let d = final_began s e in
+          let tells = told_as d (begun.Final s) e in
+          let turn : t.want ≡ Turns = final_turns t.want tells.1 in
+          let here = cell_here in
+          took_run d (few_now (ap is_turned_back e)) (told_met (ap is_turned_back e)) s (ap reads_begun e) (ap writes_begun e) (phase_as d (begun.Final s) e) (rows_as d (begun.Final s) e)
+          (subst (λ w. IsExit (length v.cells.items) (record m { registry = registry_asked t.cell w m }) v'.exit) (sym turn) (exit_still (ap is_run e)))
+          (running ∙ ap (λ x. running_after x row.seq.running) e ∙ here.runner ∙ ap runner_of (none_runs t.cell m.sections (let z = was_none d (ap (wrote _) e) in omega (arith, z))) ∙ sym (ap (λ w. if is_turn w then None else Some p) turn))
+          (tells.0 ∙ (λ i. section_by who (ask_of (here.planned i) t.want).want (here.locked.phase_is i) write_ticket) ∙ ap (λ w. section_by who (ask_of x t.want).want (stays_in x w m.registry.is_open y.phase) write_ticket) (sym turn)) (cyclic_as (begun.Final s) e) (told_met (ap is_turned_back e) taken.Runs (ap taken_of e)) o run
+
+      -- no section ran where one is opened
+      pub none_before : opens_section b ≡ true → row.run ≡ None
+      none_before e = by b refl e
+        where
+          by : (z : Begun) → b ≡ z → opens_section z ≡ true → row.run ≡ None
+          by (begun.Run s) f e = none_before_run s f
+          by (begun.Final s) f e = none_before_final s f
+          by (begun.Wait way) f e = absurd (cc)
+          by begun.Missed f e = absurd (cc)
+          by begun.Cyclic f e = absurd (cc)
+          by (begun.Nothing q) f e = absurd (cc)
+          by (begun.Read l q) f e = absurd (cc)
+          by (begun.Write l q) f e = absurd (cc)
+
+      -- all of it
+      pub does : of' ≡ party_after t b of → row'.run ≡ run_after p t of b row.run → IsTook held place m v p t (taken_of b) g v'
+      does o run = by b refl o run
+        where
+          by : (z : Begun) → b ≡ z → of' ≡ party_after t z of → row'.run ≡ run_after p t of z row.run → IsTook held place m v p t (taken_of z) g v'
+          by (begun.Wait way) e o run = does_wait way e o run
+          by begun.Missed e o run = does_missed e
+          by begun.Cyclic e o run = does_cyclic e o run
+          by (begun.Nothing q) e o run = does_nothing q e o run
+          by (begun.Read l q) e o run = does_read l q e o run
+          by (begun.Write l q) e o run = does_write l q e o run
+          by (begun.Run s) e o run = does_run s e o run
+          by (begun.Final s) e o run = does_final s e o run

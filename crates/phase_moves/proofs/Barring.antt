@@ -1,0 +1,213 @@
+-- A locker bars as the rules do, keeps what they keep, and a barred call waits in a way that is due.
+use Rattle.std.proofs.Common.{◌≡◌, ◌==◌, ◌<◌, ◌≤◌, ◌+◌, ◌∙◌, ℕ, List, [], ◌∷◌, ap, sym, refl, arith, Bool, true, false, None, Some, not, ◌||◌, ◌&&◌, inl, inr}
+use Rattle.std.proofs.lemmas.Bool.{cases_lt}
+use Rattle.std.specs.Prelude.{nat_lt}
+use Rattle.std.specs.declared.option.Option.{Option}
+use Rattle.phase_bits.specs.declared.holders.Holders.{Holders}
+use Rattle.phase_bits.specs.Records.{most_readers}
+use Rattle.phase_locker.specs.declared.tickets.LockNature.{LockNature}
+use Rattle.phase_locker.specs.declared.tickets.LockNature.TheVariants as nature
+use Rattle.phase_locker.specs.declared.ways.How.{How}
+use Rattle.phase_locker.specs.declared.ways.How.TheVariants as how
+use Rattle.phase_locker.specs.declared.ways.LockerKind.{LockerKind}
+use Rattle.phase_locker.specs.Natures.{bars}
+use Rattle.phase_locker.specs.Rows.{Rows as Parking, claims, drains, drains_at, row_of}
+use Rattle.phase_locker.specs.Fits.{Fits, IsWriteOpen, is_park, open_reads}
+use Rattle.phase_locker.specs.Attempts.{MayWait, keeps as row_keeps}
+use Rattle.phase_locker.proofs.Leaving.{write_has_no_reader}
+use Rattle.schedule_rules.specs.declared.plan.Place.{Place}
+use Rattle.schedule_rules.specs.declared.plan.Place.TheVariants as place
+use Rattle.schedule_rules.specs.declared.step.Want.{Want}
+use Rattle.schedule_rules.specs.Answers.{drains_by, way_at, way_parked}
+use Rattle.schedule_rules.specs.Calls.{wakes_as, way_of_nature}
+use Rattle.schedule_rules.specs.History.{count}
+use Rattle.schedule_rules.specs.Holds.{Holding, is_barred, is_barred_by_readers, keeps, keeps_way}
+use Rattle.schedule_rules.specs.Waits.{Wait, drains_on, is_drain, shares_read, shares_write, wait_of}
+use Rattle.waiting_rows.specs.Shown.{IsSingle, Shows, wait_row, waiting_of}
+use Rattle.waiting_rows.proofs.RowCounts.{claims_shown, count_rows, shares_shown}
+use Rattle.phase_moves.specs.Stands.{kind_at}
+
+-- ---- tests of numbers
+
+less : (n : ℕ) → 0 < n → nat_lt 0 n ≡ true
+less n lt = grind (arith, lt)
+
+not_less : (n : ℕ) → n ≡ 0 → nat_lt 0 n ≡ false
+not_less n e = grind (arith, e)
+
+positive : (n : ℕ) → nat_lt 0 n ≡ true → 0 < n
+positive n e = grind (arith, e)
+
+zero : (n : ℕ) → nat_lt 0 n ≡ false → n ≡ 0
+zero n e = grind (arith, e)
+
+is_zero : (n : ℕ) → n ≡ 0 → (n == 0) ≡ true
+is_zero n e = grind (arith, e)
+
+some_not : (n : ℕ) → nat_lt 0 n ≡ not (n == 0)
+some_not n = elim (cases_lt 0 n) [
+  | inl lt ↦ (let a = less n lt in let b : (n == 0) ≡ false = grind (arith, lt) in a ∙ ap not (sym b))
+  | inr le ↦ (let e : n ≡ 0 = omega (arith, le) in not_less n e ∙ ap not (sym (is_zero n e)))
+]
+
+read_same : (w d e m : Bool) → (w ≡ true → e ≡ true) → (((w || d) && e) || m) ≡ (w || ((d && e) || m))
+read_same true d e m f = by e (f refl)
+  where
+    by : (e : Bool) → e ≡ true → (e || m) ≡ true
+    by true p = refl
+    by false p = absurd (cc)
+read_same false d e m f = refl
+
+write_same : (w d z l : Bool) → l ≡ not z → ((w || d) || not z) ≡ (w || (d || l))
+write_same true d z l e = refl
+write_same false d z l e = ap (λ b. d || b) (sym e)
+
+-- ---- drains
+
+counted : (t u : Wait → Bool) (ws : List Wait) → ((w : Wait) → t w ≡ u w) → count t ws ≡ count u ws
+counted t u [] same = refl
+counted t u (w ∷ ws) same = let e = same w in let f = counted t u ws same in grind (arith, e, f)
+
+row_drains : (c : ℕ) (w : Wait) → drains_at c (wait_row (Some w)) ≡ drains_on c w
+row_drains c w = by w.party w.cell w.want w.way w.woken
+  where
+    by : (p x : ℕ) (want : Want) (way : How) (woken : Bool) → drains_at c (wait_row (Some (record { party = p; cell = x; want = want; way = way; woken = woken }))) ≡ drains_on c (record { party = p; cell = x; want = want; way = way; woken = woken })
+    by p x want how.Spin woken = refl
+    by p x want how.ParkedRead true = refl
+    by p x want how.ParkedRead false = refl
+    by p x want how.ParkedWrite true = refl
+    by p x want how.ParkedWrite false = refl
+    by p x want how.Drain woken = refl
+
+-- the rows of who is parked tell the drains
+pub drains_shown : (c : ℕ) (ws : List Wait) (s : Parking) → IsSingle ws → Shows ws s → drains s c ≡ count (drains_on c) ws
+drains_shown c ws s single shows = count_rows (drains_at c) ws s.rows refl single shows.row ∙ counted (λ (w : Wait). drains_at c (wait_row (Some w))) (drains_on c) ws (row_drains c)
+
+-- ---- what stands on the cell, by its record and these waits
+
+module _ (k : LockerKind) (h : Holders) (s : Parking) (c reads writes : ℕ) (ws : List Wait) (fits : Fits k h s c) (reads_are : open_reads h s c ≡ reads) (write_is : 0 < writes → IsWriteOpen h s c) (write_was : IsWriteOpen h s c → 0 < writes) (single : IsSingle ws) (shows : Shows ws s) where
+  abbrev readers : ℕ
+  readers = reads + count (shares_read c) ws
+
+  abbrev writers : ℕ
+  writers = writes + count (shares_write c) ws
+
+  abbrev drainers : ℕ
+  drainers = count (drains_on c) ws
+
+  -- so many read
+  pub readers_same : h.readers ≡ readers
+  readers_same = let most = fits.shared in let shown = shares_shown c ws s single shows in omega (arith, reads_are, most, shown)
+
+  -- it is locked for a write or a drain
+  pub locked_same : h.locked ≡ (nat_lt 0 writers || nat_lt 0 drainers)
+  locked_same = by h.locked refl
+    where
+      by : (b : Bool) → h.locked ≡ b → b ≡ (nat_lt 0 writers || nat_lt 0 drainers)
+      by false e =
+          let none = fits.locked e in
+          let shown = claims_shown c ws s single shows in
+          let closed : writes ≡ 0 = elim (cases_lt 0 writes) [ inl lt ↦ (let o = (write_is lt).locked in absurd (cc)) | inr le ↦ omega (arith, le) ] in
+          let w = not_less writers (omega (arith, none, shown, closed)) in
+          let d = not_less drainers (omega (arith, none, shown)) in
+          rw (w, d) refl
+      by true e = elim (cases_lt 0 writers) [
+        | inl lt ↦ (let w = less writers lt in rw w refl)
+        | inr le ↦ (let lt : 0 < drainers = drains_then le in let d = less drainers lt in let w = not_less writers (omega (arith, le)) in rw (w, d) refl)
+      ]
+        where
+          drains_then : writers ≤ 0 → 0 < drainers
+          drains_then le = elim (cases_lt 0 (claims s c)) [
+            | inl lt ↦ (let shown = claims_shown c ws s single shows in omega (arith, lt, shown, le))
+            | inr none ↦ (let some = write_was (record { locked = e; unclaimed = omega (arith, none) }) in absurd (omega (arith, some, le)))
+          ]
+
+  -- beside a write nobody reads
+  pub unread_written : 0 < writers → readers ≡ 0
+  unread_written lt = sym readers_same ∙ elim (cases_lt 0 writes) [
+    | inl writing ↦ write_has_no_reader k h s c fits (write_is writing)
+    | inr le ↦ shared (omega (arith, lt, le))
+  ]
+    where
+      shared : 0 < count (shares_write c) ws → h.readers ≡ 0
+      shared some = elim (cases_lt 0 h.readers) [
+        | inr le ↦ omega (arith, le)
+        | inl read ↦ (let shown = claims_shown c ws s single shows in
+            let one = fits.one in
+            let drained = fits.drained (locks h.locked refl) read in
+            let drains_are = drains_shown c ws s single shows in
+            absurd (omega (arith, shown, one, drained, drains_are, some)))
+      ]
+        where
+          locks : (b : Bool) → h.locked ≡ b → b ≡ true
+          locks true e = refl
+          locks false e = let none = fits.locked e in let shown = claims_shown c ws s single shows in absurd (omega (arith, none, shown, some))
+
+  -- it bars as the rules do
+  pub barred_same : (n : LockNature) → bars h n ≡ is_barred n (record { readers = readers; written = nat_lt 0 writers; drained = nat_lt 0 drainers })
+  barred_same nature.None = refl
+  barred_same nature.Read =
+      (λ i. (locked_same i && (readers_same i == 0)) || (readers_same i == most_readers))
+      ∙ read_same (nat_lt 0 writers) (nat_lt 0 drainers) (readers == 0) (readers == most_readers) (λ e. is_zero readers (unread_written (positive writers e)))
+  barred_same nature.Write = (λ i. locked_same i || not (readers_same i == 0)) ∙ write_same (nat_lt 0 writers) (nat_lt 0 drainers) (readers == 0) (nat_lt 0 readers) (some_not readers)
+
+-- ---- what is kept
+
+way_kept : (way : How) (woken : Bool) (n : LockNature) (h : Holders) → row_keeps (waiting_of way woken) n h ≡ keeps_way way woken n h.readers
+way_kept how.Spin woken nature.None h = refl
+way_kept how.Spin woken nature.Read h = refl
+way_kept how.Spin woken nature.Write h = refl
+way_kept how.ParkedRead true nature.None h = refl
+way_kept how.ParkedRead true nature.Read h = refl
+way_kept how.ParkedRead true nature.Write h = refl
+way_kept how.ParkedRead false nature.None h = refl
+way_kept how.ParkedRead false nature.Read h = refl
+way_kept how.ParkedRead false nature.Write h = refl
+way_kept how.ParkedWrite true nature.None h = refl
+way_kept how.ParkedWrite true nature.Read h = refl
+way_kept how.ParkedWrite true nature.Write h = refl
+way_kept how.ParkedWrite false nature.None h = refl
+way_kept how.ParkedWrite false nature.Read h = refl
+way_kept how.ParkedWrite false nature.Write h = refl
+way_kept how.Drain woken nature.None h = refl
+way_kept how.Drain woken nature.Read h = refl
+way_kept how.Drain woken nature.Write h = refl
+
+call_kept : (o : Option Wait) (n : LockNature) (h : Holders) → row_keeps (wait_row o).waiting n h ≡ keeps o n h.readers
+call_kept None nature.None h = refl
+call_kept None nature.Read h = refl
+call_kept None nature.Write h = refl
+call_kept (Some w) n h = way_kept w.way w.woken n h
+
+-- what the row of a party says is kept where the rules keep it
+pub row_kept : (p : ℕ) (n : LockNature) (ws : List Wait) (s : Parking) (h : Holders) → Shows ws s → row_keeps (row_of s p).waiting n h ≡ keeps (wait_of p ws) n h.readers
+row_kept p n ws s h shows = rw (shows.row p) (call_kept (wait_of p ws) n h)
+
+-- ---- ways
+
+spin_way : (p : Place) (way : How) → is_park (kind_at p) ≡ false → how.Spin ≡ way_at p way
+spin_way place.Park way e = absurd (cc)
+spin_way place.Spin way e = refl
+
+park_way : (p : Place) (way : How) → is_park (kind_at p) ≡ true → way ≡ way_at p way
+park_way place.Park way e = refl
+park_way place.Spin way e = absurd (cc)
+
+-- readers alone bar a writer of an unlocked record
+alone : (w d l : Bool) → (w || d) ≡ false → (w || (d || l)) ≡ true → (l && (not w && not d)) ≡ true
+alone true d l e f = absurd (cc)
+alone false true l e f = absurd (cc)
+alone false false true e f = refl
+alone false false false e f = absurd (cc)
+
+by_readers : (n : LockNature) (o : Holding) → n ≡ nature.Write → (o.written || o.drained) ≡ false → is_barred n o ≡ true → is_barred_by_readers n o ≡ true
+by_readers nature.None o e f b = absurd (cc)
+by_readers nature.Read o e f b = absurd (cc)
+by_readers nature.Write o e f b = alone o.written o.drained (nat_lt 0 o.readers) f b
+
+-- the way that the locker chose is one that is due
+pub way_due : (p : Place) (w : Want) (n : LockNature) (o : Holding) (fresh : Bool) (h : Holders) → h.locked ≡ (o.written || o.drained) → is_barred n o ≡ true → (way : How) → MayWait (kind_at p) fresh (wakes_as w) n h way → way ≡ way_at p (way_parked w (drains_by n o (is_drain way)))
+way_due p w n o fresh h locks is how.Spin may = spin_way p (way_parked w false) may
+way_due p w n o fresh h locks is how.ParkedRead may = ap way_of_nature (sym may.1) ∙ park_way p (way_of_nature (wakes_as w)) may.0
+way_due p w n o fresh h locks is how.ParkedWrite may = ap way_of_nature (sym may.1) ∙ park_way p (way_of_nature (wakes_as w)) may.0
+way_due p w n o fresh h locks is how.Drain may = park_way p how.Drain may.0 ∙ ap (λ b. way_at p (way_parked w b)) (sym (by_readers n o may.2 (sym locks ∙ may.3) is))

@@ -1,0 +1,262 @@
+-- How a call was judged that was not turned back: it keeps what it has, or gives it up, and is barred or admitted by the
+-- record that this leaves.
+use Rattle.std.proofs.Common.{◌≡◌, ◌<◌, ◌≤◌, ◌+◌, ◌∙◌, ℕ, length, ap, sym, subst, refl, arith, Bool, true, false, inl, inr}
+use Rattle.std.specs.Prelude.{◌⊎◌, MatchBool, ◌||◌, ◌&&◌, ◌==◌, not}
+use Rattle.std.specs.declared.option.Option.{Option}
+use Rattle.phase_bits.specs.declared.holders.Holders.{Holders}
+use Rattle.phase_bits.specs.Records.{most_readers}
+use Rattle.phase_locker.specs.declared.ways.Given.{Given}
+use Rattle.phase_locker.specs.declared.ways.Given.TheVariants as given
+use Rattle.phase_locker.specs.declared.ways.How.{How}
+use Rattle.phase_locker.specs.declared.ways.How.TheVariants as how
+use Rattle.phase_locker.specs.declared.ways.Who.{Who}
+use Rattle.phase_locker.specs.declared.ways.Waiting.{Waiting}
+use Rattle.phase_locker.specs.declared.ways.Waiting.TheVariants as waiting
+use Rattle.phase_locker.specs.declared.ways.LockerKind.{LockerKind}
+use Rattle.phase_locker.specs.declared.ways.Row.{Row}
+use Rattle.phase_locker.specs.declared.tickets.LockNature.{LockNature}
+use Rattle.phase_locker.specs.declared.tickets.LockNature.TheVariants as nature
+use Rattle.phase_locker.specs.declared.tickets.Attempt.{Attempt}
+use Rattle.phase_locker.specs.Natures.{bars, admitted, got}
+use Rattle.phase_locker.specs.Rows.{Rows as Parking, IsSound, row_of, free_row, freed, left, is_drain, readers_of}
+use Rattle.phase_locker.specs.Fits.{Fits, IsWriteOpen, flagged, open_reads}
+use Rattle.phase_locker.specs.Gifts.{MayHand, rows_handed}
+use Rattle.phase_locker.specs.Attempts.{Judged, Waits, Gets, Keeps, GivesUp, MayWait, held_waiting, given_up, keeps}
+use Rattle.phase_locker.proofs.Holding.{hands_fit}
+use Rattle.phase_locker.proofs.Judging.{by_bool}
+use Rattle.phase_locker.proofs.Keeping.{freed_size, gives_up_freed, keeps_fit}
+use Rattle.phase_locker.proofs.Leaving.{write_has_no_reader}
+use Rattle.phase_locker.proofs.Opening.{between_only}
+use Rattle.phase_locker.proofs.Standing.{given_up_reads, hands_reads, hands_writes, kept_open, left_writes}
+use Rattle.phase_seq.specs.declared.ask.Ask.{Ask}
+use Rattle.phase_seq.specs.declared.section.Begun.{Begun}
+use Rattle.phase_seq.specs.declared.section.Begun.TheVariants as begun
+use Rattle.phase_seq.specs.Asks.{nature_of, wake_of}
+use Rattle.phase_seq.specs.Begins.{Begins, Resumes, TurnsBack, MakesAttempt, MakesAnother, TriesLock, begun_by, begun_of, is_cyclic}
+use Rattle.phase_moves.specs.Calls.{Enters}
+use Rattle.phase_moves.proofs.Attempts.{free_same, got_to, writes_begun}
+use Rattle.phase_moves.proofs.Lockers.{handed_few, hands_phase}
+
+-- ---- how many read then
+
+waiting_readers : (way : How) (h : Holders) → (held_waiting way h).readers ≡ h.readers
+waiting_readers how.Spin h = refl
+waiting_readers how.ParkedRead h = refl
+waiting_readers how.ParkedWrite h = refl
+waiting_readers how.Drain h = refl
+
+admitted_few : (n : LockNature) (h : Holders) → bars h n ≡ false → h.readers ≤ most_readers → (admitted h n).readers ≤ most_readers
+admitted_few nature.Read h e le = by (h.locked && (h.readers == 0)) (h.readers == most_readers) refl e
+  where
+    by : (a b : Bool) → (h.readers == most_readers) ≡ b → (a || b) ≡ false → h.readers + 1 ≤ most_readers
+    by true b f e = absurd (cc)
+    by false true f e = absurd (cc)
+    by false false f e = grind (arith, f, le)
+admitted_few nature.Write h e le = le
+admitted_few nature.None h e le = le
+
+given_up_few : (w : Waiting) (h : Holders) → h.readers ≤ most_readers → (given_up w h).readers ≤ most_readers
+given_up_few waiting.ShareRead h le = omega (arith, le)
+given_up_few waiting.ShareWrite h le = le
+given_up_few waiting.Drain h le = le
+given_up_few waiting.Free h le = le
+given_up_few waiting.Spin h le = le
+given_up_few waiting.ParkedRead h le = le
+given_up_few waiting.ParkedWrite h le = le
+
+-- a lock to write is given beside no reader
+unread : (h : Holders) → bars h nature.Write ≡ false → h.readers ≡ 0
+unread h e = by h.locked (h.readers == 0) refl e
+  where
+    by : (a z : Bool) → (h.readers == 0) ≡ z → (a || not z) ≡ false → h.readers ≡ 0
+    by true z f e = absurd (cc)
+    by false true f e = grind (arith, f)
+    by false false f e = absurd (cc)
+
+-- nobody keeps what it has not
+none_kept : (n : LockNature) (h : Holders) → keeps waiting.Free n h ≡ false
+none_kept nature.Read h = refl
+none_kept nature.Write h = refl
+none_kept nature.None h = refl
+
+module _ (k : LockerKind) (who : Who) (ask : Ask) (h : Holders) (s : Parking) where
+  -- the lock that it wants
+  abbrev pub wanted : LockNature
+  wanted = nature_of ask h.phase
+
+  -- what it begins where it is admitted
+  abbrev pub begun_admitted : Begun
+  begun_admitted = begun_of who ask h.phase (got (nature_of ask h.phase) h.phase)
+
+  -- it keeps what it has
+  pub record IsKept (b : Begun) (g : Given) : Type 0 where
+    pub kept : keeps (row_of s who.party).waiting wanted h ≡ true
+    pub quiet : g ≡ given.Nobody
+    pub begins : b ≡ begun_admitted
+
+  -- it waits so
+  pub record IsWaiting (fresh : Bool) (mid : Holders) (b : Begun) : Type 0 where
+    pub way : How
+    pub may : MayWait k fresh (wake_of ask.want) wanted mid way
+    pub begins : b ≡ begun.Wait way
+
+  -- it gives up what it has, and is judged by the record that this leaves
+  pub record IsJudged (b : Begun) (g : Given) : Type 0 where
+    pub dropped : keeps (row_of s who.party).waiting wanted h ≡ false
+    pub mid : Holders
+    pub rows : Parking
+    pub rows_are : rows ≡ rows_handed who.cell g (freed who.party s)
+    pub may : MayHand who.cell (given_up (row_of s who.party).waiting h) (freed who.party s) g
+    pub fits : Fits k mid rows who.cell
+    pub reads : open_reads mid rows who.cell ≡ open_reads h s who.cell
+    pub writes : IsWriteOpen h s who.cell → IsWriteOpen mid rows who.cell
+    pub only : IsWriteOpen mid rows who.cell → IsWriteOpen h s who.cell
+    pub fresh : Bool
+    pub judged : MatchBool (bars mid wanted) (IsWaiting fresh mid b) (b ≡ begun_admitted)
+
+  -- one of the two; and how many read then
+  pub record IsMetBy (b : Begun) (g : Given) (h' : Holders) : Type 0 where
+    pub how : IsKept b g ⊎ IsJudged b g
+    pub few : h.readers ≤ most_readers → h'.readers ≤ most_readers
+    pub alone : writes_begun b ≡ 1 → h'.readers ≡ 0
+
+  -- what the judgement of a record begins
+  record JudgedSo (fresh : Bool) (mid : Holders) (b : Begun) (h' : Holders) : Type 0 where
+    judged : MatchBool (bars mid wanted) (IsWaiting fresh mid b) (b ≡ begun_admitted)
+    few : mid.readers ≤ most_readers → h'.readers ≤ most_readers
+    alone : writes_begun b ≡ 1 → h'.readers ≡ 0
+
+  judged_so : (fresh : Bool) (mid : Holders) (rows : Parking) (n : LockNature) (a : Attempt) (h' : Holders) (s' : Parking) → n ≡ wanted → mid.phase ≡ h.phase → Judged k fresh who (wake_of ask.want) n mid rows a h' s' → JudgedSo fresh mid (begun_by who ask h.phase a) h'
+  judged_so fresh mid rows n a h' s' ruled phase j = by (bars mid wanted) refl (subst (λ x. Judged k fresh who (wake_of ask.want) x mid rows a h' s') ruled j)
+    where
+      by : (c : Bool) → bars mid wanted ≡ c → MatchBool c (Waits k fresh who (wake_of ask.want) wanted mid rows a h' s') (Gets who wanted mid rows a h' s') → JudgedSo fresh mid (begun_by who ask h.phase a) h'
+      by true e w =
+          let is : begun_by who ask h.phase a ≡ begun.Wait w.how = ap (begun_by who ask h.phase) w.answer in
+          record {
+            judged = subst (λ c. MatchBool c (IsWaiting fresh mid (begun_by who ask h.phase a)) (begun_by who ask h.phase a ≡ begun_admitted)) (sym e) (record { way = w.how; may = w.may; begins = is });
+            few = λ le. subst (λ i. i ≤ most_readers) (sym (ap (λ (x : Holders). x.readers) w.held ∙ waiting_readers w.how mid)) le;
+            alone = λ z. absurd (let y : 0 ≡ 1 = sym (ap writes_begun is) ∙ z in omega (arith, y));
+          }
+      by false e w =
+          let is : begun_by who ask h.phase a ≡ begun_admitted = ap (begun_by who ask h.phase) w.answer ∙ ap (λ q. begun_of who ask h.phase (got wanted q)) phase in
+          record {
+            judged = subst (λ c. MatchBool c (IsWaiting fresh mid (begun_by who ask h.phase a)) (begun_by who ask h.phase a ≡ begun_admitted)) (sym e) is;
+            few = λ le. subst (λ i. i ≤ most_readers) (sym (ap (λ (x : Holders). x.readers) w.held)) (admitted_few wanted mid e le);
+            alone = λ z. ap (λ (x : Holders). x.readers) w.held ∙ none wanted refl e ((got_to who ask h.phase wanted rows refl).wrote (sym (ap writes_begun is) ∙ z));
+          }
+        where
+          none : (n : LockNature) → wanted ≡ n → bars mid wanted ≡ false → wanted ≡ nature.Write → (admitted mid wanted).readers ≡ 0
+          none n f e w = ap (λ x. (admitted mid x).readers) w ∙ unread mid (ap (bars mid) (sym w) ∙ e)
+
+  module _ (running : Option ℕ) (r : Begun × Given) (h' : Holders) (s' : Parking) (slow : ask.fast ≡ false) (calm : is_cyclic ask.want who.party running ≡ false) (fits : Fits k h s who.cell) where
+    -- a call of a party that does not wait
+    first_met : row_of s who.party ≡ free_row → Begins k who ask running h s r h' s' → IsMetBy r.0 r.1 h'
+    first_met free d = by (is_cyclic ask.want who.party running) ask.fast calm slow d
+      where
+        made : MakesAttempt k who ask h s r h' s' → IsMetBy r.0 r.1 h'
+        made a =
+            let j = judged_so true h s a.locks.nature a.attempt h' s' a.locks.allowed refl a.locks.judged in
+            subst (λ b. IsMetBy b r.1 h') (sym a.answer)
+            (subst (λ g. IsMetBy (begun_by who ask h.phase a.attempt) g h') (sym a.locks.given)
+            (record {
+              how = inr (record {
+                dropped = ap (λ (x : Row). keeps x.waiting wanted h) free ∙ none_kept wanted h;
+                mid = h;
+                rows = s;
+                rows_are = sym (free_same who.party s free);
+                may = tt;
+                fits = fits;
+                reads = refl;
+                writes = λ o. o;
+                only = λ o. o;
+                fresh = true;
+                judged = j.judged;
+              });
+              few = j.few;
+              alone = j.alone;
+            }))
+
+        by : (c f : Bool) → c ≡ false → f ≡ false → MatchBool c (TurnsBack h s r h' s') (MatchBool f (TriesLock who ask h s r h' s') (MakesAttempt k who ask h s r h' s')) → IsMetBy r.0 r.1 h'
+        by true f e q d = absurd (cc)
+        by false true e q d = absurd (cc)
+        by false false e q d = made d
+
+    module _ (cell : who.cell < length s.readers) (party : who.party < length s.rows) (sound : IsSound s) (sound_then : IsSound (freed who.party s)) (room : length (readers_of (freed who.party s) who.cell) ≤ most_readers) (here : (row_of s who.party).cell ≡ who.cell) where
+      abbrev v : Waiting
+      v = (row_of s who.party).waiting
+
+      row : row_of s who.party ≡ record { waiting = v; cell = who.cell }
+      row = λ i. record { waiting = v; cell = here i }
+
+      there : left v who.cell who.party s ≡ freed who.party s
+      there = ap (λ c. left v c who.party s) (sym here)
+
+      keeps_met : (n : LockNature) (a : Attempt) → n ≡ wanted → r.0 ≡ begun_by who ask h.phase a → keeps v n h ≡ true → Keeps who n h s (a, r.1) h' s' → IsMetBy r.0 r.1 h'
+      keeps_met n a ruled answer e j =
+          let is : r.0 ≡ begun_admitted = answer ∙ ap (begun_by who ask h.phase) j.answer ∙ ap (λ x. begun_of who ask h.phase (got x h.phase)) ruled in
+          record {
+            how = inl (record { kept = ap (λ x. keeps v x h) (sym ruled) ∙ e; quiet = j.given; begins = is });
+            few = λ le. subst (λ i. i ≤ most_readers) (sym (ap (λ (x : Holders). x.readers) j.held)) le;
+            alone = λ z. ap (λ (x : Holders). x.readers) j.held ∙ none ((got_to who ask h.phase wanted s refl).wrote (sym (ap writes_begun is) ∙ z));
+          }
+        where
+          none : wanted ≡ nature.Write → h.readers ≡ 0
+          none w =
+              let keep : keeps v nature.Write h ≡ true = ap (λ x. keeps v x h) (sym (ruled ∙ w)) ∙ e in
+              write_has_no_reader k (flagged who.cell (left v who.cell who.party s) h) (left v who.cell who.party s) who.cell
+              (subst (λ y. Fits k (flagged who.cell y h) y who.cell) (sym there) (keeps_fit nature.Write k h s who.cell who.party party here fits keep))
+              (kept_open v nature.Write k h s who.cell who.party party row fits keep)
+
+      gives_met : (n : LockNature) (a : Attempt) → n ≡ wanted → r.0 ≡ begun_by who ask h.phase a → keeps v n h ≡ false → GivesUp k who (wake_of ask.want) n h s (a, r.1) h' s' → IsMetBy r.0 r.1 h'
+      gives_met n a ruled answer e j =
+          let size = freed_size who.party s in
+          let inside : who.cell < length (freed who.party s).readers = omega (arith, size.1, cell) in
+          let phase : j.between.phase ≡ h.phase = hands_phase who.cell (given_up v h) (freed who.party s) r.1 j.between j.rows j.hands ∙ given_phase v in
+          let t = judged_so (not (is_drain v)) j.between j.rows n a h' s' ruled phase j.judged in
+          subst (λ b. IsMetBy b r.1 h') (sym answer)
+          (record {
+            how = inr (record {
+              dropped = ap (λ x. keeps v x h) (sym ruled) ∙ e;
+              mid = j.between;
+              rows = j.rows;
+              rows_are = j.hands.rows;
+              may = j.hands.may;
+              fits = hands_fit r.1 k (given_up v h) (freed who.party s) who.cell j.between j.rows inside sound_then (gives_up_freed k h s who.cell who.party cell sound.cells party here fits) j.hands;
+              reads = hands_reads r.1 who.cell (given_up v h) (freed who.party s) j.between j.rows inside sound_then j.hands ∙ subst (λ y. open_reads (given_up v h) y who.cell ≡ open_reads h s who.cell) there (given_up_reads v h s who.cell who.party party row);
+              writes = λ o. hands_writes r.1 who.cell (given_up v h) (freed who.party s) j.between j.rows j.hands (subst (λ y. IsWriteOpen (given_up v h) y who.cell) there (left_writes v k h s who.cell who.party party row fits o));
+              only = between_only who h (given_up v h) s (freed who.party s) r.1 j.between j.rows cell party here refl refl sound_then j.hands;
+              fresh = not (is_drain v);
+              judged = t.judged;
+            });
+            few = λ le. t.few (subst (λ i. i ≤ most_readers) (sym (ap (λ (x : Holders). x.readers) j.hands.held)) (handed_few r.1 who.cell (given_up v h) (freed who.party s) j.hands.may (given_up_few v h le) room));
+            alone = t.alone;
+          })
+        where
+          given_phase : (w : Waiting) → (given_up w h).phase ≡ h.phase
+          given_phase waiting.ShareRead = refl
+          given_phase waiting.ShareWrite = refl
+          given_phase waiting.Drain = refl
+          given_phase waiting.Free = refl
+          given_phase waiting.Spin = refl
+          given_phase waiting.ParkedRead = refl
+          given_phase waiting.ParkedWrite = refl
+
+      -- a call of a party that waits at the cell
+      again_met : Resumes k who ask running h s r h' s' → IsMetBy r.0 r.1 h'
+      again_met d = by (is_cyclic ask.want who.party running) calm d
+        where
+          made : MakesAnother k who ask h s r h' s' → IsMetBy r.0 r.1 h'
+          made a = elim (by_bool (keeps v a.again.nature h) a.again.steps) [
+            | inl j ↦ keeps_met a.again.nature a.attempt a.again.allowed a.answer j.0 j.1
+            | inr j ↦ gives_met a.again.nature a.attempt a.again.allowed a.answer j.0 j.1
+          ]
+
+          by : (c : Bool) → c ≡ false → MatchBool c (TurnsBack h s r h' s') (MakesAnother k who ask h s r h' s') → IsMetBy r.0 r.1 h'
+          by true e d = absurd (cc)
+          by false e d = made d
+
+    -- a call of a party that waits at the cell, or does not wait
+    pub met_by : (waits : Bool) → MatchBool waits ((row_of s who.party).cell ≡ who.cell) (row_of s who.party ≡ free_row) → who.cell < length s.readers → who.party < length s.rows → IsSound s → IsSound (freed who.party s) → length (readers_of (freed who.party s) who.cell) ≤ most_readers
+        → Enters waits k who ask running h s r h' s' → IsMetBy r.0 r.1 h'
+    met_by true here cell party sound sound_then room d = again_met cell party sound sound_then room here d
+    met_by false free cell party sound sound_then room d = first_met free d

@@ -1,0 +1,135 @@
+-- Runs that have made a history, and engines.
+use Rattle.std.proofs.Common.{◌≡◌, ℕ, ◌+◌, ◌<◌, ◌≤◌, List, [], ◌∷◌, ◌++◌, length, refl, sym, ◌∙◌, ap, subst, arith, get_or, Some}
+use Rattle.std.specs.Prelude.{map, slice_get, vec_capacity}
+use Rattle.std.proofs.lemmas.Grind.{common_steps}
+use Rattle.std.proofs.lemmas.Option.{slice_get-get_or}
+use Rattle.phase_bits.specs.declared.holders.Holders.{Holders}
+use Rattle.phase_locker.specs.declared.ways.LockerKind.{LockerKind}
+use Rattle.schedule_rules.specs.declared.plan.CellPlan.{CellPlan}
+use Rattle.schedule_rules.specs.declared.step.Step.{Step}
+use Rattle.schedule_rules.specs.declared.line.Line.{Line}
+use Rattle.schedule_rules.specs.Core.{core}
+use Rattle.schedule_rules.specs.Exits.{ended_turns}
+use Rattle.schedule_rules.specs.History.{Event}
+use Rattle.schedule_rules.specs.Kinds.{cell_at}
+use Rattle.schedule_rules.specs.Transcripts.{AreFinals, NamesKnown, told}
+use Rattle.phase_moves.specs.declared.rows.CellRow.{CellRow}
+use Rattle.phase_moves.specs.declared.rows.Rows.{Rows}
+use Rattle.phase_moves.specs.Closing.{CanClose}
+use Rattle.phase_moves.specs.Histories.{standing}
+use Rattle.phase_moves.specs.Stands.{kind_at}
+use Rattle.phase_acts.specs.Steps.{Follows}
+use Rattle.phase_schedule.specs.declared.ending.Ending.{Ending}
+use Rattle.phase_schedule.specs.declared.engine.Engine.TheInside.{Inside}
+use Rattle.phase_schedule.specs.declared.progress.Progress.{Progress}
+use Rattle.phase_schedule.specs.Finals.{final_of_row}
+use Rattle.phase_schedule.specs.Inside.{IsStanding, frame_of, plans_of, standing_of}
+use Rattle.phase_schedule.specs.Known.{TellsKnown}
+use Rattle.phase_schedule.specs.Progress.{CanStep, Ends, Frame, HasMade}
+use Rattle.phase_schedule.specs.Standing.{Standing, history}
+use Rattle.phase_schedule.proofs.Finals.{finals_are, finals_known}
+use Rattle.phase_schedule.proofs.Phases.{line_known}
+use Rattle.phase_schedule.proofs.Records.{record_is}
+use Rattle.phase_schedule.proofs.Rows.{cell_is, plans_are}
+use Rattle.phase_schedule.proofs.Told.{event, told_count, told_more}
+
+-- as much room
+pub same_room : (a b : ℕ) → b ≡ a → a ≤ b
+same_room a b e = omega (arith, e)
+
+module _ {L : Type 0} (held : L → Holders) (place : L → LockerKind) where
+  -- ---- a run so far
+
+  -- its frame, read off its rows
+  abbrev frame_in : Progress L → Frame
+  frame_in p =
+      record { parties = length p.machine.rows.parties.items; cells = plans_of p.machine.rows; count = vec_capacity p.machine.rows.guards }
+
+  pub frame_is : (f : Frame) (h : List Event) (p : Progress L) → HasMade held place f h p → f ≡ frame_in p
+  frame_is f h p made =
+      let cells = plans_are held place f.cells h p.machine.rows made.follows in
+      λ i. record { parties = sym made.parties i; cells = sym cells i; count = sym made.room i }
+
+  -- the line that was told last tells a phase that is known
+  pub told_known : (f : Frame) (h : List Event) (s : Step) (l : Line) (p : Progress L) → HasMade held place f (event s l ∷ h) p → TellsKnown l.answer
+  told_known f h s l p made = line_known f.cells h s l made.follows.legal.0
+
+  -- its rows can be closed
+  pub can_close : (f : Frame) (h : List Event) (p : Progress L) → HasMade held place f h p → CanClose held place p.machine.rows
+  can_close f h p made = record { m = standing f.cells h; rests = made.follows.rests }
+
+  -- its end
+  pub ends : (f : Frame) (h : List Event) (p : Progress L) (e : Ending) → HasMade held place f h p → e.finals.items ≡ map (final_of_row held) p.machine.rows.cells.items → e.exits.items ≡ p.machine.rows.exit.turns.items → Ends f.cells h e
+  ends f h p e made finals exits =
+      record { finals = are; exits = exits ∙ made.follows.rests.stands.exit.turns_are; known = finals_known f.cells h e.finals.items are }
+    where
+      are : AreFinals e.finals.items f.cells h
+      are = finals_are held place f.cells h p.machine.rows made.follows e.finals.items finals
+
+  -- ---- the locker of a cell
+
+  module _ (cells : List CellPlan) (h : List Event) (v : Rows L) (f : Follows held place cells h v) (c : ℕ) (row : CellRow L) (lt : c < length cells) (is : row ≡ get_or v.cells.items c row) where
+    at : slice_get v.cells.items c ≡ Some row
+    at = slice_get-get_or v.cells.items c row (subst (λ n. c < n) (sym f.planned) lt) ∙ ap (λ x. Some x) (sym is)
+
+    pub holds : held row.seq.locker ≡ core cells c h
+    holds = record_is cells h c (length v.cells.items) (place row.seq.locker) (held row.seq.locker) v.parks f.rests.stands.waits (cell_is held place cells h v f c row at).locked
+
+    pub placed : place row.seq.locker ≡ kind_at (cell_at cells c).place
+    placed = (cell_is held place cells h v f c row at).placed
+
+  -- ---- an engine
+
+  -- that has made nothing
+  pub stands_new : (f : Frame) (e : Inside L) → HasMade held place f [] e.progress → e.steps.items ≡ [] → e.lines.items ≡ [] → f.count ≤ vec_capacity e.steps → f.count ≤ vec_capacity e.lines → IsStanding held place e
+  stands_new f e made steps lines step_room line_room =
+      record {
+        made = subst (λ h. HasMade held place (frame_in e.progress) h e.progress) (sym none) (subst (λ g. HasMade held place g [] e.progress) same made);
+        told = ap length lines ∙ ap length (sym steps);
+        step_room = subst (λ (g : Frame). g.count ≤ vec_capacity e.steps) same step_room;
+        line_room = subst (λ (g : Frame). g.count ≤ vec_capacity e.lines) same line_room;
+      }
+    where
+      same : f ≡ frame_in e.progress
+      same = frame_is f [] e.progress made
+
+      none : told [] e.steps.items e.lines.items ≡ []
+      none = λ i. told [] (steps i) (lines i)
+
+  -- its next step
+  pub can_step : (e : Inside L) (v : Standing) (s : Step) → standing_of held place e ≡ v → IsStanding held place e → NamesKnown v.parties (length v.cells) s → length v.steps < v.count → CanStep held place (frame_of held place e) (history (standing_of held place e)) e.progress s
+  can_step e v s is stands known room =
+      record {
+        made = stands.made;
+        known = subst (λ (x : Standing). NamesKnown x.parties (length x.cells) s) (sym is) known;
+        room = subst (λ n. n < (standing_of held place e).count) (sym long) (subst (λ (x : Standing). length x.steps < x.count) (sym is) room);
+      }
+    where
+      long : length (told [] e.steps.items e.lines.items) ≡ length e.steps.items
+      long =
+          let same : length e.lines.items ≡ length e.steps.items = stands.told in
+          let all : length (told [] e.steps.items e.lines.items) ≡ 0 + length e.lines.items = told_count [] e.steps.items e.lines.items (omega (arith, same)) in
+          omega (arith, same, all)
+
+  module _ (e new : Inside L) (s : Step) (l : Line) (stands : IsStanding held place e) (made : HasMade held place (frame_of held place e) (event s l ∷ history (standing_of held place e)) new.progress) where
+    -- a step more
+    pub stands_more : new.steps.items ≡ e.steps.items ++ s ∷ [] → new.lines.items ≡ e.lines.items ++ l ∷ [] → vec_capacity new.steps ≡ vec_capacity e.steps → vec_capacity new.lines ≡ vec_capacity e.lines → IsStanding held place new
+    stands_more steps lines step_room line_room =
+        record {
+          made = subst (λ h. HasMade held place (frame_of held place new) h new.progress) (sym longer) (subst (λ g. HasMade held place g (event s l ∷ history (standing_of held place e)) new.progress) same made);
+          told = let all : _ = stands.told in rw (steps, lines) (more e.steps.items e.lines.items all);
+          step_room = let old : _ = stands.step_room in let kept : _ = made.room in omega (arith, old, kept, step_room);
+          line_room = let old : _ = stands.line_room in let kept : _ = made.room in omega (arith, old, kept, line_room);
+        }
+      where
+        same : frame_of held place e ≡ frame_in new.progress
+        same = frame_is (frame_of held place e) (event s l ∷ history (standing_of held place e)) new.progress made
+
+        longer : told [] new.steps.items new.lines.items ≡ event s l ∷ told [] e.steps.items e.lines.items
+        longer = (λ i. told [] (steps i) (lines i)) ∙ told_more [] e.steps.items e.lines.items s l stands.told
+
+        more : (ss : List Step) (ls : List Line) → length ls ≡ length ss → length (ls ++ l ∷ []) ≡ length (ss ++ s ∷ [])
+        more ss ls all = grind (arith, common_steps, all)
+
+    pub cells_stay : plans_of new.progress.machine.rows ≡ plans_of e.progress.machine.rows
+    cells_stay = plans_are held place (frame_of held place e).cells (event s l ∷ history (standing_of held place e)) new.progress.machine.rows made.follows

@@ -1,0 +1,162 @@
+-- The phases that legal histories publish and tell have no bit above the eight flags.
+use Rattle.std.proofs.Common.{◌≡◌, ℕ, List, [], ◌∷◌, refl, sym, ◌∙◌, ap, subst, arith, Bool, true, false, not, ◌&&◌, None, Some}
+use Rattle.std.specs.Prelude.{◌==◌, if◌then◌else◌}
+use Rattle.std.specs.declared.option.Option.{Option}
+use Rattle.phase_bits.specs.Number.{IsKnown, phase_of}
+use Rattle.exit_registry.specs.declared.registry.Look.{Look}
+use Rattle.exit_registry.specs.declared.registry.Look.TheVariants as look
+use Rattle.exit_registry.specs.Registry.{look_at}
+use Rattle.schedule_rules.specs.declared.line.Answer.{Answer}
+use Rattle.schedule_rules.specs.declared.line.Answer.TheVariants as answer
+use Rattle.schedule_rules.specs.declared.line.Line.{Line}
+use Rattle.phase_locker.specs.declared.tickets.LockNature.{LockNature}
+use Rattle.phase_locker.specs.declared.tickets.LockNature.TheVariants as nature
+use Rattle.phase_seq.specs.declared.tolerance.Tolerance.{Tolerance}
+use Rattle.schedule_rules.specs.declared.plan.Call.{Call}
+use Rattle.schedule_rules.specs.declared.plan.Kind.{Kind}
+use Rattle.schedule_rules.specs.declared.plan.CellPlan.{CellPlan}
+use Rattle.schedule_rules.specs.declared.step.Act.{Act}
+use Rattle.schedule_rules.specs.declared.step.Act.TheVariants as act
+use Rattle.schedule_rules.specs.declared.step.Step.{Step}
+use Rattle.schedule_rules.specs.declared.step.Want.{Want}
+use Rattle.schedule_rules.specs.declared.step.Want.TheVariants.{Calls, Turns}
+use Rattle.schedule_rules.specs.Answers.{Meeting, answer_admitted, answer_barred, answer_declined, answer_denied, answer_locked, answer_of_attempt, answer_of_made, answer_of_run, answer_opened, call_answer_admitted, drains_by, turn_answer_admitted, way_parked}
+use Rattle.schedule_rules.specs.Calls.{asks, initializes, lock_wanted}
+use Rattle.schedule_rules.specs.Changes.{Content, Ended, content_after, effect}
+use Rattle.schedule_rules.specs.Due.{answer_of_look, due_answer, due_clone, due_finished, due_look, due_made, due_tried, meeting}
+use Rattle.schedule_rules.specs.declared.plan.Call.TheVariants as call
+use Rattle.schedule_rules.specs.Exits.{registry}
+use Rattle.schedule_rules.specs.Guards.{Guard, guards, numbered}
+use Rattle.schedule_rules.specs.History.{Event}
+use Rattle.schedule_rules.specs.Holds.{holding_with, is_barred}
+use Rattle.schedule_rules.specs.Kinds.{cell_at, tolerance_of}
+use Rattle.schedule_rules.specs.Legal.{First, IsLegalLine, Last, Moment, answer_of, due_at}
+use Rattle.schedule_rules.specs.declared.line.Refusal.{Refusal}
+use Rattle.schedule_rules.specs.Phases.{is_accessible, phase_reached, runs_generator, NoRun}
+use Rattle.schedule_rules.specs.Refusals.{refusal}
+use Rattle.schedule_rules.specs.Replay.{Back, back_of_step, content_after_back, inside, replay}
+use Rattle.schedule_rules.specs.Sections.{Section, innermost, sections}
+use Rattle.schedule_rules.specs.Waits.{Attempt, Wait, attempt, other_waits, waits_given}
+use Rattle.phase_moves.proofs.Known.{change_known, effect_known}
+use Rattle.phase_schedule.specs.Known.{TellsKnown}
+
+module _ (cells : List CellPlan) where
+  after_back : (c : ℕ) (b : Option Back) (y : Content) → IsKnown (phase_of y.phase) → IsKnown (phase_of (content_after_back cells c b y).phase)
+  after_back c None y k = k
+  after_back c (Some b) y k = by (b.cell == c)
+    where
+      by : (t : Bool) → IsKnown (phase_of (if t then effect (cell_at cells c) b.changes y else y).phase)
+      by true = effect_known (cell_at cells c) b.changes y k
+      by false = k
+
+  -- what is published
+  pub published_known : (c : ℕ) (h : List Event) → IsKnown (phase_of (replay cells c h).phase)
+  published_known c [] = record { below = omega arith }
+  published_known c (e ∷ h) = after_back c (back_of_step h e.step e.line.answer) (replay cells c h) (published_known c h)
+
+  -- ---- what is told
+
+  locked_known : (q : Kind) (k : Call) (y : Content) → IsKnown (phase_of y.phase) → TellsKnown (answer_locked q k y)
+  locked_known q k y known = by (is_accessible q y.phase)
+    where
+      opened : (c : Call) → TellsKnown (answer_opened c)
+      opened call.Phase = tt
+      opened call.Read = tt
+      opened call.Write = tt
+
+      by : (b : Bool) → TellsKnown (if b then answer_opened k else answer_denied k y.phase)
+      by true = opened k
+      by false = known
+
+  run_known : (q : Kind) (t : Tolerance) (is_open : Bool) (k : Call) (y : Content) → TellsKnown (answer_of_run q t is_open k y)
+  run_known q t is_open k y = by (runs_generator q t is_open y.phase)
+    where
+      by : (b : Bool) → TellsKnown (if b then answer.Running else answer_declined k (phase_reached q is_open y.phase NoRun))
+      by true = tt
+      by false = record { below = omega arith }
+
+  by_lock : (n : LockNature) (q : Kind) (t : Tolerance) (is_open : Bool) (k : Call) (y : Content) → IsKnown (phase_of y.phase) → TellsKnown (call_answer_admitted n q t is_open k y)
+  by_lock nature.None q t is_open k y known = known
+  by_lock nature.Read q t is_open k y known = locked_known q k y known
+  by_lock nature.Write q t is_open k y known = by (asks t (Calls k) y.phase)
+    where
+      by : (b : Bool) → TellsKnown (if b then answer_of_run q t is_open k y else answer_locked q k y)
+      by true = run_known q t is_open k y
+      by false = locked_known q k y known
+
+  turn_known : (n : LockNature) (c : ℕ) → TellsKnown (turn_answer_admitted n c)
+  turn_known nature.None c = tt
+  turn_known nature.Read c = tt
+  turn_known nature.Write c = tt
+
+  admitted_known : (q : Kind) (t : Tolerance) (c : ℕ) (is_open : Bool) (w : Want) (y : Content) → IsKnown (phase_of y.phase) → TellsKnown (answer_admitted q t c is_open w y)
+  admitted_known q t c is_open (Calls k) y known = by_lock (lock_wanted t (Calls k) y.phase) q t is_open k y known
+  admitted_known q t c is_open Turns y known = turn_known (lock_wanted t Turns y.phase) c
+
+  attempt_known : (x : CellPlan) (w : Want) (m : Meeting) (chosen : Bool) → IsKnown (phase_of m.content.phase) → TellsKnown (answer_of_attempt x w m chosen)
+  attempt_known x w m chosen known = by (initializes w && m.own_run) (not m.kept && is_barred (lock_wanted (tolerance_of x) w m.content.phase) m.holding)
+    where
+      by : (a b : Bool) → TellsKnown (if a then answer.Cyclic else if b then answer_barred x.place (way_parked w (drains_by (lock_wanted (tolerance_of x) w m.content.phase) m.holding chosen)) else answer_admitted x.kind (tolerance_of x) m.cell m.is_open w m.content)
+      by true b = tt
+      by false true = tt
+      by false false = admitted_known x.kind (tolerance_of x) m.cell m.is_open w m.content known
+
+  look_known : (l : Look) → TellsKnown (answer_of_look l)
+  look_known (look.Round n) = tt
+  look_known look.Closed = tt
+
+  tried_known : (h : List Event) (p : ℕ) (a : Option Attempt) (ws : List Wait) (chosen : Bool) → TellsKnown (due_tried cells h p a ws chosen)
+  tried_known h p None ws chosen = look_known (look_at (registry cells h).pending)
+  tried_known h p (Some a) ws chosen = attempt_known (cell_at cells a.cell) a.want (meeting cells h p a ws) chosen (published_known a.cell h)
+
+  made_known : (w : Want) → TellsKnown (answer_of_made w)
+  made_known (Calls call.Read) = tt
+  made_known (Calls call.Write) = tt
+  made_known (Calls call.Phase) = tt
+  made_known Turns = tt
+
+  section_known : (h : List Event) (v : ℕ) (s : Option Section) → TellsKnown (due_made cells h v s)
+  section_known h v None = tt
+  section_known h v (Some s) = made_known s.want
+
+  finished_known : (h : List Event) (fine : Bool) (s : Option Section) → TellsKnown (due_finished cells h fine s)
+  finished_known h fine None = tt
+  finished_known h fine (Some s) = change_known (cell_at cells s.cell) (Ended fine) (replay cells s.cell h) (published_known s.cell h)
+
+  seen_known : (h : List Event) (x : Option Guard) → TellsKnown (due_look cells h x)
+  seen_known h None = tt
+  seen_known h (Some x) = tt
+
+  clone_known : (h : List Event) (ws : List Wait) (x : Option Guard) → TellsKnown (due_clone cells h ws x)
+  clone_known h ws None = tt
+  clone_known h ws (Some x) = by (is_barred nature.Read (holding_with x.cell h ws))
+    where
+      by : (b : Bool) → TellsKnown (if b then answer.Borrowed else answer.ReadGuard)
+      by true = tt
+      by false = tt
+
+  due_known : (h : List Event) (p : ℕ) (a : Act) (ws : List Wait) (chosen : Bool) → TellsKnown (due_answer cells h (record { party = p; act = a }) ws chosen)
+  due_known h p (act.Call c k) ws chosen = tried_known h p (attempt cells h (record { party = p; act = act.Call c k })) ws chosen
+  due_known h p act.Again ws chosen = tried_known h p (attempt cells h (record { party = p; act = act.Again })) ws chosen
+  due_known h p (act.Made v) ws chosen = section_known h v (innermost p (sections h))
+  due_known h p act.MadeFailed ws chosen = tt
+  due_known h p act.Finished ws chosen = finished_known h true (innermost p (sections h))
+  due_known h p act.FinishFailed ws chosen = finished_known h false (innermost p (sections h))
+  due_known h p act.Exit ws chosen = tried_known h p (attempt cells h (record { party = p; act = act.Exit })) ws chosen
+  due_known h p (act.Look g) ws chosen = seen_known h (numbered g (guards h))
+  due_known h p (act.Set g v) ws chosen = tt
+  due_known h p (act.Release g) ws chosen = tt
+  due_known h p (act.Downgrade g) ws chosen = tt
+  due_known h p (act.Clone g) ws chosen = clone_known h ws (numbered g (guards h))
+
+  -- a legal line tells no other phase
+  pub line_known : (h : List Event) (s : Step) (l : Line) → IsLegalLine cells h s l → TellsKnown l.answer
+  line_known h s l legal = subst TellsKnown (sym legal.answered) (by (refusal cells h s))
+    where
+      at : (m : Moment) → TellsKnown (due_at cells m h s l.given legal.chosen)
+      at First = due_known h s.party s.act (waits_given cells h s l.given (other_waits cells h s)) legal.chosen
+      at Last = due_known h s.party s.act (other_waits cells h s) legal.chosen
+
+      by : (r : Option Refusal) → TellsKnown (answer_of r (due_at cells legal.moment h s l.given legal.chosen))
+      by (Some r) = tt
+      by None = at legal.moment

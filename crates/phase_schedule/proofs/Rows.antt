@@ -1,0 +1,34 @@
+-- What rows that follow a history tell of its cells.
+use Rattle.std.proofs.Common.{zero, suc, ◌≡◌, ℕ, ◌<◌, List, [], ◌∷◌, length, map, refl, sym, ◌∙◌, ap, arith, Some}
+use Rattle.std.specs.Prelude.{slice_get}
+use Rattle.phase_bits.specs.declared.holders.Holders.{Holders}
+use Rattle.phase_locker.specs.declared.ways.LockerKind.{LockerKind}
+use Rattle.schedule_rules.specs.declared.plan.CellPlan.{CellPlan}
+use Rattle.schedule_rules.specs.Kinds.{cell_at}
+use Rattle.schedule_rules.specs.History.{Event}
+use Rattle.phase_moves.specs.declared.rows.CellRow.{CellRow}
+use Rattle.phase_moves.specs.declared.rows.Rows.{Rows}
+use Rattle.phase_moves.specs.Histories.{standing}
+use Rattle.phase_moves.specs.Stands.{IsCell, seen_at}
+use Rattle.phase_acts.specs.Steps.{Follows}
+use Rattle.phase_schedule.specs.Inside.{plans_of}
+
+module _ {L : Type 0} where
+  -- rows of which each is of the plan at its place are of these plans
+  planned : (rows : List (CellRow L)) (cells : List CellPlan) → length rows ≡ length cells → ((c : ℕ) (row : CellRow L) → slice_get rows c ≡ Some row → row.plan ≡ cell_at cells c) → map (λ row. row.plan) rows ≡ cells
+  planned [] [] e each = refl
+  planned [] (x ∷ xs) e each = absurd (omega (arith, e))
+  planned (r ∷ rs) [] e each = absurd (omega (arith, e))
+  planned (r ∷ rs) (x ∷ xs) e each =
+      let head : r.plan ≡ x = each 0 r refl in
+      let tail : map (λ row. row.plan) rs ≡ xs = planned rs xs (omega (arith, e)) (λ c row is. each (suc c) row is) in
+      λ i. head i ∷ tail i
+
+  module _ (held : L → Holders) (place : L → LockerKind) (cells : List CellPlan) (h : List Event) (v : Rows L) (f : Follows held place cells h v) where
+    -- the row of a cell
+    pub cell_is : (c : ℕ) (row : CellRow L) → slice_get v.cells.items c ≡ Some row → IsCell held place (seen_at c (standing cells h)) v.parks c row
+    cell_is c row is = f.rests.stands.cell c row is
+
+    -- the rows are of the cells
+    pub plans_are : plans_of v ≡ cells
+    plans_are = planned v.cells.items cells f.planned (λ c row is. (cell_is c row is).planned)

@@ -1,0 +1,177 @@
+-- Whole runs of schedules.
+use Rattle.std.proofs.Common.{zero, suc, ◌≡◌, ℕ, ◌+◌, ◌<◌, ◌≤◌, ◌^◌, List, [], ◌∷◌, ◌++◌, length, refl, sym, ◌∙◌, ap, subst, arith, get_or, true, false, None, Some}
+use Rattle.std.specs.Prelude.{nat_lt, slice_get}
+use Rattle.std.specs.declared.option.Option.{Option}
+use Rattle.std.proofs.lemmas.Grind.{common_steps}
+use Rattle.std.proofs.lemmas.Option.{get_or_from_slice_get, slice_get-get_or, slice_get_past, slice_get_within}
+use Rattle.phase_bits.specs.declared.holders.Holders.{Holders}
+use Rattle.phase_locker.specs.declared.ways.LockerKind.{LockerKind}
+use Rattle.schedule_rules.specs.declared.step.Step.{Step}
+use Rattle.schedule_rules.specs.declared.line.Line.{Line}
+use Rattle.schedule_rules.specs.Transcripts.{IsLegalTranscript, IsValid, NamesKnown, Schedule, told}
+use Rattle.phase_schedule.specs.declared.ending.Ending.{Ending}
+use Rattle.phase_schedule.specs.declared.progress.Progress.{Progress}
+use Rattle.phase_schedule.specs.declared.running.Run.{Run}
+use Rattle.phase_schedule.specs.Known.{TellsKnown}
+use Rattle.phase_schedule.specs.Progress as progress
+use Rattle.phase_schedule.specs.Progress.{CanStep, Ends}
+use Rattle.phase_schedule.specs.Running.{GoesOnFrom, HasMade, HasRest, IsEnd, account_with, frame_of, held_by, place_by}
+use Rattle.phase_schedule.proofs.Made.{told_known}
+use Rattle.phase_schedule.proofs.Told.{event, told_count, told_next, told_none}
+
+-- ---- a schedule that is run, with lines for its first steps
+
+module _ {L : Type 0} (held : L → Holders) (place : L → LockerKind) (x : Schedule) (lines : List Line) (p : Progress L) (made : progress.HasMade held place (frame_of x) (told [] x.steps lines) p) (few : length lines ≤ length x.steps) where
+  -- one row of guards for each line
+  pub count_is : length p.machine.rows.guards.items ≡ length lines
+  count_is = let all : length (told [] x.steps lines) ≡ 0 + length lines = told_count [] x.steps lines few in let rows : _ = made.follows.steps in omega (arith, all, rows)
+
+  -- its next step can be made
+  pub can_step : (s : Step) → IsValid x → slice_get x.steps (length lines) ≡ Some s → CanStep held place (frame_of x) (told [] x.steps lines) p s
+  can_step s valid at =
+      record {
+        made = made;
+        known = subst (NamesKnown x.parties (length x.cells)) (get_or_from_slice_get x.steps (length lines) s s at) (valid.known (length lines) s inside);
+        room = let all : length (told [] x.steps lines) ≡ 0 + length lines = told_count [] x.steps lines few in omega (arith, all, inside);
+      }
+    where
+      inside : length lines < length x.steps
+      inside = slice_get_within x.steps (length lines) s at
+
+  -- and it is made
+  pub steps_on : (s : Step) (l : Line) (new : Progress L) → IsValid x → slice_get x.steps (length lines) ≡ Some s → progress.Steps held place p s l new → progress.HasMade held place (frame_of x) (told [] x.steps (lines ++ l ∷ [])) new
+  steps_on s l new valid at did =
+      subst (λ h. progress.HasMade held place (frame_of x) h new) (sym (told_next [] x.steps lines s l at)) (did (frame_of x) (told [] x.steps lines) (can_step s valid at))
+
+-- the step at a place
+pub step_at : (x : Schedule) (lines : List Line) (i : ℕ) (d : Step) → length lines ≡ i → i < length x.steps → slice_get x.steps (length lines) ≡ Some (get_or x.steps i d)
+step_at x lines i d e lt = ap (λ n. slice_get x.steps n) e ∙ slice_get-get_or x.steps i d lt
+
+-- there is a line for each step before it
+pub few_told : (x : Schedule) (lines : List Line) (i : ℕ) → length lines ≡ i → i < length x.steps → length lines ≤ length x.steps
+few_told x lines i e lt = omega (arith, e, lt)
+
+-- there is a line for each step
+pub all_told : (x : Schedule) (lines : List Line) (i : ℕ) → length lines ≡ i → length x.steps ≤ i → i ≤ length x.steps → length lines ≡ length x.steps
+all_told x lines i e le ge = omega (arith, e, le, ge)
+
+-- one line more
+pub one_more : (lines : List Line) (l : Line) (i : ℕ) → length lines ≡ i → length (lines ++ l ∷ []) ≡ i + 1
+one_more lines l i e = grind (arith, common_steps, e)
+
+-- before the first step
+pub made_none : {L : Type 0} (held : L → Holders) (place : L → LockerKind) (x : Schedule) (lines : List Line) (p : Progress L) → lines ≡ [] → progress.HasMade held place (frame_of x) [] p → progress.HasMade held place (frame_of x) (told [] x.steps lines) p
+made_none held place x lines p e made = subst (λ h. progress.HasMade held place (frame_of x) h p) (sym (ap (λ ls. told [] x.steps ls) e ∙ told_none [] x.steps)) made
+
+-- the transcript of all steps is legal
+pub whole : {L : Type 0} (held : L → Holders) (place : L → LockerKind) (x : Schedule) (lines : List Line) (p : Progress L) (e : Ending) → progress.HasMade held place (frame_of x) (told [] x.steps lines) p → Ends x.cells (told [] x.steps lines) e → length lines ≡ length x.steps → IsLegalTranscript x (account_with lines e)
+whole held place x lines p e made ends all = record { lines = all; legal = made.follows.legal; finals = ends.finals; exits = ends.exits }
+
+-- ---- a run that hands out its lines
+
+-- the step at a place that is found there, or not
+pub step_found : (ss xs : List Step) (i n : ℕ) (s : Step) → xs ≡ ss → i ≡ n → true ≡ nat_lt i (length xs) → s ≡ get_or xs i s → slice_get ss n ≡ Some s
+step_found ss xs i n s same is lt e = subst (λ ys. slice_get ys n ≡ Some s) same (subst (λ k. slice_get xs k ≡ Some s) is (slice_get-get_or xs i s inside ∙ ap (λ y. Some y) (sym e)))
+  where
+    inside : i < length xs
+    inside = grind (arith, lt)
+
+pub none_found : (ss xs : List Step) (i n : ℕ) → xs ≡ ss → i ≡ n → false ≡ nat_lt i (length xs) → slice_get ss n ≡ None
+none_found ss xs i n same is ge = subst (λ ys. slice_get ys n ≡ None) same (subst (λ k. slice_get xs k ≡ None) is (slice_get_past xs i past))
+  where
+    past : length xs ≤ i
+    past = grind (arith, ge)
+
+-- before the first step
+pub has_none : (x : Schedule) (r : Run) → IsValid x → r.steps.items ≡ x.steps → progress.HasMade held_by place_by (frame_of x) [] r.progress → HasMade x [] r
+has_none x r valid steps made =
+    record { valid = valid; steps = steps; few = omega arith; made = subst (λ h. progress.HasMade held_by place_by (frame_of x) h r.progress) (sym (told_none [] x.steps)) made }
+
+-- its next step
+pub is_next : (x : Schedule) (lines : List Line) (r : Run) (s : Step) → HasMade x lines r → slice_get r.steps.items (length r.progress.machine.rows.guards.items) ≡ Some s → slice_get x.steps (length lines) ≡ Some s
+is_next x lines r s made at = subst (λ n. slice_get x.steps n ≡ Some s) (count_is held_by place_by x lines r.progress made.made made.few) (subst (λ ss. slice_get ss (length r.progress.machine.rows.guards.items) ≡ Some s) made.steps at)
+
+pub goes_on : (x : Schedule) (lines : List Line) (old new : Run) (s : Step) (l : Line) → HasMade x lines old → slice_get old.steps.items (length old.progress.machine.rows.guards.items) ≡ Some s → new.steps.items ≡ old.steps.items → progress.Steps held_by place_by old.progress s l new.progress → GoesOnFrom x lines (Some l) new
+goes_on x lines old new s l made at steps did = (
+  record { valid = made.valid; steps = steps ∙ made.steps; few = more; made = after },
+  told_known held_by place_by (frame_of x) (told [] x.steps lines) s l new.progress step,
+)
+  where
+    next : slice_get x.steps (length lines) ≡ Some s
+    next = is_next x lines old s made at
+
+    step : progress.HasMade held_by place_by (frame_of x) (event s l ∷ told [] x.steps lines) new.progress
+    step = did (frame_of x) (told [] x.steps lines) (can_step held_by place_by x lines old.progress made.made made.few s made.valid next)
+
+    after : progress.HasMade held_by place_by (frame_of x) (told [] x.steps (lines ++ l ∷ [])) new.progress
+    after = steps_on held_by place_by x lines old.progress made.made made.few s l new.progress made.valid next did
+
+    more : length (lines ++ l ∷ []) ≤ length x.steps
+    more = let inside : length lines < length x.steps = slice_get_within x.steps (length lines) s next in grind (arith, common_steps, inside)
+
+-- no step is left
+pub is_done : (x : Schedule) (lines : List Line) (r : Run) → HasMade x lines r → slice_get r.steps.items (length r.progress.machine.rows.guards.items) ≡ None → GoesOnFrom x lines None r
+is_done x lines r made none = (made, by (length lines) refl)
+  where
+    past : slice_get x.steps (length lines) ≡ None
+    past = subst (λ n. slice_get x.steps n ≡ None) (count_is held_by place_by x lines r.progress made.made made.few) (subst (λ ss. slice_get ss (length r.progress.machine.rows.guards.items) ≡ None) made.steps none)
+
+    beyond : (xs : List Step) (i : ℕ) → slice_get xs i ≡ None → length xs ≤ i
+    beyond [] i e = omega arith
+    beyond (y ∷ ys) zero e = absurd (cc)
+    beyond (y ∷ ys) (suc i) e = let rest : _ = beyond ys i e in omega (arith, rest)
+
+    by : (n : ℕ) → length lines ≡ n → length lines ≡ length x.steps
+    by n e = let le : length x.steps ≤ length lines = beyond x.steps (length lines) past in let few : _ = made.few in omega (arith, le, few)
+
+-- as many steps as its schedule has
+pub steps_of : (x : Schedule) (lines : List Line) (r : Run) → HasMade x lines r → length r.steps.items ≡ length x.steps
+steps_of x lines r made = ap length made.steps
+
+-- its end
+pub is_end : (x : Schedule) (lines : List Line) (r : Run) (e : Ending) → HasMade x lines r → progress.EndsSo held_by place_by r.progress e → IsEnd x lines e
+is_end x lines r e made ends =
+    record {
+      legal = made.made.follows.legal;
+      ends = end;
+      whole = λ all. whole held_by place_by x lines r.progress e made.made end all;
+    }
+  where
+    end : Ends x.cells (told [] x.steps lines) e
+    end = ends (frame_of x) (told [] x.steps lines) made.made
+
+-- ---- the steps that are left
+
+-- so many of them were made after these lines, or all
+pub record HasGone (x : Schedule) (lines : List Line) (n : ℕ) (r : Run) : Type 0 where
+  pub more : List Line
+  pub made : HasMade x (lines ++ more) r
+  pub count : n ≤ length (lines ++ more)
+
+pub gone_none : (x : Schedule) (lines : List Line) (r : Run) → HasMade x lines r → HasGone x lines 0 r
+gone_none x lines r made = record { more = []; made = subst (λ ls. HasMade x ls r) (sym (all lines)) made; count = omega arith }
+  where
+    all : (ls : List Line) → ls ++ [] ≡ ls
+    all [] = refl
+    all (l ∷ ls) = ap (λ xs. l ∷ xs) (all ls)
+
+pub gone_more : (x : Schedule) (lines : List Line) (n : ℕ) (old new : Run) (o : Option Line) → n < length x.steps → ((ls : List Line) → HasMade x ls old → GoesOnFrom x ls o new) → HasGone x lines n old → HasGone x lines (n + 1) new
+gone_more x lines n old new None lt goes gone =
+    let next : HasMade x (lines ++ gone.more) new × (length (lines ++ gone.more) ≡ length x.steps) = goes (lines ++ gone.more) gone.made in
+    let all : _ = next.1 in
+    record { more = gone.more; made = next.0; count = omega (arith, lt, all) }
+gone_more x lines n old new (Some l) lt goes gone =
+    let next : HasMade x ((lines ++ gone.more) ++ l ∷ []) new × TellsKnown l.answer = goes (lines ++ gone.more) gone.made in
+    record { more = gone.more ++ l ∷ []; made = subst (λ ls. HasMade x ls new) (same lines gone.more) next.0; count = let before : _ = gone.count in subst (λ (ls : List Line). n + 1 ≤ length ls) (same lines gone.more) (longer (lines ++ gone.more) before) }
+  where
+    same : (ps qs : List Line) → (ps ++ qs) ++ l ∷ [] ≡ ps ++ (qs ++ l ∷ [])
+    same [] qs = refl
+    same (a ∷ ps) qs = ap (λ xs. a ∷ xs) (same ps qs)
+
+    longer : (ls : List Line) → n ≤ length ls → n + 1 ≤ length (ls ++ l ∷ [])
+    longer ls le = grind (arith, common_steps, le)
+
+pub has_rest : (x : Schedule) (lines : List Line) (n : ℕ) (r : Run) (e : Ending) → length x.steps ≤ n → HasGone x lines n r → ((ls : List Line) → HasMade x ls r → IsEnd x ls e) → HasRest x lines e
+has_rest x lines n r e le gone ends =
+    let count : _ = gone.count in let few : _ = gone.made.few in
+    record { rest = gone.more; legal = (ends (lines ++ gone.more) gone.made).whole (omega (arith, le, count, few)) }

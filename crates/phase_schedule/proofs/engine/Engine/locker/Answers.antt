@@ -1,0 +1,20 @@
+use Rattle.std.proofs.Common.{◌≡◌, ◌<◌, ◌∙◌, ap, length, subst, sym}
+use Rattle.schedule_rules.specs.Core.{core}
+use Rattle.schedule_rules.specs.Kinds.{cell_at}
+use Rattle.phase_moves.specs.Stands.{kind_at}
+use Rattle.phase_schedule.specs.Standing.{Standing, history}
+use Rattle.phase_schedule.specs.Inside.{standing_of}
+use Rattle.phase_schedule.proofs.Made.{holds, placed}
+use Rattle.phase_schedule.proofs.engine.Engine.locker.Goals as goal
+
+pub returns-clause-held : goal.returns-clause-held
+returns-clause-held g c =
+    let h = g.L.PhaseLocker.held in let p = g.L.PhaseLocker.place in let old = standing_of h p c.self.inside in
+    subst (λ (v : Standing). h c.locker.result.now ≡ core v.cells c.args.cell (history v)) c.self.view_is
+    (ap h c.locker.ensures ∙ holds h p old.cells (history old) c.self.inside.progress.machine.rows c.self.invariant.made.follows c.args.cell c.index.result.now (subst (λ (v : Standing). c.args.cell < length v.cells) (sym c.self.view_is) c.requires) c.index.ensures)
+
+pub returns-clause-place : goal.returns-clause-place
+returns-clause-place g c =
+    let h = g.L.PhaseLocker.held in let p = g.L.PhaseLocker.place in let old = standing_of h p c.self.inside in
+    subst (λ (v : Standing). p c.locker.result.now ≡ kind_at (cell_at v.cells c.args.cell).place) c.self.view_is
+    (ap p c.locker.ensures ∙ placed h p old.cells (history old) c.self.inside.progress.machine.rows c.self.invariant.made.follows c.args.cell c.index.result.now (subst (λ (v : Standing). c.args.cell < length v.cells) (sym c.self.view_is) c.requires) c.index.ensures)

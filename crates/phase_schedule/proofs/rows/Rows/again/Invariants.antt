@@ -1,4 +1,0 @@
-use Rattle.phase_schedule.proofs.rows.Rows.again.Given as goal
-
-abbrev pub ghost-begun : goal.ghost-begun
-ghost-begun g a = g.h

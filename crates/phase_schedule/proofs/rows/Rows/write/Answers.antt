@@ -1,8 +1,0 @@
-use Rattle.std.proofs.Common.{◌∙◌, sym}
-use Rattle.phase_schedule.specs.View.{view}
-use Rattle.phase_schedule.proofs.Declined.{write_lacks}
-use Rattle.phase_schedule.proofs.rows.Rows.write.Goals as goal
-
-pub deny_write-requires : goal.deny_write-requires
-deny_write-requires g c κs within =
-    (within, write_lacks g.h (view g.L.PhaseLocker.held g.L.PhaseLocker.place c.args.self.now) c.args.s.now c.args.n c.args.target c.args.phase c.args.given c.requires.1 (sym c.contains.ensures ∙ c.if-contains.false))

@@ -1,0 +1,23 @@
+use Rattle.std.proofs.Common.{◌≡◌, ◌∙◌, [], ap, None, Some, refl, subst, sym}
+use Rattle.schedule_rules.specs.Transcripts.{schedule_of}
+use Rattle.phase_schedule.specs.declared.error.RunError.{RunError}
+use Rattle.phase_schedule.specs.Errors.{cause_of}
+use Rattle.phase_schedule.specs.Progress as progress
+use Rattle.phase_schedule.specs.Progress.{frame_of_plan}
+use Rattle.phase_schedule.specs.Running.{held_by, place_by}
+use Rattle.phase_schedule.proofs.Runs.{has_none}
+use Rattle.phase_schedule.proofs.Valid.{no_cause, valid}
+use Rattle.phase_schedule.proofs.running.Run.new.Goals as goal
+
+clash : (e : RunError) → Some e ≡ None → ⊥
+clash e same = cc
+
+pub returns-in-Some-clause-complete : goal.returns-in-Some-clause-complete
+returns-in-Some-clause-complete c =
+    λ v. absurd (clash c.in-Some.error (sym c.in-Some.is ∙ c.cause.ensures ∙ ap (λ ss. cause_of (schedule_of c.args.plan.now ss)) c.deref.ensures.value ∙ no_cause (schedule_of c.args.plan.now c.args.steps.items) v))
+
+pub returns-clause-made : goal.returns-clause-made
+returns-clause-made c =
+    let none : cause_of (schedule_of c.args.plan.now c.args.steps.items) ≡ None = ap (λ ss. cause_of (schedule_of c.args.plan.now ss)) (sym c.deref.ensures.value) ∙ sym c.cause.ensures ∙ c.in_default.is in
+    has_none (schedule_of c.args.plan.now c.args.steps.items) (record { progress = c.in_ok-progress.progress; steps = c.args.steps }) (valid (schedule_of c.args.plan.now c.args.steps.items) c.requires.cells c.requires.steps none) refl
+    (subst (λ n. progress.HasMade held_by place_by (frame_of_plan c.args.plan.now n) [] c.in_ok-progress.progress) (c.len.ensures ∙ c.args.steps.ok.0) c.in_ok-progress.ensures)
