@@ -5,21 +5,18 @@ use Rattle.std.specs.declared.option.Option.{Option}
 use Rattle.phase_bits.specs.declared.phase.Phase.{Phase}
 use Rattle.phase_locker.specs.declared.ways.Given.{Given}
 use Rattle.phase_locker.specs.declared.ways.Given.TheVariants as given
-use Rattle.phase_locker.specs.declared.ways.How.{How}
 use Rattle.phase_locker.specs.declared.tickets.ReadTicket.{ReadTicket}
 use Rattle.phase_locker.specs.declared.tickets.WriteTicket.{WriteTicket}
 use Rattle.phase_seq.specs.declared.section.Finished.TheVariants as finished
 use Rattle.schedule_rules.specs.declared.line.Answer.TheVariants as answer
 use Rattle.schedule_rules.specs.declared.line.Refusal.{Refusal}
-use Rattle.schedule_rules.specs.declared.plan.Call.{Call}
 use Rattle.schedule_rules.specs.declared.plan.CellPlan.{CellPlan}
 use Rattle.schedule_rules.specs.declared.step.Act.{Act}
 use Rattle.schedule_rules.specs.declared.step.Act.TheVariants as act
-use Rattle.schedule_rules.specs.declared.step.Want.TheVariants.{Calls}
 use Rattle.schedule_rules.specs.Changes.{Ran}
 use Rattle.schedule_rules.specs.Exits.{registry, owner, ended_turns, first_owner, finishing, turn_of_section}
 use Rattle.schedule_rules.specs.Guards.{Guard, guards, numbered, guard_of, own, without_guard, reader, reader_beside, reader_made, writer_made}
-use Rattle.schedule_rules.specs.History.{Event, accepts}
+use Rattle.schedule_rules.specs.History.{Event}
 use Rattle.schedule_rules.specs.Replay.{replay, content_after_back, back_of_guard, back_of_run, back_of_turn}
 use Rattle.schedule_rules.specs.Sections.{Section, sections, innermost, without_innermost}
 use Rattle.schedule_rules.specs.Waits.{Wait, waits, wait_of, without_wait, waits_given_with, cell_concerned_with, cell_of_guard, cell_of_section}
@@ -27,9 +24,8 @@ use Rattle.schedule_rules.proofs.Found.{found_passes}
 use Rattle.waiting_rows.specs.Given.{given_on}
 use Rattle.waiting_rows.proofs.Counted.{none_without}
 use Rattle.waiting_rows.proofs.GivenOn.{given_concerned}
-use Rattle.phase_moves.specs.declared.rows.Taken.TheVariants as taken
 use Rattle.phase_moves.specs.Histories.{standing, event}
-use Rattle.phase_moves.specs.Standing.{left, downgraded, cloned, took, ended, finalized, turn_of}
+use Rattle.phase_moves.specs.Standing.{left, downgraded, cloned, ended, finalized, turn_of}
 use Rattle.phase_moves.proofs.Guards.{its_number}
 
 owned_by : (p : ℕ) (x : Guard) (o : Option Guard) → own p o ≡ Some x → (o ≡ Some x) × (x.party ≡ p)
@@ -129,24 +125,3 @@ module _ (cells : List CellPlan) (h : List Event) (p : ℕ) where
           let given = given_awake act.FinishFailed d s.cell (ap cell_of_section top) in
           let owner_is = owner_stays (owner h) in
           λ i. record { plans = cells; waits = given i; sections = without_innermost (sym party i) (sections h); guards = guards h; content = λ c. content_after_back cells c (back_of_turn false (top i)) (replay cells c h); registry = registry cells h; owner = owner_is i; turns = turn_of_section (turn_of false) (top i) (ended_turns h) }
-
-  -- ---- calls
-
-  pub wait_took : (c : ℕ) (k : Call) (d : Given) (way : How) → standing cells (event p (act.Call c k) (record { answer = answer.Waiting way; given = d }) ∷ h) ≡ took (length h) p c (Calls k) d (taken.Wait way) (standing cells h)
-  wait_took c k d way =
-      let owner_is = owner_calls c k (owner h) in
-      λ i. record (took (length h) p c (Calls k) d (taken.Wait way) (standing cells h)) { waits = record { party = p; cell = c; want = Calls k; way = way; woken = false } ∷ gave (act.Call c k) d c refl i; owner = owner_is i }
-    where
-      owner_calls : (c : ℕ) (k : Call) (o : Option ℕ) → first_owner (act.Call c k) p o ≡ o
-      owner_calls c k None = refl
-      owner_calls c k (Some q) = refl
-
-  -- a run notes whether its registry was open, which the lines say too
-  pub run_took : accepts h ≡ (registry cells h).is_open → (c : ℕ) (k : Call) (d : Given) → standing cells (event p (act.Call c k) (record { answer = answer.Running; given = d }) ∷ h) ≡ took (length h) p c (Calls k) d taken.Runs (standing cells h)
-  run_took accepted c k d =
-      let owner_is = owner_calls c k (owner h) in
-      λ i. record (took (length h) p c (Calls k) d taken.Runs (standing cells h)) { waits = gave (act.Call c k) d c refl i; sections = record { party = p; cell = c; want = Calls k; start = length h; is_open = accepted i } ∷ sections h; owner = owner_is i }
-    where
-      owner_calls : (c : ℕ) (k : Call) (o : Option ℕ) → first_owner (act.Call c k) p o ≡ o
-      owner_calls c k None = refl
-      owner_calls c k (Some q) = refl

@@ -36,7 +36,6 @@ pub mod Histories
 pub mod Setting
 pub mod Looking
 pub mod Starting
-pub mod HistoryCalls
 pub mod HistoryExits
 pub mod Few
 pub mod Judged

@@ -15,7 +15,7 @@ use Rattle.phase_schedule.specs.declared.running.Run.{Run}
 use Rattle.phase_schedule.specs.Known.{TellsKnown}
 use Rattle.phase_schedule.specs.Progress as progress
 use Rattle.phase_schedule.specs.Progress.{CanStep, Ends}
-use Rattle.phase_schedule.specs.Running.{GoesOnFrom, HasMade, HasRest, IsEnd, account_with, frame_of, held_by, place_by}
+use Rattle.phase_schedule.specs.Running.{GoesOn, GoesOnFrom, HasMade, HasRest, IsEnd, IsRun, account_with, frame_of, held_by, place_by}
 use Rattle.phase_schedule.proofs.Made.{told_known}
 use Rattle.phase_schedule.proofs.Told.{event, told_count, told_next, told_none}
 
@@ -123,6 +123,11 @@ is_done x lines r made none = (made, by (length lines) refl)
 
     by : (n : ℕ) → length lines ≡ n → length lines ≡ length x.steps
     by n e = let le : length x.steps ≤ length lines = beyond x.steps (length lines) past in let few : _ = made.few in omega (arith, le, few)
+
+-- it is a run still
+pub still_run : (old new : Run) (o : Option Line) → IsRun old → GoesOn old o new → IsRun new
+still_run old new None is goes = record { schedule = is.schedule; lines = is.lines; made = (goes is.schedule is.lines is.made).0 }
+still_run old new (Some l) is goes = record { schedule = is.schedule; lines = is.lines ++ l ∷ []; made = (goes is.schedule is.lines is.made).0 }
 
 -- as many steps as its schedule has
 pub steps_of : (x : Schedule) (lines : List Line) (r : Run) → HasMade x lines r → length r.steps.items ≡ length x.steps

@@ -48,7 +48,8 @@ impl Run {
     /// Makes the next step, and gives its line; `None` where every step was made. It takes no memory.
     pub fn next_line(&mut self) -> Option<Line>
         requires { IsRun self.old }
-        ensures { GoesOn self.old result self.new }
+        ensures goes { GoesOn self.old result self.new }
+        ensures is { IsRun self.new }
     {
         let number = self.progress.machine.rows.guards.len();
         let step = *self.steps.get(number)?;

@@ -2,11 +2,12 @@
 
 ghost use Rattle.std.specs.Prelude.{◌≡◌, ◌<◌, ◌^◌, length, IfOk};
 ghost use Rattle.schedule_rules.specs.Transcripts.{schedule_of, IsValid};
+ghost use Rattle.phase_schedule.specs.Running.{IsRun};
 
 use crate::engine::Engine;
 use crate::error::RunError;
-use crate::line::quiet;
 use crate::run::run_schedule;
+use crate::running::Run;
 use exit_registry::Turned;
 use phase_bits::Phase;
 use phase_locker::{HolderLocker, Parks, PhaseLocker, Waiting};
@@ -22,7 +23,8 @@ pub type Row = (Step, Line);
 
 /// A step whose line gives nothing.
 pub fn row(step: Step, answer: Answer) -> Row {
-    (step, quiet(answer))
+    let given = Given::Nobody;
+    (step, Line { answer, given })
 }
 
 /// A step that is done, and gives this.
@@ -149,7 +151,9 @@ pub fn plan_of(
 }
 
 /// The steps of a table.
-fn steps_of(alloc: Global, rows: &[Row]) -> Result<Vec<Step>, AllocError> {
+fn steps_of(alloc: Global, rows: &[Row]) -> Result<Vec<Step>, AllocError>
+    ensures { IfOk result (λ steps. length steps.items ≡ length rows.now) }
+{
     let mut steps = Vec::new(alloc);
     for (step, _) in rows {
         steps.push(*step)?;
@@ -189,6 +193,45 @@ pub fn expect_rows(
     }
     assert!(rt; &whole.finals[..] == finals && &single.finals[..] == finals);
     assert!(rt; &whole.exits[..] == exits && &single.exits[..] == exits);
+    expect_lines(rt, alloc, plan, rows, finals, exits)
+}
+
+/// Whether the next lines are those of a table.
+fn tells(run: &mut Run, rows: &[Row]) -> bool
+    requires { IsRun run.old }
+    ensures { IsRun run.new }
+{
+    let mut is_told = true;
+    for (_, line) in rows {
+        is_told &= matches!(run.next_line(), Some(made) if made == *line);
+    }
+    is_told
+}
+
+/// Expects the same of a run that hands out its lines, where all are taken, and where half of them are.
+fn expect_lines(
+    rt: &impl Abort,
+    alloc: Global,
+    plan: &Plan,
+    rows: &[Row],
+    finals: &[Final],
+    exits: &[Turned],
+) -> Result<(), Fail>
+    requires cells { length plan.now.cells.items < 2 ^ 32 }
+    requires rows { length rows.now < 2 ^ 32 }
+{
+    for heard in [rows.len() / 2, rows.len()] {
+        let mut run = Run::new(alloc, plan, steps_of(alloc, rows)?)?;
+        let is_told = tells(&mut run, &rows[..heard]);
+        let ending = run.finish_unheard();
+        assert!(rt; is_told && &ending.finals[..] == finals && &ending.exits[..] == exits);
+    }
+    let mut run = Run::new(alloc, plan, steps_of(alloc, rows)?)?;
+    let is_told = tells(&mut run, rows);
+    let is_done = run.next_line().is_none();
+    let ending = run.finish();
+    assert!(rt; is_told && is_done);
+    assert!(rt; &ending.finals[..] == finals && &ending.exits[..] == exits);
     Ok(())
 }
 

@@ -13,7 +13,7 @@ next_line-line-requires c =
 pub loop-preserved : goal.loop-preserved
 loop-preserved c =
     record {
-      gone = λ x lines made. gone_more x lines c.loop.counter c.loop.self c.next_line-line.new.self c.next_line-line.result (subst (λ (n : ℕ). c.loop.counter < n) (sym c.loop.invariant.steps ∙ steps_of x lines c.args.self made) c.loop-test.true) (c.next_line-line.ensures x) (c.loop.invariant.gone x lines made);
+      gone = λ x lines made. gone_more x lines c.loop.counter c.loop.self c.next_line-line.new.self c.next_line-line.result (subst (λ (n : ℕ). c.loop.counter < n) (sym c.loop.invariant.steps ∙ steps_of x lines c.args.self made) c.loop-test.true) (c.next_line-line.ensures.goes x) (c.loop.invariant.gone x lines made);
       steps = c.loop.invariant.steps;
     }
 

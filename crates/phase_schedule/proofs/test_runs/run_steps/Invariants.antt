@@ -1,0 +1,11 @@
+use Rattle.std.proofs.Common.{◌≡◌, length, take}
+use Rattle.phase_schedule.proofs.test_runs.run_steps.Given as goal
+
+abbrev pub invariant-loop-s : goal.invariant-loop-s
+invariant-loop-s l =
+    record {
+      steps : l.engine.steps ≡ take l.s-index l.steps;
+      parties : l.engine.parties ≡ l.plan.parties;
+      cells : l.engine.cells ≡ l.plan.cells.items;
+      count : l.engine.count ≡ length l.steps;
+    }
