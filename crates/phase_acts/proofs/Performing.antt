@@ -1,5 +1,5 @@
 -- A step, by whether its party waits.
-use Rattle.std.proofs.Common.{◌≡◌, ◌≢◌, ◌∙◌, ◌+◌, ℕ, List, ◌∷◌, length, ap, sym, subst, refl, Bool, true, None, Some}
+use Rattle.std.proofs.Common.{◌≡◌, ◌≢◌, ◌∙◌, List, length, ap, sym, subst, refl, true, None, Some}
 use Rattle.std.specs.Prelude.{is_some}
 use Rattle.std.specs.declared.option.Option.{Option}
 use Rattle.phase_bits.specs.declared.holders.Holders.{Holders}
@@ -20,7 +20,7 @@ use Rattle.phase_moves.specs.Moves.{KeptWith}
 use Rattle.phase_moves.specs.Reading.{AwaitsBy}
 use Rattle.phase_moves.specs.Stands.{target_of}
 use Rattle.phase_acts.specs.Steps.{IsAwake, IsNext, HasStepped, step_of}
-use Rattle.phase_acts.specs.Tries.{IsTried, IsTrying, MayTry}
+use Rattle.phase_acts.specs.Tries.{IsTried, IsTrying}
 use Rattle.phase_acts.proofs.Causes.{again_trying, again_steps}
 
 -- only an Again goes on

@@ -1,5 +1,5 @@
 -- A call for the phase tells it, without a lock.
-use Rattle.std.proofs.Common.{◌≡◌, ◌∙◌, ◌<◌, ℕ, List, ◌∷◌, length, get_or, ap, sym, subst, refl, Bool, true, false, None, Some}
+use Rattle.std.proofs.Common.{◌≡◌, ◌∙◌, ℕ, List, length, get_or, ap, sym, subst, refl, Bool, true, false}
 use Rattle.std.specs.Prelude.{◌&&◌, not, if◌then◌else◌}
 use Rattle.phase_bits.specs.Number.{phase_of}
 use Rattle.phase_bits.specs.declared.holders.Holders.{Holders}
