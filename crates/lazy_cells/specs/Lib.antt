@@ -3,3 +3,10 @@ pub mod Calls
 pub mod Cells
 pub mod Fills
 pub mod Shows
+pub mod Locked
+pub mod Access
+pub mod Guards
+pub mod Sound
+pub mod Finalizers
+pub mod Startup
+pub mod StartAll

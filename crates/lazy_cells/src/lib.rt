@@ -5,18 +5,36 @@
 
 mod access;
 mod call;
+mod fast;
 mod fill;
 mod generic;
+mod guarded;
 mod kind;
+mod lesser;
+mod locked;
 mod markers;
+mod names;
 mod policy;
+mod start_all;
+mod started;
 
 pub use access::{Lazy, LazyAccess, LazyFinalize, UnSyncLazy};
 pub use call::{Call, ask_of, has_call};
 pub use generic::GenericLazy;
 pub use kind::{Kind, accessible, finalizable, primed};
-pub use markers::{Full, Lesser, NoExit, WithExit};
+pub use lesser::{Lesser, Startable};
+pub use locked::GenericLockedLazy;
+pub use markers::{
+    Content, Dropped, Full, IsLesser, IsPrimed, Kept, LesserForm, NoExit, Primed, Reach, WithExit,
+};
+pub use names::{
+    LesserLazy, LesserLazyFinalize, LesserLockedLazy, LesserLockedLazyDroped,
+    LesserLockedLazyFinalize, LockedLazy, LockedLazyDroped, LockedLazyFinalize,
+    PrimedLesserLockedLazy, PrimedLesserLockedLazyDroped, PrimedLockedLazy, PrimedLockedLazyDroped,
+    UnSyncLockedLazy,
+};
 pub use policy::{
     InitializedChecker, InitializedHardFinalizedChecker, InitializedSoftFinalizedChecker,
     LazyPolicy,
 };
+pub use started::{Started, start};

@@ -1,5 +1,5 @@
 -- What an attempt took is kept, or given back.
-use Rattle.std.proofs.Common.{◌≡◌, ◌∙◌, ◌<◌, ℕ, [], ◌∷◌, length, get_or, ap, sym, subst, refl, arith, Bool, true, false, None, Some}
+use Rattle.std.proofs.Common.{◌≡◌, ◌∙◌, ◌<◌, ℕ, [], ◌∷◌, length, get_or, ap, sym, subst, refl, arith, Bool, true, false, Some}
 use Rattle.std.specs.Prelude.{◌==◌, MatchBool, if◌then◌else◌}
 use Rattle.phase_bits.specs.declared.phase.Phase.{Phase}
 use Rattle.phase_bits.specs.declared.holders.Holders.{Holders}
@@ -7,7 +7,6 @@ use Rattle.phase_locker.specs.declared.tickets.ReadTicket.{ReadTicket}
 use Rattle.phase_locker.specs.declared.tickets.WriteTicket.{WriteTicket}
 use Rattle.phase_locker.specs.declared.ways.Given.{Given}
 use Rattle.phase_locker.specs.declared.ways.Given.TheVariants as given
-use Rattle.phase_locker.specs.declared.ways.How.{How}
 use Rattle.phase_locker.specs.declared.ways.LockerKind.{LockerKind}
 use Rattle.schedule_rules.specs.declared.line.Answer.TheVariants as answer
 use Rattle.schedule_rules.specs.declared.line.Line.{Line}
@@ -20,7 +19,6 @@ use Rattle.schedule_rules.specs.Kinds.{cell_at, tolerance_of}
 use Rattle.phase_moves.specs.declared.rows.CellRow.{CellRow}
 use Rattle.phase_moves.specs.declared.rows.GuardRow.TheVariants as guard
 use Rattle.phase_moves.specs.declared.rows.Rows.{Rows}
-use Rattle.phase_moves.specs.declared.rows.Taken.{Taken}
 use Rattle.phase_moves.specs.declared.rows.Taken.TheVariants as taken
 use Rattle.phase_moves.specs.declared.rows.Target.{Target}
 use Rattle.phase_moves.specs.Exits.{Skips}
@@ -32,7 +30,7 @@ use Rattle.phase_moves.specs.Stands.{Stands}
 use Rattle.phase_moves.proofs.Hand.{pushed_free, left_empty}
 use Rattle.phase_moves.proofs.Places.{read_at}
 use Rattle.phase_acts.specs.Steps.{given_first}
-use Rattle.phase_acts.specs.Settles.{IsSettling, IsSettled, is_made, answer_settled, settled, GivesSettled}
+use Rattle.phase_acts.specs.Settles.{IsSettling, IsSettled, is_made, settled}
 use Rattle.phase_acts.proofs.Pushing.{pushed_reader, pushed_writer}
 
 -- what a call was asked leaves the value
@@ -53,28 +51,6 @@ first_alone given.Readers = refl
 module _ {L : Type 0} (held : L → Holders) (place : L → LockerKind) (m : Standing) (old new : Rows L) (p : ℕ) (t : Target) (g : Given) (line : Line) where
   abbrev n : ℕ
   n = length old.guards.items
-
-  -- ---- what holds no lock
-
-  module _ (b : Taken) (is : IsSettling held place m old p t b g) where
-    -- what is open after it has no guard of this step
-    plain : numbered n (settled n p t.cell t.want g given.Nobody b m).guards ≡ None → took n p t.cell t.want g b m ≡ settled n p t.cell t.want g given.Nobody b m → GivesSettled n p t.cell t.want g given.Nobody b m → line ≡ record { answer = answer_settled t.cell t.want b; given = g } → Pushes held place old guard.Free new → IsSettled held place n m p t b g line new
-    plain empty same gave line_is push =
-        record {
-          last = given.Nobody;
-          line = line_is ∙ ap (λ d. record { answer = answer_settled t.cell t.want b; given = d }) (sym (first_alone g));
-          rests = pushed_free held place n (settled n p t.cell t.want g given.Nobody b m) old new (subst (λ x. Stands held place n x old) same is.stands) empty push;
-          gave = gave;
-        }
-
-  pub settles_wait : (how : How) (b : Taken) → b ≡ taken.Wait how → IsSettling held place m old p t b g → line ≡ record { answer = answer.Waiting how; given = g } → Pushes held place old guard.Free new → IsSettled held place n m p t b g line new
-  settles_wait how b e is line_is push = subst (λ x. IsSettled held place n m p t x g line new) (sym e) (plain (taken.Wait how) (subst (λ x. IsSettling held place m old p t x g) e is) is.empty refl refl line_is push)
-
-  pub settles_cyclic : (b : Taken) → b ≡ taken.Cyclic → IsSettling held place m old p t b g → line ≡ record { answer = answer.Cyclic; given = g } → Pushes held place old guard.Free new → IsSettled held place n m p t b g line new
-  settles_cyclic b e is line_is push = subst (λ x. IsSettled held place n m p t x g line new) (sym e) (plain taken.Cyclic (subst (λ x. IsSettling held place m old p t x g) e is) is.empty refl refl line_is push)
-
-  pub settles_runs : (b : Taken) → b ≡ taken.Runs → IsSettling held place m old p t b g → line ≡ record { answer = answer_settled t.cell t.want taken.Runs; given = g } → Pushes held place old guard.Free new → IsSettled held place n m p t b g line new
-  settles_runs b e is line_is push = subst (λ x. IsSettled held place n m p t x g line new) (sym e) (plain taken.Runs (subst (λ x. IsSettling held place m old p t x g) e is) is.empty refl refl line_is push)
 
   -- ---- nothing was wanted
 

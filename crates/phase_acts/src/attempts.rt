@@ -11,7 +11,7 @@ use schedule_rules::{Act, Answer, Call, Line, Want};
 
 impl<L: PhaseLocker> Machine<L> {
     /// One attempt of a call or a turn, to the end of the step.
-    pub fn tries(&mut self, party: u32, target: Target, waits: bool) -> Line
+    pub(crate) fn tries(&mut self, party: u32, target: Target, waits: bool) -> Line
         requires { MayTry L.held L.place self.old.rows party target waits }
         ensures tries { Tries L.held L.place self.old.rows party target waits result self.new.rows }
         ensures kept { KeptWith 1 self.old.rows self.new.rows }
@@ -21,7 +21,7 @@ impl<L: PhaseLocker> Machine<L> {
     }
 
     /// A call of a party that does not wait. A call for the phase takes no lock.
-    pub fn call(&mut self, party: u32, cell: u32, call: Call) -> Line
+    pub(crate) fn call(&mut self, party: u32, cell: u32, call: Call) -> Line
         requires { MayAct L.held L.place self.old.rows party (Act.Call cell call) }
         ensures { Acts L.held L.place self.old.rows party (Act.Call cell call) result self.new.rows }
     {

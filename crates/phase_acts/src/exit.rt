@@ -34,7 +34,7 @@ fn is_begun(exit: &Exit, party: u32) -> bool
 
 impl<L: PhaseLocker> Machine<L> {
     /// A step of the exit: the turn of the first cell that is left of the round, or a look where none is left.
-    pub fn exit(&mut self, party: u32) -> Line
+    pub(crate) fn exit(&mut self, party: u32) -> Line
         requires { MayAct L.held L.place self.old.rows party Act.Exit }
         ensures { Acts L.held L.place self.old.rows party Act.Exit result self.new.rows }
     {

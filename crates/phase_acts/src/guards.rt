@@ -9,7 +9,7 @@ use schedule_rules::{Act, Answer, Line, Refusal};
 
 impl<L: PhaseLocker> Machine<L> {
     /// The party gives a guard back. What the holder of a write guard sees is published.
-    pub fn release(&mut self, party: u32, guard: u32) -> Line
+    pub(crate) fn release(&mut self, party: u32, guard: u32) -> Line
         requires { MayAct L.held L.place self.old.rows party (Act.Release guard) }
         ensures { Acts L.held L.place self.old.rows party (Act.Release guard) result self.new.rows }
     {
@@ -37,7 +37,7 @@ impl<L: PhaseLocker> Machine<L> {
     }
 
     /// The party gives a write guard back and reads on. What it sees is published.
-    pub fn downgrade(&mut self, party: u32, guard: u32) -> Line
+    pub(crate) fn downgrade(&mut self, party: u32, guard: u32) -> Line
         requires { MayAct L.held L.place self.old.rows party (Act.Downgrade guard) }
         ensures { Acts L.held L.place self.old.rows party (Act.Downgrade guard) result self.new.rows }
     {
@@ -72,7 +72,7 @@ impl<L: PhaseLocker> Machine<L> {
     }
 
     /// The party gets one more read guard beside this one, unless the readers of its cell are at their limit.
-    pub fn clone_guard(&mut self, party: u32, guard: u32) -> Line
+    pub(crate) fn clone_guard(&mut self, party: u32, guard: u32) -> Line
         requires { MayAct L.held L.place self.old.rows party (Act.Clone guard) }
         ensures { Acts L.held L.place self.old.rows party (Act.Clone guard) result self.new.rows }
     {

@@ -6,7 +6,7 @@ ghost use Rattle.phase_acts.specs.Steps.{given_first};
 use phase_locker::Given;
 
 /// What a step gave, of which one part at most is something.
-pub fn given_first(first: Given, last: Given) -> Given
+pub(crate) fn given_first(first: Given, last: Given) -> Given
     ensures { result ≡ given_first first last }
 {
     match first {

@@ -16,7 +16,7 @@ pub struct Machine<L: PhaseLocker> {
 
 impl<L: PhaseLocker> Machine<L> {
     /// The step ends with this row of guards and this line.
-    pub fn end_step(&mut self, row: GuardRow, answer: Answer, given: Given) -> Line
+    pub(crate) fn end_step(&mut self, row: GuardRow, answer: Answer, given: Given) -> Line
         requires { length self.old.rows.guards.items < vec_capacity self.old.rows.guards }
         ensures pushes { Pushes L.held L.place self.old.rows row self.new.rows }
         ensures kept { KeptWith 1 self.old.rows self.new.rows }
@@ -27,7 +27,7 @@ impl<L: PhaseLocker> Machine<L> {
     }
 
     /// The step is refused, and leaves all but one more row of no guard.
-    pub fn refuse(&mut self, refusal: Refusal) -> Line
+    pub(crate) fn refuse(&mut self, refusal: Refusal) -> Line
         requires { length self.old.rows.guards.items < vec_capacity self.old.rows.guards }
         ensures { Refuses L.held L.place self.old.rows refusal result self.new.rows }
     {

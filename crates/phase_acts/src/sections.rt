@@ -11,7 +11,7 @@ use schedule_rules::{Answer, Line, Refusal, Want};
 
 impl<L: PhaseLocker> Machine<L> {
     /// The generator of the party's innermost section made this value, or failed.
-    pub fn outcome(&mut self, party: u32, made: Option<u64>) -> Line
+    pub(crate) fn outcome(&mut self, party: u32, made: Option<u64>) -> Line
         requires { MayAct L.held L.place self.old.rows party (outcome made) }
         ensures { Acts L.held L.place self.old.rows party (outcome made) result self.new.rows }
     {
@@ -46,7 +46,7 @@ impl<L: PhaseLocker> Machine<L> {
     }
 
     /// The finalizer of the party's innermost section succeeded, or failed.
-    pub fn finish(&mut self, party: u32, fine: bool) -> Line
+    pub(crate) fn finish(&mut self, party: u32, fine: bool) -> Line
         requires { MayAct L.held L.place self.old.rows party (finishing fine) }
         ensures { Acts L.held L.place self.old.rows party (finishing fine) result self.new.rows }
     {

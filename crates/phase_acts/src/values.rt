@@ -9,7 +9,7 @@ use schedule_rules::{Act, Answer, Line, Refusal};
 
 impl<L: PhaseLocker> Machine<L> {
     /// What the holder of the guard sees.
-    pub fn look(&mut self, party: u32, guard: u32) -> Line
+    pub(crate) fn look(&mut self, party: u32, guard: u32) -> Line
         requires { MayAct L.held L.place self.old.rows party (Act.Look guard) }
         ensures { Acts L.held L.place self.old.rows party (Act.Look guard) result self.new.rows }
     {
@@ -21,7 +21,7 @@ impl<L: PhaseLocker> Machine<L> {
     }
 
     /// The holder of the write guard sets the value.
-    pub fn set(&mut self, party: u32, guard: u32, value: u64) -> Line
+    pub(crate) fn set(&mut self, party: u32, guard: u32, value: u64) -> Line
         requires { MayAct L.held L.place self.old.rows party (Act.Set guard value) }
         ensures { Acts L.held L.place self.old.rows party (Act.Set guard value) result self.new.rows }
     {

@@ -1,4 +1,4 @@
--- What stands open after a step of the exit, and after a step that opens and gives back nothing, is a move of what stood
+-- What stands open after a look of the exit, and after a step that opens and gives back nothing, is a move of what stood
 -- open.
 use Rattle.std.proofs.Common.{◌≡◌, ◌==◌, ℕ, List, ◌∷◌, length, ap, refl, arith, Bool, true, false, None, Some}
 use Rattle.std.specs.Prelude.{not}

@@ -1,17 +1,24 @@
 -- What each step of a run hands on.
-use Rattle.std.proofs.Common.{ℕ, ◌≡◌, ◌≤◌, ◌⊎◌, inl, inr, sym, subst, arith, List, length, IsSomeAnd, IfSome}
+use Rattle.std.proofs.Common.{ℕ, [], ◌≡◌, ◌≤◌, ◌⊎◌, inl, inr, refl, sym, subst, arith, List, length, IsSomeAnd, IfSome}
 use Rattle.std.specs.declared.option.Option.{Option}
 use Rattle.std.specs.declared.option.Option.TheVariants.{None, Some}
-use Rattle.std.specs.Prelude.{take}
+use Rattle.std.specs.declared.result.Result.{Result}
+use Rattle.std.specs.declared.result.Result.TheVariants.{Ok, Err}
+use Rattle.std.specs.Prelude.{take, OnOk, OnErr}
 use Rattle.std.specs.Io.KnownBytes.{Appends}
 use Rattle.schedule_rules.specs.Transcripts.{Schedule, IsValid}
 use Rattle.phase_run.specs.declared.stop.Stop.{Stop}
 use Rattle.phase_run.specs.declared.stop.Stop.TheVariants as stop
 use Rattle.phase_run.specs.declared.status.Status.TheVariants as status
+use Rattle.phase_schedule.specs.declared.running.Run.{Run}
+use Rattle.schedule_text.specs.TranscriptText.{transcript_text}
+use Rattle.phase_run.specs.declared.failed.Failed.{Failed}
+use Rattle.phase_run.specs.Faults.{Rose}
+use Rattle.phase_run.specs.Telling.{IsToldOf, TellsRun}
 use Rattle.phase_run.specs.Words.{IsScheduleCall}
 use Rattle.schedule_text.specs.ScheduleText.{most_bytes}
-use Rattle.phase_run.specs.Runs.{Accepted, IsTooLong, IsNoText, IsInvalid, IsRefused, Due, IsDue, IsWritten, IsWrittenInPart}
-use Rattle.phase_run.specs.Steps.{IsWhole, SpellsOnly, IsAnswer}
+use Rattle.phase_run.specs.Runs.{Accepted, IsTooLong, IsNoText, IsInvalid, IsRefused, Due, IsWritten, IsWrittenInPart}
+use Rattle.phase_run.specs.Steps.{IsWhole, SpellsOnly, IsBegun, IsReady}
 use Rattle.phase_run.specs.Stops.{StopsRun, StopsAnswer, StopsBeforeWriting}
 
 -- a text whose schedule is not run is not answered
@@ -32,28 +39,23 @@ stops_before None rest old new text stop.Refused whole h = tt
 stops_before (Some bytes) rest old new text stop.Refused whole h = rw whole.all h
 stops_before input rest old new text stop.Memory whole h = tt
 
--- the answer to all that the source had is due
-pub is_due : (input rest : Option (List ℕ)) (text answer : List ℕ) → length text ≤ most_bytes → IsWhole input rest text → IsAnswer text answer → IsDue input rest answer
-is_due None rest text answer fits whole a =
-    record { due = record { schedule = a.schedule; read = tt; valid = a.valid; account = a.account; legal = a.legal }; text_is = a.answer_is }
-is_due (Some bytes) rest text answer fits whole a =
+-- the run of the schedule that all spells which the source had can be told
+pub is_ready : (input rest : Option (List ℕ)) (text page : List ℕ) (run : Run) → length text ≤ most_bytes → IsWhole input rest text → IsBegun text run → page ≡ [] → IsReady input rest run page
+is_ready None rest text page run fits whole b clear = record { schedule = b.schedule; read = tt; made = b.made; clear = clear }
+is_ready (Some bytes) rest text page run fits whole b clear =
     record {
-      due = record {
-        schedule = a.schedule;
-        read = record { length_fits = rw whole.all fits; spelled = rw whole.all a.spells.spelled; only = rw whole.all a.spells.only; to_the_end = whole.to_the_end };
-        valid = a.valid;
-        account = a.account;
-        legal = a.legal;
-      };
-      text_is = a.answer_is;
+      schedule = b.schedule;
+      read = record { length_fits = rw whole.all fits; spelled = rw whole.all b.spells.spelled; only = rw whole.all b.spells.only; to_the_end = whole.to_the_end };
+      made = b.made;
+      clear = clear;
     }
 
--- bytes that are not accepted have no answer that is due
-pub due_is_accepted : (input rest : Option (List ℕ)) → Due input rest → IsSomeAnd input IsRefused → ⊥
-due_is_accepted None rest d refused = refused
-due_is_accepted (Some bytes) rest d (inl long) = omega (arith, d.read.length_fits, long)
-due_is_accepted (Some bytes) rest d (inr (inl none)) = none d.schedule d.read.spelled
-due_is_accepted (Some bytes) rest d (inr (inr bad)) = bad.invalid (subst IsValid (d.read.only bad.schedule bad.spelled) d.valid)
+-- bytes that are not accepted have no run
+pub ready_is_accepted : (input rest : Option (List ℕ)) (page : List ℕ) (run : Run) → IsReady input rest run page → IsSomeAnd input IsRefused → ⊥
+ready_is_accepted None rest page run r refused = refused
+ready_is_accepted (Some bytes) rest page run r (inl long) = omega (arith, r.read.length_fits, long)
+ready_is_accepted (Some bytes) rest page run r (inr (inl none)) = none r.schedule r.read.spelled
+ready_is_accepted (Some bytes) rest page run r (inr (inr bad)) = bad.invalid (subst IsValid (r.read.only bad.schedule bad.spelled) r.made.valid)
 
 -- bytes that are accepted have a schedule that can be run
 pub invalid_is_refused : (input : Option (List ℕ)) (old new : ℕ) (s : Stop) → s ≡ stop.Refused → StopsBeforeWriting input old new s → IsSomeAnd input Accepted → ⊥
@@ -63,11 +65,40 @@ invalid_is_refused input old new s e h = by input (subst (StopsBeforeWriting inp
     by None bad a = a
     by (Some bytes) bad a = bad.invalid (subst IsValid (sym (bad.only a.schedule a.spelled)) a.valid)
 
--- what is due was written
-pub answered : (words : List (List ℕ)) (input rest before after : Option (List ℕ)) (text given : List ℕ) → IsScheduleCall words → IsDue input rest text → given ≡ text → Appends before after given → IsWritten words input rest status.Done before after
-answered words input rest before after text given call d same written = record { text = given; due = (call, rw same d); written = written }
+-- what is due, once the run was told
+due_of : (input rest before after : Option (List ℕ)) (page : List ℕ) (run : Run) (old new : ℕ) (told : Result (Unit {0}) Failed) (r : IsReady input rest run page) → IsToldOf r.schedule before after old new told → Due input rest
+due_of input rest before after page run old new told r t = record { schedule = r.schedule; read = r.read; valid = r.made.valid; account = t.account; legal = t.legal }
 
--- a part of what is due was written
-pub answered_in_part : (words : List (List ℕ)) (input rest before after : Option (List ℕ)) (text given : List ℕ) (k : ℕ) → IsScheduleCall words → IsDue input rest text → given ≡ text → Appends before after (take k given)
+-- it was written
+pub answered : (words : List (List ℕ)) (input rest before after : Option (List ℕ)) (page : List ℕ) (run : Run) (old new : ℕ) (told : Result (Unit {0}) Failed) (x : Unit {0}) → IsScheduleCall words → IsReady input rest run page → TellsRun run before after old new told → told ≡ Ok x → IsWritten words input rest status.Done before after
+unfolding due_of
+answered words input rest before after page run old new told x call r tells ok =
+    let t = tells r.schedule r.made in
+    record {
+      text = transcript_text t.account;
+      due = (call, record { due = due_of input rest before after page run old new told r t; text_is = refl });
+      written = subst (λ o. OnOk o (Appends before after (transcript_text t.account))) ok t.whole;
+    }
+
+-- a part of it was written
+pub answered_in_part : (words : List (List ℕ)) (input rest before after : Option (List ℕ)) (page : List ℕ) (run : Run) (old new : ℕ) (told : Result (Unit {0}) Failed) (x : Failed) → IsScheduleCall words → IsReady input rest run page → TellsRun run before after old new told → told ≡ Err x
     → IsWrittenInPart words input rest status.Done before after
-answered_in_part words input rest before after text given k call d same written = record { text = given; due = (call, rw same d); count = k; written = written }
+unfolding due_of
+answered_in_part words input rest before after page run old new told x call r tells bad =
+    let t = tells r.schedule r.made in
+    let part : (k : ℕ) × Appends before after (take k (transcript_text t.account)) =
+    subst (λ o. OnErr o ((k : ℕ) × Appends before after (take k (transcript_text t.account)))) bad t.part in
+    record {
+      text = transcript_text t.account;
+      due = (call, record { due = due_of input rest before after page run old new told r t; text_is = refl });
+      count = part.0;
+      written = part.1;
+    }
+
+-- the sink failed
+pub answered_failed : (input rest before after : Option (List ℕ)) (page : List ℕ) (run : Run) (old new : ℕ) (told : Result (Unit {0}) Failed) (x : Failed) → IsReady input rest run page → TellsRun run before after old new told → told ≡ Err x → Rose old new
+answered_failed input rest before after page run old new told x r tells bad = subst (λ o. OnErr o (Rose old new)) bad (tells r.schedule r.made).failed
+
+-- its faults did not fall
+pub answered_steady : (input rest before after : Option (List ℕ)) (page : List ℕ) (run : Run) (old new : ℕ) (told : Result (Unit {0}) Failed) → IsReady input rest run page → TellsRun run before after old new told → old ≤ new
+answered_steady input rest before after page run old new told r tells = (tells r.schedule r.made).steady

@@ -4,7 +4,9 @@ use Rattle.std.proofs.Math.Seq.{take-add}
 use Rattle.std.proofs.lemmas.Grind.{common_steps}
 use Rattle.std.specs.declared.option.Option.{Option}
 use Rattle.std.specs.declared.option.Option.TheVariants.{None, Some}
-use Rattle.std.specs.Io.KnownBytes.{Appends, Consumes, Keeps, IsAtEnd}
+use Rattle.std.specs.declared.result.Result.{Result}
+use Rattle.std.specs.declared.result.Result.TheVariants.{Ok, Err}
+use Rattle.std.specs.Io.KnownBytes.{Appends, Consumes, Keeps, IsAtEnd, ReadConsumes, WriteAppends}
 use Rattle.phase_run.specs.Runs.{TakesAtMost}
 use Rattle.phase_run.specs.Steps.{IsWhole}
 
@@ -67,3 +69,34 @@ pub Consumes-over : (most : ℕ) (a b : Option (List ℕ)) (text : List ℕ) →
 Consumes-over most None b text taken over = tt
 Consumes-over most (Some xs) None text taken over = absurd taken
 Consumes-over most (Some xs) (Some ys) text taken over = let e : length xs ≡ length (text ++ ys) = ap length taken in omega (arith, e, length-append text ys)
+
+-- nothing was taken or given, twice
+pub Keeps-keeps : (a b c : Option (List ℕ)) → Keeps a b → Keeps b c → Keeps a c
+Keeps-keeps None b c first more = tt
+Keeps-keeps (Some xs) None c first more = absurd first
+Keeps-keeps (Some xs) (Some ys) None first more = absurd more
+Keeps-keeps (Some xs) (Some ys) (Some zs) first more = more ∙ first
+
+-- bytes were taken after nothing was
+Keeps-consumes : (a b c : Option (List ℕ)) (bs : List ℕ) → Keeps a b → Consumes b c bs → Consumes a c bs
+Keeps-consumes None b c bs kept more = tt
+Keeps-consumes (Some xs) None c bs kept more = absurd kept
+Keeps-consumes (Some xs) (Some ys) None bs kept more = absurd more
+Keeps-consumes (Some xs) (Some ys) (Some zs) bs kept more = sym kept ∙ more
+
+-- bytes were given after nothing was
+Keeps-appends : (a b c : Option (List ℕ)) (bs : List ℕ) → Keeps a b → Appends b c bs → Appends a c bs
+Keeps-appends None b c bs kept more = tt
+Keeps-appends (Some xs) None c bs kept more = absurd kept
+Keeps-appends (Some xs) (Some ys) None bs kept more = absurd more
+Keeps-appends (Some xs) (Some ys) (Some zs) bs kept more = more ∙ ap (λ v. v ++ bs) kept
+
+-- what is read after nothing was taken is read at first
+pub Keeps-read : {E : Type 0} (a b c : Option (List ℕ)) (r : Result ℕ E) (buf : List ℕ) → Keeps a b → ReadConsumes b c r buf → ReadConsumes a c r buf
+Keeps-read a b c (Ok n) buf kept h = (Keeps-consumes a b c (take n buf) kept h.0, h.1)
+Keeps-read a b c (Err e) buf kept h = Keeps-keeps a b c kept h
+
+-- what is written after nothing was given is written at first
+pub Keeps-write : {E : Type 0} (a b c : Option (List ℕ)) (r : Result ℕ E) (buf : List ℕ) → Keeps a b → WriteAppends b c r buf → WriteAppends a c r buf
+Keeps-write a b c (Ok n) buf kept h = Keeps-appends a b c (take n buf) kept h
+Keeps-write a b c (Err e) buf kept h = Keeps-keeps a b c kept h

@@ -5,3 +5,4 @@ pub mod Stops
 pub mod Statuses
 pub mod Runs
 pub mod Steps
+pub mod Telling

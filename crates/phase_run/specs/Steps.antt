@@ -2,9 +2,11 @@
 use Rattle.std.specs.Prelude.{ℕ, ◌≡◌, List, [], IfSome}
 use Rattle.std.specs.declared.option.Option.{Option}
 use Rattle.std.specs.declared.option.Option.TheVariants.{Some}
-use Rattle.schedule_rules.specs.Transcripts.{Schedule, Account, IsValid, IsLegalTranscript}
+use Rattle.schedule_rules.specs.Transcripts.{Schedule}
 use Rattle.schedule_text.specs.ScheduleText.{Spells}
-use Rattle.schedule_text.specs.TranscriptText.{transcript_text}
+use Rattle.phase_schedule.specs.declared.running.Run.{Run}
+use Rattle.phase_schedule.specs.Running.{HasMade}
+use Rattle.phase_run.specs.Runs.{IsRead}
 
 -- the text is all that the source had
 pub record IsAll (input : List ℕ) (rest : Option (List ℕ)) (text : List ℕ) : Type 0 where
@@ -20,11 +22,15 @@ pub record SpellsOnly (text : List ℕ) (x : Schedule) : Type 0 where
   pub spelled : Spells text x
   pub only : (y : Schedule) → Spells text y → x ≡ y
 
--- the answer is the text of a legal transcript of the valid schedule that the text spells
-pub record IsAnswer (text answer : List ℕ) : Type 0 where
+-- the run is of the schedule that the text spells, before its first step
+pub record IsBegun (text : List ℕ) (run : Run) : Type 0 where
   pub schedule : Schedule
   pub spells : SpellsOnly text schedule
-  pub valid : IsValid schedule
-  pub account : Account
-  pub legal : IsLegalTranscript schedule account
-  pub answer_is : answer ≡ transcript_text account
+  pub made : HasMade schedule [] run
+
+-- all that the source had was read, and its schedule can be run and told: the page is clear
+pub record IsReady (input rest : Option (List ℕ)) (run : Run) (page : List ℕ) : Type 0 where
+  pub schedule : Schedule
+  pub read : IfSome input (λ bytes. IsRead bytes rest schedule)
+  pub made : HasMade schedule [] run
+  pub clear : page ≡ []

@@ -1,8 +1,9 @@
-//! The program over any source of bytes and any sink: reads a schedule, runs it, and writes its transcript. Its code
-//! stands on `phase_schedule` alone; its contracts speak of what `schedule_rules` and `schedule_text` define.
+//! The program over any source of bytes and any sink: reads a schedule, runs it, and writes its transcript as it is made.
+//! Its code stands on `phase_schedule` and on the page of `schedule_text`; its contracts speak of what `schedule_rules` and
+//! `schedule_text` define.
 #![tactic(auto)]
 
-mod answer;
+mod begin;
 mod failed;
 mod memory;
 mod program;
@@ -12,6 +13,7 @@ mod source;
 mod standard;
 mod status;
 mod stop;
+mod tell;
 #[cfg(test)]
 mod tests;
 mod write;

@@ -4,17 +4,20 @@ ghost use Rattle.std.specs.Prelude.{◌≡◌, ◌≤◌, ◌+◌, ◌↔◌, ma
 ghost use Rattle.phase_run.specs.Faults.{Rose};
 ghost use Rattle.phase_run.specs.Words.{IsScheduleCall};
 ghost use Rattle.schedule_text.specs.ScheduleText.{most_bytes};
-ghost use Rattle.phase_run.specs.Runs.{TakesAtMost, Accepted, IsRefused, IsDue, IsWritten, IsWrittenInPart};
+ghost use Rattle.phase_run.specs.Runs.{TakesAtMost, Accepted, IsRefused, IsWritten, IsWrittenInPart};
+ghost use Rattle.phase_run.specs.Steps.{IsReady};
 ghost use Rattle.phase_run.specs.Stops.{StopsBeforeWriting};
 ghost use Rattle.phase_run.specs.Statuses.{OnDone, OnUsage, OnBadLine, OnReadFault, OnWriteFault, OnNothingWritten, IsSteady, IsDoneUnlessMemory, IsBadLineUnlessMemory};
 
-use crate::answer::answer;
+use crate::begin::begin;
 use crate::read::read_text;
 use crate::sink::Sink;
 use crate::source::Source;
 use crate::status::Status;
 use crate::stop::Stop;
-use crate::write::write_text;
+use crate::tell::tell;
+use phase_schedule::Run;
+use schedule_text::Page;
 use std::alloc::Global;
 
 /// Whether these are the words of a call that runs a schedule: none, or the one word `schedule`.
@@ -28,15 +31,20 @@ fn is_schedule_call(words: &[String]) -> bool
     }
 }
 
-/// Reads the source to its end, and makes the text that is due.
-fn prepare<S: Source>(alloc: Global, src: &mut S) -> Result<Vec<u8>, Stop>
-    ensures due { IfOk result (λ text. IsDue (S.remaining src.old) (S.remaining src.new) text.items) }
+/// Reads the source to its end, and begins the run of its schedule, with a page for its transcript. All memory is taken
+/// here.
+fn prepare<S: Source>(alloc: Global, src: &mut S) -> Result<(Run, Page), Stop>
+    ensures ready { IfOk result (λ r. IsReady (S.remaining src.old) (S.remaining src.new) r.0 r.1) }
     ensures stops { IfErr result (StopsBeforeWriting (S.remaining src.old) (S.faults src.old) (S.faults src.new)) }
     ensures taken { TakesAtMost (most_bytes + 1) (S.remaining src.old) (S.remaining src.new) }
     ensures steady { S.faults src.old ≤ S.faults src.new }
 {
+    let Ok(page) = Page::new(alloc) else {
+        return Err(Stop::Memory);
+    };
     let text = read_text(alloc, src)?;
-    answer(alloc, text)
+    let run = begin(alloc, text)?;
+    Ok((run, page))
 }
 
 /// Reads the text of a schedule from the source to its end, runs it, and writes its transcript to the sink.
@@ -91,7 +99,7 @@ pub fn run_program<S: Source, K: Sink>(
         Err(Stop::BadLine) => Status::BadLine,
         Err(Stop::Refused) => Status::BadLine,
         Err(Stop::Memory) => Status::Memory,
-        Ok(text) => match write_text(out, &text) {
+        Ok((run, page)) => match tell(out, run, page) {
             Ok(()) => Status::Done,
             Err(_) => Status::WriteFault,
         },

@@ -8,9 +8,45 @@ ghost use Rattle.phase_run.specs.Faults.{Rose, one_more};
 use crate::failed::Failed;
 use crate::sink::Sink;
 use crate::source::Source;
-use std::io::{Read, Write};
+use std::io::{self, ErrorKind, Read, Write};
 
-/// A source over a reader. It counts the reader's errors, up to the greatest number that a `u64` holds.
+/// Reads, and tries again where the read was interrupted before it moved a byte.
+fn read_on<R: Read>(inner: &mut R, buf: &mut [u8]) -> io::Result<usize>
+    ensures bound { ReadsAtMost result buf.new }
+    ensures bytes { ReadConsumes (R.remaining inner.old) (R.remaining inner.new) result buf.new }
+{
+    for _ in 0..u64::MAX {
+        match inner.read(buf) {
+            Ok(n) => return Ok(n),
+            Err(error) => {
+                if error.kind() != ErrorKind::Interrupted {
+                    return Err(error);
+                }
+            }
+        }
+    }
+    Err(io::Error::from(ErrorKind::Interrupted))
+}
+
+/// Writes, and tries again where the write was interrupted before it moved a byte.
+fn write_on<W: Write>(inner: &mut W, piece: &[u8]) -> io::Result<usize>
+    ensures bound { WritesAtMost result piece.now }
+    ensures bytes { WriteAppends (W.contents inner.old) (W.contents inner.new) result piece.now }
+{
+    for _ in 0..u64::MAX {
+        match inner.write(piece) {
+            Ok(n) => return Ok(n),
+            Err(error) => {
+                if error.kind() != ErrorKind::Interrupted {
+                    return Err(error);
+                }
+            }
+        }
+    }
+    Err(io::Error::from(ErrorKind::Interrupted))
+}
+
+/// A source over a reader. It counts the reader's errors, but for interruptions, after which it reads again, up to the greatest number that a `u64` holds.
 #[derive(Drop)]
 pub struct StdSource<R: Read> {
     inner: R,
@@ -42,7 +78,7 @@ impl<R: Read> Source for StdSource<R> {
         ensures inner { ReadConsumes (R.remaining self.old.inner) (R.remaining self.new.inner) result buf.new }
         ensures counted { self.new.faults ≡ (if is_ok result then self.old.faults else one_more self.old.faults) }
     {
-        match self.inner.read(buf) {
+        match read_on(&mut self.inner, buf) {
             Ok(n) => Ok(n),
             Err(_) => {
                 self.faults = self.faults.saturating_add(1);
@@ -52,7 +88,7 @@ impl<R: Read> Source for StdSource<R> {
     }
 }
 
-/// A sink over a writer. It counts the writer's errors, up to the greatest number that a `u64` holds. A write that takes
+/// A sink over a writer. It counts the writer's errors, but for interruptions, after which it writes again, up to the greatest number that a `u64` holds. A write that takes
 /// nothing is one.
 #[derive(Drop)]
 pub struct StdSink<W: Write> {
@@ -86,7 +122,7 @@ impl<W: Write> Sink for StdSink<W> {
         ensures inner { WriteAppends (W.contents self.old.inner) (W.contents self.new.inner) result piece.now }
         ensures counted { self.new.faults ≡ (if is_ok result then self.old.faults else one_more self.old.faults) }
     {
-        match self.inner.write(piece) {
+        match write_on(&mut self.inner, piece) {
             Ok(n) if n > 0 => Ok(n),
             _ => {
                 self.faults = self.faults.saturating_add(1);

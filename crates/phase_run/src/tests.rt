@@ -267,3 +267,113 @@ fn ends_with_numbers(rt: HostRuntime) {
         assert_eq!(rt; status.code(), code, "for {status:?}");
     }
 }
+
+/// How many steps fill some pages.
+const MANY: usize = 5_000;
+
+/// A schedule of one party that looks at a phase many times.
+fn long_schedule(alloc: Global) -> Result<Vec<u8>, AllocError> {
+    let mut text = b"schedule 1\nparties 1\ncell LockedLazy spin\nsteps\n".to_vec(alloc)?;
+    for _ in 0..MANY {
+        text.extend_from_slice(b"0 phase 0\n")?;
+    }
+    text.extend_from_slice(b"end\n")?;
+    Ok(text)
+}
+
+/// Its transcript.
+fn long_transcript(alloc: Global) -> Result<Vec<u8>, AllocError> {
+    let mut text = b"transcript 1\n".to_vec(alloc)?;
+    for step in 0..MANY {
+        let line = format!(in alloc; "{step} phase Phase (not initialized)\n")?;
+        text.extend_from_slice(line.as_bytes())?;
+    }
+    text.extend_from_slice(b"cell 0 Phase (not initialized) none\nend\n")?;
+    Ok(text)
+}
+
+#[test]
+fn writes_page_by_page(rt: HostRuntime) -> Result<(), Fail> {
+    let alloc = rt.alloc();
+    let text = long_schedule(alloc)?;
+    let transcript = long_transcript(alloc)?;
+    let all = transcript.len();
+    for room in [0, 1, 65_000, 65_536, 66_000, 131_071, all - 1, all] {
+        let mut source = MemSource::new(text.to_vec(alloc)?, Vec::new(alloc));
+        let mut sink = MemSink::new(alloc, room, Vec::new(alloc))?;
+        let status = run_program(alloc, &[], &mut source, &mut sink);
+        let want = if room < all {
+            Status::WriteFault
+        } else {
+            Status::Done
+        };
+        assert_eq!(rt; status, want, "with {room}");
+        assert_eq!(rt; sink.given(), &transcript[..room], "with {room}");
+    }
+    for call in 0..3 {
+        let mut source = MemSource::new(text.to_vec(alloc)?, Vec::new(alloc));
+        let mut sink = MemSink::new(alloc, all, vec![in alloc; call]?)?;
+        let status = run_program(alloc, &[], &mut source, &mut sink);
+        assert_eq!(rt; status, Status::WriteFault, "at {call}");
+        assert_eq!(rt; sink.given().is_empty(), call == 0, "at {call}");
+        assert!(rt; transcript.starts_with(sink.given()), "at {call}");
+    }
+    Ok(())
+}
+
+/// Is interrupted at every other call.
+#[derive(Drop)]
+struct Stutter<T> {
+    inner: T,
+    calls: usize,
+}
+
+impl<T> Stutter<T> {
+    /// Whether this call is interrupted.
+    fn interrupts(&mut self) -> bool {
+        self.calls = self.calls.wrapping_add(1);
+        self.calls % 2 == 1
+    }
+}
+
+impl<T: Read> Read for Stutter<T> {
+    fn read(&mut self, buf: &mut [u8]) -> io::Result<usize> {
+        if self.interrupts() {
+            return Err(io::Error::from(io::ErrorKind::Interrupted));
+        }
+        self.inner.read(buf)
+    }
+}
+
+impl<T: Write> Write for Stutter<T> {
+    fn write(&mut self, buf: &[u8]) -> io::Result<usize> {
+        if self.interrupts() {
+            return Err(io::Error::from(io::ErrorKind::Interrupted));
+        }
+        self.inner.write(buf)
+    }
+
+    fn flush(&mut self) -> io::Result<()> {
+        Ok(())
+    }
+}
+
+#[test]
+fn tries_again_where_interrupted(rt: HostRuntime) {
+    let mut reader = Stutter {
+        inner: INPUT,
+        calls: 0,
+    };
+    let mut writer = Stutter {
+        inner: Vec::new(rt.alloc()),
+        calls: 0,
+    };
+    let status = run_program(
+        rt.alloc(),
+        &[],
+        &mut StdSource::new(&mut reader),
+        &mut StdSink::new(&mut writer),
+    );
+    assert_eq!(rt; status, Status::Done);
+    assert_eq!(rt; writer.inner.as_slice(), OUTPUT);
+}

@@ -21,3 +21,18 @@ pub trait Finaly {
     fn finaly(&self) -> Result<(), FinalFault>
         ensures { finalizes self.now result };
 }
+
+/// What takes a value out of use, where the exit finalizes a cell that goes on holding it, or where that is done by hand.
+/// It is static_init's `Uninit`; that it may fail is this project's own.
+pub trait Uninit {
+    // What `uninit` may answer, with what it leaves of the value.
+    ghost uninits: { Self → Result (Unit {0}) FinalFault → Self → Type 0 };
+
+    /// Takes the value out of use.
+    ///
+    /// # Errors
+    ///
+    /// `FinalFault` where the finalizer failed.
+    fn uninit(&mut self) -> Result<(), FinalFault>
+        ensures { uninits self.old result self.new };
+}

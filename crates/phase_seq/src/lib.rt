@@ -25,7 +25,7 @@ mod tests;
 mod tolerance;
 
 pub use ask::{Ask, Want};
-pub use finalizer::{FinalFault, Finaly};
+pub use finalizer::{FinalFault, Finaly, Uninit};
 pub use generator::{DefaultGenerator, Generator, GeneratorTolerance, InitFault};
 pub use init_error::InitError;
 pub use laws::{

@@ -28,6 +28,7 @@ use std::marker::PhantomData;
 mod attempts;
 mod closures;
 mod direct;
+mod owning;
 mod settling;
 
 pub use closures::Exit;

@@ -6,4 +6,3 @@ pub mod ReadSchedule
 pub mod PrintPieces
 pub mod PrintPhases
 pub mod PrintWords
-pub mod PrintRooms

@@ -78,17 +78,18 @@ without_last (y ∷ ys) x (suc k) e = ap (λ (t : List ℕ). y ∷ t) (without_l
 without_last [] x (suc k) e = absurd (omega arith)
 without_last (y ∷ ys) x zero e = absurd (omega arith)
 
-taken_off : (items new xs : List ℕ) (len : ℕ) → len ≡ length items → items ≡ xs ++ (10 ∷ []) → new ≡ take (len - 1) items → new ≡ xs
-taken_off items new xs len is e t =
-    let short : len - 1 ≡ length xs = omega (arith, is, ap length e, length-append xs (10 ∷ [])) in
-    t ∙ ap (take (len - 1)) e ∙ without_last xs 10 (len - 1) short
+-- the page before the line feed that was taken off
+taken_off : (before new xs : List ℕ) → before ≡ xs ++ (10 ∷ []) → new ≡ take (length before - 1) before → new ≡ xs
+taken_off before new xs e t =
+    let short : length before - 1 ≡ length xs = omega (arith, ap length e, length-append xs (10 ∷ [])) in
+    t ∙ ap (take (length before - 1)) e ∙ without_last xs 10 (length before - 1) short
 
 -- a gift takes the place of the line feed behind an answer
-pub gift_behind : (old items new piece : List ℕ) (len : ℕ) (a : Answer) (g : Given) → items ≡ old ++ line_text (answer_words a) → len ≡ length items → new ≡ take (len - 1) items → piece ≡ line_rest (given_words g) → new ++ piece ≡ old ++ line_text (answer_words a ++ given_words g)
-gift_behind old items new piece len a g printed is t e =
-    let ends : items ≡ (old ++ front (answer_words a)) ++ (10 ∷ []) =
+pub gift_behind : (old before popped new piece : List ℕ) (a : Answer) (g : Given) → before ≡ old ++ line_text (answer_words a) → popped ≡ take (length before - 1) before → new ≡ popped ++ piece → piece ≡ line_rest (given_words g) → new ≡ old ++ line_text (answer_words a ++ given_words g)
+gift_behind old before popped new piece a g printed t put e =
+    let ends : before ≡ (old ++ front (answer_words a)) ++ (10 ∷ []) =
     printed ∙ ap (λ (x : List ℕ). old ++ x) (answer_ends a) ∙ sym (append_assoc old (front (answer_words a)) (10 ∷ [])) in
-    let before = taken_off items new (old ++ front (answer_words a)) len is ends t in
-    ap (λ (x : List ℕ). x ++ piece) before ∙ ap (λ (x : List ℕ). (old ++ front (answer_words a)) ++ x) e
+    let off = taken_off before popped (old ++ front (answer_words a)) ends t in
+    put ∙ ap (λ (x : List ℕ). x ++ piece) off ∙ ap (λ (x : List ℕ). (old ++ front (answer_words a)) ++ x) e
     ∙ append_assoc old (front (answer_words a)) (line_rest (given_words g))
     ∙ ap (λ (x : List ℕ). old ++ x) (sym (answer_goes_on a (given_words g)))

@@ -64,21 +64,28 @@ given_words given.Nobody = []
 given_words (given.Writer p) = codes "gives" ∷ codes "writer" ∷ decimal p ∷ []
 given_words given.Readers = codes "gives" ∷ codes "readers" ∷ []
 
+-- the line of the step with this number
+abbrev pub step_words : ℕ → Line → List Word
+step_words n l = decimal n ∷ (answer_words l.answer ++ given_words l.given)
+
 -- the lines of steps, numbered from n
 abbrev pub step_lines : ℕ → List Line → List (List Word)
 step_lines n [] = []
-step_lines n (l ∷ ls) = (decimal n ∷ (answer_words l.answer ++ given_words l.given)) ∷ step_lines (n + 1) ls
+step_lines n (l ∷ ls) = step_words n l ∷ step_lines (n + 1) ls
 
 -- a value, or that there is none
 abbrev pub value_word : Option ℕ → Word
 value_word None = codes "none"
 value_word (Some v) = decimal v
 
+-- the line of the cell with this number, by what it is left with
+abbrev pub final_words : ℕ → Final → List Word
+final_words c f = codes "cell" ∷ decimal c ∷ phase_text (number f.phase) ∷ value_word f.value ∷ []
+
 -- the lines of cells, numbered from c
 abbrev pub final_lines : ℕ → List Final → List (List Word)
 final_lines c [] = []
-final_lines c (f ∷ fs) =
-    (codes "cell" ∷ decimal c ∷ phase_text (number f.phase) ∷ value_word f.value ∷ []) ∷ final_lines (c + 1) fs
+final_lines c (f ∷ fs) = final_words c f ∷ final_lines (c + 1) fs
 
 -- how a turn of the exit ended. Busy, of an object that is held, has no word
 abbrev pub turn_words : Turn → List Word
@@ -95,11 +102,18 @@ exit_words t = codes "exit" ∷ decimal t.cell ∷ turn_words t.turn
 abbrev pub exit_lines : List Turned → List (List Word)
 exit_lines ts = map exit_words ts
 
+-- the first line: the version
+abbrev pub title_words : List Word
+title_words = codes "transcript" ∷ codes "1" ∷ []
+
+-- the last line
+abbrev pub end_words : List Word
+end_words = codes "end" ∷ []
+
 -- the lines of a transcript: its version, the steps, what the cells are left with, and the turns of the exit that ended
 abbrev pub transcript_lines : Account → List (List Word)
 transcript_lines t =
-    (codes "transcript" ∷ codes "1" ∷ [])
-    ∷ (step_lines 0 t.lines ++ (final_lines 0 t.finals ++ (exit_lines t.exits ++ ((codes "end" ∷ []) ∷ []))))
+    title_words ∷ (step_lines 0 t.lines ++ (final_lines 0 t.finals ++ (exit_lines t.exits ++ (end_words ∷ []))))
 
 -- the text of a transcript
 abbrev pub transcript_text : Account → List ℕ

@@ -6,5 +6,5 @@
 mod print;
 mod read;
 
-pub use print::print_transcript;
+pub use print::{Page, print_transcript};
 pub use read::{ReadError, read_schedule};

@@ -1,27 +1,24 @@
 //! Prints a transcript.
 
-ghost use Rattle.std.specs.Prelude.{◌≡◌, ◌≢◌, [], ◌∷◌, ◌++◌, IfOk, OnOk};
-ghost use Rattle.phase_bits.specs.Number.{number};
-ghost use Rattle.phase_bits.specs.Text.{phase_text};
+ghost use Rattle.std.specs.Prelude.{◌≡◌, ◌≢◌, [], ◌∷◌, ◌++◌, IfOk, OnOk, true};
 ghost use Rattle.exit_registry.specs.declared.turns.Turn.TheVariants as turn;
 ghost use Rattle.schedule_rules.specs.Exits.{NoneBusy};
 ghost use Rattle.schedule_rules.specs.Transcripts.{account_of};
-ghost use Rattle.schedule_text.specs.Lines.{line_text, lines_text};
-ghost use Rattle.schedule_text.specs.TranscriptText.{step_lines, value_word, final_lines, exit_words, exit_lines, transcript_text};
+ghost use Rattle.schedule_text.specs.Lines.{lines_text};
+ghost use Rattle.schedule_text.specs.Pages.{has_line_room};
+ghost use Rattle.schedule_text.specs.TranscriptText.{step_lines, final_lines, exit_words, exit_lines, transcript_text};
 
 mod answer;
+mod end;
+mod flags;
 mod line;
-mod number;
+mod page;
 mod phase;
-mod room;
 #[cfg(test)]
 mod tests;
 
-use line::push_line;
-use number::push_decimal;
-use phase::push_phase;
-use room::transcript_room;
-use schedule_rules::{Final, Line, Transcript, Turn, Turned};
+pub use page::Page;
+use schedule_rules::{Final, Line, Transcript, Turned};
 use std::alloc::{AllocError, Global};
 
 /// The text of a transcript. No turn of its exit is Busy: such a turn has no text.
@@ -29,77 +26,65 @@ pub fn print_transcript(alloc: Global, t: &Transcript) -> Result<Vec<u8>, AllocE
     requires { NoneBusy t.now.exits.items }
     ensures { IfOk result (λ text. text.items ≡ transcript_text (account_of t.now)) }
 {
-    let Some(room) = transcript_room(t) else {
-        return Err(AllocError);
-    };
-    let mut text = Vec::with_capacity(alloc, room)?;
-    text.extend_from_slice(b"transcript 1\n")?;
-    push_steps(alloc, &mut text, &t.lines)?;
-    push_finals(alloc, &mut text, &t.finals)?;
-    push_exits(&mut text, &t.exits)?;
-    text.extend_from_slice(b"end\n")?;
+    let mut text = Vec::new(alloc);
+    let mut page = Page::new(alloc)?;
+    page.put_title();
+    print_steps(&mut page, &mut text, &t.lines)?;
+    print_finals(&mut page, &mut text, &t.finals)?;
+    print_exits(&mut page, &mut text, &t.exits)?;
+    page.put_end();
+    text.extend_from_slice(page.as_bytes())?;
     Ok(text)
 }
 
-/// Appends the lines of steps, numbered from 0.
-fn push_steps(alloc: Global, text: &mut Vec<u8>, lines: &[Line]) -> Result<(), AllocError>
-    ensures { OnOk result (text.new.items ≡ text.old.items ++ lines_text (step_lines 0 lines.now)) }
+/// Prints the lines of steps, numbered from 0.
+fn print_steps(page: &mut Page, text: &mut Vec<u8>, lines: &[Line]) -> Result<(), AllocError>
+    ensures text { OnOk result (text.new.items ++ page.new ≡ (text.old.items ++ page.old) ++ lines_text (step_lines 0 lines.now)) }
+    ensures room { OnOk result (has_line_room page.new ≡ true) }
 {
+    make_room(page, text)?;
     for (number, line) in lines.iter().enumerate() {
-        push_decimal(text, number as u64, b' ')?;
-        push_line(alloc, text, line)?;
+        page.put_step(number as u64, line);
+        make_room(page, text)?;
     }
     Ok(())
 }
 
-/// Appends the lines of cells, numbered from 0.
-fn push_finals(alloc: Global, text: &mut Vec<u8>, finals: &[Final]) -> Result<(), AllocError>
-    ensures { OnOk result (text.new.items ≡ text.old.items ++ lines_text (final_lines 0 finals.now)) }
+/// Prints the lines of cells, numbered from 0.
+fn print_finals(page: &mut Page, text: &mut Vec<u8>, finals: &[Final]) -> Result<(), AllocError>
+    ensures text { OnOk result (text.new.items ++ page.new ≡ (text.old.items ++ page.old) ++ lines_text (final_lines 0 finals.now)) }
+    ensures room { OnOk result (has_line_room page.new ≡ true) }
 {
-    for (place, cell) in finals.iter().enumerate() {
-        text.extend_from_slice(b"cell ")?;
-        push_decimal(text, place as u64, b' ')?;
-        push_content(alloc, text, cell)?;
+    make_room(page, text)?;
+    for (cell, left) in finals.iter().enumerate() {
+        page.put_final(cell as u64, left);
+        make_room(page, text)?;
     }
     Ok(())
 }
 
-/// Appends what a cell is left with, behind its number, and ends the line.
-fn push_content(alloc: Global, text: &mut Vec<u8>, cell: &Final) -> Result<(), AllocError>
-    ensures { OnOk result (text.new.items ≡ text.old.items ++ line_text (phase_text (number cell.now.phase) ∷ value_word cell.now.value ∷ [])) }
-{
-    push_phase(alloc, text, cell.phase)?;
-    match cell.value {
-        None => text.extend_from_slice(b" none\n"),
-        Some(value) => {
-            text.extend_from_slice(b" ")?;
-            push_decimal(text, value, b'\n')
-        }
-    }
-}
-
-/// Appends the lines of the turns of the exit that ended.
-fn push_exits(text: &mut Vec<u8>, exits: &[Turned]) -> Result<(), AllocError>
+/// Prints the lines of the turns of the exit that ended.
+fn print_exits(page: &mut Page, text: &mut Vec<u8>, exits: &[Turned]) -> Result<(), AllocError>
     requires { NoneBusy exits.now }
-    ensures { OnOk result (text.new.items ≡ text.old.items ++ lines_text (exit_lines exits.now)) }
+    ensures text { OnOk result (text.new.items ++ page.new ≡ (text.old.items ++ page.old) ++ lines_text (exit_lines exits.now)) }
+    ensures room { OnOk result (has_line_room page.new ≡ true) }
 {
+    make_room(page, text)?;
     for turned in exits {
-        push_exit(text, turned)?;
+        page.put_exit(turned);
+        make_room(page, text)?;
     }
     Ok(())
 }
 
-/// Appends the line of a turn of the exit.
-fn push_exit(text: &mut Vec<u8>, turned: &Turned) -> Result<(), AllocError>
-    requires { turned.now.turn ≢ turn.Busy }
-    ensures { OnOk result (text.new.items ≡ text.old.items ++ line_text (exit_words turned.now)) }
+/// Makes room for a line: where the page is full, its bytes go to the text.
+fn make_room(page: &mut Page, text: &mut Vec<u8>) -> Result<(), AllocError>
+    ensures whole { OnOk result (text.new.items ++ page.new ≡ text.old.items ++ page.old) }
+    ensures room { OnOk result (has_line_room page.new ≡ true) }
 {
-    text.extend_from_slice(b"exit ")?;
-    push_decimal(text, u64::from(turned.cell), b' ')?;
-    match turned.turn {
-        Turn::Done => text.extend_from_slice(b"done\n"),
-        Turn::Skipped => text.extend_from_slice(b"skipped\n"),
-        Turn::Failed => text.extend_from_slice(b"failed\n"),
-        Turn::Busy => unreachable!(),
+    if page.is_full() {
+        text.extend_from_slice(page.as_bytes())?;
+        page.clear();
     }
+    Ok(())
 }

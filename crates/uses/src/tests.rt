@@ -1,8 +1,8 @@
 //! Each story, run once.
 
 use crate::{
-    Plugin, a_reader_waits, read_at, read_behind_a_writer, read_by_two, run_and_print, run_host,
-    run_in_memory, run_text, two_parties, watch_a_reader,
+    Plugin, a_reader_waits, count_together, read_at, read_behind_a_writer, read_by_two,
+    run_and_print, run_host, run_in_memory, run_text, two_parties, watch_a_reader,
 };
 use exit_registry::{Finalizable, Turn, Turned};
 use phase_bits::Phase;
@@ -105,5 +105,11 @@ fn errors_are_told(rt: HostRuntime) -> Result<(), Fail> {
         };
         assert!(rt; told.as_str() == wanted);
     }
+    Ok(())
+}
+
+#[test]
+fn no_addition_is_lost(rt: HostRuntime) -> Result<(), Fail> {
+    assert_eq!(rt; count_together(&rt, rt.alloc(), 1000)?, (2000, 2000));
     Ok(())
 }

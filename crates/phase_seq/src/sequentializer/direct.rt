@@ -1,6 +1,6 @@
 //! Calls on the cell of one party, which run its generator or finalizer at once.
 
-ghost use Rattle.std.specs.Prelude.{◌≡◌, ◌<◌, Some, None, true, false};
+ghost use Rattle.std.specs.Prelude.{◌≡◌, ◌<◌, Some, None, true, false, IfOk};
 ghost use Rattle.std.specs.Option.{ForSome};
 ghost use Rattle.phase_bits.specs.Number.{number, IsKnown};
 ghost use Rattle.exit_registry.specs.Registry.{cells_of, is_known};
@@ -188,6 +188,7 @@ impl<G: GeneratorTolerance> LazySequentializer<UnSyncPhaseLocker, G> {
         requires callable { R.may_call by.old }
         requires known { ForSome stays IsKnown }
         ensures calls { Calls R.attempts told_write Want.Write (tolerance G.INIT_FAILURE G.FINAL_REGISTRATION_FAILURE) stays self.old.locker by.old result self.new.locker by.new }
+        ensures known { IfOk result (λ a. IsKnown a.1) }
         ensures again { R.may_call by.new }
         ensures running { self.new.running ≡ self.old.running }
     {

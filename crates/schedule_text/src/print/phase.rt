@@ -1,34 +1,31 @@
 //! The text of a phase.
 
-ghost use Rattle.std.specs.Prelude.{◌≡◌, ◌++◌, OnOk};
+ghost use Rattle.std.specs.Prelude.{◌≡◌, ◌++◌};
 ghost use Rattle.phase_bits.specs.Number.{number};
 ghost use Rattle.phase_bits.specs.Text.{phase_text};
+ghost use Rattle.schedule_text.specs.Pages.{GrowsBy, HasRoom};
 
+use crate::print::page::Page;
 use phase_bits::Phase;
-use std::alloc::{AllocError, Global};
 
-/// Appends the text of a phase. The phases that cells mostly have have it ready.
-pub fn push_phase(alloc: Global, text: &mut Vec<u8>, phase: Phase) -> Result<(), AllocError>
-    ensures { OnOk result (text.new.items ≡ text.old.items ++ phase_text (number phase)) }
-{
-    match phase.bits() {
-        0 => text.extend_from_slice(b"Phase (not initialized)"),
-        1 => text.extend_from_slice(b"Phase (Initialized)"),
-        6 => text.extend_from_slice(b"Phase (Initialization panicked | Initialization skiped)"),
-        9 => text.extend_from_slice(b"Phase (Initialized | Registered)"),
-        14 => text.extend_from_slice(
-            b"Phase (Initialization panicked | Initialization skiped | Registered)",
-        ),
-        36 => text.extend_from_slice(b"Phase (Initialization skiped | Registration refused)"),
-        73 => text.extend_from_slice(b"Phase (Initialized | Registered | Finalized)"),
-        _ => push_displayed(alloc, text, phase),
+impl Page {
+    /// Puts the text of a phase. The phases that cells mostly have have it ready.
+    pub fn put_phase(&mut self, phase: Phase)
+        requires { HasRoom 168 self.old }
+        ensures text { self.new ≡ self.old ++ phase_text (number phase) }
+        ensures room { GrowsBy 168 self.old self.new }
+    {
+        match phase.bits() {
+            0 => self.put(b"Phase (not initialized)"),
+            1 => self.put(b"Phase (Initialized)"),
+            6 => self.put(b"Phase (Initialization panicked | Initialization skiped)"),
+            9 => self.put(b"Phase (Initialized | Registered)"),
+            14 => {
+                self.put(b"Phase (Initialization panicked | Initialization skiped | Registered)")
+            }
+            36 => self.put(b"Phase (Initialization skiped | Registration refused)"),
+            73 => self.put(b"Phase (Initialized | Registered | Finalized)"),
+            _ => self.put_flags(phase),
+        }
     }
-}
-
-/// Appends the text that a phase displays.
-fn push_displayed(alloc: Global, text: &mut Vec<u8>, phase: Phase) -> Result<(), AllocError>
-    ensures { OnOk result (text.new.items ≡ text.old.items ++ phase_text (number phase)) }
-{
-    let displayed = format!(in alloc; "{phase}")?;
-    text.extend_from_slice(displayed.as_bytes())
 }

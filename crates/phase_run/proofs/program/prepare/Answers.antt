@@ -1,11 +1,5 @@
-use Rattle.std.proofs.lemmas.Result.{IfOk-weaker, IfErr-weaker}
-use Rattle.phase_run.proofs.Handed.{is_due, stops_before}
+use Rattle.phase_run.proofs.Handed.{is_ready}
 use Rattle.phase_run.proofs.program.prepare.Goals as goal
 
-pub returns-clause-due : goal.returns-clause-due
-returns-clause-due g c =
-    IfOk-weaker c.answer.result _ _ (λ answer told. is_due _ _ _ _ c.in_ok-text.ensures.fits c.in_ok-text.ensures.whole told) c.answer.ensures.told
-
-pub returns-clause-stops : goal.returns-clause-stops
-returns-clause-stops g c =
-    IfErr-weaker c.answer.result _ _ (λ s stops. stops_before _ _ _ _ _ s c.in_ok-text.ensures.whole stops) c.answer.ensures.stops
+pub returns-clause-ready : goal.returns-clause-ready
+returns-clause-ready g c = is_ready _ _ _ _ _ c.in_ok-text.ensures.fits c.in_ok-text.ensures.whole c.in_ok-run.ensures.begun c.in-Ok.ensures

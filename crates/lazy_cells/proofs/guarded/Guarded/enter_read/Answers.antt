@@ -1,0 +1,12 @@
+use Rattle.std.proofs.Common.{Some}
+use Rattle.phase_seq.specs.Phases.{unregistered}
+use Rattle.phase_seq.specs.Direct.{tolerance}
+use Rattle.lazy_cells.proofs.Entered.{entered_read}
+use Rattle.lazy_cells.proofs.guarded.Guarded.enter_read.Goals as goal
+
+pub returns-clause-calls : goal.returns-clause-calls
+returns-clause-calls g c =
+    let i = c.self.inside in
+    let t = tolerance g.G.GeneratorTolerance.INIT_FAILURE g.G.GeneratorTolerance.FINAL_REGISTRATION_FAILURE in
+    let told = c.generate_then_read-told in
+    rw (← c.self.view_is, c.put_in.ensures.filled, c.put_in.ensures.entered) (entered_read g.G.Generator.attempts t (Some unregistered) i.sequentializer.locker i.next i.body i.generator i.marker c.self.invariant told.result told.new.self.locker told.new.by told.ensures.calls)

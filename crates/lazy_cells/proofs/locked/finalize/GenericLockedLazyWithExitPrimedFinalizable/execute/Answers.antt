@@ -1,0 +1,9 @@
+use Rattle.std.proofs.Common.{true, false}
+use Rattle.lazy_cells.specs.Finalizers.{TakenOut}
+use Rattle.lazy_cells.proofs.Finalized.{leaves}
+use Rattle.lazy_cells.proofs.locked.finalize.GenericLockedLazyWithExitPrimedFinalizable.execute.Goals as goal
+
+pub returns-clause-leaves : goal.returns-clause-leaves
+returns-clause-leaves g c =
+    let turn = c.finalize_primed in
+    rw (← c.self.view_is) (leaves (TakenOut g.T.Uninit.uninits) c.self.inside.cell turn.result turn.new.self turn.ensures)

@@ -1,0 +1,15 @@
+use Rattle.std.proofs.Common.{◌≡◌, length, List, [], Ok}
+use Rattle.schedule_rules.specs.declared.line.Line.{Line}
+use Rattle.schedule_rules.specs.Transcripts.{Schedule}
+use Rattle.schedule_text.specs.Lines.{lines_text}
+use Rattle.schedule_text.specs.TranscriptText.{step_lines}
+use Rattle.phase_schedule.specs.Running.{HasMade}
+use Rattle.phase_run.specs.Telling.{HasToldFirst, Tells, teller}
+use Rattle.phase_run.proofs.tell.tell_steps.Given as goal
+
+-- so many steps were told, whatever the run is of
+abbrev pub invariant-loop-number : goal.invariant-loop-number
+invariant-loop-number g l =
+    (x : Schedule) → HasMade x [] l.initial.run
+    → HasToldFirst x l.number (teller (g.K.Sink.given l.fn.out) (g.K.Sink.faults l.fn.out) l.initial.page (Ok tt))
+    (teller (g.K.Sink.given l.out) (g.K.Sink.faults l.out) l.page l.told) l.run

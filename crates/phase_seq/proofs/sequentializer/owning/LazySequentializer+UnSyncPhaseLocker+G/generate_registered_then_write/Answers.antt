@@ -1,0 +1,11 @@
+use Rattle.std.proofs.Common.{Some}
+use Rattle.phase_seq.specs.declared.ask.Want.TheVariants.{Write}
+use Rattle.phase_seq.specs.Direct.{tolerance, enlisted, told_write}
+use Rattle.phase_seq.proofs.Called.{beside}
+use Rattle.phase_seq.proofs.sequentializer.owning.LazySequentializer+UnSyncPhaseLocker+G.generate_registered_then_write.Goals as goal
+
+pub returns-clause-calls : goal.returns-clause-calls
+returns-clause-calls g c =
+    let leak = g.G.GeneratorTolerance.FINAL_REGISTRATION_FAILURE in
+    let h = c.args.self.now.locker in
+    beside g.R.Generator.attempts told_write Write (tolerance g.G.GeneratorTolerance.INIT_FAILURE leak) c.enlist-stays.result (enlisted leak (Some c.args.registry.now) h.phase) h c.args.by.now c.write_beside.result c.write_beside.new.self.locker c.write_beside.new.by c.enlist-stays.ensures.stays c.write_beside.ensures.calls
