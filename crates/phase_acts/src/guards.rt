@@ -59,6 +59,7 @@ impl<L: PhaseLocker> Machine<L> {
                 let row = GuardRow::Read { party, cell, lock };
                 self.end_step(row, Answer::ReadGuard, given)
             }
+            // The row of a guard that writes is no other: what follows does not occur.
             GuardRow::Read {
                 party: _,
                 cell,

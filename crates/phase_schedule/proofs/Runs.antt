@@ -15,7 +15,7 @@ use Rattle.phase_schedule.specs.declared.running.Run.{Run}
 use Rattle.phase_schedule.specs.Known.{TellsKnown}
 use Rattle.phase_schedule.specs.Progress as progress
 use Rattle.phase_schedule.specs.Progress.{CanStep, Ends}
-use Rattle.phase_schedule.specs.Running.{GoesOn, GoesOnFrom, HasMade, HasRest, IsEnd, IsRun, account_with, frame_of, held_by, place_by}
+use Rattle.phase_schedule.specs.Running.{GoesOn, GoesOnFrom, HasMade, IsEnd, IsRun, account_with, frame_of, held_by, place_by}
 use Rattle.phase_schedule.proofs.Made.{told_known}
 use Rattle.phase_schedule.proofs.Told.{event, told_count, told_next, told_none}
 
@@ -129,10 +129,6 @@ pub still_run : (old new : Run) (o : Option Line) → IsRun old → GoesOn old o
 still_run old new None is goes = record { schedule = is.schedule; lines = is.lines; made = (goes is.schedule is.lines is.made).0 }
 still_run old new (Some l) is goes = record { schedule = is.schedule; lines = is.lines ++ l ∷ []; made = (goes is.schedule is.lines is.made).0 }
 
--- as many steps as its schedule has
-pub steps_of : (x : Schedule) (lines : List Line) (r : Run) → HasMade x lines r → length r.steps.items ≡ length x.steps
-steps_of x lines r made = ap length made.steps
-
 -- its end
 pub is_end : (x : Schedule) (lines : List Line) (r : Run) (e : Ending) → HasMade x lines r → progress.EndsSo held_by place_by r.progress e → IsEnd x lines e
 is_end x lines r e made ends =
@@ -144,39 +140,3 @@ is_end x lines r e made ends =
   where
     end : Ends x.cells (told [] x.steps lines) e
     end = ends (frame_of x) (told [] x.steps lines) made.made
-
--- ---- the steps that are left
-
--- so many of them were made after these lines, or all
-pub record HasGone (x : Schedule) (lines : List Line) (n : ℕ) (r : Run) : Type 0 where
-  pub more : List Line
-  pub made : HasMade x (lines ++ more) r
-  pub count : n ≤ length (lines ++ more)
-
-pub gone_none : (x : Schedule) (lines : List Line) (r : Run) → HasMade x lines r → HasGone x lines 0 r
-gone_none x lines r made = record { more = []; made = subst (λ ls. HasMade x ls r) (sym (all lines)) made; count = omega arith }
-  where
-    all : (ls : List Line) → ls ++ [] ≡ ls
-    all [] = refl
-    all (l ∷ ls) = ap (λ xs. l ∷ xs) (all ls)
-
-pub gone_more : (x : Schedule) (lines : List Line) (n : ℕ) (old new : Run) (o : Option Line) → n < length x.steps → ((ls : List Line) → HasMade x ls old → GoesOnFrom x ls o new) → HasGone x lines n old → HasGone x lines (n + 1) new
-gone_more x lines n old new None lt goes gone =
-    let next : HasMade x (lines ++ gone.more) new × (length (lines ++ gone.more) ≡ length x.steps) = goes (lines ++ gone.more) gone.made in
-    let all : _ = next.1 in
-    record { more = gone.more; made = next.0; count = omega (arith, lt, all) }
-gone_more x lines n old new (Some l) lt goes gone =
-    let next : HasMade x ((lines ++ gone.more) ++ l ∷ []) new × TellsKnown l.answer = goes (lines ++ gone.more) gone.made in
-    record { more = gone.more ++ l ∷ []; made = subst (λ ls. HasMade x ls new) (same lines gone.more) next.0; count = let before : _ = gone.count in subst (λ (ls : List Line). n + 1 ≤ length ls) (same lines gone.more) (longer (lines ++ gone.more) before) }
-  where
-    same : (ps qs : List Line) → (ps ++ qs) ++ l ∷ [] ≡ ps ++ (qs ++ l ∷ [])
-    same [] qs = refl
-    same (a ∷ ps) qs = ap (λ xs. a ∷ xs) (same ps qs)
-
-    longer : (ls : List Line) → n ≤ length ls → n + 1 ≤ length (ls ++ l ∷ [])
-    longer ls le = grind (arith, common_steps, le)
-
-pub has_rest : (x : Schedule) (lines : List Line) (n : ℕ) (r : Run) (e : Ending) → length x.steps ≤ n → HasGone x lines n r → ((ls : List Line) → HasMade x ls r → IsEnd x ls e) → HasRest x lines e
-has_rest x lines n r e le gone ends =
-    let count : _ = gone.count in let few : _ = gone.made.few in
-    record { rest = gone.more; legal = (ends (lines ++ gone.more) gone.made).whole (omega (arith, le, count, few)) }

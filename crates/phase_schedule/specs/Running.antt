@@ -62,12 +62,3 @@ pub record IsEnd (x : Schedule) (lines : List Line) (e : Ending) : Type 0 where
 -- whatever the run was of and had made
 abbrev pub EndsSo : Run → Ending → Type 0
 EndsSo r e = (x : Schedule) (lines : List Line) → HasMade x lines r → IsEnd x lines e
-
--- the rest of the steps was made with some lines, and the transcript of all is legal
-pub record HasRest (x : Schedule) (lines : List Line) (e : Ending) : Type 0 where
-  pub rest : List Line
-  pub legal : IsLegalTranscript x (account_with (lines ++ rest) e)
-
--- whatever the run was of and had made
-abbrev pub GoesToEnd : Run → Ending → Type 0
-GoesToEnd r e = (x : Schedule) (lines : List Line) → HasMade x lines r → HasRest x lines e

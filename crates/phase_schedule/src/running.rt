@@ -3,7 +3,7 @@
 ghost use Rattle.std.specs.Prelude.{◌≡◌, ◌<◌, ◌^◌, [], length, None, IfOk, IfErr, IsOkUnless};
 ghost use Rattle.schedule_rules.specs.Transcripts.{schedule_of, IsValid};
 ghost use Rattle.phase_schedule.specs.Errors.{cause_of, IsCause};
-ghost use Rattle.phase_schedule.specs.Running.{EndsSo, GoesOn, GoesToEnd, HasMade, IsRun};
+ghost use Rattle.phase_schedule.specs.Running.{EndsSo, GoesOn, HasMade, IsRun};
 
 use crate::cause::cause;
 use crate::ending::Ending;
@@ -65,17 +65,5 @@ impl Run {
         let Run { progress, steps } = self;
         drop(steps);
         progress.finish()
-    }
-
-    /// Makes the steps that are left, and lets their lines go: so the lines that were handed out are the first of a legal
-    /// transcript. It takes no memory.
-    pub fn finish_unheard(mut self) -> Ending
-        requires { IsRun self }
-        ensures { GoesToEnd self result }
-    {
-        for _ in 0..self.steps.len() {
-            let _line = self.next_line();
-        }
-        self.finish()
     }
 }

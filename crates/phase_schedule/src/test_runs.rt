@@ -208,7 +208,7 @@ fn tells(run: &mut Run, rows: &[Row]) -> bool
     is_told
 }
 
-/// Expects the same of a run that hands out its lines, where all are taken, and where half of them are.
+/// Expects the same of a run that hands out its lines.
 fn expect_lines(
     rt: &impl Abort,
     alloc: Global,
@@ -220,12 +220,6 @@ fn expect_lines(
     requires cells { length plan.now.cells.items < 2 ^ 32 }
     requires rows { length rows.now < 2 ^ 32 }
 {
-    for heard in [rows.len() / 2, rows.len()] {
-        let mut run = Run::new(alloc, plan, steps_of(alloc, rows)?)?;
-        let is_told = tells(&mut run, &rows[..heard]);
-        let ending = run.finish_unheard();
-        assert!(rt; is_told && &ending.finals[..] == finals && &ending.exits[..] == exits);
-    }
     let mut run = Run::new(alloc, plan, steps_of(alloc, rows)?)?;
     let is_told = tells(&mut run, rows);
     let is_done = run.next_line().is_none();
