@@ -1,12 +1,11 @@
 -- The phases that legal histories publish and tell have no bit above the eight flags.
-use Rattle.std.proofs.Common.{◌≡◌, ℕ, List, [], ◌∷◌, refl, sym, ◌∙◌, ap, subst, arith, Bool, true, false, not, ◌&&◌, None, Some}
+use Rattle.std.proofs.Common.{ℕ, List, [], ◌∷◌, sym, subst, arith, Bool, true, false, not, ◌&&◌, None, Some}
 use Rattle.std.specs.Prelude.{◌==◌, if◌then◌else◌}
 use Rattle.std.specs.declared.option.Option.{Option}
 use Rattle.phase_bits.specs.Number.{IsKnown, phase_of}
 use Rattle.exit_registry.specs.declared.registry.Look.{Look}
 use Rattle.exit_registry.specs.declared.registry.Look.TheVariants as look
 use Rattle.exit_registry.specs.Registry.{look_at}
-use Rattle.schedule_rules.specs.declared.line.Answer.{Answer}
 use Rattle.schedule_rules.specs.declared.line.Answer.TheVariants as answer
 use Rattle.schedule_rules.specs.declared.line.Line.{Line}
 use Rattle.phase_locker.specs.declared.tickets.LockNature.{LockNature}
@@ -22,7 +21,7 @@ use Rattle.schedule_rules.specs.declared.step.Want.{Want}
 use Rattle.schedule_rules.specs.declared.step.Want.TheVariants.{Calls, Turns}
 use Rattle.schedule_rules.specs.Answers.{Meeting, answer_admitted, answer_barred, answer_declined, answer_denied, answer_locked, answer_of_attempt, answer_of_made, answer_of_run, answer_opened, call_answer_admitted, drains_by, turn_answer_admitted, way_parked}
 use Rattle.schedule_rules.specs.Calls.{asks, initializes, lock_wanted}
-use Rattle.schedule_rules.specs.Changes.{Content, Ended, content_after, effect}
+use Rattle.schedule_rules.specs.Changes.{Content, Ended, effect}
 use Rattle.schedule_rules.specs.Due.{answer_of_look, due_answer, due_clone, due_finished, due_look, due_made, due_tried, meeting}
 use Rattle.schedule_rules.specs.declared.plan.Call.TheVariants as call
 use Rattle.schedule_rules.specs.Exits.{registry}
@@ -34,7 +33,7 @@ use Rattle.schedule_rules.specs.Legal.{First, IsLegalLine, Last, Moment, answer_
 use Rattle.schedule_rules.specs.declared.line.Refusal.{Refusal}
 use Rattle.schedule_rules.specs.Phases.{is_accessible, phase_reached, runs_generator, NoRun}
 use Rattle.schedule_rules.specs.Refusals.{refusal}
-use Rattle.schedule_rules.specs.Replay.{Back, back_of_step, content_after_back, inside, replay}
+use Rattle.schedule_rules.specs.Replay.{Back, back_of_step, content_after_back, replay}
 use Rattle.schedule_rules.specs.Sections.{Section, innermost, sections}
 use Rattle.schedule_rules.specs.Waits.{Attempt, Wait, attempt, other_waits, waits_given}
 use Rattle.phase_moves.proofs.Known.{change_known, effect_known}

@@ -1,5 +1,5 @@
 -- What rows that follow a history tell of its cells.
-use Rattle.std.proofs.Common.{zero, suc, ◌≡◌, ℕ, ◌<◌, List, [], ◌∷◌, length, map, refl, sym, ◌∙◌, ap, arith, Some}
+use Rattle.std.proofs.Common.{suc, ◌≡◌, ℕ, List, [], ◌∷◌, length, map, refl, arith, Some}
 use Rattle.std.specs.Prelude.{slice_get}
 use Rattle.phase_bits.specs.declared.holders.Holders.{Holders}
 use Rattle.phase_locker.specs.declared.ways.LockerKind.{LockerKind}

@@ -1,5 +1,5 @@
 -- Whole runs of schedules.
-use Rattle.std.proofs.Common.{zero, suc, ◌≡◌, ℕ, ◌+◌, ◌<◌, ◌≤◌, ◌^◌, List, [], ◌∷◌, ◌++◌, length, refl, sym, ◌∙◌, ap, subst, arith, get_or, true, false, None, Some}
+use Rattle.std.proofs.Common.{zero, suc, ◌≡◌, ℕ, ◌+◌, ◌<◌, ◌≤◌, List, [], ◌∷◌, ◌++◌, length, refl, sym, ◌∙◌, ap, subst, arith, get_or, true, false, None, Some}
 use Rattle.std.specs.Prelude.{nat_lt, slice_get}
 use Rattle.std.specs.declared.option.Option.{Option}
 use Rattle.std.proofs.lemmas.Grind.{common_steps}
@@ -12,7 +12,6 @@ use Rattle.schedule_rules.specs.Transcripts.{IsLegalTranscript, IsValid, NamesKn
 use Rattle.phase_schedule.specs.declared.ending.Ending.{Ending}
 use Rattle.phase_schedule.specs.declared.progress.Progress.{Progress}
 use Rattle.phase_schedule.specs.declared.running.Run.{Run}
-use Rattle.phase_schedule.specs.Known.{TellsKnown}
 use Rattle.phase_schedule.specs.Progress as progress
 use Rattle.phase_schedule.specs.Progress.{CanStep, Ends}
 use Rattle.phase_schedule.specs.Running.{GoesOn, GoesOnFrom, HasMade, IsEnd, IsRun, account_with, frame_of, held_by, place_by}

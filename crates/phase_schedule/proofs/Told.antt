@@ -1,5 +1,5 @@
 -- Steps and their lines, told one after another.
-use Rattle.std.proofs.Common.{zero, suc, ◌≡◌, ℕ, ◌+◌, ◌<◌, ◌≤◌, List, [], ◌∷◌, ◌++◌, length, refl, sym, ◌∙◌, ap, arith, Some}
+use Rattle.std.proofs.Common.{◌≡◌, ◌+◌, ◌≤◌, List, [], ◌∷◌, ◌++◌, length, refl, ◌∙◌, ap, arith, Some}
 use Rattle.std.specs.Prelude.{slice_get}
 use Rattle.schedule_rules.specs.declared.step.Step.{Step}
 use Rattle.schedule_rules.specs.declared.line.Line.{Line}

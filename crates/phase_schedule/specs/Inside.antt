@@ -1,9 +1,8 @@
 -- The fields of an engine, and what they stand for.
-use Rattle.std.specs.Prelude.{ℕ, List, [], ◌≡◌, ◌≤◌, length, map, vec_capacity}
+use Rattle.std.specs.Prelude.{List, ◌≡◌, ◌≤◌, length, map, vec_capacity}
 use Rattle.phase_bits.specs.declared.holders.Holders.{Holders}
 use Rattle.phase_locker.specs.declared.ways.LockerKind.{LockerKind}
 use Rattle.schedule_rules.specs.declared.plan.CellPlan.{CellPlan}
-use Rattle.schedule_rules.specs.Transcripts.{told}
 use Rattle.phase_moves.specs.declared.rows.Rows.{Rows}
 use Rattle.phase_schedule.specs.Standing.{Standing, history}
 use Rattle.phase_schedule.specs.Progress.{Frame, HasMade}

@@ -1,6 +1,6 @@
 -- What a run that hands out its lines has made. The lines that it handed out are not kept: so a contract says what they
 -- are for every schedule and all lines that they may have been.
-use Rattle.std.specs.Prelude.{ℕ, List, [], ◌∷◌, ◌++◌, ◌≡◌, ◌≤◌, length}
+use Rattle.std.specs.Prelude.{List, [], ◌∷◌, ◌++◌, ◌≡◌, ◌≤◌, length}
 use Rattle.std.specs.declared.option.Option.{Option}
 use Rattle.std.specs.declared.option.Option.TheVariants.{None, Some}
 use Rattle.phase_bits.specs.declared.holders.Holders.{Holders}

@@ -1,6 +1,4 @@
-use Rattle.std.proofs.Common.{◌≡◌, ◌≤◌, ◌∙◌, [], ◌∷◌, ◌++◌, ap, arith, length, refl, subst, sym}
-use Rattle.std.specs.Prelude.{vec_capacity}
-use Rattle.schedule_rules.specs.declared.line.Line.{Line}
+use Rattle.std.proofs.Common.{◌≤◌, ◌∙◌, [], ap, length, subst, sym}
 use Rattle.schedule_rules.specs.Transcripts.{schedule_of, told}
 use Rattle.phase_schedule.specs.Progress.{HasMade}
 use Rattle.phase_schedule.specs.Running.{frame_of}

@@ -1,4 +1,4 @@
-use Rattle.std.proofs.Common.{◌≡◌, ◌≤◌, [], arith, sym}
+use Rattle.std.proofs.Common.{[]}
 use Rattle.phase_schedule.specs.Progress.{frame_of_plan}
 use Rattle.phase_schedule.proofs.Made.{same_room, stands_new}
 use Rattle.phase_schedule.proofs.Rows.{plans_are}

@@ -1,10 +1,7 @@
-use Rattle.std.proofs.Common.{◌≡◌, ◌∙◌, ap, length, subst}
-use Rattle.std.specs.Prelude.{vec_capacity}
-use Rattle.phase_schedule.specs.Inside.{IsStanding, frame_of, plans_of, standing_of}
-use Rattle.phase_schedule.specs.Progress.{HasMade}
+use Rattle.std.proofs.Common.{◌∙◌, ap}
+use Rattle.phase_schedule.specs.Inside.{frame_of, standing_of}
 use Rattle.phase_schedule.specs.Standing.{Standing, history}
 use Rattle.phase_schedule.proofs.Made.{can_step, cells_stay, stands_more, told_known}
-use Rattle.phase_schedule.proofs.Told.{event}
 use Rattle.phase_schedule.proofs.engine.Engine.step.Goals as goal
 
 pub step-line-requires : goal.step-line-requires

@@ -1,4 +1,4 @@
-use Rattle.std.proofs.Common.{◌≡◌, ◌∙◌, [], refl, Some}
+use Rattle.std.proofs.Common.{◌∙◌, [], refl, Some}
 use Rattle.schedule_rules.specs.Transcripts.{told}
 use Rattle.phase_schedule.specs.Running.{frame_of, held_by, place_by}
 use Rattle.phase_schedule.proofs.Runs.{can_step, goes_on, is_done, is_next, none_found, step_found, still_run}
