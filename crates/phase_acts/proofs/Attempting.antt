@@ -1,5 +1,6 @@
 -- A step that attempts something is a legal step.
-use Rattle.std.proofs.Common.{◌≡◌, ◌∙◌, ℕ, List, length, ap, sym, subst, None}
+use Rattle.std.proofs.Common.{◌≡◌, ◌∙◌, ℕ, List, length, ap, sym, subst, refl, Bool, true, false, ◌&&◌, None, Some}
+use Rattle.std.specs.Prelude.{is_none}
 use Rattle.std.specs.declared.option.Option.{Option}
 use Rattle.exit_registry.specs.Registry.{Registry}
 use Rattle.phase_bits.specs.declared.holders.Holders.{Holders}
@@ -10,12 +11,14 @@ use Rattle.schedule_rules.specs.declared.plan.Call.{Call}
 use Rattle.schedule_rules.specs.declared.plan.CellPlan.{CellPlan}
 use Rattle.schedule_rules.specs.declared.step.Act.{Act}
 use Rattle.schedule_rules.specs.declared.step.Want.{Want}
-use Rattle.schedule_rules.specs.declared.step.Want.TheVariants.{Calls}
+use Rattle.schedule_rules.specs.declared.step.Want.TheVariants.{Calls, Turns}
 use Rattle.schedule_rules.specs.Exits.{registry}
 use Rattle.schedule_rules.specs.History.{Event, accepts}
 use Rattle.schedule_rules.specs.Legal.{IsLegalLine}
 use Rattle.schedule_rules.specs.Refusals.{refusal}
+use Rattle.schedule_rules.specs.Causes.{is_cyclic, is_attempted, is_of_own_run}
 use Rattle.schedule_rules.specs.Waits.{wait_of, waits}
+use Rattle.schedule_rules.proofs.Causes.{cyclic_where_own}
 use Rattle.phase_moves.specs.declared.rows.Rows.{Rows}
 use Rattle.phase_moves.specs.declared.rows.Taken.TheVariants as taken
 use Rattle.phase_moves.specs.Moves.{KeptWith}
@@ -47,5 +50,17 @@ module _ {L : Type 0} (held : L → Holders) (place : L → LockerKind) (cells :
       legal : IsLegalLine cells h (step_of p a) (record { answer = answer_settled c w tried.taken; given = given_first tried.first s.last })
       legal = legal_tried cells h p a c w r o k accepted same free tried.taken tried.first s.last taking.told taking.met gives
 
-      turned : tried.taken ≡ taken.Cyclic → wait_of p (waits cells h) ≡ None
-      turned e = alone (subst (IsLegalLine cells h (step_of p a)) (sym s.line) legal) (ap (λ (x : Line). x.answer) s.line ∙ ap (answer_settled c w) e)
+      -- a turn is never cyclic
+      calls : tried.taken ≡ taken.Cyclic → w ≡ Turns → ⊥
+      calls e turns =
+          differ (sym (ap (λ b. is_cyclic (answer_settled c w b)) e) ∙ cyclic_where_own cells h (step_of p a) line legal ∙ ap (λ x. is_none (refusal cells h (step_of p a)) && is_attempted (is_of_own_run cells h p) x) (k.attempted ∙ ap (λ v. Some (record { cell = c; want = v })) turns) ∙ none (is_none (refusal cells h (step_of p a))))
+        where
+          none : (b : Bool) → (b && false) ≡ false
+          none true = refl
+          none false = refl
+
+          differ : true ≡ false → ⊥
+          differ x = cc
+
+      turned : tried.taken ≡ taken.Cyclic → (wait_of p (waits cells h) ≡ None) × (w ≡ Turns → ⊥)
+      turned e = (alone (subst (IsLegalLine cells h (step_of p a)) (sym s.line) legal) (ap (λ (x : Line). x.answer) s.line ∙ ap (answer_settled c w) e), calls e)

@@ -11,7 +11,7 @@ use Rattle.schedule_rules.specs.declared.plan.Call.TheVariants as call
 use Rattle.schedule_rules.specs.declared.plan.CellPlan.{CellPlan}
 use Rattle.schedule_rules.specs.declared.step.Act.TheVariants as act
 use Rattle.schedule_rules.specs.declared.step.Want.TheVariants.{Calls, Turns}
-use Rattle.schedule_rules.specs.Exits.{registry, owner, first_owner, ended_turns}
+use Rattle.schedule_rules.specs.Exits.{registry, owner, owner_by, ended_turns}
 use Rattle.schedule_rules.specs.Guards.{guards, numbered}
 use Rattle.schedule_rules.specs.History.{Event, latest_act}
 use Rattle.schedule_rules.specs.Refusals.{refusal, refusal_by}
@@ -36,15 +36,6 @@ use Rattle.phase_acts.proofs.Keeping.{guards_with}
 use Rattle.phase_acts.proofs.Lines.{refusal_awake}
 use Rattle.phase_acts.proofs.Trying.{IsAttempt, standing_at}
 
--- the exit stays whose it is where no Exit is made
-owner_called : (c p : ℕ) (k : Call) (o : Option ℕ) → first_owner (act.Call c k) p o ≡ o
-owner_called c p k None = refl
-owner_called c p k (Some q) = refl
-
-owner_again : (p : ℕ) (o : Option ℕ) → first_owner act.Again p o ≡ o
-owner_again p None = refl
-owner_again p (Some q) = refl
-
 call_no_turn : (k : Call) → Calls k ≡ Turns → ⊥
 call_no_turn k e = cc
 
@@ -63,7 +54,7 @@ module _ {L : Type 0} (held : L → Holders) (place : L → LockerKind) (cells :
 
   module _ (c : ℕ) (k : Call) (is : IsAwake held place cells h old p (act.Call c k)) where
     call_attempts : IsAttempt cells h p (act.Call c k) c (Calls k) (registry cells h) (owner h)
-    call_attempts = record { attempted = refl; concerned = refl; does = refl; tries = λ vs chosen. refl; calm = λ ss. refl; quiet = refl; taken = refl; owned = owner_called c p k (owner h) }
+    call_attempts = record { attempted = refl; concerned = refl; does = refl; tries = λ vs chosen. refl; taken = refl; owned = refl }
 
     pub call_trying : k ≢ call.Phase → IsTrying held place (standing cells h) old p (record { cell = c; want = Calls k }) false
     call_trying asks =
@@ -109,10 +100,8 @@ module _ {L : Type 0} (held : L → Holders) (place : L → LockerKind) (cells :
           concerned = ap cell_of_attempt attempted;
           does = subst (λ x. Matches x (latest_act p h)) attempted (wait-matches cells p h);
           tries = λ vs chosen. refl;
-          calm = λ ss. refl;
-          quiet = refl;
           taken = refl;
-          owned = owner_again p (owner h);
+          owned = refl;
         }
 
     -- the wait is at a cell that has a row
@@ -144,13 +133,13 @@ module _ {L : Type 0} (held : L → Holders) (place : L → LockerKind) (cells :
 
   -- ---- the first attempt of a turn
 
-  module _ (c : ℕ) (is : IsAwake held place cells h old p act.Exit) (first : first_of (registry cells h).left ≡ Some c) (mine : first_owner act.Exit p (owner h) ≡ Some p) (free : refusal cells h (step_of p act.Exit) ≡ None) where
+  module _ (c : ℕ) (is : IsAwake held place cells h old p act.Exit) (first : first_of (registry cells h).left ≡ Some c) (mine : owner_by p true (owner h) ≡ Some p) (free : refusal cells h (step_of p act.Exit) ≡ None) where
     -- what stands open once the turn is taken
     abbrev taken_so : Standing
     taken_so = standing_at cells h (after_turn (registry cells h)) (Some p)
 
     turn_attempts : IsAttempt cells h p act.Exit c Turns (after_turn (registry cells h)) (Some p)
-    turn_attempts = record { attempted = ap attempt_of_turn first; concerned = first; does = refl; tries = λ vs chosen. refl; calm = λ ss. refl; quiet = refl; taken = refl; owned = mine }
+    turn_attempts = record { attempted = ap attempt_of_turn first; concerned = first; does = refl; tries = λ vs chosen. refl; taken = refl; owned = mine }
 
     module _ (mid : Rows L) (between : KeptGuards old mid) (stands : Stands held place (length old.guards.items) (standing_at cells h (after_turn (registry cells h)) (Some p)) mid) (inside : c < length old.cells.items) where
       mid_n : length mid.guards.items ≡ length old.guards.items

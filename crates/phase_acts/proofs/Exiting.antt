@@ -13,7 +13,7 @@ use Rattle.schedule_rules.specs.declared.plan.CellPlan.{CellPlan}
 use Rattle.schedule_rules.specs.declared.step.Act.TheVariants as act
 use Rattle.schedule_rules.specs.declared.step.Want.TheVariants.{Turns}
 use Rattle.schedule_rules.specs.Due.{answer_of_look, due_answer, due_tried}
-use Rattle.schedule_rules.specs.Exits.{first_owner, owner, registry}
+use Rattle.schedule_rules.specs.Exits.{owner, owner_by, registry}
 use Rattle.schedule_rules.specs.History.{Event, accepts, is_closed}
 use Rattle.schedule_rules.specs.Refusals.{refusal, no_exit, is_other}
 use Rattle.schedule_rules.specs.Sections.{Section, innermost, sections}
@@ -47,7 +47,7 @@ some_told None = refl
 some_told (Some s) = refl
 
 -- whom no other party owns, the party owns
-mine_first : (o : Option ℕ) (p : ℕ) (b : Bool) → (is_other o p || b) ≡ false → first_owner act.Exit p o ≡ Some p
+mine_first : (o : Option ℕ) (p : ℕ) (b : Bool) → (is_other o p || b) ≡ false → owner_by p true o ≡ Some p
 mine_first None p b e = refl
 mine_first (Some q) p b e = ap (λ (z : ℕ). Some z) (by (q == p) refl e)
   where
@@ -98,7 +98,7 @@ module _ {L : Type 0} (held : L → Holders) (place : L → LockerKind) (old : R
         not_other : is_other (owner h) p ≡ false
         not_other = first_false (is_other (owner h) p) (is_closed h) (sym begun_is ∙ sym tells ∙ free)
 
-        mine : first_owner act.Exit p (owner h) ≡ Some p
+        mine : owner_by p true (owner h) ≡ Some p
         mine = mine_first (owner h) p (is_closed h) (sym begun_is ∙ sym tells ∙ free)
 
         module _ (first next : Rows L) (owns : Owns held place old p first) (kept : KeptGuards old first) (o : Option ℕ) (takes : TakesTurn held place first o next) (kept_on : KeptGuards first next) where

@@ -150,10 +150,15 @@ module _ (cells : List CellPlan) (h : List Event) (p : ℕ) (a : Act) (c : ℕ) 
         by true made gives = quiet answer.WriteGuard gives ∙ try_writes cells h p a c w r o k call.Write writes (same call.Write writes) accepted (undeclined c w m call.Write writes q told made) t q g
         by false lacks gives_last = try_denied_write cells h p a c w r o k call.Write writes (same call.Write writes) accepted g d (one (taken.Write t q) gives) q t
 
-    -- a call that asks for its own run does not wait
-    pub after_tried : (b : Taken) → IsOf w g b → TellsPhase (phase_asked c w m) b → GivesSettled n p c w g d b m → (b ≡ taken.Cyclic → wait_of p (waits cells h) ≡ None) → after b g d ≡ settled n p c w g d b m
+    after_cyclic : (v : Want) → w ≡ v → g ≡ given.Nobody → d ≡ given.Nobody → wait_of p (waits cells h) ≡ None → (w ≡ Turns → ⊥) → after taken.Cyclic g d ≡ settled n p c w g d taken.Cyclic m
+    after_cyclic (Calls j) e of none awake calls =
+        quiet answer.Cyclic none ∙ ap (λ y. standing cells (event p a (record { answer = answer.Cyclic; given = y }) ∷ h)) of ∙ try_cyclic cells h p a c w r o k j e (same j e) accepted awake
+    after_cyclic Turns e of none awake calls = absurd (calls e)
+
+    -- what asks for its own run is a call that does not wait
+    pub after_tried : (b : Taken) → IsOf w g b → TellsPhase (phase_asked c w m) b → GivesSettled n p c w g d b m → (b ≡ taken.Cyclic → (wait_of p (waits cells h) ≡ None) × (w ≡ Turns → ⊥)) → after b g d ≡ settled n p c w g d b m
     after_tried (taken.Wait how) of told gives alone = quiet (answer.Waiting how) gives ∙ try_waits cells h p a c w r o k how g
-    after_tried taken.Cyclic of told gives alone = quiet answer.Cyclic gives ∙ ap (λ y. standing cells (event p a (record { answer = answer.Cyclic; given = y }) ∷ h)) of ∙ try_cyclic cells h p a c w r o k (alone refl)
+    after_tried taken.Cyclic of told gives alone = let k = alone refl in after_cyclic w refl of gives k.0 k.1
     after_tried (taken.Nothing q) of told gives alone = after_nothing q of gives
     after_tried (taken.Read t q) of told gives alone = after_read t q of told gives
     after_tried (taken.Write t q) of told gives alone = after_write t q of told gives

@@ -19,13 +19,14 @@ use Rattle.schedule_rules.specs.declared.step.Want.{Want}
 use Rattle.schedule_rules.specs.declared.step.Want.TheVariants.{Calls, Turns}
 use Rattle.schedule_rules.specs.Changes.{Content, Asked, effect, is_declined}
 use Rattle.schedule_rules.specs.Due.{due_answer, due_tried}
-use Rattle.schedule_rules.specs.Exits.{registry, registry_taken, registry_run, registry_of_run, owner, ended_turns, first_owner}
-use Rattle.schedule_rules.specs.Guards.{Guard, guards, with_reader, with_writer, reader, without_guard}
-use Rattle.schedule_rules.specs.History.{Event, act_of, accepts}
+use Rattle.schedule_rules.specs.Exits.{registry, registry_taken, registry_of_run, registry_by, owner, owner_by, ended_turns, turns_by}
+use Rattle.schedule_rules.specs.Deeds.{Deed, deed_running, deed_read, deed_written, deed_accessed, deed_waiting, is_of_exit}
+use Rattle.schedule_rules.specs.Guards.{Guard, guards, guards_by, reader, writer, without_guard}
+use Rattle.schedule_rules.specs.History.{Event, act_of, is_exit, accepts}
 use Rattle.schedule_rules.specs.Kinds.{cell_at, tolerance_at}
 use Rattle.schedule_rules.specs.Phases.{NoRun, phase_reached}
-use Rattle.schedule_rules.specs.Replay.{replay, phase_at, back_read, back_at_once, content_after_back}
-use Rattle.schedule_rules.specs.Sections.{Section, sections, sections_ended, with_run}
+use Rattle.schedule_rules.specs.Replay.{replay, phase_at, back_by, content_after_back}
+use Rattle.schedule_rules.specs.Sections.{sections, sections_by}
 use Rattle.schedule_rules.specs.Waits.{Wait, waits, wait_of, without_wait, with_wait, waits_given_with, attempt, act_for, cell_concerned}
 use Rattle.waiting_rows.specs.Given.{given_on}
 use Rattle.waiting_rows.proofs.Counted.{none_without}
@@ -45,10 +46,8 @@ pub record IsAttempt (cells : List CellPlan) (h : List Event) (p : ℕ) (a : Act
   pub concerned : cell_concerned cells h (step_of p a) ≡ Some c
   pub does : act_of h (step_of p a) ≡ act_for c w
   pub tries : (vs : List Wait) (chosen : Bool) → due_answer cells h (step_of p a) vs chosen ≡ due_tried cells h p (attempt cells h (step_of p a)) vs chosen
-  pub calm : (ss : List Section) → sections_ended a p ss ≡ ss
-  pub quiet : back_read h p a ≡ None
-  pub taken : registry_taken a (registry cells h) ≡ r
-  pub owned : first_owner a p (owner h) ≡ o
+  pub taken : registry_taken (is_exit a) (registry cells h) ≡ r
+  pub owned : owner_by p (is_exit a) (owner h) ≡ o
 
 -- no section is given back where nothing happened in it
 same_content : (cells : List CellPlan) (c d : ℕ) (y : Content) → content_after_back cells d (Some (record { cell = c; changes = [] })) y ≡ y
@@ -66,16 +65,30 @@ module _ (cells : List CellPlan) (h : List Event) (p : ℕ) (a : Act) (c : ℕ) 
   gave : (d : Given) → waits_given_with cells ws h (step_of p a) d (without_wait p ws) ≡ given_on c d (without_wait p ws)
   gave d = given_concerned cells ws h (step_of p a) c d (without_wait p ws) k.concerned
 
+  -- what stands open after a deed, where these calls wait
+  abbrev by_deed : Deed → List Wait → Standing
+  by_deed d vs =
+      record {
+        plans = cells;
+        waits = vs;
+        sections = sections_by h p d (sections h);
+        guards = guards_by (length h) p d (sections h) (guards h);
+        content = λ x. content_after_back cells x (back_by p d (sections h) (guards h)) (replay cells x h);
+        registry = registry_by cells h d (registry cells h);
+        owner = owner_by p (is_of_exit d) (owner h);
+        turns = turns_by p d (sections h) (ended_turns h);
+      }
+
+  -- what waits takes a turn, or does nothing
+  waiting_so : (e : Bool) (vs : List Wait) → by_deed (deed_waiting e) vs ≡ record (standing cells h) { waits = vs; registry = registry_taken e (registry cells h); owner = owner_by p e (owner h) }
+  waiting_so true vs = refl
+  waiting_so false vs = refl
+
   -- it waits
   pub try_waits : (how : How) (d : Given) → standing cells (event p a (record { answer = answer.Waiting how; given = d }) ∷ h) ≡ took (length h) p c w d (taken.Wait how) (standing_at cells h r o)
   try_waits how d =
       let waits_are = ap (λ x. with_wait p how x (waits_given_with cells ws h (step_of p a) d (without_wait p ws))) k.attempted ∙ ap (λ vs. record { party = p; cell = c; want = w; way = how; woken = false } ∷ vs) (gave d) in
-      λ i. record (standing cells h) { waits = waits_are i; sections = k.calm (sections h) i; registry = k.taken i; owner = k.owned i }
-
-  -- it asks for its own run
-  pub try_cyclic : wait_of p ws ≡ None → standing cells (event p a (record { answer = answer.Cyclic; given = given.Nobody }) ∷ h) ≡ standing_at cells h r o
-  try_cyclic awake =
-      λ i. record (standing cells h) { waits = none_without p ws awake i; sections = k.calm (sections h) i; registry = k.taken i; owner = k.owned i }
+      waiting_so (is_exit a) (with_wait p how (attempt cells h (step_of p a)) (waits_given_with cells ws h (step_of p a) d (without_wait p ws))) ∙ (λ i. record (standing cells h) { waits = waits_are i; registry = k.taken i; owner = k.owned i })
 
   -- a turn is skipped
   pub try_skips : w ≡ Turns → (q : Phase) (d : Given) → standing cells (event p a (record { answer = answer.Skipped c; given = d }) ∷ h) ≡ turn_ended c turn.Skipped (took (length h) p c w d (taken.Nothing q) (standing_at cells h r o))
@@ -86,7 +99,7 @@ module _ (cells : List CellPlan) (h : List Event) (p : ℕ) (a : Act) (c : ℕ) 
   -- a turn's finalizer runs
   pub try_finalizes : accepts h ≡ r.is_open → w ≡ Turns → (d : Given) → standing cells (event p a (record { answer = answer.Finalizing c; given = d }) ∷ h) ≡ took (length h) p c w d taken.Runs (standing_at cells h r o)
   try_finalizes accepted turns d =
-      let registry_is : registry_taken a (registry cells h) ≡ registry_asked c w (standing_at cells h r o) = k.taken ∙ ap (λ v. registry_asked c v (standing_at cells h r o)) (sym turns) in
+      let registry_is : registry_taken (is_exit a) (registry cells h) ≡ registry_asked c w (standing_at cells h r o) = k.taken ∙ ap (λ v. registry_asked c v (standing_at cells h r o)) (sym turns) in
       λ i. record (standing cells h) { waits = gave d i; sections = record { party = p; cell = c; want = turns_i i; start = length h; is_open = accepted i } ∷ sections h; registry = registry_is i; owner = k.owned i }
     where
       turns_i : Turns ≡ w
@@ -98,12 +111,38 @@ module _ (cells : List CellPlan) (h : List Event) (p : ℕ) (a : Act) (c : ℕ) 
     does_call : act_of h (step_of p a) ≡ act.Call c j
     does_call = k.does ∙ ap (act_for c) calls
 
+    -- no Exit calls
+    no_exit : is_exit a ≡ false
+    no_exit = by a does_call
+      where
+        by : (b : Act) → act_of h (step_of p b) ≡ act.Call c j → is_exit b ≡ false
+        by act.Exit e = absurd (cc)
+        by (act.Call d i) e = refl
+        by act.Again e = refl
+        by (act.Made v) e = refl
+        by act.MadeFailed e = refl
+        by act.Finished e = refl
+        by act.FinishFailed e = refl
+        by (act.Look g) e = refl
+        by (act.Set g v) e = refl
+        by (act.Release g) e = refl
+        by (act.Downgrade g) e = refl
+        by (act.Clone g) e = refl
+
+    its_own : owner h ≡ o
+    its_own = ap (λ e. owner_by p e (owner h)) (sym no_exit) ∙ k.owned
+
+    -- it asks for its own run
+    pub try_cyclic : wait_of p ws ≡ None → standing cells (event p a (record { answer = answer.Cyclic; given = given.Nobody }) ∷ h) ≡ standing_at cells h r o
+    try_cyclic awake = λ i. record (standing cells h) { waits = none_without p ws awake i; registry = sym same i; owner = its_own i }
+
     -- its generator runs
     pub try_runs : (d : Given) → standing cells (event p a (record { answer = answer.Running; given = d }) ∷ h) ≡ took (length h) p c w d taken.Runs (standing_at cells h r o)
     try_runs d =
-        let sections_are : with_run (act_of h (step_of p a)) p (length h) (accepts h) (sections h) ≡ record { party = p; cell = c; want = w; start = length h; is_open = r.is_open } ∷ sections h = ap (λ x. with_run x p (length h) (accepts h) (sections h)) does_call ∙ (λ i. record { party = p; cell = c; want = sym calls i; start = length h; is_open = accepted i } ∷ sections h) in
-        let registry_is : registry_run cells h (act_of h (step_of p a)) (registry cells h) ≡ registry_asked c w (standing_at cells h r o) = ap (λ x. registry_run cells h x (registry cells h)) does_call ∙ ap (λ x. registry_of_run cells c (phase_at cells c h) x) (sym same) ∙ ap (λ v. registry_asked c v (standing_at cells h r o)) (sym calls) in
-        λ i. record (standing cells h) { waits = gave d i; sections = sections_are i; registry = registry_is i; owner = k.owned i }
+        let sections_are : record { party = p; cell = c; want = Calls j; start = length h; is_open = accepts h } ∷ sections h ≡ record { party = p; cell = c; want = w; start = length h; is_open = r.is_open } ∷ sections h = λ i. record { party = p; cell = c; want = sym calls i; start = length h; is_open = accepted i } ∷ sections h in
+        let registry_is : registry_of_run cells c (phase_at cells c h) (registry cells h) ≡ registry_asked c w (standing_at cells h r o) = ap (λ x. registry_of_run cells c (phase_at cells c h) x) (sym same) ∙ ap (λ v. registry_asked c v (standing_at cells h r o)) (sym calls) in
+        ap (λ b. by_deed (deed_running b) (waits_given_with cells ws h (step_of p a) d (without_wait p ws))) does_call
+        ∙ (λ i. record (standing cells h) { waits = gave d i; sections = sections_are i; registry = registry_is i; owner = its_own i })
 
     -- it gets a guard: nothing happened to its cell
     module _ (undeclined : is_declined (cell_at cells c).kind (tolerance_at cells c) j r.is_open (phase_at cells c h) ≡ false) where
@@ -115,14 +154,14 @@ module _ (cells : List CellPlan) (h : List Event) (p : ℕ) (a : Act) (c : ℕ) 
 
       pub try_reads : (t : ReadTicket) (q : Phase) (d : Given) → standing cells (event p a (record { answer = answer.ReadGuard; given = d }) ∷ h) ≡ took (length h) p c w d (taken.Read t q) (standing_at cells h r o)
       try_reads t q d =
-          let guards_are : with_reader h p (act_of h (step_of p a)) (guards h) ≡ reader (length h) p c ∷ guards h = ap (λ x. with_reader h p x (guards h)) does_call in
-          let content_are : (x : ℕ) → content_after_back cells x (back_read h p a) (replay cells x h) ≡ content_back (Some (record { cell = c; changes = changes_at c w (standing_at cells h r o) })) (standing_at cells h r o) x = λ x. ap (λ b. content_after_back cells x b (replay cells x h)) k.quiet ∙ content_is x in
-          λ i. record (standing cells h) { waits = gave d i; sections = k.calm (sections h) i; guards = guards_are i; content = λ x. content_are x i; registry = k.taken i; owner = k.owned i }
+          ap (λ b. by_deed (deed_read b) (waits_given_with cells ws h (step_of p a) d (without_wait p ws))) does_call
+          ∙ (λ i. record (standing cells h) { waits = gave d i; guards = reader (length h) p c ∷ guards h; content = λ x. content_is x i; registry = sym same i; owner = its_own i })
 
       pub try_writes : (t : WriteTicket) (q : Phase) (d : Given) → standing cells (event p a (record { answer = answer.WriteGuard; given = d }) ∷ h) ≡ took (length h) p c w d (taken.Write t q) (standing_at cells h r o)
       try_writes t q d =
-          let guards_are : with_writer h p (act_of h (step_of p a)) (guards h) ≡ writer_asked (length h) p c (changes_at c w (standing_at cells h r o)) ∷ guards h = ap (λ x. with_writer h p x (guards h)) does_call ∙ ap (λ chs. writer_asked (length h) p c chs ∷ guards h) (sym nothing) in
-          λ i. record (standing cells h) { waits = gave d i; sections = k.calm (sections h) i; guards = guards_are i; registry = k.taken i; owner = k.owned i }
+          let guards_are : writer (length h) p c ∷ guards h ≡ writer_asked (length h) p c (changes_at c w (standing_at cells h r o)) ∷ guards h = ap (λ chs. writer_asked (length h) p c chs ∷ guards h) (sym nothing) in
+          ap (λ b. by_deed (deed_written b) (waits_given_with cells ws h (step_of p a) d (without_wait p ws))) does_call
+          ∙ (λ i. record (standing cells h) { waits = gave d i; guards = guards_are i; registry = sym same i; owner = its_own i })
 
     -- it may not access the value, and gives its lock back in the same step
     module _ (first last : Given) (one : given_on c last (given_on c first (without_wait p ws)) ≡ given_on c (given_first first last) (without_wait p ws)) (q : Phase) where
@@ -133,9 +172,9 @@ module _ (cells : List CellPlan) (h : List Event) (p : ℕ) (a : Act) (c : ℕ) 
       waits_are = gave (given_first first last) ∙ sym one
 
       -- what was asked is published where it was declined
-      asked : (x : ℕ) → content_after_back cells x (back_at_once h (act_of h (step_of p a))) (replay cells x h) ≡ content_back (Some (record { cell = c; changes = changes_at c w (standing_at cells h r o) })) (standing_at cells h r o) x
+      asked : (x : ℕ) → content_after_back cells x (Some (record { cell = c; changes = Asked (accepts h) j ∷ [] })) (replay cells x h) ≡ content_back (Some (record { cell = c; changes = changes_at c w (standing_at cells h r o) })) (standing_at cells h r o) x
       asked x =
-          ap (λ y. content_after_back cells x (back_at_once h y) (replay cells x h)) does_call ∙ ap (λ b. content_after_back cells x (Some (record { cell = c; changes = Asked b j ∷ [] })) (replay cells x h)) accepted ∙ by (c == x) refl ∙ ap (λ v. content_back (Some (record { cell = c; changes = changes_at c v (standing_at cells h r o) })) (standing_at cells h r o) x) (sym calls)
+          ap (λ b. content_after_back cells x (Some (record { cell = c; changes = Asked b j ∷ [] })) (replay cells x h)) accepted ∙ by (c == x) refl ∙ ap (λ v. content_back (Some (record { cell = c; changes = changes_at c v (standing_at cells h r o) })) (standing_at cells h r o) x) (sym calls)
         where
           by : (b : Bool) → (c == x) ≡ b → (if b then effect (cell_at cells x) (Asked r.is_open j ∷ []) (replay cells x h) else replay cells x h) ≡ (if b then effect (cell_at cells x) (changes_asked (cell_at cells c) (Calls j) r.is_open (replay cells c h)) (replay cells x h) else replay cells x h)
           by false e = refl
@@ -148,9 +187,11 @@ module _ (cells : List CellPlan) (h : List Event) (p : ℕ) (a : Act) (c : ℕ) 
       pub try_denied_read : (t : ReadTicket) → standing cells (event p a (record { answer = answer.Access q; given = given_first first last }) ∷ h) ≡ left (reader (length h) p c) last (took (length h) p c w first (taken.Read t q) (standing_at cells h r o))
       try_denied_read t =
           let guards_are : guards h ≡ without_guard (length h) (reader (length h) p c ∷ guards h) = sym (head_off (reader (length h) p c) refl) in
-          λ i. record (standing cells h) { waits = waits_are i; guards = guards_are i; content = λ x. asked x i; registry = k.taken i; owner = k.owned i }
+          ap (λ b. by_deed (deed_accessed (accepts h) b) (waits_given_with cells ws h (step_of p a) (given_first first last) (without_wait p ws))) does_call
+          ∙ (λ i. record (standing cells h) { waits = waits_are i; guards = guards_are i; content = λ x. asked x i; registry = sym same i; owner = its_own i })
 
       pub try_denied_write : (t : WriteTicket) → standing cells (event p a (record { answer = answer.Access q; given = given_first first last }) ∷ h) ≡ left (writer_asked (length h) p c (changes_at c w (standing_at cells h r o))) last (took (length h) p c w first (taken.Write t q) (standing_at cells h r o))
       try_denied_write t =
           let guards_are : guards h ≡ without_guard (length h) (writer_asked (length h) p c (changes_at c w (standing_at cells h r o)) ∷ guards h) = sym (head_off (writer_asked (length h) p c (changes_at c w (standing_at cells h r o))) refl) in
-          λ i. record (standing cells h) { waits = waits_are i; guards = guards_are i; content = λ x. asked x i; registry = k.taken i; owner = k.owned i }
+          ap (λ b. by_deed (deed_accessed (accepts h) b) (waits_given_with cells ws h (step_of p a) (given_first first last) (without_wait p ws))) does_call
+          ∙ (λ i. record (standing cells h) { waits = waits_are i; guards = guards_are i; content = λ x. asked x i; registry = sym same i; owner = its_own i })

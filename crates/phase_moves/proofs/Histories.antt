@@ -14,10 +14,11 @@ use Rattle.schedule_rules.specs.declared.plan.CellPlan.{CellPlan}
 use Rattle.schedule_rules.specs.declared.step.Act.{Act}
 use Rattle.schedule_rules.specs.declared.step.Act.TheVariants as act
 use Rattle.schedule_rules.specs.Changes.{Ran}
-use Rattle.schedule_rules.specs.Exits.{registry, owner, ended_turns, first_owner, finishing, turn_of_section}
+use Rattle.schedule_rules.specs.Exits.{registry, owner, ended_turns, finishing, turn_of_section}
 use Rattle.schedule_rules.specs.Guards.{Guard, guards, numbered, guard_of, own, without_guard, reader, reader_beside, reader_made, writer_made}
 use Rattle.schedule_rules.specs.History.{Event}
-use Rattle.schedule_rules.specs.Replay.{replay, content_after_back, back_of_guard, back_of_run, back_of_turn}
+use Rattle.schedule_rules.specs.Deeds.{Makes, Finishes}
+use Rattle.schedule_rules.specs.Replay.{replay, content_after_back, back_of_guard, back_of_section}
 use Rattle.schedule_rules.specs.Sections.{Section, sections, innermost, without_innermost}
 use Rattle.schedule_rules.specs.Waits.{Wait, waits, wait_of, without_wait, waits_given_with, cell_concerned_with, cell_of_guard, cell_of_section}
 use Rattle.schedule_rules.proofs.Found.{found_passes}
@@ -56,11 +57,6 @@ module _ (cells : List CellPlan) (h : List Event) (p : ℕ) where
     given_awake : (a : Act) (d : Given) (c : ℕ) → cell_concerned_with cells ws h p a ≡ Some c → waits_given_with cells ws h (record { party = p; act = a }) d (without_wait p ws) ≡ given_on c d ws
     given_awake a d c e = gave a d c e ∙ ap (given_on c d) (none_without p ws awake)
 
-    -- an exit that no step names is nobody's still
-    owner_stays : (o : Option ℕ) → first_owner (act.Release 0) p o ≡ o
-    owner_stays None = refl
-    owner_stays (Some q) = refl
-
     -- ---- guards
 
     module _ (g : ℕ) (x : Guard) (mine : guard_of g p (guards h) ≡ Some x) where
@@ -73,23 +69,20 @@ module _ (cells : List CellPlan) (h : List Event) (p : ℕ) where
       pub release_left : (d : Given) → standing cells (event p (act.Release g) (record { answer = answer.Done; given = d }) ∷ h) ≡ left x d (standing cells h)
       release_left d =
           let given = given_awake (act.Release g) d x.cell (ap cell_of_guard found) in
-          let owner_is = owner_stays (owner h) in
-          λ i. record { plans = cells; waits = given i; sections = sections h; guards = without_guard (sym number i) (guards h); content = λ c. content_after_back cells c (back_of_guard (found i)) (replay cells c h); registry = registry cells h; owner = owner_is i; turns = ended_turns h }
+          λ i. record { plans = cells; waits = given i; sections = sections h; guards = without_guard (sym number i) (guards h); content = λ c. content_after_back cells c (back_of_guard (found i)) (replay cells c h); registry = registry cells h; owner = owner h; turns = ended_turns h }
 
       pub downgrade_read : (d : Given) → standing cells (event p (act.Downgrade g) (record { answer = answer.ReadGuard; given = d }) ∷ h) ≡ downgraded (length h) x d (standing cells h)
       downgrade_read d =
           let given = given_awake (act.Downgrade g) d x.cell (ap cell_of_guard found) in
-          let owner_is = owner_stays (owner h) in
           let party = (owned_by p x (numbered g (guards h)) mine).1 in
           let guards_are = ap (λ o. reader_beside (length h) p o (without_guard g (guards h))) found ∙ (λ i. reader (length h) (sym party i) x.cell ∷ without_guard (sym number i) (guards h)) in
-          λ i. record { plans = cells; waits = given i; sections = sections h; guards = guards_are i; content = λ c. content_after_back cells c (back_of_guard (found i)) (replay cells c h); registry = registry cells h; owner = owner_is i; turns = ended_turns h }
+          λ i. record { plans = cells; waits = given i; sections = sections h; guards = guards_are i; content = λ c. content_after_back cells c (back_of_guard (found i)) (replay cells c h); registry = registry cells h; owner = owner h; turns = ended_turns h }
 
       pub clone_beside : standing cells (event p (act.Clone g) (record { answer = answer.ReadGuard; given = given.Nobody }) ∷ h) ≡ cloned (length h) x (standing cells h)
       clone_beside =
-          let owner_is = owner_stays (owner h) in
           let party = (owned_by p x (numbered g (guards h)) mine).1 in
           let guards_are = ap (λ o. reader_beside (length h) p o (guards h)) found ∙ (λ i. reader (length h) (sym party i) x.cell ∷ guards h) in
-          λ i. record { plans = cells; waits = none_without p ws awake i; sections = sections h; guards = guards_are i; content = λ c. replay cells c h; registry = registry cells h; owner = owner_is i; turns = ended_turns h }
+          λ i. record { plans = cells; waits = none_without p ws awake i; sections = sections h; guards = guards_are i; content = λ c. replay cells c h; registry = registry cells h; owner = owner h; turns = ended_turns h }
 
     -- ---- the ends of sections
 
@@ -100,28 +93,23 @@ module _ (cells : List CellPlan) (h : List Event) (p : ℕ) where
       pub made_read : (v : ℕ) (d : Given) (t : ReadTicket) (q : Phase) → standing cells (event p (act.Made v) (record { answer = answer.ReadGuard; given = d }) ∷ h) ≡ ended (length h) s (Some v) d (finished.Read t q) (standing cells h)
       made_read v d t q =
           let given = given_awake (act.Made v) d s.cell (ap cell_of_section top) in
-          let owner_is = owner_stays (owner h) in
           let guards_are = ap (λ o. reader_made (length h) p o (guards h)) top ∙ ap (λ r. reader (length h) r s.cell ∷ guards h) (sym party) in
-          λ i. record { plans = cells; waits = given i; sections = without_innermost (sym party i) (sections h); guards = guards_are i; content = λ c. content_after_back cells c (back_of_run (Some v) (top i)) (replay cells c h); registry = registry cells h; owner = owner_is i; turns = ended_turns h }
+          λ i. record { plans = cells; waits = given i; sections = without_innermost (sym party i) (sections h); guards = guards_are i; content = λ c. content_after_back cells c (back_of_section (Makes (Some v)) (top i)) (replay cells c h); registry = registry cells h; owner = owner h; turns = ended_turns h }
 
       pub made_write : (v : ℕ) (t : WriteTicket) (q : Phase) → standing cells (event p (act.Made v) (record { answer = answer.WriteGuard; given = given.Nobody }) ∷ h) ≡ ended (length h) s (Some v) given.Nobody (finished.Write t q) (standing cells h)
       made_write v t q =
-          let owner_is = owner_stays (owner h) in
           let guards_are = ap (λ o. writer_made (length h) p v o (guards h)) top ∙ ap (λ r. record { number = length h; party = r; cell = s.cell; writes = true; start = s.start; changes = Ran s.is_open (Some v) ∷ [] } ∷ guards h) (sym party) in
-          λ i. record { plans = cells; waits = none_without p ws awake i; sections = without_innermost (sym party i) (sections h); guards = guards_are i; content = λ c. replay cells c h; registry = registry cells h; owner = owner_is i; turns = ended_turns h }
+          λ i. record { plans = cells; waits = none_without p ws awake i; sections = without_innermost (sym party i) (sections h); guards = guards_are i; content = λ c. replay cells c h; registry = registry cells h; owner = owner h; turns = ended_turns h }
 
       pub made_failed : (d : Given) (q : Phase) → standing cells (event p act.MadeFailed (record { answer = answer.Failed; given = d }) ∷ h) ≡ ended (length h) s None d (finished.Failed q) (standing cells h)
       made_failed d q =
           let given = given_awake act.MadeFailed d s.cell (ap cell_of_section top) in
-          let owner_is = owner_stays (owner h) in
-          λ i. record { plans = cells; waits = given i; sections = without_innermost (sym party i) (sections h); guards = guards h; content = λ c. content_after_back cells c (back_of_run None (top i)) (replay cells c h); registry = registry cells h; owner = owner_is i; turns = ended_turns h }
+          λ i. record { plans = cells; waits = given i; sections = without_innermost (sym party i) (sections h); guards = guards h; content = λ c. content_after_back cells c (back_of_section (Makes None) (top i)) (replay cells c h); registry = registry cells h; owner = owner h; turns = ended_turns h }
 
       pub final_ended : (fine : Bool) (d : Given) (q : Phase) → standing cells (event p (finishing fine) (record { answer = answer.Phase q; given = d }) ∷ h) ≡ finalized s fine d (standing cells h)
       final_ended true d q =
           let given = given_awake act.Finished d s.cell (ap cell_of_section top) in
-          let owner_is = owner_stays (owner h) in
-          λ i. record { plans = cells; waits = given i; sections = without_innermost (sym party i) (sections h); guards = guards h; content = λ c. content_after_back cells c (back_of_turn true (top i)) (replay cells c h); registry = registry cells h; owner = owner_is i; turns = turn_of_section (turn_of true) (top i) (ended_turns h) }
+          λ i. record { plans = cells; waits = given i; sections = without_innermost (sym party i) (sections h); guards = guards h; content = λ c. content_after_back cells c (back_of_section (Finishes true) (top i)) (replay cells c h); registry = registry cells h; owner = owner h; turns = turn_of_section (turn_of true) (top i) (ended_turns h) }
       final_ended false d q =
           let given = given_awake act.FinishFailed d s.cell (ap cell_of_section top) in
-          let owner_is = owner_stays (owner h) in
-          λ i. record { plans = cells; waits = given i; sections = without_innermost (sym party i) (sections h); guards = guards h; content = λ c. content_after_back cells c (back_of_turn false (top i)) (replay cells c h); registry = registry cells h; owner = owner_is i; turns = turn_of_section (turn_of false) (top i) (ended_turns h) }
+          λ i. record { plans = cells; waits = given i; sections = without_innermost (sym party i) (sections h); guards = guards h; content = λ c. content_after_back cells c (back_of_section (Finishes false) (top i)) (replay cells c h); registry = registry cells h; owner = owner h; turns = turn_of_section (turn_of false) (top i) (ended_turns h) }

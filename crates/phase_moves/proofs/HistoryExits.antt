@@ -12,7 +12,7 @@ use Rattle.schedule_rules.specs.declared.plan.Call.{Call}
 use Rattle.schedule_rules.specs.declared.plan.CellPlan.{CellPlan}
 use Rattle.schedule_rules.specs.declared.step.Act.TheVariants as act
 use Rattle.schedule_rules.specs.Due.{answer_of_look}
-use Rattle.schedule_rules.specs.Exits.{owner, first_owner}
+use Rattle.schedule_rules.specs.Exits.{owner, owner_by}
 use Rattle.schedule_rules.specs.History.{Event}
 use Rattle.schedule_rules.specs.Refusals.{is_other}
 use Rattle.schedule_rules.specs.Waits.{Wait, waits, wait_of}
@@ -30,33 +30,29 @@ module _ (cells : List CellPlan) (h : List Event) (p : ℕ) where
   -- ---- a step of a party that does not wait, which opens and gives back nothing
 
   module _ (awake : wait_of p ws ≡ None) where
-    owner_stays : (o : Option ℕ) → first_owner (act.Look 0) p o ≡ o
-    owner_stays None = refl
-    owner_stays (Some q) = refl
-
     -- a look
     pub look_stays : (g v : ℕ) → standing cells (event p (act.Look g) (record { answer = answer.Value v; given = given.Nobody }) ∷ h) ≡ standing cells h
-    look_stays g v = let own = owner_stays (owner h) in λ i. record (standing cells h) { waits = none_without p ws awake i; owner = own i }
+    look_stays g v = λ i. record (standing cells h) { waits = none_without p ws awake i; owner = owner h }
 
     -- a clone that is barred
     pub clone_barred : (g : ℕ) → standing cells (event p (act.Clone g) (record { answer = answer.Borrowed; given = given.Nobody }) ∷ h) ≡ standing cells h
-    clone_barred g = let own = owner_stays (owner h) in λ i. record (standing cells h) { waits = none_without p ws awake i; owner = own i }
+    clone_barred g = λ i. record (standing cells h) { waits = none_without p ws awake i; owner = owner h }
 
     -- a call for the phase
     pub phase_told : (c : ℕ) (k : Call) (q : Phase) → standing cells (event p (act.Call c k) (record { answer = answer.Phase q; given = given.Nobody }) ∷ h) ≡ standing cells h
-    phase_told c k q = let own = owner_stays (owner h) in λ i. record (standing cells h) { waits = none_without p ws awake i; owner = own i }
+    phase_told c k q = λ i. record (standing cells h) { waits = none_without p ws awake i; owner = owner h }
 
     -- a value that is set
     pub set_puts : (g v : ℕ) → standing cells (event p (act.Set g v) (record { answer = answer.Done; given = given.Nobody }) ∷ h) ≡ put g v (standing cells h)
-    set_puts g v = let own = owner_stays (owner h) in λ i. record (put g v (standing cells h)) { waits = none_without p ws awake i; owner = own i }
+    set_puts g v = λ i. record (put g v (standing cells h)) { waits = none_without p ws awake i; owner = owner h }
 
   -- ---- the exit, of a party that may own it
 
   module _ (free : is_other (owner h) p ≡ false) where
-    owns : first_owner act.Exit p (owner h) ≡ Some p
+    owns : owner_by p true (owner h) ≡ Some p
     owns = by (owner h) free
       where
-        by : (o : Option ℕ) → is_other o p ≡ false → first_owner act.Exit p o ≡ Some p
+        by : (o : Option ℕ) → is_other o p ≡ false → owner_by p true o ≡ Some p
         by None e = refl
         by (Some q) e = at (q == p) refl e
           where

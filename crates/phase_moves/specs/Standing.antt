@@ -19,7 +19,8 @@ use Rattle.schedule_rules.specs.Exits.{registry_of_run}
 use Rattle.schedule_rules.specs.History.{count}
 use Rattle.schedule_rules.specs.Sections.{Section, innermost, without_innermost, runs_in, is_turn}
 use Rattle.schedule_rules.specs.Guards.{Guard, without_guard, put_in, reader}
-use Rattle.schedule_rules.specs.Replay.{Back, content_after_back, back_of_guard, back_of_run, back_of_turn}
+use Rattle.schedule_rules.specs.Deeds.{Makes, Finishes}
+use Rattle.schedule_rules.specs.Replay.{Back, content_after_back, back_of_guard, back_of_section}
 use Rattle.schedule_rules.specs.Waits.{Wait, without_wait, cell_of_section}
 use Rattle.schedule_rules.specs.Holds.{reads_cell, writes_cell}
 use Rattle.waiting_rows.specs.Given.{given_on}
@@ -162,7 +163,7 @@ closed s b g m =
 
 -- the section of a run is given back, with this made
 abbrev pub run_closed : Section → Option ℕ → Given → Standing → Standing
-run_closed s made g m = closed s (back_of_run made (Some s)) g m
+run_closed s made g m = closed s (back_of_section (Makes made) (Some s)) g m
 
 -- the innermost section of a party, a run, ends at step n with this made, and goes on so
 abbrev pub ended : ℕ → Section → Option ℕ → Given → Finished → Standing → Standing
@@ -181,7 +182,7 @@ turn_of fine = if fine then turn.Done else turn.Failed
 
 -- the innermost section of a party, a finalizer's, ends so, and its turn with it
 abbrev pub finalized : Section → Bool → Given → Standing → Standing
-finalized s fine g m = turn_ended s.cell (turn_of fine) (closed s (back_of_turn fine (Some s)) g m)
+finalized s fine g m = turn_ended s.cell (turn_of fine) (closed s (back_of_section (Finishes fine) (Some s)) g m)
 
 -- ---- the moves of the exit
 

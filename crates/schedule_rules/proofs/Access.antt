@@ -1,15 +1,16 @@
 -- Where a generator runs, and where a value may not be accessed.
-use Rattle.std.proofs.Common.{◌≡◌, ◌≢◌, ℕ, List, [], ◌∷◌, refl, sym, ◌∙◌, ap, subst, arith, Bool, true, false, not, ◌&&◌, None, Some, inl, inr}
+use Rattle.std.proofs.Common.{◌≡◌, ◌≢◌, ◌⊎◌, ℕ, List, [], ◌∷◌, length, refl, sym, ◌∙◌, ap, subst, arith, Bool, true, false, not, ◌&&◌, None, Some, inl, inr}
 use Rattle.std.specs.Prelude.{◌==◌, if◌then◌else◌}
 use Rattle.std.specs.List.{find}
 use Rattle.std.specs.declared.option.Option.{Option}
 use Rattle.exit_registry.specs.Registry.{first_of}
 use Rattle.phase_bits.specs.declared.phase.Phase.{Phase}
+use Rattle.phase_bits.specs.Number.{phase_of}
+use Rattle.phase_seq.specs.Phases.{flags_refused}
 use Rattle.phase_bits.specs.Flags.{has, initialized}
 use Rattle.phase_locker.specs.declared.ways.Given.{Given}
 use Rattle.phase_seq.specs.Asks.{shall_init}
 use Rattle.phase_seq.specs.declared.tolerance.Tolerance.{Tolerance}
-use Rattle.phase_bits.specs.Number.{phase_of}
 use Rattle.schedule_rules.specs.declared.plan.Call.{Call}
 use Rattle.schedule_rules.specs.declared.plan.CellPlan.{CellPlan}
 use Rattle.schedule_rules.specs.declared.step.Act.{Act}
@@ -23,18 +24,20 @@ use Rattle.schedule_rules.specs.declared.line.Answer.TheVariants as answer
 use Rattle.schedule_rules.specs.Kinds.{cell_at, tolerance_of, tolerance_at}
 use Rattle.schedule_rules.specs.Phases.{runs_generator}
 use Rattle.schedule_rules.specs.Changes.{Content, Asked, is_declined, content_asked, effect}
+use Rattle.schedule_rules.specs.Deeds.{deed_accessed}
 use Rattle.schedule_rules.specs.History.{Event, act_of, accepts}
-use Rattle.schedule_rules.specs.Sections.{Section, runs_in, generates_for, runs, sections}
+use Rattle.schedule_rules.specs.Sections.{Section, runs_in, generates_for, runs, sections_by, sections}
+use Rattle.schedule_rules.specs.Guards.{guards_by, guards}
 use Rattle.schedule_rules.specs.Exits.{registry}
-use Rattle.schedule_rules.specs.Replay.{Back, back_at_once, replay, phase_at, content_after_back}
+use Rattle.schedule_rules.specs.Replay.{Back, back_by, back_of_step, replay, phase_at, content_after_back}
 use Rattle.schedule_rules.specs.Waits.{attempt, cell_of_attempt, attempt_of_turn, cell_concerned}
 use Rattle.schedule_rules.specs.Legal.{IsLegal, IsLegalLine}
 use Rattle.schedule_rules.specs.Laws.{IsTurnedAway, KeepsValues}
 use Rattle.schedule_rules.proofs.Found.{found_passes}
 use Rattle.schedule_rules.proofs.Each.{each_found}
 use Rattle.schedule_rules.proofs.Backs.{back_here, back_elsewhere}
-use Rattle.schedule_rules.proofs.Cases.{IsTrying, Calling, Asking, Resting, Cases, calling-tries}
-use Rattle.schedule_rules.proofs.Steps.{of_legal}
+use Rattle.schedule_rules.proofs.Cases.{IsTrying, Calling, Asking, Resting, calling-tries}
+use Rattle.schedule_rules.proofs.Means.{Began, Away, Means, means}
 use Rattle.schedule_rules.proofs.Grows.{Needs, IsStanding}
 use Rattle.schedule_rules.proofs.Initialized.{sound}
 use Rattle.schedule_rules.proofs.Facts.{apart, same_number}
@@ -86,37 +89,6 @@ module _ (cells : List CellPlan) where
         same : Some c ≡ Some d → c ≡ d
         same x = cc
 
-    -- where this is a run, one is wanted at the cell
-    abbrev IsWanted : ℕ → Act → Answer → Type 0
-    IsWanted c a r = r ≡ answer.Running → cell_concerned cells h (record { party = p; act = a }) ≡ Some c → shall_init (tolerance_at cells c) (phase_of (phase_at cells c h)) ≡ true
-
-    wanted : (c : ℕ) → Cases cells h p (IsWanted c)
-    wanted c = record {
-      cyclic = λ a d j t e. absurd (cc);
-      waiting = λ a d w way t e. absurd (cc);
-      phased = λ a d t e. absurd (cc);
-      reading = λ a d t q e. absurd (cc);
-      writing = λ a d t q e. absurd (cc);
-      running = λ a d j t q e n. subst (λ z. shall_init (tolerance_at cells z) (phase_of (phase_at cells z h)) ≡ true) (called_at a d c j t n) q.wanted;
-      declined = λ a d j t q e. absurd (cc);
-      denied = λ a d j t q e. absurd (cc);
-      skipped = λ a d t q e. absurd (cc);
-      finalizing = λ a d t q u e. absurd (cc);
-      round = λ d ds e n f. absurd (cc);
-      closed = λ e n f. absurd (cc);
-      made_read = λ v t f d e. absurd (cc);
-      made_write = λ v t f d e. absurd (cc);
-      failed = λ t f d e. absurd (cc);
-      finished = λ t f d e. absurd (cc);
-      finish_failed = λ t f d e. absurd (cc);
-      looked = λ g v x f e. absurd (cc);
-      set = λ g v x f w e. absurd (cc);
-      released = λ g x f e. absurd (cc);
-      downgraded = λ g x f w e. absurd (cc);
-      borrowed = λ g x f w e. absurd (cc);
-      cloned = λ g x f w e. absurd (cc);
-    }
-
     module _ (i : Given) where
       -- the event of the party
       abbrev event : Act → Answer → Event
@@ -128,24 +100,24 @@ module _ (cells : List CellPlan) where
 
       module _ (a : Act) (c : ℕ) (j : Call) (q : Phase) (t : Calling cells h p a c j) where
         -- it is given back at its cell alone
-        back : back_at_once h (act_of h (record { party = p; act = a })) ≡ Some (asked c j)
-        back = ap (back_at_once h) t.does
+        back : back_of_step h (record { party = p; act = a }) (answer.Access q) ≡ Some (asked c j)
+        back = ap (λ b. back_by p (deed_accessed (accepts h) b) (sections h) (guards h)) t.does
 
         others : (d : ℕ) → c ≢ d → replay cells d (event a (answer.Access q) ∷ h) ≡ replay cells d h
-        others d ne = back_elsewhere cells d (back_at_once h (act_of h (record { party = p; act = a }))) (asked c j) (replay cells d h) back (other ne)
+        others d ne = back_elsewhere cells d (back_of_step h (record { party = p; act = a }) (answer.Access q)) (asked c j) (replay cells d h) back (other ne)
           where
             other : c ≢ d → (c == d) ≡ false
             other n = grind arith
 
         here : replay cells c (event a (answer.Access q) ∷ h) ≡ content_asked (cell_at cells c).kind (tolerance_at cells c) (accepts h) j (replay cells c h)
-        here = back_here cells c (back_at_once h (act_of h (record { party = p; act = a }))) (asked c j) (replay cells c h) back (same_number c c refl)
+        here = back_here cells c (back_of_step h (record { party = p; act = a }) (answer.Access q)) (asked c j) (replay cells c h) back (same_number c c refl)
 
         -- by whether it was declined
         chosen : (b : Bool) → is_declined (cell_at cells c).kind (tolerance_at cells c) j (accepts h) (phase_at cells c h) ≡ b
             → replay cells c (event a (answer.Access q) ∷ h) ≡ (if b then record { phase = 36; value = (replay cells c h).value } else replay cells c h)
         chosen b e = here ∙ ap (λ (d : Bool). if d then record { phase = 36; value = (replay cells c h).value } else replay cells c h) e
 
-        denies : Resting cells h p c j false → q ≡ record { bits = phase_at cells c h } → IsTurnedAway cells h (event a (answer.Access q)) c q
+        pub denies : Resting cells h p c j false → q ≡ record { bits = phase_at cells c h } → IsTurnedAway cells h (event a (answer.Access q)) c q
         denies r e = record {
           shown = e ∙ ap (λ y. record { bits = y.phase }) (sym stays);
           others_stay = others;
@@ -176,54 +148,30 @@ module _ (cells : List CellPlan) where
             left : replay cells c (event a (answer.Access q) ∷ h) ≡ record { phase = 36; value = (replay cells c h).value }
             left = chosen true declined
 
-      -- where this says that the value may not be accessed, it is turned away
-      abbrev IsAway : ℕ → Phase → Act → Answer → Type 0
-      IsAway c q a r = r ≡ answer.Access q → cell_concerned cells h (record { party = p; act = a }) ≡ Some c → IsTurnedAway cells h (event a (answer.Access q)) c q
-
-      shown_by : (q r : Phase) → answer.Access r ≡ answer.Access q → q ≡ r
-      shown_by q r e = cc
-
-      away : (c : ℕ) (q : Phase) → Cases cells h p (IsAway c q)
-      away c q = record {
-        cyclic = λ a d j t e. absurd (cc);
-        waiting = λ a d w way t e. absurd (cc);
-        phased = λ a d t e. absurd (cc);
-        reading = λ a d t r e. absurd (cc);
-        writing = λ a d t r e. absurd (cc);
-        running = λ a d j t r e. absurd (cc);
-        declined = λ a d j t r e n.
-            subst (λ z. IsTurnedAway cells h (event a (answer.Access q)) z q) (called_at a d c j t n) (declines a d j q t r (shown_by q (record { bits = 36 }) e));
-        denied = λ a d j t r e n.
-            subst (λ z. IsTurnedAway cells h (event a (answer.Access q)) z q) (called_at a d c j t n) (denies a d j q t r (shown_by q (record { bits = phase_at cells d h }) e));
-        skipped = λ a d t r e. absurd (cc);
-        finalizing = λ a d t r u e. absurd (cc);
-        round = λ d ds e n f. absurd (cc);
-        closed = λ e n f. absurd (cc);
-        made_read = λ v t f d e. absurd (cc);
-        made_write = λ v t f d e. absurd (cc);
-        failed = λ t f d e. absurd (cc);
-        finished = λ t f d e. absurd (cc);
-        finish_failed = λ t f d e. absurd (cc);
-        looked = λ g v x f e. absurd (cc);
-        set = λ g v x f w e. absurd (cc);
-        released = λ g x f e. absurd (cc);
-        downgraded = λ g x f w e. absurd (cc);
-        borrowed = λ g x f w e. absurd (cc);
-        cloned = λ g x f w e. absurd (cc);
-      }
-
   -- a legal line that says that the value may not be accessed
   pub turned_away : (h : List Event) (s : Step) (l : Line) (c : ℕ) (q : Phase) → IsLegalLine cells h s l → l.answer ≡ answer.Access q → cell_concerned cells h s ≡ Some c
       → IsTurnedAway cells h (record { step = s; line = l }) c q
-  turned_away h s l c q k e n =
-      subst (λ r. IsTurnedAway cells h (record { step = s; line = record { answer = r; given = l.given } }) c q) (sym e)
-      (of_legal cells h s l k (IsAway h s.party l.given c q) (λ a r f. absurd (cc)) (away h s.party l.given c q) e n)
+  turned_away h s l c q k e n = by (subst (Means cells h s.party s.act) e (means cells h s l k))
+    where
+      by : Away cells h s.party s.act q → IsTurnedAway cells h (record { step = s; line = l }) c q
+      by m =
+          subst (λ r. IsTurnedAway cells h (record { step = s; line = record { answer = r; given = l.given } }) c q) (sym e)
+          (subst (λ z. IsTurnedAway cells h (record { step = s; line = record { answer = answer.Access q; given = l.given } }) z q) (called_at h s.party s.act m.cell c m.asked m.calls n) (reasoned m.reason))
+        where
+          reasoned : (Asking cells h s.party m.cell m.asked false × (q ≡ phase_of flags_refused)) ⊎ (Resting cells h s.party m.cell m.asked false × (q ≡ phase_of (phase_at cells m.cell h)))
+              → IsTurnedAway cells h (record { step = s; line = record { answer = answer.Access q; given = l.given } }) m.cell q
+          reasoned (inl r) = declines h s.party l.given s.act m.cell m.asked q m.calls r.0 r.1
+          reasoned (inr r) = denies h s.party l.given s.act m.cell m.asked q m.calls r.0 r.1
 
   -- without retry a run begins on the empty phase
   pub begins_on_empty : (h : List Event) (s : Step) (l : Line) (c : ℕ) → IsLegalLine cells h s l → l.answer ≡ answer.Running → cell_concerned cells h s ≡ Some c
       → (cell_at cells c).retry ≡ false → phase_at cells c h ≡ 0
-  begins_on_empty h s l c k r e once =
-      empty-where-wanted (tolerance_at cells c) (phase_at cells c h) (of_legal cells h s l k (IsWanted h s.party c) (λ a q f. absurd (cc)) (wanted h s.party c) r e) once
+  begins_on_empty h s l c k r e once = by (subst (Means cells h s.party s.act) r (means cells h s l k))
+    where
+      by : Began cells h s.party s.act → phase_at cells c h ≡ 0
+      by m =
+          subst (λ z. (cell_at cells z).retry ≡ false → phase_at cells z h ≡ 0) (called_at h s.party s.act m.cell c m.asked m.calls e)
+          (empty-where-wanted (tolerance_at cells m.cell) (phase_at cells m.cell h) m.asks.wanted) once
 
   -- and it stays empty while the generator runs
   pub runs_on_empty : (h : List Event) (p c : ℕ) → IsLegal cells h → runs p c h ≡ true → (cell_at cells c).retry ≡ false → phase_at cells c h ≡ 0
@@ -248,8 +196,16 @@ module _ (cells : List CellPlan) where
 
 -- what may not access the value leaves every value, and what is open
 pub keeps_values : (cells : List CellPlan) (h : List Event) (s : Step) (p : Phase) (g : Given) → KeepsValues cells h (record { step = s; line = record { answer = answer.Access p; given = g } })
-keeps_values cells h s p g = record { sections_stay = refl; guards_stay = refl; values_stay = λ c. by c (act_of h s) }
+keeps_values cells h s p g = record { sections_stay = same_sections (act_of h s); guards_stay = same_guards (act_of h s); values_stay = λ c. by c (act_of h s) }
   where
+    same_sections : (a : Act) → sections_by h s.party (deed_accessed (accepts h) a) (sections h) ≡ sections h
+    same_sections (act.Call d j) = refl
+    same_sections _ = refl
+
+    same_guards : (a : Act) → guards_by (length h) s.party (deed_accessed (accepts h) a) (sections h) (guards h) ≡ guards h
+    same_guards (act.Call d j) = refl
+    same_guards _ = refl
+
     asked : (x : CellPlan) (b : Bool) (j : Call) (y : Content) → (content_asked x.kind (tolerance_of x) b j y).value ≡ y.value
     asked x b j y = one (is_declined x.kind (tolerance_of x) j b y.phase)
       where
@@ -257,7 +213,7 @@ keeps_values cells h s p g = record { sections_stay = refl; guards_stay = refl; 
         one true = refl
         one false = refl
 
-    by : (c : ℕ) (a : Act) → (content_after_back cells c (back_at_once h a) (replay cells c h)).value ≡ (replay cells c h).value
+    by : (c : ℕ) (a : Act) → (content_after_back cells c (back_by s.party (deed_accessed (accepts h) a) (sections h) (guards h)) (replay cells c h)).value ≡ (replay cells c h).value
     by c (act.Call d j) = here (d == c)
       where
         here : (b : Bool) → (if b then effect (cell_at cells c) (Asked (accepts h) j ∷ []) (replay cells c h) else replay cells c h).value ≡ (replay cells c h).value

@@ -8,9 +8,10 @@ use Rattle.schedule_rules.specs.declared.plan.CellPlan.{CellPlan}
 use Rattle.schedule_rules.specs.declared.step.Act.{Act}
 use Rattle.schedule_rules.specs.declared.step.Act.TheVariants as act
 use Rattle.schedule_rules.specs.declared.step.Step.{Step}
+use Rattle.schedule_rules.specs.Deeds.{deed_read}
 use Rattle.schedule_rules.specs.History.{Event, act_by}
 use Rattle.schedule_rules.specs.Sections.{Section, innermost, sections}
-use Rattle.schedule_rules.specs.Guards.{Guard, numbered, without_guard, reader, reader_made, reader_beside, with_reader, guards}
+use Rattle.schedule_rules.specs.Guards.{Guard, numbered, without_guard, reader, reader_made, reader_beside, guards_by, guards}
 use Rattle.schedule_rules.specs.Waits.{cell_of_section, cell_of_guard, cell_concerned_with, cell_concerned, waits}
 use Rattle.schedule_rules.specs.Holds.{reads_cell, read_guards, write_holds}
 use Rattle.schedule_rules.specs.Legal.{IsLegal}
@@ -86,14 +87,14 @@ module _ (h : List Event) (s : Step) (i : Given) (c : ℕ) where
           → AllByRecursion (Reads (length h) c) (guards (read_at s i ∷ h)) × (numbered (length h) (guards (read_at s i ∷ h)) ≡ Some (reader (length h) s.party c))
       made v None d f n = absurd (cc)
       made v (Some t) d f n =
-          now (guards h) (ap (λ b. with_reader h s.party (act_by b s.party h) (guards h)) d ∙ ap (λ o. reader_made (length h) s.party o (guards h)) f ∙ ap (λ z. reader (length h) s.party z ∷ guards h) (cell t.cell c n)) (older h)
+          now (guards h) (ap (λ b. guards_by (length h) s.party (deed_read (act_by b s.party h)) (sections h) (guards h)) d ∙ ap (λ o. reader_made (length h) s.party o (guards h)) f ∙ ap (λ z. reader (length h) s.party z ∷ guards h) (cell t.cell c n)) (older h)
 
       dropped : (g : ℕ) (o : Option Guard) → s.act ≡ act.Downgrade g → numbered g (guards h) ≡ o → cell_of_guard o ≡ Some c
           → AllByRecursion (Reads (length h) c) (guards (read_at s i ∷ h)) × (numbered (length h) (guards (read_at s i ∷ h)) ≡ Some (reader (length h) s.party c))
       dropped g None d f n = absurd (cc)
       dropped g (Some x) d f n =
           now (without_guard g (guards h))
-          (ap (λ b. with_reader h s.party (act_by b s.party h) (guards h)) d ∙ ap (λ o. reader_beside (length h) s.party o (without_guard g (guards h))) f ∙ ap (λ z. reader (length h) s.party z ∷ without_guard g (guards h)) (cell x.cell c n))
+          (ap (λ b. guards_by (length h) s.party (deed_read (act_by b s.party h)) (sections h) (guards h)) d ∙ ap (λ o. reader_beside (length h) s.party o (without_guard g (guards h))) f ∙ ap (λ z. reader (length h) s.party z ∷ without_guard g (guards h)) (cell x.cell c n))
           (each_removed (IsOlder h) g (guards h) (older h))
 
       by : (a : Act) → s.act ≡ a → turns_to_read a ≡ true → cell_concerned_with cells (waits cells h) h s.party a ≡ Some c

@@ -1,5 +1,5 @@
 -- What a legal step may be, case by case.
-use Rattle.std.proofs.Common.{◌≡◌, refl, ℕ, List, [], ◌∷◌, Bool, true, false, Some}
+use Rattle.std.proofs.Common.{◌≡◌, ℕ, List, [], ◌∷◌, Bool, true, false, Some}
 use Rattle.std.specs.Prelude.{length}
 use Rattle.phase_bits.specs.Number.{phase_of}
 use Rattle.phase_bits.specs.Flags.{has, initialized}
@@ -20,7 +20,7 @@ use Rattle.schedule_rules.specs.Kinds.{cell_at, tolerance_at}
 use Rattle.schedule_rules.specs.Phases.{runs_generator, phase_finalized}
 use Rattle.schedule_rules.specs.Calls.{asks}
 use Rattle.schedule_rules.specs.History.{Event, act_of, accepts}
-use Rattle.schedule_rules.specs.Sections.{Section, innermost, sections_ended, is_turn, sections}
+use Rattle.schedule_rules.specs.Sections.{Section, innermost, is_turn, sections}
 use Rattle.schedule_rules.specs.Guards.{Guard, numbered, guards}
 use Rattle.schedule_rules.specs.Replay.{phase_at}
 use Rattle.schedule_rules.specs.Exits.{registry}
@@ -56,13 +56,6 @@ pub turning-tries : (a : Act) → IsTurning a → IsTrying a
 turning-tries act.Exit t = tt
 turning-tries act.Again t = tt
 turning-tries _ t = absurd t
-
--- and ends no section
-pub no_end : (a : Act) (p : ℕ) (ss : List Section) → IsTrying a → sections_ended a p ss ≡ ss
-no_end (act.Call c j) p ss t = refl
-no_end act.Again p ss t = refl
-no_end act.Exit p ss t = refl
-no_end _ p ss t = absurd t
 
 module _ (cells : List CellPlan) (h : List Event) (p : ℕ) where
   -- the step of the party by this act

@@ -29,7 +29,7 @@ use Rattle.schedule_rules.specs.Kinds.{cell_at, tolerance_at}
 use Rattle.schedule_rules.specs.Phases.{is_accessible, runs_generator}
 use Rattle.schedule_rules.specs.Calls.{lock_wanted, asks, initializes}
 use Rattle.schedule_rules.specs.Changes.{Content}
-use Rattle.schedule_rules.specs.History.{Event, accepts}
+use Rattle.schedule_rules.specs.History.{Event, is_exit, accepts}
 use Rattle.schedule_rules.specs.Sections.{innermost, is_turn, runs, sections}
 use Rattle.schedule_rules.specs.Guards.{numbered, guards}
 use Rattle.schedule_rules.specs.Replay.{replay}
@@ -40,7 +40,7 @@ use Rattle.schedule_rules.specs.Refusals.{refusal, refusal_by}
 use Rattle.schedule_rules.specs.Answers.{Meeting, answer_of_run, answer_opened, answer_denied, answer_declined, answer_locked, call_answer_admitted, turn_answer_admitted, answer_admitted}
 use Rattle.schedule_rules.specs.Due.{answer_of_look, due_attempt, due_tried, due_answer, meeting}
 use Rattle.schedule_rules.specs.Legal.{IsLegalLine}
-use Rattle.schedule_rules.specs.Causes.{is_running, is_access, is_cyclic, is_lock, is_finalizing, is_skipped, is_round, is_closing, is_exit, is_attempted, waits_judged, is_step_of, is_of_own_run, is_admitted, is_running_step, is_access_step, is_turn_step, is_cyclic_step, looks, is_round_step, is_closing_step}
+use Rattle.schedule_rules.specs.Causes.{is_running, is_access, is_cyclic, is_lock, is_finalizing, is_skipped, is_round, is_closing, is_attempted, waits_judged, is_step_of, is_of_own_run, is_admitted, is_running_step, is_access_step, is_turn_step, is_cyclic_step, looks, is_round_step, is_closing_step}
 use Rattle.schedule_rules.proofs.Answered.{either, accessed, made, finished, looked, cloned, legal_by}
 
 -- a test that no answer passes of a step that is refused or attempts nothing

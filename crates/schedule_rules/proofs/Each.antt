@@ -1,5 +1,5 @@
 -- What holds of each element of a list.
-use Rattle.std.proofs.Common.{◌≡◌, ℕ, ◌+◌, List, [], ◌∷◌, refl, arith, Bool, true, false, Some, cond, subst}
+use Rattle.std.proofs.Common.{◌≡◌, ◌<◌, ◌≤◌, ℕ, ◌+◌, List, [], ◌∷◌, refl, arith, Bool, true, false, Some, cond, subst}
 use Rattle.std.specs.Prelude.{◌==◌}
 use Rattle.std.specs.List.{find, AllByRecursion}
 use Rattle.schedule_rules.specs.History.{count}
@@ -26,10 +26,35 @@ each_none {X} t Q (x ∷ xs) none f = by (t x) refl none (λ n. each_none t Q xs
     by true e n rest = absurd (omega arith)
     by false e n rest = (f x e, rest n)
 
+-- a fact of each follows, where each that passes its own test is counted by it
+pub each_counted : {X : Type 0} (t : X → X → Bool) (P Q : X → Type 0) (all xs : List X) → ((x : X) → count (t x) xs ≤ count (t x) all)
+    → ((x : X) → (t x x ≡ true → 0 < count (t x) all) → P x → Q x) → AllByRecursion P xs → AllByRecursion Q xs
+each_counted t P Q all [] le f ps = tt
+each_counted {X} t P Q all (y ∷ ys) le f ps = (f y (λ e. here e (le y)) ps.0, each_counted t P Q all ys (λ x. rest x (le x)) f ps.1)
+  where
+    here : t y y ≡ true → cond (t y y) (count (t y) ys + 1) (count (t y) ys) ≤ count (t y) all → 0 < count (t y) all
+    here e n = by (t y y) e n
+      where
+        by : (b : Bool) → b ≡ true → cond b (count (t y) ys + 1) (count (t y) ys) ≤ count (t y) all → 0 < count (t y) all
+        by true e n = omega (arith, n)
+        by false e n = absurd (cc)
+
+    rest : (x : X) → cond (t x y) (count (t x) ys + 1) (count (t x) ys) ≤ count (t x) all → count (t x) ys ≤ count (t x) all
+    rest x n = by (t x y) n
+      where
+        by : (b : Bool) → cond b (count (t x) ys + 1) (count (t x) ys) ≤ count (t x) all → count (t x) ys ≤ count (t x) all
+        by true n = omega (arith, n)
+        by false n = n
+
 -- a fact that follows from another holds of all
 pub each_mapped : {X : Type 0} (P Q : X → Type 0) (xs : List X) → ((x : X) → P x → Q x) → AllByRecursion P xs → AllByRecursion Q xs
 each_mapped P Q [] f ps = tt
 each_mapped P Q (x ∷ xs) f ps = (f x ps.0, each_mapped P Q xs f ps.1)
+
+-- what holds of all, holds of each
+pub each_of : {X : Type 0} (P : X → Type 0) (xs : List X) → ((x : X) → P x) → AllByRecursion P xs
+each_of P [] f = tt
+each_of P (x ∷ xs) f = (f x, each_of P xs f)
 
 -- what is found is one of them
 pub each_found : {X : Type 0} (q : X → Bool) (P : X → Type 0) (xs : List X) (x : X) → find q xs ≡ Some x → AllByRecursion P xs → P x

@@ -15,7 +15,8 @@ use Rattle.schedule_rules.specs.History.{Event}
 use Rattle.schedule_rules.specs.Sections.{Section, innermost, sections}
 use Rattle.schedule_rules.specs.Kinds.{cell_at}
 use Rattle.schedule_rules.specs.Changes.{effect}
-use Rattle.schedule_rules.specs.Replay.{Back, back_of_run, back_failed, replay, content_after_back}
+use Rattle.schedule_rules.specs.Deeds.{Makes}
+use Rattle.schedule_rules.specs.Replay.{Back, back_of_section, back_of_step, replay, content_after_back}
 use Rattle.schedule_rules.proofs.Backs.{back_here, back_elsewhere}
 use Rattle.schedule_rules.specs.Waits.{Wait, cell_of_section, cell_concerned}
 use Rattle.schedule_rules.specs.Refusals.{refusal}
@@ -84,15 +85,15 @@ module _ (cells : List CellPlan) (h : List Event) where
     ends = second (is_none (refusal cells h s)) (is_failure s.act) (sym (fails_where_ended s (record { answer = answer.Failed; given = g }) k))
 
     -- the step ends a section of this cell
-    ended : (t : Section) × (innermost s.party (sections h) ≡ Some t) × (t.cell ≡ c) × (back_failed h s.party s.act ≡ Some (record { cell = t.cell; changes = Ran t.is_open None ∷ [] }))
+    ended : (t : Section) × (innermost s.party (sections h) ≡ Some t) × (t.cell ≡ c) × (back_of_step h s answer.Failed ≡ Some (record { cell = t.cell; changes = Ran t.is_open None ∷ [] }))
     ended = by s.act ends e
       where
-        found : (o : Option Section) → cell_of_section o ≡ Some c → (t : Section) × (o ≡ Some t) × (t.cell ≡ c) × (back_of_run None o ≡ Some (record { cell = t.cell; changes = Ran t.is_open None ∷ [] }))
+        found : (o : Option Section) → cell_of_section o ≡ Some c → (t : Section) × (o ≡ Some t) × (t.cell ≡ c) × (back_of_section (Makes None) o ≡ Some (record { cell = t.cell; changes = Ran t.is_open None ∷ [] }))
         found None d = absurd (cc)
         found (Some t) d = (t, refl, cc, refl)
 
         by : (a : Act) → is_failure a ≡ true → cell_concerned cells h (record { party = s.party; act = a }) ≡ Some c
-            → (t : Section) × (innermost s.party (sections h) ≡ Some t) × (t.cell ≡ c) × (back_failed h s.party a ≡ Some (record { cell = t.cell; changes = Ran t.is_open None ∷ [] }))
+            → (t : Section) × (innermost s.party (sections h) ≡ Some t) × (t.cell ≡ c) × (back_of_step h (record { party = s.party; act = a }) answer.Failed ≡ Some (record { cell = t.cell; changes = Ran t.is_open None ∷ [] }))
         by act.MadeFailed f d = found (innermost s.party (sections h)) d
         by _ f d = absurd (cc)
 
@@ -100,16 +101,16 @@ module _ (cells : List CellPlan) (h : List Event) where
     pub fails_in : IsFailedRun cells h (record { step = s; line = record { answer = answer.Failed; given = g } }) c
     fails_in = by ended
       where
-        by : (t : Section) × (innermost s.party (sections h) ≡ Some t) × (t.cell ≡ c) × (back_failed h s.party s.act ≡ Some (record { cell = t.cell; changes = Ran t.is_open None ∷ [] }))
+        by : (t : Section) × (innermost s.party (sections h) ≡ Some t) × (t.cell ≡ c) × (back_of_step h s answer.Failed ≡ Some (record { cell = t.cell; changes = Ran t.is_open None ∷ [] }))
             → IsFailedRun cells h (record { step = s; line = record { answer = answer.Failed; given = g } }) c
         by (t, f, here, back) =
             let b : Back = record { cell = t.cell; changes = Ran t.is_open None ∷ [] } in
-            let changed : content_after_back cells c (back_failed h s.party s.act) (replay cells c h) ≡ effect (cell_at cells c) b.changes (replay cells c h) =
-            back_here cells c (back_failed h s.party s.act) b (replay cells c h) back (same_number t.cell c here) in
+            let changed : content_after_back cells c (back_of_step h s answer.Failed) (replay cells c h) ≡ effect (cell_at cells c) b.changes (replay cells c h) =
+            back_here cells c (back_of_step h s answer.Failed) b (replay cells c h) back (same_number t.cell c here) in
             record {
               section = t;
               found = f;
               value_stays = ap (λ y. y.value) changed;
               fails = ap (λ y. y.phase) changed;
-              others_stay = λ d apart. back_elsewhere cells d (back_failed h s.party s.act) b (replay cells d h) back (other_number t.cell c d here apart);
+              others_stay = λ d apart. back_elsewhere cells d (back_of_step h s answer.Failed) b (replay cells d h) back (other_number t.cell c d here apart);
             }

@@ -1,17 +1,16 @@
--- What a finalizer that ends leaves, and that nothing else marks a cell as finalized.
-use Rattle.std.proofs.Common.{◌≡◌, ℕ, List, [], ◌∷◌, refl, sym, ◌∙◌, ap, subst, arith, Bool, true, false, None, Some}
-use Rattle.std.specs.Prelude.{◌==◌, if◌then◌else◌}
+-- A finalizer that ends marks the phase of its cell, and nothing else does.
+use Rattle.std.proofs.Common.{◌≡◌, ◌⊎◌, inl, inr, ℕ, List, [], ◌∷◌, refl, sym, ◌∙◌, ap, subst, Bool, true, false, Some}
+use Rattle.std.specs.Prelude.{◌==◌}
 use Rattle.std.specs.Int.RustNames.{bit_or}
 use Rattle.std.proofs.lemmas.Nat.{and_or_apart}
-use Rattle.std.specs.declared.option.Option.{Option}
 use Rattle.phase_bits.specs.declared.phase.Phase.{Phase}
 use Rattle.phase_bits.specs.Number.{phase_of}
 use Rattle.phase_bits.specs.Flags.{has, initialized}
 use Rattle.phase_locker.specs.declared.ways.Given.{Given}
 use Rattle.phase_seq.specs.Phases.{final_outcome}
+use Rattle.schedule_rules.specs.declared.plan.Call.TheVariants as call
 use Rattle.schedule_rules.specs.declared.plan.CellPlan.{CellPlan}
 use Rattle.schedule_rules.specs.declared.step.Act.{Act}
-use Rattle.schedule_rules.specs.declared.step.Act.TheVariants as act
 use Rattle.schedule_rules.specs.declared.step.Step.{Step}
 use Rattle.schedule_rules.specs.declared.step.Want.{Want}
 use Rattle.schedule_rules.specs.declared.step.Want.TheVariants.{Calls, Turns}
@@ -20,21 +19,26 @@ use Rattle.schedule_rules.specs.declared.line.Answer.{Answer}
 use Rattle.schedule_rules.specs.declared.line.Answer.TheVariants as answer
 use Rattle.schedule_rules.specs.Kinds.{cell_at}
 use Rattle.schedule_rules.specs.Phases.{phase_finalized}
-use Rattle.schedule_rules.specs.Changes.{Ran, Asked, Ended, effect}
-use Rattle.schedule_rules.specs.History.{Event, act_of, accepts}
+use Rattle.schedule_rules.specs.Changes.{Content, Change, Ran, Ended, effect}
+use Rattle.schedule_rules.specs.Deeds.{Makes, Finishes, Deed, Ends, EndsToRead, Drops, DropsToRead, Visits}
+use Rattle.schedule_rules.specs.History.{Event, accepts, deed_of}
 use Rattle.schedule_rules.specs.Sections.{Section, innermost, is_turn, sections}
 use Rattle.schedule_rules.specs.Guards.{Guard, numbered, guards}
-use Rattle.schedule_rules.specs.Replay.{Back, back_of_run, back_of_turn, back_of_guard, back_at_once, back_phased, back_failed, back_read, back_done, back_of_step, content_after_back, replay, phase_at}
+use Rattle.schedule_rules.specs.Replay.{Back, back_of_section, back_of_step, replay, phase_at}
 use Rattle.schedule_rules.specs.Waits.{cell_of_section, cell_concerned}
 use Rattle.schedule_rules.specs.Legal.{IsLegal, IsLegalLine}
 use Rattle.schedule_rules.specs.Laws.{IsEndedTurn}
 use Rattle.schedule_rules.specs.Exits.{finishing}
+use Rattle.schedule_rules.proofs.Alone.{alone}
 use Rattle.schedule_rules.proofs.Each.{each_found}
 use Rattle.schedule_rules.proofs.Backs.{back_here, back_elsewhere}
-use Rattle.schedule_rules.proofs.Cases.{IsCalling, Cases}
-use Rattle.schedule_rules.proofs.Steps.{of_legal}
+use Rattle.schedule_rules.proofs.Cases.{IsCalling, Calling}
+use Rattle.schedule_rules.proofs.Finds.{Finds, Tells, finds, tells}
+use Rattle.schedule_rules.proofs.Means.{Finished, Means, means}
+use Rattle.schedule_rules.proofs.Leaves.{left_at, GivenAt, GivesOf, moves}
 use Rattle.schedule_rules.proofs.Grows.{Needs, IsStanding}
 use Rattle.schedule_rules.proofs.Initialized.{sound}
+use Rattle.schedule_rules.proofs.Opening.{IsOfRun}
 use Rattle.schedule_rules.proofs.Beside.{IsRunning, guards-run, beside, run_before, asked_before}
 use Rattle.schedule_rules.proofs.Facts.{apart, same_number, other_number}
 
@@ -55,11 +59,6 @@ module _ (cells : List CellPlan) (c : ℕ) where
     -- the event of the party
     abbrev event : Act → Answer → Event
     event a r = record { step = record { party = p; act = a }; line = record { answer = r; given = i } }
-
-    -- where the step shows a phase by an act that ends a finalizer, it ends the turn of the cell that it concerns
-    abbrev EndsTurn : Act → Answer → Type 0
-    EndsTurn a r =
-        (q : Phase) (fine : Bool) → r ≡ answer.Phase q → a ≡ finishing fine → cell_concerned cells h (record { party = p; act = a }) ≡ Some c → IsEndedTurn cells h (event a r) c fine
 
     -- a call ends no finalizer
     never : (a : Act) (fine : Bool) → IsCalling a → a ≡ finishing fine → ⊥
@@ -96,131 +95,93 @@ module _ (cells : List CellPlan) (c : ℕ) where
         changed : replay cells c (event a r ∷ h) ≡ effect (cell_at cells c) (Ended fine ∷ []) (replay cells c h)
         changed = back_here cells c (back_of_step h (record { party = p; act = a }) r) b (replay cells c h) back (same_number t.cell c here)
 
-    finished : (t : Section) → innermost p (sections h) ≡ Some t → is_turn t.want ≡ true → EndsTurn act.Finished (answer.Phase (phase_of (phase_finalized (phase_at cells t.cell h) true)))
-    finished t f d q true r e n = ended act.Finished true t f d (concerned t f n) _ refl (ap (back_of_turn true) f)
-    finished t f d q false r e n = absurd (cc)
+    -- the two ends of a finalizer
+    same_end : (a fine : Bool) → finishing a ≡ finishing fine → a ≡ fine
+    same_end true true e = refl
+    same_end false false e = refl
+    same_end true false e = absurd (cc)
+    same_end false true e = absurd (cc)
 
-    finish_failed : (t : Section) → innermost p (sections h) ≡ Some t → is_turn t.want ≡ true → EndsTurn act.FinishFailed (answer.Phase (phase_of (phase_finalized (phase_at cells t.cell h) false)))
-    finish_failed t f d q false r e n = ended act.FinishFailed false t f d (concerned t f n) _ refl (ap (back_of_turn false) f)
-    finish_failed t f d q true r e n = absurd (cc)
+    back : (a : Act) (fine : Bool) (q : Phase) (t : Section) → a ≡ finishing fine → innermost p (sections h) ≡ Some t
+        → back_of_step h (record { party = p; act = a }) (answer.Phase q) ≡ Some (record { cell = t.cell; changes = Ended fine ∷ [] })
+    back a fine q t e f = subst (λ b. back_of_step h (record { party = p; act = b }) (answer.Phase q) ≡ Some (record { cell = t.cell; changes = Ended fine ∷ [] })) (sym e) (by fine)
+      where
+        by : (fine : Bool) → back_of_step h (record { party = p; act = finishing fine }) (answer.Phase q) ≡ Some (record { cell = t.cell; changes = Ended fine ∷ [] })
+        by true = ap (back_of_section (Finishes true)) f
+        by false = ap (back_of_section (Finishes false)) f
 
-    cases : Cases cells h p EndsTurn
-    cases = record {
-      cyclic = λ a d j t q fine e. absurd (cc);
-      waiting = λ a d w way t q fine e. absurd (cc);
-      phased = λ a d t q fine e n. absurd (never a fine t.acts n);
-      reading = λ a d t r q fine e. absurd (cc);
-      writing = λ a d t r q fine e. absurd (cc);
-      running = λ a d j t r q fine e. absurd (cc);
-      declined = λ a d j t r q fine e. absurd (cc);
-      denied = λ a d j t r q fine e. absurd (cc);
-      skipped = λ a d t r q fine e. absurd (cc);
-      finalizing = λ a d t r u q fine e. absurd (cc);
-      round = λ d ds f n q fine e. absurd (cc);
-      closed = λ f n q fine e. absurd (cc);
-      made_read = λ v t f d q fine e. absurd (cc);
-      made_write = λ v t f d q fine e. absurd (cc);
-      failed = λ t f d q fine e. absurd (cc);
-      finished = finished;
-      finish_failed = finish_failed;
-      looked = λ g v x f q fine e. absurd (cc);
-      set = λ g v x f w q fine e. absurd (cc);
-      released = λ g x f q fine e. absurd (cc);
-      downgraded = λ g x f w q fine e. absurd (cc);
-      borrowed = λ g x f w q fine e. absurd (cc);
-      cloned = λ g x f w q fine e. absurd (cc);
-    }
+    concerned_by : (a : Act) (fine : Bool) → a ≡ finishing fine → cell_concerned cells h (record { party = p; act = a }) ≡ cell_of_section (innermost p (sections h))
+    concerned_by a fine e = subst (λ b. cell_concerned cells h (record { party = p; act = b }) ≡ cell_of_section (innermost p (sections h))) (sym e) (by fine)
+      where
+        by : (fine : Bool) → cell_concerned cells h (record { party = p; act = finishing fine }) ≡ cell_of_section (innermost p (sections h))
+        by true = refl
+        by false = refl
+
+    turn_ends : (a : Act) (q : Phase) (fine : Bool) → Finished cells h p a q → a ≡ finishing fine → cell_concerned cells h (record { party = p; act = a }) ≡ Some c → IsEndedTurn cells h (event a (answer.Phase q)) c fine
+    turn_ends a q fine m e n =
+        let same : m.fine ≡ fine = same_end m.fine fine (sym m.acts ∙ e) in
+        subst (λ b. IsEndedTurn cells h (event a (answer.Phase q)) c b) same
+        (ended a m.fine m.section m.found m.kind (concerned m.section m.found (sym (concerned_by a m.fine m.acts) ∙ n)) (answer.Phase q) (ap (λ r. answer.Phase r) m.shown) (back a m.fine q m.section m.acts m.found))
 
   -- a legal line of a finalizer that ends
   pub ends-turn : (h : List Event) (s : Step) (l : Line) (q : Phase) (fine : Bool) → IsLegal cells h → IsLegalLine cells h s l → l.answer ≡ answer.Phase q → s.act ≡ finishing fine
       → cell_concerned cells h s ≡ Some c → IsEndedTurn cells h (record { step = s; line = l }) c fine
-  ends-turn h s l q fine k m = of_legal cells h s l m (EndsTurn h s.party l.given k) (λ a r x y e. absurd (cc)) (cases h s.party l.given k) q fine
+  ends-turn h s l q fine k m e f n =
+      subst (λ r. IsEndedTurn cells h (record { step = s; line = record { answer = r; given = l.given } }) c fine) (sym e) (by (subst (Means cells h s.party s.act) e (means cells h s l m)))
+    where
+      by : ((d : ℕ) × Calling cells h s.party s.act d call.Phase) ⊎ Finished cells h s.party s.act q → IsEndedTurn cells h (record { step = s; line = record { answer = answer.Phase q; given = l.given } }) c fine
+      by (inl t) = absurd (never h s.party l.given k s.act fine t.1.acts f)
+      by (inr t) = turn_ends h s.party l.given k s.act q fine t f n
+
+  -- so ends the turn of the cell whose section is innermost
+  pub ended-turn : (h : List Event) (e : Event) (fine : Bool) → IsLegal cells (e ∷ h) → e.step.act ≡ finishing fine → (q : Phase) → e.line.answer ≡ answer.Phase q
+      → cell_of_section (innermost e.step.party (sections h)) ≡ Some c → IsEndedTurn cells h e c fine
+  ended-turn h e fine k acts q shows here = ends-turn h e.step e.line q fine k.2 k.0 shows acts (concerned_by h e.step.party e.line.given k.2 e.step.act fine acts ∙ here)
 
   -- ---- nothing else marks a cell
 
-  module _ (h : List Event) (fine : Bool) (was : has (phase_at cells c h) (final_outcome fine) ≡ false) where
-    -- the step that marks the cell shows a phase, and its act ends a finalizer of the cell so
-    record Marks (s : Step) (r : Answer) : Type 0 where
-      pub phase : Phase
-      pub shows : r ≡ answer.Phase phase
-      pub acts : s.act ≡ finishing fine
-      pub concerns : cell_concerned cells h s ≡ Some c
+  module _ (h : List Event) (p : ℕ) (fine : Bool) (legal : IsLegal cells h) where
+    abbrev IsEnding : Deed → ℕ → Type 0
+    IsEnding (Ends (Finishes b)) z = (b ≡ fine) × (cell_of_section (innermost p (sections h)) ≡ Some z)
+    IsEnding _ z = ⊥
 
-    -- what is given back so marks nothing
-    abbrev Leaves : Option Back → Type 0
-    Leaves o = has (content_after_back cells c o (replay cells c h)).phase (final_outcome fine) ≡ true → ⊥
+    -- a flag of finalizers comes by a finalizer of the cell that ends so
+    abbrev Marks : Deed → ℕ → Content → Content → Type 0
+    Marks d z y w = has y.phase (final_outcome fine) ≡ false → has w.phase (final_outcome fine) ≡ true → IsEnding d z
 
-    of_changes : (b : Back) → (has (effect (cell_at cells c) b.changes (replay cells c h)).phase (final_outcome fine) ≡ true → has (phase_at cells c h) (final_outcome fine) ≡ true) → Leaves (Some b)
-    of_changes b f e = apart (sym (by (b.cell == c) e) ∙ was)
-      where
-        by : (d : Bool) → has (if d then effect (cell_at cells c) b.changes (replay cells c h) else replay cells c h).phase (final_outcome fine) ≡ true → has (phase_at cells c h) (final_outcome fine) ≡ true
-        by true m = f m
-        by false m = m
+    stays : (d : Deed) (z : ℕ) → (GivenAt cells h p d z → ⊥) → Marks d z (replay cells z h) (replay cells z h)
+    stays d z n was is = absurd (apart (sym is ∙ was))
 
-    run_leaves : (made : Option ℕ) (o : Option Section) → Leaves (back_of_run made o)
-    run_leaves made None = λ e. apart (sym e ∙ was)
-    run_leaves made (Some t) =
-        of_changes (record { cell = t.cell; changes = Ran t.is_open made ∷ [] })
-        (run_before (final_outcome fine) (beside fine) (cell_at cells c) (Ran t.is_open made ∷ []) (replay cells c h) tt)
+    ran : (z : ℕ) (chs : List Change) → IsOfRun chs → has (phase_at cells z h) (final_outcome fine) ≡ false → has (effect (cell_at cells z) chs (replay cells z h)).phase (final_outcome fine) ≡ true → ⊥
+    ran z chs r was is = apart (sym (run_before (final_outcome fine) (beside fine) (cell_at cells z) chs (replay cells z h) r is) ∙ was)
 
-    guard_leaves : (g : ℕ) (o : Option Guard) → numbered g (guards h) ≡ o → Leaves (back_of_guard o)
-    guard_leaves g None f = λ e. apart (sym e ∙ was)
-    guard_leaves g (Some x) f = by x.writes
-      where
-        by : (b : Bool) → Leaves (if b then Some (record { cell = x.cell; changes = x.changes }) else None)
-        by true =
-            of_changes (record { cell = x.cell; changes = x.changes })
-            (run_before (final_outcome fine) (beside fine) (cell_at cells c) x.changes (replay cells c h) (each_found (λ y. y.number == g) IsRunning (guards h) x f (guards-run h)))
-        by false = λ e. apart (sym e ∙ was)
+    dropped : (g : ℕ) (x : Guard) → numbered g (guards h) ≡ Some x → IsOfRun x.changes
+    dropped g x f = each_found (λ y. y.number == g) IsRunning (guards h) x f (guards-run h)
 
-    read_leaves : (p : ℕ) (a : Act) → Leaves (back_read h p a)
-    read_leaves p (act.Made v) = run_leaves (Some v) (innermost p (sections h))
-    read_leaves p (act.Downgrade g) = guard_leaves g (numbered g (guards h)) refl
-    read_leaves p _ = λ e. apart (sym e ∙ was)
+    gives : (d : Deed) (f : Finds cells h p d) → GivesOf cells h p (alone cells h legal) (Marks d) d f
+    gives (Ends (Makes made)) f = ran f.section.cell (Ran f.section.is_open made ∷ []) tt
+    gives (Ends (Finishes b)) f = λ was is. (same_outcome b fine (phase_at cells f.section.cell h) was is, ap cell_of_section f.found)
+    gives (EndsToRead v) f = ran f.section.cell (Ran f.section.is_open (Some v) ∷ []) tt
+    gives (Drops g) f = λ w. ran f.guard.cell f.guard.changes (dropped g f.guard f.found)
+    gives (DropsToRead g) f = ran f.guard.cell f.guard.changes (dropped g f.guard f.found)
+    gives (Visits z chs) f = λ was is.
+        apart (sym (asked_before (final_outcome fine) (beside fine) (cell_at cells z) (accepts h) f.asked (replay cells z h) (subst (λ l. has (effect (cell_at cells z) l (replay cells z h)).phase (final_outcome fine) ≡ true) f.does is)) ∙ was)
+    gives _ f = tt
 
-    done_leaves : (a : Act) → Leaves (back_done h a)
-    done_leaves (act.Release g) = guard_leaves g (numbered g (guards h)) refl
-    done_leaves _ = λ e. apart (sym e ∙ was)
-
-    failed_leaves : (p : ℕ) (a : Act) → Leaves (back_failed h p a)
-    failed_leaves p act.MadeFailed = run_leaves None (innermost p (sections h))
-    failed_leaves p _ = λ e. apart (sym e ∙ was)
-
-    asked_leaves : (a : Act) → Leaves (back_at_once h a)
-    asked_leaves (act.Call d j) =
-        of_changes (record { cell = d; changes = Asked (accepts h) j ∷ [] }) (asked_before (final_outcome fine) (beside fine) (cell_at cells c) (accepts h) j (replay cells c h))
-    asked_leaves _ = λ e. apart (sym e ∙ was)
-
-    -- a finalizer marks the cell where it is the section's, and it ends so
-    turn_marks : (s : Step) (a : Bool) (q : Phase) (o : Option Section) → s.act ≡ finishing a → cell_concerned cells h s ≡ cell_of_section o
-        → has (content_after_back cells c (back_of_turn a o) (replay cells c h)).phase (final_outcome fine) ≡ true → Marks s (answer.Phase q)
-    turn_marks s a q None e f m = absurd (apart (sym m ∙ was))
-    turn_marks s a q (Some t) e f m = by (t.cell == c) refl m
-      where
-        by : (b : Bool) → (t.cell == c) ≡ b → has (if b then effect (cell_at cells c) (Ended a ∷ []) (replay cells c h) else replay cells c h).phase (final_outcome fine) ≡ true → Marks s (answer.Phase q)
-        by false d m = absurd (apart (sym m ∙ was))
-        by true d m =
-            let here : t.cell ≡ c = grind arith in
-            record { phase = q; shows = refl; acts = e ∙ ap finishing (same_outcome a fine (phase_at cells c h) was m); concerns = f ∙ ap (λ (z : ℕ). Some z) here }
-
-    phase_marks : (p : ℕ) (q : Phase) (a : Act) → has (content_after_back cells c (back_phased h p a) (replay cells c h)).phase (final_outcome fine) ≡ true → Marks (record { party = p; act = a }) (answer.Phase q)
-    phase_marks p q act.Finished m = turn_marks (record { party = p; act = act.Finished }) true q (innermost p (sections h)) refl refl m
-    phase_marks p q act.FinishFailed m = turn_marks (record { party = p; act = act.FinishFailed }) false q (innermost p (sections h)) refl refl m
-    phase_marks p q _ m = absurd (apart (sym m ∙ was))
-
-    -- each step
-    marks : (s : Step) (r : Answer) → has (content_after_back cells c (back_of_step h s r) (replay cells c h)).phase (final_outcome fine) ≡ true → Marks s r
-    marks s answer.ReadGuard m = absurd (read_leaves s.party s.act m)
-    marks s answer.Done m = absurd (done_leaves s.act m)
-    marks s answer.Failed m = absurd (failed_leaves s.party s.act m)
-    marks s (answer.Access q) m = absurd (asked_leaves (act_of h s) m)
-    marks s (answer.Phase q) m = phase_marks s.party q s.act m
-    marks s _ m = absurd (apart (sym m ∙ was))
+    marks : (d : Deed) → Finds cells h p d → Marks d c (replay cells c h) (left_at cells h p d c)
+    marks d f = moves cells h p (alone cells h legal) (Marks d) d f (stays d) (gives d f) c
 
   -- so a cell is marked as finalized only where a finalizer of it ends so
   pub marked-by-turn : (h : List Event) (e : Event) (fine : Bool) → IsLegal cells (e ∷ h) → has (phase_at cells c h) (final_outcome fine) ≡ false
       → has (phase_at cells c (e ∷ h)) (final_outcome fine) ≡ true → (e.step.act ≡ finishing fine) × IsEndedTurn cells h e c fine
-  marked-by-turn h e fine k was m = by (marks h fine was e.step e.line.answer m)
+  marked-by-turn h e fine k was m =
+      by (deed_of h e.step e.line.answer) (tells cells h e.step e.line k.0) (marks h e.step.party fine k.2 (deed_of h e.step e.line.answer) (finds cells h e.step e.line k.0) was m)
     where
-      by : Marks h fine was e.step e.line.answer → (e.step.act ≡ finishing fine) × IsEndedTurn cells h e c fine
-      by m = (m.acts, ends-turn h e.step e.line m.phase fine k.2 k.0 m.shows m.acts m.concerns)
+      turn : (b : Bool) → b ≡ fine → e.step.act ≡ finishing b → (q : Phase) → e.line.answer ≡ answer.Phase q → cell_of_section (innermost e.step.party (sections h)) ≡ Some c
+          → (e.step.act ≡ finishing fine) × IsEndedTurn cells h e c fine
+      turn b same acts q shows here = let ends : e.step.act ≡ finishing fine = acts ∙ ap finishing same in (ends, ended-turn h e fine k ends q shows here)
+
+      by : (d : Deed) → Tells cells h e.step.party e.step.act e.line.answer d → IsEnding h e.step.party fine k.2 d c → (e.step.act ≡ finishing fine) × IsEndedTurn cells h e c fine
+      by (Ends (Finishes b)) t i = turn b i.0 t.0 t.1.0 t.1.1 i.1
+      by (Ends (Makes made)) t i = absurd i
+      by _ t i = absurd i

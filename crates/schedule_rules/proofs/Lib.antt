@@ -11,6 +11,9 @@ pub mod Cases
 pub mod Backs
 mod Attempts
 pub mod Steps
+pub mod Finds
+pub mod Leaves
+pub mod Means
 pub mod Touched
 pub mod Held
 pub mod Registered

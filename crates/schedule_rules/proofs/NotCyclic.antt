@@ -1,20 +1,20 @@
 -- A call that waits asks for no run of a generator that its own party is running.
-use Rattle.std.proofs.Common.{◌≡◌, ◌≢◌, ◌<◌, ◌≤◌, ◌+◌, ℕ, List, [], ◌∷◌, length, refl, sym, ◌∙◌, ap, subst, arith, Bool, true, false, not, ◌&&◌, cond, None, Some}
+use Rattle.std.proofs.Common.{◌≡◌, ◌≢◌, ◌<◌, ◌≤◌, ◌+◌, ℕ, List, [], ◌∷◌, refl, sym, ◌∙◌, ap, subst, arith, Bool, true, false, not, ◌&&◌, cond, None, Some}
 use Rattle.std.specs.Prelude.{◌==◌, if◌then◌else◌, is_none}
 use Rattle.std.specs.List.{find}
 use Rattle.std.specs.declared.option.Option.{Option}
 use Rattle.phase_locker.specs.declared.ways.Given.{Given}
 use Rattle.phase_locker.specs.declared.ways.How.{How}
 use Rattle.schedule_rules.specs.declared.plan.CellPlan.{CellPlan}
-use Rattle.schedule_rules.specs.declared.step.Act.{Act}
 use Rattle.schedule_rules.specs.declared.step.Act.TheVariants as act
 use Rattle.schedule_rules.specs.declared.step.Step.{Step}
 use Rattle.schedule_rules.specs.declared.line.Line.{Line}
 use Rattle.schedule_rules.specs.declared.line.Answer.{Answer}
 use Rattle.schedule_rules.specs.declared.line.Answer.TheVariants as answer
 use Rattle.schedule_rules.specs.Calls.{initializes}
-use Rattle.schedule_rules.specs.History.{Event, act_of, accepts, count}
-use Rattle.schedule_rules.specs.Sections.{Section, without_innermost, with_run, sections_ended, sections_after, runs_in, is_turn, generates_for, runs, sections}
+use Rattle.schedule_rules.specs.Deeds.{Deed, Opens, Ends, EndsToRead, EndsToWrite, deed_waiting}
+use Rattle.schedule_rules.specs.History.{Event, is_exit, deed_of, count}
+use Rattle.schedule_rules.specs.Sections.{Section, without_innermost, sections_by, runs_in, is_turn, generates_for, runs, sections}
 use Rattle.schedule_rules.specs.Waits.{Attempt, attempt_of_wait, attempt, Wait, wait_of, without_wait, with_wait, waits_given_with, waits_answered, waits}
 use Rattle.schedule_rules.specs.Refusals.{refusal}
 use Rattle.schedule_rules.specs.Legal.{IsLegal, IsLegalLine, IsExclusive}
@@ -62,55 +62,18 @@ module _ (p : ℕ) where
       by true d n = most (is_own_run p c s) (own_runs p c ss)
       by false d n = more (is_own_run p c s) (own_runs p c (without_innermost q ss)) (own_runs p c ss) n
 
-  sections_fewer : (a : Act) (q c : ℕ) (ss : List Section) → own_runs p c (sections_ended a q ss) ≤ own_runs p c ss
-  sections_fewer (act.Made v) q c ss = ended_fewer q c ss
-  sections_fewer act.MadeFailed q c ss = ended_fewer q c ss
-  sections_fewer act.Finished q c ss = ended_fewer q c ss
-  sections_fewer act.FinishFailed q c ss = ended_fewer q c ss
-  sections_fewer (act.Call d k) q c ss = omega arith
-  sections_fewer act.Again q c ss = omega arith
-  sections_fewer act.Exit q c ss = omega arith
-  sections_fewer (act.Look g) q c ss = omega arith
-  sections_fewer (act.Set g v) q c ss = omega arith
-  sections_fewer (act.Release g) q c ss = omega arith
-  sections_fewer (act.Downgrade g) q c ss = omega arith
-  sections_fewer (act.Clone g) q c ss = omega arith
+  -- another's deed opens none of the party's
+  others_fewer : (h : List Event) (q : ℕ) (d : Deed) (c : ℕ) (ss : List Section) → (q == p) ≡ false → own_runs p c (sections_by h q d ss) ≤ own_runs p c ss
+  others_fewer h q (Opens b w taken) c ss e = rw e (omega arith)
+  others_fewer h q (Ends i) c ss e = ended_fewer q c ss
+  others_fewer h q (EndsToRead v) c ss e = ended_fewer q c ss
+  others_fewer h q (EndsToWrite v) c ss e = ended_fewer q c ss
+  others_fewer h q d c ss e = omega arith
 
-  -- another's section is not the party's
-  of_other : (s : Section) (c : ℕ) (ss : List Section) → (s.party == p) ≡ false → own_runs p c (s ∷ ss) ≤ own_runs p c ss
-  of_other s c ss e = rw e (omega arith)
-
-  run_fewer : (a : Act) (q n : ℕ) (o : Bool) (c : ℕ) (ss : List Section) → (q == p) ≡ false → own_runs p c (with_run a q n o ss) ≤ own_runs p c ss
-  run_fewer (act.Call d k) q n o c ss e = rw e (omega arith)
-  run_fewer act.Again q n o c ss e = omega arith
-  run_fewer act.Exit q n o c ss e = omega arith
-  run_fewer (act.Made v) q n o c ss e = omega arith
-  run_fewer act.MadeFailed q n o c ss e = omega arith
-  run_fewer act.Finished q n o c ss e = omega arith
-  run_fewer act.FinishFailed q n o c ss e = omega arith
-  run_fewer (act.Look g) q n o c ss e = omega arith
-  run_fewer (act.Set g v) q n o c ss e = omega arith
-  run_fewer (act.Release g) q n o c ss e = omega arith
-  run_fewer (act.Downgrade g) q n o c ss e = omega arith
-  run_fewer (act.Clone g) q n o c ss e = omega arith
-
-  others_fewer : (h : List Event) (s : Step) (r : Answer) (c : ℕ) (ss : List Section) → (s.party == p) ≡ false → own_runs p c (sections_after h s r ss) ≤ own_runs p c ss
-  others_fewer h s answer.Running c ss e = run_fewer (act_of h s) s.party (length h) (accepts h) c ss e
-  others_fewer h s (answer.Finalizing d) c ss e = rw e (omega arith)
-  others_fewer h s (answer.Skipped d) c ss e = omega arith
-  others_fewer h s (answer.Round n) c ss e = omega arith
-  others_fewer h s answer.Closed c ss e = omega arith
-  others_fewer h s (answer.Access q) c ss e = omega arith
-  others_fewer h s (answer.Refused q) c ss e = omega arith
-  others_fewer h s (answer.Phase q) c ss e = sections_fewer s.act s.party c ss
-  others_fewer h s (answer.Value v) c ss e = sections_fewer s.act s.party c ss
-  others_fewer h s answer.ReadGuard c ss e = sections_fewer s.act s.party c ss
-  others_fewer h s answer.WriteGuard c ss e = sections_fewer s.act s.party c ss
-  others_fewer h s answer.Done c ss e = sections_fewer s.act s.party c ss
-  others_fewer h s answer.Failed c ss e = sections_fewer s.act s.party c ss
-  others_fewer h s answer.Cyclic c ss e = sections_fewer s.act s.party c ss
-  others_fewer h s answer.Borrowed c ss e = sections_fewer s.act s.party c ss
-  others_fewer h s (answer.Waiting way) c ss e = sections_fewer s.act s.party c ss
+  -- what waits opens and ends none
+  waiting_fewer : (h : List Event) (q : ℕ) (b : Bool) (c : ℕ) (ss : List Section) → own_runs p c (sections_by h q (deed_waiting b) ss) ≤ own_runs p c ss
+  waiting_fewer h q true c ss = omega arith
+  waiting_fewer h q false c ss = omega arith
 
 module _ (cells : List CellPlan) where
   -- ---- what the party runs where a section of it runs, and back
@@ -175,26 +138,20 @@ module _ (cells : List CellPlan) where
     again way false is (Some a) us less now = rw is (left_over false is us (λ e. less))
     again way true is (Some a) us less now = rw is (now refl)
 
+    -- the sections after the step with this answer
+    abbrev left : Answer → List Section
+    left r = sections_by h s.party (deed_of h s r) (sections h)
+
+    goes_on : (r : Answer) → NotOwn p (attempt_of_wait (wait_of p (waits_given_with cells (waits cells h) h s g (without_wait s.party (waits cells h))))) (left r)
+    goes_on r = left_over (s.party == p) refl (left r) (λ e c. others_fewer p h s.party (deed_of h s r) c (sections h) e)
+
     after : (r : Answer) → (is_waiting r ≡ true → (s.party == p) ≡ true → NotOwn p (attempt cells h s) (sections h))
-        → NotOwn p (attempt_of_wait (wait_of p (waits_answered cells h s g r (waits cells h)))) (sections_after h s r (sections h))
+        → NotOwn p (attempt_of_wait (wait_of p (waits_answered cells h s g r (waits cells h)))) (left r)
     after (answer.Refused q) now = IH
     after (answer.Waiting way) now =
-        again way (s.party == p) refl (attempt cells h s) (sections_ended s.act s.party (sections h)) (λ c. sections_fewer p s.act s.party c (sections h))
-        (λ is. weaken p (attempt cells h s) (sections h) (sections_ended s.act s.party (sections h)) (λ c. sections_fewer p s.act s.party c (sections h)) (now refl is))
-    after answer.Running now = left_over (s.party == p) refl _ (λ e c. others_fewer p h s answer.Running c (sections h) e)
-    after (answer.Finalizing d) now = left_over (s.party == p) refl _ (λ e c. others_fewer p h s (answer.Finalizing d) c (sections h) e)
-    after (answer.Skipped d) now = left_over (s.party == p) refl _ (λ e c. omega arith)
-    after (answer.Round n) now = left_over (s.party == p) refl _ (λ e c. omega arith)
-    after answer.Closed now = left_over (s.party == p) refl _ (λ e c. omega arith)
-    after (answer.Access q) now = left_over (s.party == p) refl _ (λ e c. omega arith)
-    after (answer.Phase q) now = left_over (s.party == p) refl _ (λ e c. sections_fewer p s.act s.party c (sections h))
-    after (answer.Value v) now = left_over (s.party == p) refl _ (λ e c. sections_fewer p s.act s.party c (sections h))
-    after answer.ReadGuard now = left_over (s.party == p) refl _ (λ e c. sections_fewer p s.act s.party c (sections h))
-    after answer.WriteGuard now = left_over (s.party == p) refl _ (λ e c. sections_fewer p s.act s.party c (sections h))
-    after answer.Done now = left_over (s.party == p) refl _ (λ e c. sections_fewer p s.act s.party c (sections h))
-    after answer.Failed now = left_over (s.party == p) refl _ (λ e c. sections_fewer p s.act s.party c (sections h))
-    after answer.Cyclic now = left_over (s.party == p) refl _ (λ e c. sections_fewer p s.act s.party c (sections h))
-    after answer.Borrowed now = left_over (s.party == p) refl _ (λ e c. sections_fewer p s.act s.party c (sections h))
+        again way (s.party == p) refl (attempt cells h s) (left (answer.Waiting way)) (λ c. waiting_fewer p h s.party (is_exit s.act) c (sections h))
+        (λ is. weaken p (attempt cells h s) (sections h) (left (answer.Waiting way)) (λ c. waiting_fewer p h s.party (is_exit s.act) c (sections h)) (now refl is))
+    after r now = goes_on r
 
   -- a step that waits attempts nothing that is cyclic
   waits_apart : (h : List Event) (s : Step) (l : Line) → IsLegal cells h → IsLegalLine cells h s l → is_waiting l.answer ≡ true → NotOwn s.party (attempt cells h s) (sections h)

@@ -6,26 +6,24 @@ use Rattle.std.specs.declared.option.Option.{Option}
 use Rattle.std.proofs.lemmas.List.{get_or-set_other, get_or-replicate, get_or_past, length-replicate}
 use Rattle.exit_registry.specs.Registry.{Registry, is_known, after_register}
 use Rattle.schedule_rules.specs.declared.plan.CellPlan.{CellPlan}
-use Rattle.schedule_rules.specs.declared.step.Act.{Act}
-use Rattle.schedule_rules.specs.declared.step.Act.TheVariants as act
-use Rattle.schedule_rules.specs.declared.line.Answer.{Answer}
-use Rattle.schedule_rules.specs.declared.line.Answer.TheVariants as answer
+use Rattle.schedule_rules.specs.declared.step.Want.TheVariants.{Calls, Turns}
 use Rattle.schedule_rules.specs.Kinds.{cell_at}
 use Rattle.schedule_rules.specs.Phases.{tries_registration}
-use Rattle.schedule_rules.specs.History.{Event, act_of, accepts, count}
-use Rattle.schedule_rules.specs.Sections.{Section, runs_in, with_run, sections}
+use Rattle.schedule_rules.specs.Deeds.{Deed, Opens, Skips}
+use Rattle.schedule_rules.specs.History.{Event, deed_of, count}
+use Rattle.schedule_rules.specs.Sections.{Section, runs_in, sections_by, sections}
 use Rattle.schedule_rules.specs.Guards.{Guard, guards}
 use Rattle.schedule_rules.specs.Replay.{phase_at}
-use Rattle.schedule_rules.specs.Exits.{registry_taken, registry_run, registry_after, registry}
+use Rattle.schedule_rules.specs.Exits.{registry_taken, registry_by, registry}
 use Rattle.schedule_rules.specs.Holds.{writes_cell, write_holds}
 use Rattle.schedule_rules.specs.Legal.{IsLegal}
 use Rattle.schedule_rules.proofs.Found.{none_counted}
 use Rattle.schedule_rules.proofs.Held.{IsHeld, held-stays}
 
--- an Exit that takes a cell leaves which are known
-pub known_taken : (a : Act) (m : Registry) (c : ℕ) → is_known (registry_taken a m) c ≡ is_known m c
-known_taken act.Exit m c = refl
-known_taken _ m c = refl
+-- a turn that is taken leaves which are known
+pub known_taken : (b : Bool) (m : Registry) (c : ℕ) → is_known (registry_taken b m) c ≡ is_known m c
+known_taken true m c = refl
+known_taken false m c = refl
 
 -- what is known after a registration, was known or is registered
 known_more : (c d : ℕ) (m : Registry) → is_known (after_register c m) d ≡ true → ((c == d) ≡ true) ⊎ (is_known m d ≡ true)
@@ -52,41 +50,31 @@ none_known n c = by (nat_lt c n) refl
         at_least_it f = grind arith
 
 module _ (cells : List CellPlan) where
-  module _ (c : ℕ) (h : List Event) (n p : ℕ) where
-    -- what is known after a run by this act, was known before, or the section of the run is in the cell
-    known_run : (a : Act) → is_known (registry_run cells h a (registry cells h)) c ≡ true
-        → (is_known (registry cells h) c ≡ true) ⊎ (0 < count (runs_in c) (with_run a p n (accepts h) (sections h)))
-    known_run (act.Call d j) known = by (tries_registration (cell_at cells d).kind (phase_at cells d h)) known
-      where
-        new : ((d == c) ≡ true) ⊎ (is_known (registry cells h) c ≡ true)
-            → (is_known (registry cells h) c ≡ true) ⊎ (0 < cond (d == c) (count (runs_in c) (sections h) + 1) (count (runs_in c) (sections h)))
-        new (inl same) = inr (rw same (omega arith))
-        new (inr was) = inl was
+  -- what is known after a deed, was known before, or the section that it opens is in the cell
+  known_by : (c : ℕ) (h : List Event) (p : ℕ) (d : Deed) → is_known (registry_by cells h d (registry cells h)) c ≡ true
+      → (is_known (registry cells h) c ≡ true) ⊎ (0 < count (runs_in c) (sections_by h p d (sections h)))
+  known_by c h p (Opens d (Calls j) taken) known = by (tries_registration (cell_at cells d).kind (phase_at cells d h)) known
+    where
+      new : ((d == c) ≡ true) ⊎ (is_known (registry cells h) c ≡ true)
+          → (is_known (registry cells h) c ≡ true) ⊎ (0 < cond (d == c) (count (runs_in c) (sections h) + 1) (count (runs_in c) (sections h)))
+      new (inl same) = inr (rw same (omega arith))
+      new (inr was) = inl was
 
-        by : (b : Bool) → is_known (if b then after_register d (registry cells h) else registry cells h) c ≡ true
-            → (is_known (registry cells h) c ≡ true) ⊎ (0 < cond (d == c) (count (runs_in c) (sections h) + 1) (count (runs_in c) (sections h)))
-        by false was = inl was
-        by true is = new (known_more d c (registry cells h) is)
-    known_run _ known = inl known
+      by : (b : Bool) → is_known (if b then after_register d (registry cells h) else registry cells h) c ≡ true
+          → (is_known (registry cells h) c ≡ true) ⊎ (0 < cond (d == c) (count (runs_in c) (sections h) + 1) (count (runs_in c) (sections h)))
+      by false was = inl was
+      by true is = new (known_more d c (registry cells h) is)
+  known_by c h p (Opens d Turns taken) known = inl (sym (known_taken taken (registry cells h) c) ∙ known)
+  known_by c h p (Skips d taken) known = inl (sym (known_taken taken (registry cells h) c) ∙ known)
+  known_by c h p _ known = inl known
 
   -- what is known after an event was known before it, or is held after it
   known_before : (c : ℕ) (e : Event) (h : List Event) → is_known (registry cells (e ∷ h)) c ≡ true → (is_known (registry cells h) c ≡ true) ⊎ IsHeld cells (e ∷ h) c
-  known_before c e h known = by e.line.answer refl known
+  known_before c e h known = by (known_by c h e.step.party (deed_of h e.step e.line.answer) known)
     where
-      taken : (is_known (registry_taken e.step.act (registry cells h)) c ≡ true) → (is_known (registry cells h) c ≡ true) ⊎ IsHeld cells (e ∷ h) c
-      taken k = inl (sym (known_taken e.step.act (registry cells h) c) ∙ k)
-
-      ran : e.line.answer ≡ answer.Running → (is_known (registry cells h) c ≡ true) ⊎ (0 < count (runs_in c) (with_run (act_of h e.step) e.step.party (length h) (accepts h) (sections h)))
-          → (is_known (registry cells h) c ≡ true) ⊎ IsHeld cells (e ∷ h) c
-      ran r (inl was) = inl was
-      ran r (inr n) = inr (inr (rw r (omega (arith, n))))
-
-      by : (r : Answer) → e.line.answer ≡ r → is_known (registry_after cells h e.step r (registry cells h)) c ≡ true → (is_known (registry cells h) c ≡ true) ⊎ IsHeld cells (e ∷ h) c
-      by (answer.Refused q) r k = inl k
-      by answer.Running r k = ran r (known_run c h (length h) e.step.party (act_of h e.step) k)
-      by (answer.Round n) r k = inl k
-      by answer.Closed r k = inl k
-      by _ r k = taken k
+      by : (is_known (registry cells h) c ≡ true) ⊎ (0 < count (runs_in c) (sections (e ∷ h))) → (is_known (registry cells h) c ≡ true) ⊎ IsHeld cells (e ∷ h) c
+      by (inl was) = inl was
+      by (inr n) = inr (inr (omega (arith, n)))
 
   -- what the registry knows is held
   known-held : (c : ℕ) (h : List Event) → IsLegal cells h → is_known (registry cells h) c ≡ true → IsHeld cells h c

@@ -1,29 +1,25 @@
 -- What a step registers.
-use Rattle.std.proofs.Common.{◌≡◌, ◌<◌, ℕ, List, ◌∷◌, length, refl, sym, ◌∙◌, ap, subst, arith, Bool, true, false, ◌&&◌, ◌||◌, Some}
+use Rattle.std.proofs.Common.{◌≡◌, ◌<◌, ℕ, List, ◌∷◌, length, refl, sym, ◌∙◌, ap, subst, arith, Bool, true, false, ◌&&◌, ◌||◌, Some, ◌⊎◌, inl, inr}
 use Rattle.std.specs.Prelude.{◌==◌, if◌then◌else◌, slice_set, slice_index_or}
 use Rattle.std.proofs.lemmas.List.{get_or-set_same, get_or-set_other}
 use Rattle.exit_registry.specs.Registry.{is_known, after_register, registered}
-use Rattle.phase_bits.specs.declared.phase.Phase.{Phase}
-use Rattle.phase_bits.specs.Number.{phase_of}
 use Rattle.phase_bits.specs.Flags.{without_flags}
 use Rattle.phase_seq.specs.Phases.{flags_generate, registration, initialization_flags}
 use Rattle.schedule_rules.specs.declared.plan.Call.{Call}
 use Rattle.schedule_rules.specs.declared.plan.CellPlan.{CellPlan}
-use Rattle.schedule_rules.specs.declared.step.Act.{Act}
-use Rattle.schedule_rules.specs.declared.step.Act.TheVariants as act
-use Rattle.schedule_rules.specs.declared.step.Want.TheVariants.{Calls}
-use Rattle.schedule_rules.specs.declared.line.Answer.{Answer}
-use Rattle.schedule_rules.specs.declared.line.Answer.TheVariants as answer
+use Rattle.schedule_rules.specs.declared.step.Want.TheVariants.{Calls, Turns}
 use Rattle.schedule_rules.specs.Kinds.{cell_at, is_finalizable, tolerance_of}
 use Rattle.schedule_rules.specs.Phases.{tries_registration, runs_generator}
-use Rattle.schedule_rules.specs.History.{Event, accepts}
+use Rattle.schedule_rules.specs.Changes.{Change}
+use Rattle.schedule_rules.specs.Deeds.{Deed, Opens, Visits, Skips}
+use Rattle.schedule_rules.specs.History.{Event, accepts, deed_of}
 use Rattle.schedule_rules.specs.Replay.{phase_at}
-use Rattle.schedule_rules.specs.Exits.{registry_taken, registry_run, registry_of_run, registry_after, registry}
+use Rattle.schedule_rules.specs.Exits.{registry_taken, registry_of_run, registry_by, registry}
 use Rattle.schedule_rules.specs.Legal.{IsLegal}
-use Rattle.schedule_rules.proofs.Trying.{asks_so, shows_registration}
+use Rattle.schedule_rules.proofs.Trying.{asks_so, visit_registers, deed_registers, shows_registration}
 use Rattle.schedule_rules.proofs.Facts.{first, second}
-use Rattle.schedule_rules.proofs.Cases.{Calling, Asking, Resting, Cases}
-use Rattle.schedule_rules.proofs.Steps.{of_legal}
+use Rattle.schedule_rules.proofs.Cases.{Asking, Resting}
+use Rattle.schedule_rules.proofs.Finds.{Visit, Finds, finds}
 use Rattle.schedule_rules.proofs.Accepts.{open-accepts, known-length}
 use Rattle.schedule_rules.proofs.Registered.{known_taken}
 use Rattle.schedule_rules.proofs.Turns.{finalizable-inside}
@@ -52,40 +48,36 @@ declined-closed x o p e f = by (is_finalizable x.kind) (p == 0) o e f
     by false d o e f = absurd (cc)
 
 module _ (cells : List CellPlan) (c : ℕ) (h : List Event) (p : ℕ) (legal : IsLegal cells h) where
-  -- after the step the registry knows the cell where it did, or where the step tries to register it and cells may be
+  -- after the deed the registry knows the cell where it did, or where the deed tries to register it and cells may be
   -- registered
-  abbrev IsRegistering : Act → Answer → Type 0
-  IsRegistering a r =
-      is_known (registry_after cells h (record { party = p; act = a }) r (registry cells h)) c
-      ≡ (is_known (registry cells h) c || (shows_registration cells c h (record { party = p; act = a }) r && accepts h))
+  abbrev IsRegistering : Deed → Type 0
+  IsRegistering d = is_known (registry_by cells h d (registry cells h)) c ≡ (is_known (registry cells h) c || (deed_registers cells c h d && accepts h))
 
-  -- an answer that is none of a run
-  rests : (a : Act) → is_known (registry_taken a (registry cells h)) c ≡ (is_known (registry cells h) c || (false && accepts h))
-  rests a = known_taken a (registry cells h) c ∙ sym (or_none (is_known (registry cells h) c))
+  -- one that leaves what is known
+  rests : (k : Bool) → k ≡ is_known (registry cells h) c → k ≡ (is_known (registry cells h) c || (false && accepts h))
+  rests k e = e ∙ sym (or_none (is_known (registry cells h) c))
 
-  -- a call that is not declined
-  unasked : (a : Act) (d : ℕ) (j : Call) (q : Phase) → Calling cells h p a d j → Resting cells h p d j false → IsRegistering a (answer.Access q)
-  unasked a d j q t r =
-      rests a ∙ ap (λ b. is_known (registry cells h) c || (b && accepts h)) (sym (ap (asks_so cells c h) t.tried ∙ none))
+  -- a call that leaves nothing open registers nothing
+  visits : (d : ℕ) (chs : List Change) (v : Visit cells h p d chs) → (visit_registers cells c h d chs && accepts h) ≡ false
+  visits d chs v = subst (λ l. (visit_registers cells c h d l && accepts h) ≡ false) (sym v.does) (by v.finds)
     where
-      none : asks_so cells c h (Some (record { cell = d; want = Calls j })) ≡ false
-      none = ap (λ b. (d == c) && (b && tries_registration (cell_at cells d).kind (phase_at cells d h))) r.unasked ∙ and_none (d == c)
+      tried : Bool
+      tried = asks_so cells c h (Some (record { cell = d; want = Calls v.asked }))
 
-  -- one that is declined
-  declined : (a : Act) (d : ℕ) (j : Call) (q : Phase) → Calling cells h p a d j → Asking cells h p d j false → IsRegistering a (answer.Access q)
-  declined a d j q t r =
-      rests a ∙ ap (λ b. is_known (registry cells h) c || b) (sym (ap (λ o. asks_so cells c h o && accepts h) t.tried ∙ none (asks_so cells c h (Some (record { cell = d; want = Calls j }))) refl))
-    where
-      none : (b : Bool) → asks_so cells c h (Some (record { cell = d; want = Calls j })) ≡ b → (b && accepts h) ≡ false
-      none false e = refl
-      none true e = declined-closed (cell_at cells d) (accepts h) (phase_at cells d h) (second _ _ (second _ _ e)) r.generates
+      by : Asking cells h p d v.asked false ⊎ Resting cells h p d v.asked false → (tried && accepts h) ≡ false
+      by (inl q) = none tried refl
+        where
+          none : (b : Bool) → tried ≡ b → (b && accepts h) ≡ false
+          none false e = refl
+          none true e = declined-closed (cell_at cells d) (accepts h) (phase_at cells d h) (second _ _ (second _ _ e)) q.generates
+      by (inr r) =
+          ap (λ b. ((d == c) && (b && tries_registration (cell_at cells d).kind (phase_at cells d h))) && accepts h) r.unasked ∙ ap (λ b. b && accepts h) (and_none (d == c))
 
   -- a call that begins a run
-  pub run_registers : (a : Act) (d : ℕ) (j : Call) → Calling cells h p a d j → Asking cells h p d j true → IsRegistering a answer.Running
-  run_registers a d j t q =
-      ap (λ b. is_known (registry_run cells h b (registry cells h)) c) t.does
-      ∙ by (tries_registration (cell_at cells d).kind (phase_at cells d h)) (d == c) (registry cells h).is_open refl refl refl
-      ∙ ap (λ b. is_known (registry cells h) c || (b && accepts h)) (sym (ap (asks_so cells c h) t.tried ∙ ap (λ b. (d == c) && (b && tries_registration (cell_at cells d).kind (phase_at cells d h))) q.asked))
+  run_registers : (d : ℕ) (j : Call) (taken : Bool) → Asking cells h p d j true → IsRegistering (Opens d (Calls j) taken)
+  run_registers d j taken q =
+      by (tries_registration (cell_at cells d).kind (phase_at cells d h)) (d == c) (registry cells h).is_open refl refl refl
+      ∙ ap (λ b. is_known (registry cells h) c || (((d == c) && (b && tries_registration (cell_at cells d).kind (phase_at cells d h))) && accepts h)) (sym q.asked)
     where
       -- what is known of the cell where this is so
       known_by : (b o : Bool) → tries_registration (cell_at cells d).kind (phase_at cells d h) ≡ b → (registry cells h).is_open ≡ o
@@ -128,37 +120,15 @@ module _ (cells : List CellPlan) (c : ℕ) (h : List Event) (p : ℕ) (legal : I
           ≡ (is_known (registry cells h) c || (((d == c) && (true && tries_registration (cell_at cells d).kind (phase_at cells d h))) && accepts h))
       by b same o e f g = known_by b o e g ∙ meet b same o e f ∙ ap (λ x. is_known (registry cells h) c || x) (said_by b same o e f g)
 
-  -- each legal step
-  registering : Cases cells h p IsRegistering
-  registering = record {
-    cyclic = λ a d j t. rests a;
-    waiting = λ a d w way t. rests a;
-    phased = λ a d t. rests a;
-    reading = λ a d t q. rests a;
-    writing = λ a d t q. rests a;
-    running = run_registers;
-    declined = λ a d j t q. declined a d j (phase_of 36) t q;
-    denied = λ a d j t q. unasked a d j (phase_of (phase_at cells d h)) t q;
-    skipped = λ a d t q. rests a;
-    finalizing = λ a d t q u. rests a;
-    round = λ d ds e n. sym (or_none (is_known (registry cells h) c));
-    closed = λ e n. sym (or_none (is_known (registry cells h) c));
-    made_read = λ v t f d. rests (act.Made v);
-    made_write = λ v t f d. rests (act.Made v);
-    failed = λ t f d. rests act.MadeFailed;
-    finished = λ t f d. rests act.Finished;
-    finish_failed = λ t f d. rests act.FinishFailed;
-    looked = λ g v x f. rests (act.Look g);
-    set = λ g v x f w. rests (act.Set g v);
-    released = λ g x f. rests (act.Release g);
-    downgraded = λ g x f w. rests (act.Downgrade g);
-    borrowed = λ g x f w. rests (act.Clone g);
-    cloned = λ g x f w. rests (act.Clone g);
-  }
+  pub registering : (d : Deed) → Finds cells h p d → IsRegistering d
+  registering (Opens d (Calls j) taken) f = run_registers d j taken f
+  registering (Opens d Turns taken) f = rests (is_known (registry_taken taken (registry cells h)) c) (known_taken taken (registry cells h) c)
+  registering (Skips d taken) f = rests (is_known (registry_taken taken (registry cells h)) c) (known_taken taken (registry cells h) c)
+  registering (Visits d chs) f = sym (or_none (is_known (registry cells h) c)) ∙ ap (λ b. is_known (registry cells h) c || b) (sym (visits d chs f))
+  registering _ f = sym (or_none (is_known (registry cells h) c))
 
 -- the registry knows a cell after a step where it did before, or where the step tries to register it and cells may be
 -- registered
 pub known-by-trying : (cells : List CellPlan) (h : List Event) (e : Event) (c : ℕ) → IsLegal cells (e ∷ h)
     → is_known (registry cells (e ∷ h)) c ≡ (is_known (registry cells h) c || (shows_registration cells c h e.step e.line.answer && accepts h))
-known-by-trying cells h e c k =
-    of_legal cells h e.step e.line k.0 (IsRegistering cells c h e.step.party k.2) (λ a r. sym (or_none (is_known (registry cells h) c))) (registering cells c h e.step.party k.2)
+known-by-trying cells h e c k = registering cells c h e.step.party k.2 (deed_of h e.step e.line.answer) (finds cells h e.step e.line k.0)

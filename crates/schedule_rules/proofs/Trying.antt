@@ -1,12 +1,15 @@
 -- Which lines show that their step tried to register a cell.
 use Rattle.std.specs.Prelude.{ℕ, Bool, false, List, [], ◌∷◌, ◌+◌, if◌then◌else◌}
 use Rattle.std.specs.declared.option.Option.{Option}
+use Rattle.std.specs.declared.option.Option.TheVariants.{Some}
 use Rattle.schedule_rules.specs.declared.plan.CellPlan.{CellPlan}
 use Rattle.schedule_rules.specs.declared.step.Step.{Step}
 use Rattle.schedule_rules.specs.declared.line.Answer.{Answer}
-use Rattle.schedule_rules.specs.declared.line.Answer.TheVariants as answer
-use Rattle.schedule_rules.specs.History.{Event}
-use Rattle.schedule_rules.specs.Waits.{Attempt, attempt}
+use Rattle.schedule_rules.specs.declared.step.Want.TheVariants.{Calls}
+use Rattle.schedule_rules.specs.Changes.{Change, Asked}
+use Rattle.schedule_rules.specs.Deeds.{Deed, Opens, Visits}
+use Rattle.schedule_rules.specs.History.{Event, deed_of}
+use Rattle.schedule_rules.specs.Waits.{Attempt}
 use Rattle.schedule_rules.specs.Causes.{is_attempted}
 use Rattle.schedule_rules.specs.Laws.{asks_registration}
 
@@ -15,11 +18,20 @@ module _ (cells : List CellPlan) where
   abbrev pub asks_so : ℕ → List Event → Option Attempt → Bool
   asks_so c h o = is_attempted (asks_registration cells c h) o
 
-  -- the step asks so, and by its answer it begins the run, or its call is declined
+  -- what happens in a section at once tries to register the cell: its call asks so
+  abbrev pub visit_registers : ℕ → List Event → ℕ → List Change → Bool
+  visit_registers c h d (Asked o k ∷ chs) = asks_so c h (Some (record { cell = d; want = Calls k }))
+  visit_registers c h d _ = false
+
+  -- the deed does: it begins such a run, or its call is declined
+  abbrev pub deed_registers : ℕ → List Event → Deed → Bool
+  deed_registers c h (Opens d (Calls k) taken) = asks_so c h (Some (record { cell = d; want = Calls k }))
+  deed_registers c h (Visits d chs) = visit_registers c h d chs
+  deed_registers c h _ = false
+
+  -- the step with this answer does
   abbrev pub shows_registration : ℕ → List Event → Step → Answer → Bool
-  shows_registration c h s answer.Running = asks_so c h (attempt cells h s)
-  shows_registration c h s (answer.Access p) = asks_so c h (attempt cells h s)
-  shows_registration c h s _ = false
+  shows_registration c h s r = deed_registers c h (deed_of h s r)
 
   -- how many lines show it
   abbrev pub registrations_shown : ℕ → List Event → ℕ

@@ -3,29 +3,28 @@ use Rattle.std.proofs.Common.{◌≡◌, ◌<◌, ◌+◌, ◌++◌, ℕ, List, 
 use Rattle.std.specs.Prelude.{◌==◌, if◌then◌else◌, slice_set, slice_index_or, nat_lt}
 use Rattle.std.specs.declared.option.Option.{Option}
 use Rattle.std.proofs.lemmas.List.{get_or-set_same, get_or-set_other, get_or_past}
-use Rattle.exit_registry.specs.Registry.{Registry, is_known, first_of, rest_of, occurs, due, looked, registered, after_register}
+use Rattle.exit_registry.specs.Registry.{is_known, first_of, rest_of, occurs, due, registered, after_register}
 use Rattle.exit_registry.specs.Exits.{cells_of_turns}
-use Rattle.exit_registry.specs.declared.turns.Turn.{Turn}
 use Rattle.exit_registry.specs.declared.turns.Turn.TheVariants as turn
-use Rattle.exit_registry.specs.declared.turns.Turned.{Turned}
 use Rattle.phase_bits.specs.Number.{phase_of}
 use Rattle.phase_seq.specs.Phases.{flags_refused}
-use Rattle.schedule_rules.specs.declared.plan.Call.TheVariants as call
 use Rattle.phase_locker.specs.declared.ways.Given.{Given}
 use Rattle.schedule_rules.specs.declared.plan.Call.{Call}
+use Rattle.schedule_rules.specs.declared.plan.Call.TheVariants as call
 use Rattle.schedule_rules.specs.declared.plan.CellPlan.{CellPlan}
 use Rattle.schedule_rules.specs.declared.step.Act.{Act}
 use Rattle.schedule_rules.specs.declared.step.Act.TheVariants as act
 use Rattle.schedule_rules.specs.declared.step.Want.{Want}
 use Rattle.schedule_rules.specs.declared.step.Want.TheVariants.{Calls, Turns}
 use Rattle.schedule_rules.specs.declared.line.Answer.{Answer}
-use Rattle.schedule_rules.specs.declared.line.Answer.TheVariants as answer
 use Rattle.schedule_rules.specs.declared.line.Refusal.{Refusal}
+use Rattle.schedule_rules.specs.declared.line.Answer.TheVariants as answer
 use Rattle.schedule_rules.specs.Kinds.{cell_at, is_finalizable, no_cell}
-use Rattle.schedule_rules.specs.Phases.{tries_registration, phase_finalized}
-use Rattle.schedule_rules.specs.History.{Event, accepts, count}
-use Rattle.schedule_rules.specs.Sections.{Section, innermost, without_innermost, is_turn, with_run, sections}
-use Rattle.schedule_rules.specs.Exits.{registry_taken, registry_run, registry_of_run, registry, turn_of_section, turns_finished, ended_turns}
+use Rattle.schedule_rules.specs.Phases.{tries_registration}
+use Rattle.schedule_rules.specs.Deeds.{Makes, Finishes, Deed, Opens, Ends, EndsToRead, EndsToWrite, Skips, Takes, Looks, deed_waiting, deed_by}
+use Rattle.schedule_rules.specs.History.{Event, accepts, is_exit, deed_of, count}
+use Rattle.schedule_rules.specs.Sections.{Section, innermost, without_innermost, is_turn, sections_by, sections}
+use Rattle.schedule_rules.specs.Exits.{registry_taken, registry_by, registry, turn_of, turn_of_section, turns_by, ended_turns}
 use Rattle.schedule_rules.specs.Waits.{Attempt, Wait, wait_of, without_wait, with_wait, attempt_of_wait, attempt_of_turn, attempt_with, waits_given_with, waits}
 use Rattle.schedule_rules.specs.Replay.{phase_at}
 use Rattle.schedule_rules.specs.Refusals.{refusal, refusal_waiting}
@@ -33,9 +32,10 @@ use Rattle.schedule_rules.specs.Legal.{IsLegal}
 use Rattle.schedule_rules.specs.Laws.{waits_to_turn, finalizes_in, turns_of}
 use Rattle.schedule_rules.proofs.Alone.{alone}
 use Rattle.schedule_rules.proofs.Opened.{count_ended}
-use Rattle.schedule_rules.proofs.Cases.{no_end, calling-tries, turning-tries, step, IsCalling, IsTurning, Calling, Turning, Tries, Asking, Cases}
+use Rattle.schedule_rules.proofs.Cases.{step, IsCalling, IsTurning, Calling, Turning, Tries, Asking, Cases}
 use Rattle.schedule_rules.proofs.Attempts.{rests}
 use Rattle.schedule_rules.proofs.Steps.{of_free}
+use Rattle.schedule_rules.proofs.Finds.{Inside, Finds, finds}
 use Rattle.schedule_rules.proofs.Accepts.{known-length}
 use Rattle.schedule_rules.proofs.Registered.{none_known, known_taken, fresh-unknown}
 use Rattle.schedule_rules.proofs.Counts.{one_if, occurs_joined, occurs_ended, count_given, without_none, count_without, one-wait}
@@ -54,17 +54,6 @@ finalizable-inside cells c e = by (nat_lt c (length cells)) refl
     by : (b : Bool) → nat_lt c (length cells) ≡ b → c < length cells
     by true f = grind arith
     by false f = absurd (none (get_or_past cells c no_cell (grind arith)))
-
--- an act that calls takes no cell of the registry
-untaken : (a : Act) (m : Registry) → IsCalling a → registry_taken a m ≡ m
-untaken (act.Call c k) m t = refl
-untaken act.Again m t = refl
-untaken _ m t = absurd t
-
-no_finish : (h : List Event) (p : ℕ) (a : Act) (ts : List Turned) → IsCalling a → turns_finished h p a ts ≡ ts
-no_finish h p (act.Call c k) ts t = refl
-no_finish h p act.Again ts t = refl
-no_finish h p _ ts t = absurd t
 
 -- what has a first begins with it
 pub begins : (cs : List ℕ) (d : ℕ) → first_of cs ≡ Some d → cs ≡ d ∷ rest_of cs
@@ -95,7 +84,9 @@ module _ (cells : List CellPlan) (c : ℕ) where
   abbrev HasTurn : List Event → Type 0
   HasTurn h = turns_of cells c h ≡ (if is_known (registry cells h) c then 1 else 0)
 
-  module _ (h : List Event) (p : ℕ) (i : Given) (legal : IsLegal cells h) (k : HasTurn h) where
+  -- ---- which turns wait after a step
+
+  module _ (h : List Event) (p : ℕ) (i : Given) where
     -- the event of the party
     abbrev event : Act → Answer → Event
     event a r = record { step = record { party = p; act = a }; line = record { answer = r; given = i } }
@@ -103,6 +94,22 @@ module _ (cells : List CellPlan) (c : ℕ) where
     -- the act is not refused
     abbrev IsAllowed : Act → Type 0
     IsAllowed a = refusal cells h (step cells h p a) ≡ None
+
+    -- the turns of the cell that wait
+    abbrev waiting : ℕ
+    waiting = count (waits_to_turn c) (waits cells h)
+
+    -- a turn that is taken is the first left, and else it waited
+    abbrev Took : ℕ → Bool → ℕ → Type 0
+    Took d true n = (first_of (registry cells h).left ≡ Some d) × (n ≡ waiting)
+    Took d false n = n + one_if (d == c) ≡ waiting
+
+    -- so many wait after the deed
+    abbrev WaitsSo : Deed → ℕ → Type 0
+    WaitsSo (Opens d Turns taken) n = Took d taken n
+    WaitsSo (Skips d taken) n = Took d taken n
+    WaitsSo Takes n = (d : ℕ) × (first_of (registry cells h).left ≡ Some d) × (n ≡ waiting + one_if (d == c))
+    WaitsSo _ n = n ≡ waiting
 
     -- the waits of others, after what the step gives
     abbrev others : Act → List Wait
@@ -134,245 +141,228 @@ module _ (cells : List CellPlan) (c : ℕ) where
         by act.Again t e f = goes_on (waits_so (wait_of p (waits cells h)) d (Calls j) e)
         by _ t e f = absurd t
 
-    -- an act that takes a turn takes it from those to come, or from those that wait
-    taken_count : (a : Act) (d : ℕ) → Turning cells h p a d → IsAllowed a
-        → occurs c (due (registry_taken a (registry cells h))) + count (waits_to_turn c) (others a) + cond (d == c) 1 0 ≡ occurs c (due (registry cells h)) + count (waits_to_turn c) (waits cells h)
-    taken_count a d t f = by a t.acts t.tried f
-      where
-        from_left : (registry cells h).left ≡ d ∷ rest_of (registry cells h).left → wait_of p (waits cells h) ≡ None
-            → occurs c (due (registry_taken act.Exit (registry cells h))) + count (waits_to_turn c) (others act.Exit) + cond (d == c) 1 0 ≡ occurs c (due (registry cells h)) + count (waits_to_turn c) (waits cells h)
-        from_left e none =
-            let whole : occurs c (due (registry cells h)) ≡ cond (d == c) 1 0 + occurs c (rest_of (registry cells h).left) + occurs c (registry cells h).pending =
-            occurs_joined c (registry cells h).left (registry cells h).pending ∙ ap (λ cs. occurs c cs + occurs c (registry cells h).pending) e in
-            let rest : _ = occurs_joined c (rest_of (registry cells h).left) (registry cells h).pending in
-            let wait : _ = rests_count act.Exit none in
-            omega (arith, whole, rest, wait)
+    one_or_none : (b : Bool) (n : ℕ) → cond b (n + 1) n ≡ n + one_if b
+    one_or_none true n = refl
+    one_or_none false n = omega arith
 
-        from_wait : (w : Wait) × (wait_of p (waits cells h) ≡ Some w) × (w.cell ≡ d) × (w.want ≡ Turns)
-            → occurs c (due (registry cells h)) + count (waits_to_turn c) (others act.Again) + cond (d == c) 1 0 ≡ occurs c (due (registry cells h)) + count (waits_to_turn c) (waits cells h)
+    -- a call, by what it does
+    called : (a : Act) (d : ℕ) (j : Call) (r : Answer) → Calling cells h p a d j → count (waits_to_turn c) (waits cells (event a r ∷ h)) ≡ waiting
+        → (WaitsSo (deed_by (accepts h) (is_exit a) (act.Call d j) r) (count (waits_to_turn c) (waits cells (event a r ∷ h))))
+        → WaitsSo (deed_of h (step cells h p a) r) (count (waits_to_turn c) (waits cells (event a r ∷ h)))
+    called a d j r t same w = subst (λ b. WaitsSo (deed_by (accepts h) (is_exit a) b r) (count (waits_to_turn c) (waits cells (event a r ∷ h)))) (sym t.does) w
+
+    -- one that waits
+    call_waits : (a : Act) (d : ℕ) (j : Call) (way : _) → Calling cells h p a d j → IsAllowed a → WaitsSo (deed_waiting (is_exit a)) (count (waits_to_turn c) (waits cells (event a (answer.Waiting way) ∷ h)))
+    call_waits a d j way t f =
+        by a t.acts (count (waits_to_turn c) (waits cells (event a (answer.Waiting way) ∷ h))) (ap (λ o. count (waits_to_turn c) (with_wait p way o (others a))) t.tried ∙ called_count a d j t f)
+      where
+        by : (a : Act) → IsCalling a → (n : ℕ) → n ≡ waiting → WaitsSo (deed_waiting (is_exit a)) n
+        by (act.Call b m) t n e = e
+        by act.Again t n e = e
+        by _ t n e = absurd t
+
+    -- an act that takes a turn, where it goes on or ends
+    took : (a : Act) (d : ℕ) → Turning cells h p a d → IsAllowed a → Took d (is_exit a) (count (waits_to_turn c) (others a))
+    took a d t f = by a t.acts t.tried f
+      where
+        from_wait : (w : Wait) × (wait_of p (waits cells h) ≡ Some w) × (w.cell ≡ d) × (w.want ≡ Turns) → count (waits_to_turn c) (others act.Again) + one_if (d == c) ≡ waiting
         from_wait w =
             let a_turn : waits_to_turn c w.0 ≡ (d == c) = ap (λ u. is_turn u && (w.0.cell == c)) w.3 ∙ ap (λ z. z == c) w.2 in
             let less : _ = own_count w.0 w.1 ∙ ap (λ b. count (waits_to_turn c) (without_wait p (waits cells h)) + cond b 1 0) a_turn in
             let same : _ = others_count act.Again in
             omega (arith, same, less)
 
-        by : (a : Act) → IsTurning a → attempt_with cells (waits cells h) h p a ≡ Some (record { cell = d; want = Turns }) → IsAllowed a
-            → occurs c (due (registry_taken a (registry cells h))) + count (waits_to_turn c) (others a) + cond (d == c) 1 0 ≡ occurs c (due (registry cells h)) + count (waits_to_turn c) (waits cells h)
-        by act.Exit t e f = from_left (begins (registry cells h).left d (first_so (first_of (registry cells h).left) d e)) (rests cells h p act.Exit (λ x. cc) f).0
+        by : (a : Act) → IsTurning a → attempt_with cells (waits cells h) h p a ≡ Some (record { cell = d; want = Turns }) → IsAllowed a → Took d (is_exit a) (count (waits_to_turn c) (others a))
+        by act.Exit t e f = (first_so (first_of (registry cells h).left) d e, rests_count act.Exit (rests cells h p act.Exit (λ x. cc) f).0)
         by act.Again t e f = from_wait (waits_so (wait_of p (waits cells h)) d Turns e)
         by _ t e f = absurd t
 
-    -- an event that leaves what the registry knows, and all turns as many as they were
-    keeps : (e : Event) → is_known (registry cells (e ∷ h)) c ≡ is_known (registry cells h) c → turns_of cells c (e ∷ h) ≡ turns_of cells c h → HasTurn (e ∷ h)
-    keeps e known same = same ∙ k ∙ sym (ap (λ (b : Bool). if b then 1 else 0) known)
-
-    -- one that leaves the registry, and the turns that wait, go on and ended
-    steady : (e : Event) → registry cells (e ∷ h) ≡ registry cells h → count (waits_to_turn c) (waits cells (e ∷ h)) ≡ count (waits_to_turn c) (waits cells h)
-        → count (finalizes_in c) (sections (e ∷ h)) ≡ count (finalizes_in c) (sections h) → ended_turns (e ∷ h) ≡ ended_turns h → HasTurn (e ∷ h)
-    steady e r w s t =
-        let d : occurs c (due (registry cells (e ∷ h))) ≡ occurs c (due (registry cells h)) = ap (λ m. occurs c (due m)) r in
-        let n : occurs c (cells_of_turns (ended_turns (e ∷ h))) ≡ occurs c (cells_of_turns (ended_turns h)) = ap (λ ts. occurs c (cells_of_turns ts)) t in
-        keeps e (ap (λ m. is_known m c) r) (omega (arith, d, w, s, n))
-
-    -- one of a party that attempts nothing and goes on with nothing
-    resting : (a : Act) (r : Answer) → IsAllowed a → (refusal_waiting a ≡ None → ⊥) → registry cells (event a r ∷ h) ≡ registry cells h → waits cells (event a r ∷ h) ≡ others a
-        → count (finalizes_in c) (sections (event a r ∷ h)) ≡ count (finalizes_in c) (sections h) → ended_turns (event a r ∷ h) ≡ ended_turns h → HasTurn (event a r ∷ h)
-    resting a r f rests_if m w s t = steady (event a r) m (ap (count (waits_to_turn c)) w ∙ rests_count a (rests cells h p a rests_if f).0) s t
-
-    -- one by which a call is answered
-    answered : (a : Act) (d : ℕ) (j : Call) → Calling cells h p a d j → IsAllowed a → (r : Answer) → registry cells (event a r ∷ h) ≡ registry_taken a (registry cells h)
-        → waits cells (event a r ∷ h) ≡ others a → sections (event a r ∷ h) ≡ sections h → ended_turns (event a r ∷ h) ≡ ended_turns h → HasTurn (event a r ∷ h)
-    answered a d j t f r m w s e =
-        steady (event a r) (m ∙ untaken a (registry cells h) t.acts) (ap (count (waits_to_turn c)) w ∙ called_count a d j t f) (ap (count (finalizes_in c)) s) e
-
-    -- one that takes a turn on: it waits, goes on or ended
-    turned : (a : Act) (d : ℕ) → Turning cells h p a d → IsAllowed a → (r : Answer) → registry cells (event a r ∷ h) ≡ registry_taken a (registry cells h)
-        → count (waits_to_turn c) (waits cells (event a r ∷ h)) + count (finalizes_in c) (sections (event a r ∷ h)) + occurs c (cells_of_turns (ended_turns (event a r ∷ h)))
-        ≡ count (waits_to_turn c) (others a) + count (finalizes_in c) (sections h) + occurs c (cells_of_turns (ended_turns h)) + cond (d == c) 1 0
-        → HasTurn (event a r ∷ h)
-    turned a d t f r m moved =
-        let taken : _ = taken_count a d t f in
-        let to_come : occurs c (due (registry cells (event a r ∷ h))) ≡ occurs c (due (registry_taken a (registry cells h))) = ap (λ n. occurs c (due n)) m in
-        keeps (event a r) (ap (λ n. is_known n c) m ∙ known_taken a (registry cells h) c) (omega (arith, taken, to_come, moved))
-
-    one_or_none : (b : Bool) (n : ℕ) → cond b (n + 1) n ≡ n + cond b 1 0
-    one_or_none true n = refl
-    one_or_none false n = omega arith
-
-    -- a call that waits
-    call_waits : (a : Act) (d : ℕ) (j : Call) (way : _) → Calling cells h p a d j → IsAllowed a → HasTurn (event a (answer.Waiting way) ∷ h)
-    call_waits a d j way t f =
-        steady (event a (answer.Waiting way)) (untaken a (registry cells h) t.acts)
-        (ap (λ o. count (waits_to_turn c) (with_wait p way o (others a))) t.tried ∙ called_count a d j t f) (ap (count (finalizes_in c)) (no_end a p (sections h) (calling-tries a t.acts))) refl
-
-    -- a turn that waits
-    turn_waits : (a : Act) (d : ℕ) (way : _) → Turning cells h p a d → IsAllowed a → HasTurn (event a (answer.Waiting way) ∷ h)
+    -- and where it waits
+    turn_waits : (a : Act) (d : ℕ) (way : _) → Turning cells h p a d → IsAllowed a → WaitsSo (deed_waiting (is_exit a)) (count (waits_to_turn c) (waits cells (event a (answer.Waiting way) ∷ h)))
     turn_waits a d way t f =
-        turned a d t f (answer.Waiting way) refl
-        (let w : count (waits_to_turn c) (with_wait p way (attempt_with cells (waits cells h) h p a) (others a)) ≡ cond (d == c) (count (waits_to_turn c) (others a) + 1) (count (waits_to_turn c) (others a)) =
-        ap (λ o. count (waits_to_turn c) (with_wait p way o (others a))) t.tried in
-        let one : _ = one_or_none (d == c) (count (waits_to_turn c) (others a)) in
-        let s : count (finalizes_in c) (sections (event a (answer.Waiting way) ∷ h)) ≡ count (finalizes_in c) (sections h) = ap (count (finalizes_in c)) (no_end a p (sections h) (turning-tries a t.acts)) in
-        omega (arith, w, one, s))
-
-    -- a turn that is skipped
-    skipped : (a : Act) (d : ℕ) → Turning cells h p a d → IsAllowed a → HasTurn (event a (answer.Skipped d) ∷ h)
-    skipped a d t f = turned a d t f (answer.Skipped d) refl (let e : _ = occurs_ended c d turn.Skipped (ended_turns h) in omega (arith, e))
-
-    -- a turn whose finalizer runs
-    finalizing : (a : Act) (d : ℕ) → Turning cells h p a d → IsAllowed a → HasTurn (event a (answer.Finalizing d) ∷ h)
-    finalizing a d t f = turned a d t f (answer.Finalizing d) refl (let one : _ = one_or_none (d == c) (count (finalizes_in c) (sections h)) in omega (arith, one))
-
-    -- a look takes the cells to come
-    looks : (r : Answer) → registry cells (event act.Exit r ∷ h) ≡ looked (registry cells h) → waits cells (event act.Exit r ∷ h) ≡ others act.Exit → sections (event act.Exit r ∷ h) ≡ sections h
-        → ended_turns (event act.Exit r ∷ h) ≡ ended_turns h → (registry cells h).left ≡ [] → IsAllowed act.Exit → HasTurn (event act.Exit r ∷ h)
-    looks r m w s e none f =
-        let to_come : occurs c (due (registry cells (event act.Exit r ∷ h))) ≡ occurs c ((registry cells h).pending ++ []) = ap (λ n. occurs c (due n)) m in
-        let all : _ = occurs_joined c (registry cells h).pending [] in
-        let before : occurs c (due (registry cells h)) ≡ occurs c (registry cells h).pending = ap (λ cs. occurs c (cs ++ (registry cells h).pending)) none in
-        let wait : count (waits_to_turn c) (waits cells (event act.Exit r ∷ h)) ≡ count (waits_to_turn c) (waits cells h) = ap (count (waits_to_turn c)) w ∙ rests_count act.Exit (rests cells h p act.Exit (λ x. cc) f).0 in
-        let on : count (finalizes_in c) (sections (event act.Exit r ∷ h)) ≡ count (finalizes_in c) (sections h) = ap (count (finalizes_in c)) s in
-        let ended : occurs c (cells_of_turns (ended_turns (event act.Exit r ∷ h))) ≡ occurs c (cells_of_turns (ended_turns h)) = ap (λ ts. occurs c (cells_of_turns ts)) e in
-        keeps (event act.Exit r) (ap (λ n. is_known n c) m) (omega (arith, to_come, all, before, wait, on, ended))
-
-    -- a generator's section that ends
-    run_ends : (a : Act) (r : Answer) (t : Section) → innermost p (sections h) ≡ Some t → is_turn t.want ≡ false → IsAllowed a → (refusal_waiting a ≡ None → ⊥)
-        → registry cells (event a r ∷ h) ≡ registry cells h → waits cells (event a r ∷ h) ≡ others a → sections (event a r ∷ h) ≡ without_innermost p (sections h)
-        → ended_turns (event a r ∷ h) ≡ ended_turns h → HasTurn (event a r ∷ h)
-    run_ends a r t found d f rests_if m w s e =
-        resting a r f rests_if m w
-        (let one : count (finalizes_in c) (sections h) ≡ count (finalizes_in c) (without_innermost p (sections h)) + 0 =
-        count_ended (finalizes_in c) p (sections h) t found ∙ ap (λ b. count (finalizes_in c) (without_innermost p (sections h)) + cond (b && (t.cell == c)) 1 0) d in
-        let same : count (finalizes_in c) (sections (event a r ∷ h)) ≡ count (finalizes_in c) (without_innermost p (sections h)) = ap (count (finalizes_in c)) s in
-        omega (arith, one, same)) e
-
-    -- a finalizer's
-    turn_ends : (a : Act) (r : Answer) (t : Section) (how : Turn) → innermost p (sections h) ≡ Some t → is_turn t.want ≡ true → IsAllowed a → (refusal_waiting a ≡ None → ⊥)
-        → registry cells (event a r ∷ h) ≡ registry cells h → waits cells (event a r ∷ h) ≡ others a → sections (event a r ∷ h) ≡ without_innermost p (sections h)
-        → ended_turns (event a r ∷ h) ≡ turn_of_section how (innermost p (sections h)) (ended_turns h) → HasTurn (event a r ∷ h)
-    turn_ends a r t how found d f rests_if m w s e =
-        let one : count (finalizes_in c) (sections h) ≡ count (finalizes_in c) (without_innermost p (sections h)) + cond (t.cell == c) 1 0 =
-        count_ended (finalizes_in c) p (sections h) t found ∙ ap (λ b. count (finalizes_in c) (without_innermost p (sections h)) + cond (b && (t.cell == c)) 1 0) d in
-        let left : count (finalizes_in c) (sections (event a r ∷ h)) ≡ count (finalizes_in c) (without_innermost p (sections h)) = ap (count (finalizes_in c)) s in
-        let more : occurs c (cells_of_turns (ended_turns (event a r ∷ h))) ≡ occurs c (cells_of_turns (ended_turns h)) + cond (t.cell == c) 1 0 =
-        ap (λ ts. occurs c (cells_of_turns ts)) (e ∙ ap (λ o. turn_of_section how o (ended_turns h)) found) ∙ occurs_ended c t.cell how (ended_turns h) in
-        let wait : count (waits_to_turn c) (waits cells (event a r ∷ h)) ≡ count (waits_to_turn c) (waits cells h) = ap (count (waits_to_turn c)) w ∙ rests_count a (rests cells h p a rests_if f).0 in
-        let to_come : occurs c (due (registry cells (event a r ∷ h))) ≡ occurs c (due (registry cells h)) = ap (λ n. occurs c (due n)) m in
-        keeps (event a r) (ap (λ n. is_known n c) m) (omega (arith, one, left, more, wait, to_come))
-
-    -- ---- a run
-
-    -- a registration adds a turn to come, of a cell that had none
-    module _ (d : ℕ) (fresh : is_known (registry cells h) d ≡ false) (inside : d < length (registry cells h).known) where
-      registers : (e : Event) → registry cells (e ∷ h) ≡ after_register d (registry cells h) → count (waits_to_turn c) (waits cells (e ∷ h)) ≡ count (waits_to_turn c) (waits cells h)
-          → count (finalizes_in c) (sections (e ∷ h)) ≡ count (finalizes_in c) (sections h) → ended_turns (e ∷ h) ≡ ended_turns h → HasTurn (e ∷ h)
-      registers e r w s t = by (registry cells h).is_open refl
-        where
-          ended : occurs c (cells_of_turns (ended_turns (e ∷ h))) ≡ occurs c (cells_of_turns (ended_turns h))
-          ended = ap (λ ts. occurs c (cells_of_turns ts)) t
-
-          -- where the registry is open
-          now : (registry cells h).is_open ≡ true → registry cells (e ∷ h) ≡ registered d (registry cells h)
-          now o = r ∙ ap (λ (b : Bool). if b then registered d (registry cells h) else registry cells h) o
-
-          to_come : registry cells (e ∷ h) ≡ registered d (registry cells h) → occurs c (due (registry cells (e ∷ h))) ≡ occurs c (due (registry cells h)) + cond (d == c) 1 0
-          to_come n =
-              let more : occurs c (due (registry cells (e ∷ h))) ≡ occurs c ((registry cells h).left ++ d ∷ (registry cells h).pending) = ap (λ m. occurs c (due m)) n in
-              let new : _ = occurs_joined c (registry cells h).left (d ∷ (registry cells h).pending) in
-              let old : _ = occurs_joined c (registry cells h).left (registry cells h).pending in
-              omega (arith, more, new, old)
-
-          here : (d == c) ≡ true → registry cells (e ∷ h) ≡ registered d (registry cells h) → HasTurn (e ∷ h)
-          here same n =
-              let at : d ≡ c = grind arith in
-              let unknown : turns_of cells c h ≡ 0 = k ∙ ap (λ (b : Bool). if b then 1 else 0) (subst (λ z. is_known (registry cells h) z ≡ false) at fresh) in
-              let known : is_known (registry cells (e ∷ h)) c ≡ true =
-              ap (λ m. is_known m c) n ∙ subst (λ z. slice_index_or (slice_set (registry cells h).known d true) z false ≡ true) at (get_or-set_same (registry cells h).known d true false inside) in
-              let more : _ = to_come n in
-              let one : one_if (d == c) ≡ 1 = ap one_if same in
-              let goal : turns_of cells c (e ∷ h) ≡ 1 = omega (arith, unknown, more, one, w, s, ended) in
-              goal ∙ sym (ap (λ (b : Bool). if b then 1 else 0) known)
-
-          elsewhere : (d == c) ≡ false → registry cells (e ∷ h) ≡ registered d (registry cells h) → HasTurn (e ∷ h)
-          elsewhere other n =
-              let more : _ = to_come n in
-              let none : one_if (d == c) ≡ 0 = ap one_if other in
-              keeps e (ap (λ m. is_known m c) n ∙ get_or-set_other (registry cells h).known d c true false (grind arith)) (omega (arith, more, none, w, s, ended))
-
-          by : (b : Bool) → (registry cells h).is_open ≡ b → HasTurn (e ∷ h)
-          by false o = steady e (r ∙ ap (λ (b : Bool). if b then registered d (registry cells h) else registry cells h) o) w s t
-          by true o = at (d == c) refl
-            where
-              at : (b : Bool) → (d == c) ≡ b → HasTurn (e ∷ h)
-              at true same = here same (now o)
-              at false other = elsewhere other (now o)
-
-    -- a call that begins a run
-    running : (a : Act) (d : ℕ) (j : Call) → Calling cells h p a d j → Asking cells h p d j true → IsAllowed a → HasTurn (event a answer.Running ∷ h)
-    running a d j t q f = by (tries_registration (cell_at cells d).kind (phase_at cells d h)) refl
+        by (is_exit a) (count (waits_to_turn c) (waits cells (event a (answer.Waiting way) ∷ h))) (count (waits_to_turn c) (others a)) (took a d t f)
+        (ap (λ o. count (waits_to_turn c) (with_wait p way o (others a))) t.tried ∙ one_or_none (d == c) (count (waits_to_turn c) (others a)))
       where
-        is : registry cells (event a answer.Running ∷ h) ≡ registry_of_run cells d (phase_at cells d h) (registry cells h)
-        is = ap (λ b. registry_run cells h b (registry cells h)) t.does
-
-        waiting : count (waits_to_turn c) (waits cells (event a answer.Running ∷ h)) ≡ count (waits_to_turn c) (waits cells h)
-        waiting = called_count a d j t f
-
-        on : count (finalizes_in c) (sections (event a answer.Running ∷ h)) ≡ count (finalizes_in c) (sections h)
-        on = ap (λ b. count (finalizes_in c) (with_run b p (length h) (accepts h) (sections h))) t.does
-
-        by : (b : Bool) → tries_registration (cell_at cells d).kind (phase_at cells d h) ≡ b → HasTurn (event a answer.Running ∷ h)
-        by false e =
-            steady (event a answer.Running) (is ∙ ap (λ (b : Bool). if b then after_register d (registry cells h) else registry cells h) e) waiting on refl
-        by true e =
-            let empty : (phase_at cells d h == 0) ≡ true = second (is_finalizable (cell_at cells d).kind) _ e in
-            let zero : phase_at cells d h ≡ 0 = grind arith in
-            let inside : d < length cells = finalizable-inside cells d (first _ _ e) in
-            let long : _ = known-length cells h in
-            registers d (fresh-unknown cells h d legal zero (q.unheld (alone cells h legal d))) (omega (arith, inside, long))
-            (event a answer.Running) (is ∙ ap (λ (b : Bool). if b then after_register d (registry cells h) else registry cells h) e) waiting on refl
+        by : (b : Bool) (n m : ℕ) → Took d b m → n ≡ m + one_if (d == c) → WaitsSo (deed_waiting b) n
+        by true n m k e = let w : _ = k.1 in (d, k.0, omega (arith, e, w))
+        by false n m k e = omega (arith, e, k)
 
     waits_for : (r : Refusal) → Some r ≡ None → ⊥
     waits_for r e = cc
 
-    -- what holds after each legal step that is not refused
-    cases : Cases cells h p (λ a r. IsAllowed a → HasTurn (event a r ∷ h))
+    -- one of a party that attempts nothing
+    resting : (a : Act) → (refusal_waiting a ≡ None → ⊥) → IsAllowed a → count (waits_to_turn c) (others a) ≡ waiting
+    resting a n f = rests_count a (rests cells h p a n f).0
+
+    cases : Cases cells h p (λ a r. IsAllowed a → WaitsSo (deed_of h (step cells h p a) r) (count (waits_to_turn c) (waits cells (event a r ∷ h))))
     cases = record {
-      cyclic = λ a d j t f. answered a d j t f answer.Cyclic refl refl (no_end a p (sections h) (calling-tries a t.acts)) refl;
-      waiting = λ a d w way. waits a d w way;
-      phased = λ a d t f. answered a d call.Phase t f (answer.Phase (phase_of (phase_at cells d h))) refl refl (no_end a p (sections h) (calling-tries a t.acts)) (no_finish h p a (ended_turns h) t.acts);
-      reading = λ a d t q f. answered a d call.Read t f answer.ReadGuard refl refl (no_end a p (sections h) (calling-tries a t.acts)) refl;
-      writing = λ a d t q f. answered a d call.Write t f answer.WriteGuard refl refl (no_end a p (sections h) (calling-tries a t.acts)) refl;
-      running = running;
-      declined = λ a d j t q f. answered a d j t f (answer.Access (phase_of flags_refused)) refl refl refl refl;
-      denied = λ a d j t q f. answered a d j t f (answer.Access (phase_of (phase_at cells d h))) refl refl refl refl;
-      skipped = λ a d t q f. skipped a d t f;
-      finalizing = λ a d t q u f. finalizing a d t f;
-      round = λ d ds e n f. looks (answer.Round (length (d ∷ ds))) refl refl refl refl n f;
-      closed = λ e n f. looks answer.Closed refl refl refl refl n f;
-      made_read = λ v t e d f. run_ends (act.Made v) answer.ReadGuard t e (ap is_turn d) f (waits_for _) refl refl refl refl;
-      made_write = λ v t e d f. run_ends (act.Made v) answer.WriteGuard t e d f (waits_for _) refl refl refl refl;
-      failed = λ t e d f. run_ends act.MadeFailed answer.Failed t e d f (waits_for _) refl refl refl refl;
-      finished = λ t e d f. turn_ends act.Finished (answer.Phase (phase_of (phase_finalized (phase_at cells t.cell h) true))) t turn.Done e d f (waits_for _) refl refl refl refl;
-      finish_failed = λ t e d f. turn_ends act.FinishFailed (answer.Phase (phase_of (phase_finalized (phase_at cells t.cell h) false))) t turn.Failed e d f (waits_for _) refl refl refl refl;
-      looked = λ g v x e f. resting (act.Look g) (answer.Value v) f (waits_for _) refl refl refl refl;
-      set = λ g v x e w f. resting (act.Set g v) answer.Done f (waits_for _) refl refl refl refl;
-      released = λ g x e f. resting (act.Release g) answer.Done f (waits_for _) refl refl refl refl;
-      downgraded = λ g x e w f. resting (act.Downgrade g) answer.ReadGuard f (waits_for _) refl refl refl refl;
-      borrowed = λ g x e w f. resting (act.Clone g) answer.Borrowed f (waits_for _) refl refl refl refl;
-      cloned = λ g x e w f. resting (act.Clone g) answer.ReadGuard f (waits_for _) refl refl refl refl;
+      cyclic = λ a d j t f. called_count a d j t f;
+      waiting = λ a d w way. waits_so_far a d w way;
+      phased = λ a d t f. let n : _ = called_count a d call.Phase t f in called a d call.Phase (answer.Phase (phase_of (phase_at cells d h))) t n n;
+      reading = λ a d t q f. let n : _ = called_count a d call.Read t f in called a d call.Read answer.ReadGuard t n n;
+      writing = λ a d t q f. let n : _ = called_count a d call.Write t f in called a d call.Write answer.WriteGuard t n n;
+      running = λ a d j t q f. let n : _ = called_count a d j t f in called a d j answer.Running t n n;
+      declined = λ a d j t q f. let n : _ = called_count a d j t f in called a d j (answer.Access (phase_of flags_refused)) t n n;
+      denied = λ a d j t q f. let n : _ = called_count a d j t f in called a d j (answer.Access (phase_of (phase_at cells d h))) t n n;
+      skipped = λ a d t q f. took a d t f;
+      finalizing = λ a d t q u f. took a d t f;
+      round = λ d ds e n f. resting act.Exit (waits_for _) f;
+      closed = λ e n f. resting act.Exit (waits_for _) f;
+      made_read = λ v t e d f. resting (act.Made v) (waits_for _) f;
+      made_write = λ v t e d f. resting (act.Made v) (waits_for _) f;
+      failed = λ t e d f. resting act.MadeFailed (waits_for _) f;
+      finished = λ t e d f. resting act.Finished (waits_for _) f;
+      finish_failed = λ t e d f. resting act.FinishFailed (waits_for _) f;
+      looked = λ g v x e f. resting (act.Look g) (waits_for _) f;
+      set = λ g v x e w f. resting (act.Set g v) (waits_for _) f;
+      released = λ g x e f. resting (act.Release g) (waits_for _) f;
+      downgraded = λ g x e w f. resting (act.Downgrade g) (waits_for _) f;
+      borrowed = λ g x e w f. resting (act.Clone g) (waits_for _) f;
+      cloned = λ g x e w f. resting (act.Clone g) (waits_for _) f;
     }
       where
-        waits : (a : Act) (d : ℕ) (w : Want) (way : _) → Tries cells h p a d w → IsAllowed a → HasTurn (event a (answer.Waiting way) ∷ h)
-        waits a d (Calls j) way t f = call_waits a d j way t f
-        waits a d Turns way t f = turn_waits a d way t f
+        waits_so_far : (a : Act) (d : ℕ) (w : Want) (way : _) → Tries cells h p a d w → IsAllowed a → WaitsSo (deed_waiting (is_exit a)) (count (waits_to_turn c) (waits cells (event a (answer.Waiting way) ∷ h)))
+        waits_so_far a d (Calls j) way t f = call_waits a d j way t f
+        waits_so_far a d Turns way t f = turn_waits a d way t f
 
-    -- and after a refused one
-    refused : (a : Act) (r : Refusal) → HasTurn (event a (answer.Refused r) ∷ h)
-    refused a r = steady (event a (answer.Refused r)) refl refl refl refl
+  -- ---- each deed
+
+  module _ (h : List Event) (p : ℕ) (i : Given) (legal : IsLegal cells h) (k : HasTurn h) where
+    -- the turns after a deed, where so many wait
+    abbrev turns_left : Deed → ℕ → ℕ
+    turns_left d n =
+        occurs c (due (registry_by cells h d (registry cells h))) + n + count (finalizes_in c) (sections_by h p d (sections h))
+        + occurs c (cells_of_turns (turns_by p d (sections h) (ended_turns h)))
+
+    abbrev HasTurnBy : Deed → ℕ → Type 0
+    HasTurnBy d n = turns_left d n ≡ (if is_known (registry_by cells h d (registry cells h)) c then 1 else 0)
+
+    -- one that leaves what is known, and all turns as many as they were
+    keeps : (d : Deed) (n : ℕ) → is_known (registry_by cells h d (registry cells h)) c ≡ is_known (registry cells h) c → turns_left d n ≡ turns_of cells c h → HasTurnBy d n
+    keeps d n known same = same ∙ k ∙ sym (ap (λ (b : Bool). if b then 1 else 0) known)
+
+    -- a turn that is taken, or waited, is to come or waits once less
+    taken_count : (d n : ℕ) (b : Bool) → Took h p i d b n → occurs c (due (registry_taken b (registry cells h))) + n + one_if (d == c) ≡ occurs c (due (registry cells h)) + waiting h p i
+    taken_count d n true t =
+        let e : (registry cells h).left ≡ d ∷ rest_of (registry cells h).left = begins (registry cells h).left d t.0 in
+        let whole : occurs c (due (registry cells h)) ≡ one_if (d == c) + occurs c (rest_of (registry cells h).left) + occurs c (registry cells h).pending =
+        occurs_joined c (registry cells h).left (registry cells h).pending ∙ ap (λ cs. occurs c cs + occurs c (registry cells h).pending) e in
+        let rest : _ = occurs_joined c (rest_of (registry cells h).left) (registry cells h).pending in
+        let n : _ = t.1 in
+        omega (arith, whole, rest, n)
+    taken_count d n false t = omega (arith, t)
+
+    skips : (d n : ℕ) (b : Bool) → Took h p i d b n → HasTurnBy (Skips d b) n
+    skips d n b t =
+        let taken : _ = taken_count d n b t in
+        let e : _ = occurs_ended c d turn.Skipped (ended_turns h) in
+        keeps (Skips d b) n (known_taken b (registry cells h) c) (omega (arith, taken, e))
+
+    finalizes : (d n : ℕ) (b : Bool) → Took h p i d b n → HasTurnBy (Opens d Turns b) n
+    finalizes d n b t =
+        let taken : _ = taken_count d n b t in
+        let one : _ = one_or_none h p i (d == c) (count (finalizes_in c) (sections h)) in
+        keeps (Opens d Turns b) n (known_taken b (registry cells h) c) (omega (arith, taken, one))
+
+    looks : (b : Bool) (n : ℕ) → (registry cells h).left ≡ [] → n ≡ waiting h p i → HasTurnBy (Looks b) n
+    looks b n none w =
+        let all : _ = occurs_joined c (registry cells h).pending [] in
+        let before : occurs c (due (registry cells h)) ≡ occurs c (registry cells h).pending = ap (λ cs. occurs c (cs ++ (registry cells h).pending)) none in
+        keeps (Looks b) n refl (omega (arith, all, before, w))
+
+    -- a generator's section that ends
+    run_ends : (d : Deed) (n : ℕ) (f : Inside cells h p false) → registry_by cells h d (registry cells h) ≡ registry cells h → sections_by h p d (sections h) ≡ without_innermost p (sections h)
+        → turns_by p d (sections h) (ended_turns h) ≡ ended_turns h → n ≡ waiting h p i → HasTurnBy d n
+    run_ends d n f m s e w =
+        let one : count (finalizes_in c) (sections h) ≡ count (finalizes_in c) (without_innermost p (sections h)) + 0 =
+        count_ended (finalizes_in c) p (sections h) f.section f.found ∙ ap (λ b. count (finalizes_in c) (without_innermost p (sections h)) + cond (b && (f.section.cell == c)) 1 0) f.kind in
+        let to_come : occurs c (due (registry_by cells h d (registry cells h))) ≡ occurs c (due (registry cells h)) = ap (λ r. occurs c (due r)) m in
+        let on : count (finalizes_in c) (sections_by h p d (sections h)) ≡ count (finalizes_in c) (without_innermost p (sections h)) = ap (count (finalizes_in c)) s in
+        let ended : occurs c (cells_of_turns (turns_by p d (sections h) (ended_turns h))) ≡ occurs c (cells_of_turns (ended_turns h)) = ap (λ ts. occurs c (cells_of_turns ts)) e in
+        keeps d n (ap (λ r. is_known r c) m) (omega (arith, one, to_come, on, ended, w))
+
+    -- a finalizer's
+    turn_ends : (fine : Bool) (n : ℕ) → Inside cells h p true → n ≡ waiting h p i → HasTurnBy (Ends (Finishes fine)) n
+    turn_ends fine n f w =
+        let t : Section = f.section in
+        let one : count (finalizes_in c) (sections h) ≡ count (finalizes_in c) (without_innermost p (sections h)) + one_if (t.cell == c) =
+        count_ended (finalizes_in c) p (sections h) t f.found ∙ ap (λ b. count (finalizes_in c) (without_innermost p (sections h)) + cond (b && (t.cell == c)) 1 0) f.kind in
+        let more : occurs c (cells_of_turns (turn_of_section (turn_of fine) (innermost p (sections h)) (ended_turns h))) ≡ occurs c (cells_of_turns (ended_turns h)) + one_if (t.cell == c) =
+        ap (λ o. occurs c (cells_of_turns (turn_of_section (turn_of fine) o (ended_turns h)))) f.found ∙ occurs_ended c t.cell (turn_of fine) (ended_turns h) in
+        keeps (Ends (Finishes fine)) n refl (omega (arith, one, more, w))
+
+    -- a registration adds a turn to come, of a cell that had none
+    module _ (d : ℕ) (j : Call) (b : Bool) (n : ℕ) (w : n ≡ waiting h p i) where
+      stays : registry_by cells h (Opens d (Calls j) b) (registry cells h) ≡ registry cells h → HasTurnBy (Opens d (Calls j) b) n
+      stays r =
+          let to_come : occurs c (due (registry_by cells h (Opens d (Calls j) b) (registry cells h))) ≡ occurs c (due (registry cells h)) = ap (λ m. occurs c (due m)) r in
+          keeps (Opens d (Calls j) b) n (ap (λ m. is_known m c) r) (omega (arith, to_come, w))
+
+      module _ (fresh : is_known (registry cells h) d ≡ false) (inside : d < length (registry cells h).known) (now : registry_by cells h (Opens d (Calls j) b) (registry cells h) ≡ registered d (registry cells h)) where
+        to_come : occurs c (due (registry_by cells h (Opens d (Calls j) b) (registry cells h))) ≡ occurs c (due (registry cells h)) + one_if (d == c)
+        to_come =
+            let more : occurs c (due (registry_by cells h (Opens d (Calls j) b) (registry cells h))) ≡ occurs c ((registry cells h).left ++ d ∷ (registry cells h).pending) = ap (λ m. occurs c (due m)) now in
+            let new : _ = occurs_joined c (registry cells h).left (d ∷ (registry cells h).pending) in
+            let old : _ = occurs_joined c (registry cells h).left (registry cells h).pending in
+            omega (arith, more, new, old)
+
+        here : (d == c) ≡ true → HasTurnBy (Opens d (Calls j) b) n
+        here same =
+            let at : d ≡ c = grind arith in
+            let unknown : turns_of cells c h ≡ 0 = k ∙ ap (λ (b : Bool). if b then 1 else 0) (subst (λ z. is_known (registry cells h) z ≡ false) at fresh) in
+            let known : is_known (registry_by cells h (Opens d (Calls j) b) (registry cells h)) c ≡ true =
+            ap (λ m. is_known m c) now ∙ subst (λ z. slice_index_or (slice_set (registry cells h).known d true) z false ≡ true) at (get_or-set_same (registry cells h).known d true false inside) in
+            let more : _ = to_come in
+            let one : one_if (d == c) ≡ 1 = ap one_if same in
+            let goal : turns_left (Opens d (Calls j) b) n ≡ 1 = omega (arith, unknown, more, one, w) in
+            goal ∙ sym (ap (λ (b : Bool). if b then 1 else 0) known)
+
+        elsewhere : (d == c) ≡ false → HasTurnBy (Opens d (Calls j) b) n
+        elsewhere other =
+            let more : _ = to_come in
+            let none : one_if (d == c) ≡ 0 = ap one_if other in
+            keeps (Opens d (Calls j) b) n (ap (λ m. is_known m c) now ∙ get_or-set_other (registry cells h).known d c true false (grind arith)) (omega (arith, more, none, w))
+
+        registers : HasTurnBy (Opens d (Calls j) b) n
+        registers = by (d == c) refl
+          where
+            by : (x : Bool) → (d == c) ≡ x → HasTurnBy (Opens d (Calls j) b) n
+            by true same = here same
+            by false other = elsewhere other
+
+      running : Asking cells h p d j true → HasTurnBy (Opens d (Calls j) b) n
+      running q = by (tries_registration (cell_at cells d).kind (phase_at cells d h)) (registry cells h).is_open refl refl
+        where
+          by : (x o : Bool) → tries_registration (cell_at cells d).kind (phase_at cells d h) ≡ x → (registry cells h).is_open ≡ o → HasTurnBy (Opens d (Calls j) b) n
+          by false o e f = stays (ap (λ (x : Bool). if x then after_register d (registry cells h) else registry cells h) e)
+          by true false e f =
+              stays (ap (λ (x : Bool). if x then after_register d (registry cells h) else registry cells h) e ∙ ap (λ (x : Bool). if x then registered d (registry cells h) else registry cells h) f)
+          by true true e f =
+              let empty : (phase_at cells d h == 0) ≡ true = second (is_finalizable (cell_at cells d).kind) _ e in
+              let zero : phase_at cells d h ≡ 0 = grind arith in
+              let inside : d < length cells = finalizable-inside cells d (first _ _ e) in
+              let long : _ = known-length cells h in
+              registers (fresh-unknown cells h d legal zero (q.unheld (alone cells h legal d))) (omega (arith, inside, long))
+              (ap (λ (x : Bool). if x then after_register d (registry cells h) else registry cells h) e ∙ ap (λ (x : Bool). if x then registered d (registry cells h) else registry cells h) f)
+
+    has_turn : (d : Deed) (n : ℕ) → Finds cells h p d → WaitsSo h p i d n → HasTurnBy d n
+    has_turn (Opens d (Calls j) taken) n f w = running d j taken n w f
+    has_turn (Opens d Turns taken) n f w = finalizes d n taken w
+    has_turn (Skips d taken) n f w = skips d n taken w
+    has_turn Takes n f w =
+        let taken : _ = taken_count w.0 (waiting h p i) true (w.1, refl) in let m : _ = w.2 in keeps Takes n refl (omega (arith, taken, m))
+    has_turn (Looks true) n f w = looks true n f.0 w
+    has_turn (Looks false) n f w = looks false n f.0 w
+    has_turn (Ends (Makes made)) n f w = run_ends (Ends (Makes made)) n f refl refl refl w
+    has_turn (Ends (Finishes fine)) n f w = turn_ends fine n f w
+    has_turn (EndsToRead v) n f w = run_ends (EndsToRead v) n f refl refl refl w
+    has_turn (EndsToWrite v) n f w = run_ends (EndsToWrite v) n f refl refl refl w
+    has_turn d n f w = keeps d n refl (omega (arith, w))
 
   -- each registered cell has one turn, and no other cell has one
   pub one-turn : (h : List Event) → IsLegal cells h → HasTurn h
   one-turn [] k = sym (ap (λ (b : Bool). if b then 1 else 0) (none_known (length cells) c))
   one-turn (e ∷ h) k =
-      of_free cells h e.step e.line k.0 (λ a r. HasTurn (event h e.step.party e.line.given k.2 (one-turn h k.2) a r ∷ h))
-      (refused h e.step.party e.line.given k.2 (one-turn h k.2)) (cases h e.step.party e.line.given k.2 (one-turn h k.2))
+      has_turn h e.step.party e.line.given k.2 (one-turn h k.2) (deed_of h e.step e.line.answer) (count (waits_to_turn c) (waits cells (e ∷ h))) (finds cells h e.step e.line k.0)
+      (of_free cells h e.step e.line k.0 (λ a r. WaitsSo h e.step.party e.line.given (deed_of h (step cells h e.step.party a) r) (count (waits_to_turn c) (waits cells (event h e.step.party e.line.given a r ∷ h))))
+      (λ a r. refl) (cases h e.step.party e.line.given))

@@ -16,7 +16,7 @@ use Rattle.schedule_rules.specs.declared.line.Answer.TheVariants as answer
 use Rattle.schedule_rules.specs.Kinds.{cell_at, tolerance_at}
 use Rattle.schedule_rules.specs.Phases.{is_accessible, runs_generator}
 use Rattle.schedule_rules.specs.Calls.{lock_wanted, asks, initializes}
-use Rattle.schedule_rules.specs.History.{Event, accepts}
+use Rattle.schedule_rules.specs.History.{Event, is_exit, accepts}
 use Rattle.schedule_rules.specs.Sections.{is_turn, runs}
 use Rattle.schedule_rules.specs.Guards.{Guard, numbered, guards}
 use Rattle.schedule_rules.specs.Replay.{phase_at}
@@ -83,11 +83,6 @@ is_closing _ = false
 abbrev pub is_failure : Act → Bool
 is_failure act.MadeFailed = true
 is_failure _ = false
-
--- the act is a step of the exit
-abbrev pub is_exit : Act → Bool
-is_exit act.Exit = true
-is_exit _ = false
 
 -- ---- what is attempted
 

@@ -3,13 +3,9 @@ use Rattle.std.specs.Prelude.{ℕ, Bool, true, false, List, [], ◌∷◌, ◌==
 use Rattle.std.specs.List.{find}
 use Rattle.std.specs.declared.option.Option.{Option}
 use Rattle.std.specs.declared.option.Option.TheVariants.{None, Some}
-use Rattle.schedule_rules.specs.declared.step.Act.{Act}
-use Rattle.schedule_rules.specs.declared.step.Act.TheVariants as act
-use Rattle.schedule_rules.specs.declared.line.Answer.{Answer}
-use Rattle.schedule_rules.specs.declared.line.Answer.TheVariants as answer
-use Rattle.schedule_rules.specs.declared.step.Step.{Step}
 use Rattle.schedule_rules.specs.Changes.{Change, Ran, Put}
-use Rattle.schedule_rules.specs.History.{Event, act_of}
+use Rattle.schedule_rules.specs.Deeds.{Deed, Holds, EndsToRead, EndsToWrite, Drops, DropsToRead, Beside, Puts}
+use Rattle.schedule_rules.specs.History.{Event, deed_of}
 use Rattle.schedule_rules.specs.Sections.{Section, innermost, sections}
 
 -- an open guard
@@ -60,57 +56,34 @@ abbrev pub reader_made : ℕ → ℕ → Option Section → List Guard → List 
 reader_made n p None gs = gs
 reader_made n p (Some s) gs = reader n p s.cell ∷ gs
 
+-- a write guard that carries a section in which this value was made
+abbrev pub carrier : ℕ → ℕ → ℕ → Section → Guard
+carrier n p v s =
+    record { number = n; party = p; cell = s.cell; writes = true; start = s.start; changes = Ran s.is_open (Some v) ∷ [] }
+
 -- the write guard that a run leaves carries its section. None does not occur, as above
 abbrev pub writer_made : ℕ → ℕ → ℕ → Option Section → List Guard → List Guard
 writer_made n p v None gs = gs
-writer_made n p v (Some s) gs =
-    record { number = n; party = p; cell = s.cell; writes = true; start = s.start; changes = Ran s.is_open (Some v) ∷ [] } ∷ gs
+writer_made n p v (Some s) gs = carrier n p v s ∷ gs
 
 -- a read guard on the cell of another guard. None does not occur: without that guard the step is refused
 abbrev pub reader_beside : ℕ → ℕ → Option Guard → List Guard → List Guard
 reader_beside n p None gs = gs
 reader_beside n p (Some x) gs = reader n p x.cell ∷ gs
 
--- a read guard more, by the act that gets it. No other act gets one
-abbrev pub with_reader : List Event → ℕ → Act → List Guard → List Guard
-with_reader h p (act.Call c k) gs = reader (length h) p c ∷ gs
-with_reader h p (act.Made v) gs = reader_made (length h) p (innermost p (sections h)) gs
-with_reader h p (act.Downgrade g) gs = reader_beside (length h) p (numbered g gs) (without_guard g gs)
-with_reader h p (act.Clone g) gs = reader_beside (length h) p (numbered g gs) gs
-with_reader h p _ gs = gs
-
--- a write guard more, by the act that gets it. No other act gets one
-abbrev pub with_writer : List Event → ℕ → Act → List Guard → List Guard
-with_writer h p (act.Call c k) gs = writer (length h) p c ∷ gs
-with_writer h p (act.Made v) gs = writer_made (length h) p v (innermost p (sections h)) gs
-with_writer h p _ gs = gs
-
--- a release ends the guard that it names, and a set is noted in it
-abbrev pub guards_done : Act → List Guard → List Guard
-guards_done (act.Release g) gs = without_guard g gs
-guards_done (act.Set g v) gs = put_in g v gs
-guards_done _ gs = gs
-
--- the open guards after a step with this answer
-abbrev pub guards_after : List Event → Step → Answer → List Guard → List Guard
-guards_after h s answer.ReadGuard gs = with_reader h s.party (act_of h s) gs
-guards_after h s answer.WriteGuard gs = with_writer h s.party (act_of h s) gs
-guards_after h s answer.Done gs = guards_done s.act gs
-guards_after h s (answer.Phase p) gs = gs
-guards_after h s (answer.Value v) gs = gs
-guards_after h s answer.Running gs = gs
-guards_after h s (answer.Finalizing c) gs = gs
-guards_after h s (answer.Skipped c) gs = gs
-guards_after h s (answer.Round n) gs = gs
-guards_after h s answer.Closed gs = gs
-guards_after h s (answer.Access p) gs = gs
-guards_after h s answer.Failed gs = gs
-guards_after h s answer.Cyclic gs = gs
-guards_after h s answer.Borrowed gs = gs
-guards_after h s (answer.Waiting way) gs = gs
-guards_after h s (answer.Refused r) gs = gs
+-- the open guards after this deed of the party, where these sections ran
+abbrev pub guards_by : ℕ → ℕ → Deed → List Section → List Guard → List Guard
+guards_by n p (Holds c false) ss gs = reader n p c ∷ gs
+guards_by n p (Holds c true) ss gs = writer n p c ∷ gs
+guards_by n p (EndsToRead v) ss gs = reader_made n p (innermost p ss) gs
+guards_by n p (EndsToWrite v) ss gs = writer_made n p v (innermost p ss) gs
+guards_by n p (Drops g) ss gs = without_guard g gs
+guards_by n p (DropsToRead g) ss gs = reader_beside n p (numbered g gs) (without_guard g gs)
+guards_by n p (Beside g) ss gs = reader_beside n p (numbered g gs) gs
+guards_by n p (Puts g v) ss gs = put_in g v gs
+guards_by n p _ ss gs = gs
 
 -- the open guards, the latest of which stands first
 abbrev pub guards : List Event → List Guard
 guards [] = []
-guards (e ∷ h) = guards_after h e.step e.line.answer (guards h)
+guards (e ∷ h) = guards_by (length h) e.step.party (deed_of h e.step e.line.answer) (sections h) (guards h)

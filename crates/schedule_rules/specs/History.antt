@@ -6,6 +6,7 @@ use Rattle.schedule_rules.specs.declared.line.Answer.{Answer}
 use Rattle.schedule_rules.specs.declared.line.Answer.TheVariants as answer
 use Rattle.schedule_rules.specs.declared.step.Step.{Step}
 use Rattle.schedule_rules.specs.declared.line.Line.{Line}
+use Rattle.schedule_rules.specs.Deeds.{Deed, Looks, deed_by}
 
 -- how many pass a test
 abbrev pub count : {X : Type 0} → (X → Bool) → List X → ℕ
@@ -47,16 +48,29 @@ act_by a p h = a
 abbrev pub act_of : List Event → Step → Act
 act_of h s = act_by s.act s.party h
 
--- registration stays closed
-abbrev pub closed_after : Answer → Bool → Bool
-closed_after answer.Closed was = true
-closed_after _ was = was
+-- the act takes a step of the exit, or looks
+abbrev pub is_exit : Act → Bool
+is_exit act.Exit = true
+is_exit _ = false
 
--- registration is closed: a look found no cell
+-- registration is closed by a look that finds no cell, and stays closed
+abbrev pub closed_by : Deed → Bool → Bool
+closed_by (Looks true) was = true
+closed_by _ was = was
+
+-- registration is closed
 abbrev pub is_closed : List Event → Bool
 is_closed [] = false
-is_closed (e ∷ h) = closed_after e.line.answer (is_closed h)
+is_closed (e ∷ h) = closed_by (deed_by (not (is_closed h)) (is_exit e.step.act) (act_of h e.step) e.line.answer) (is_closed h)
 
 -- a cell may still be registered
 abbrev pub accepts : List Event → Bool
 accepts h = not (is_closed h)
+
+-- what an act of the party with this answer does
+abbrev pub deed_at : List Event → ℕ → Act → Answer → Deed
+deed_at h p a r = deed_by (accepts h) (is_exit a) (act_by a p h) r
+
+-- what a step with this answer does
+abbrev pub deed_of : List Event → Step → Answer → Deed
+deed_of h s r = deed_at h s.party s.act r

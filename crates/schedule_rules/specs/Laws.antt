@@ -2,10 +2,7 @@
 use Rattle.std.specs.Prelude.{ℕ, Bool, true, false, not, List, [], ◌∷◌, ◌≡◌, ◌≢◌, ◌==◌, ◌<◌, ◌+◌, ◌&&◌, ◌⊎◌, All, length, if◌then◌else◌}
 use Rattle.std.specs.declared.option.Option.{Option}
 use Rattle.std.specs.declared.option.Option.TheVariants.{Some}
-use Rattle.schedule_rules.specs.declared.line.Answer.{Answer}
 use Rattle.schedule_rules.specs.declared.line.Answer.TheVariants as answer
-use Rattle.schedule_rules.specs.declared.step.Act.{Act}
-use Rattle.schedule_rules.specs.declared.step.Act.TheVariants as act
 use Rattle.schedule_rules.specs.declared.step.Step.{Step}
 use Rattle.schedule_rules.specs.declared.plan.CellPlan.{CellPlan}
 use Rattle.phase_bits.specs.declared.phase.Phase.{Phase}
@@ -21,7 +18,8 @@ use Rattle.schedule_rules.specs.Kinds.{cell_at, tolerance_at, is_parking}
 use Rattle.schedule_rules.specs.Changes.{is_declined}
 use Rattle.schedule_rules.specs.Phases.{Failure, phase_reached, phase_finalized, tries_registration}
 use Rattle.schedule_rules.specs.Calls.{asks}
-use Rattle.schedule_rules.specs.History.{Event, before, is_closed, accepts, count}
+use Rattle.schedule_rules.specs.Deeds.{Deed, EndsToRead, EndsToWrite}
+use Rattle.schedule_rules.specs.History.{Event, before, is_closed, accepts, deed_of, count}
 use Rattle.schedule_rules.specs.Sections.{Section, innermost, is_turn, sections}
 use Rattle.schedule_rules.specs.Guards.{guards}
 use Rattle.schedule_rules.specs.Replay.{replay, phase_at}
@@ -106,17 +104,17 @@ pub record IsFailedRun (cells : List CellPlan) (h : List Event) (e : Event) (c :
 abbrev pub NoneParks : List CellPlan → Type 0
 NoneParks cells = All (λ x. is_parking x.place ≡ false) cells
 
--- a generator of the cell ends by a value: a made that is not refused ends this section
-abbrev pub is_success : ℕ → Act → Answer → Option Section → Bool
-is_success c (act.Made v) (answer.Refused r) s = false
-is_success c (act.Made v) a (Some s) = s.cell == c
-is_success c _ a s = false
+-- a generator of the cell ends by a value, where its party is in this section
+abbrev pub is_success : ℕ → Deed → Option Section → Bool
+is_success c (EndsToRead v) (Some s) = s.cell == c
+is_success c (EndsToWrite v) (Some s) = s.cell == c
+is_success c _ s = false
 
 -- how many generators of the cell ended by a value
 abbrev pub successes : ℕ → List Event → ℕ
 successes c [] = 0
 successes c (e ∷ h) =
-    if is_success c e.step.act e.line.answer (innermost e.step.party (sections h)) then successes c h + 1 else successes c h
+    if is_success c (deed_of h e.step e.line.answer) (innermost e.step.party (sections h)) then successes c h + 1 else successes c h
 
 -- ---- registration
 

@@ -2,6 +2,7 @@ pub mod Kinds
 pub mod Phases
 pub mod Calls
 pub mod Changes
+pub mod Deeds
 pub mod History
 pub mod Sections
 pub mod Guards
