@@ -1,5 +1,5 @@
 -- What the calls on a locked cell promise, by what they keep of the lock with which they came in.
-use Rattle.std.proofs.Common.{◌≡◌, Bool, true, false, Option, Some, None, Result, Ok, Err, refl, ap, ◌∙◌}
+use Rattle.std.proofs.Common.{◌≡◌, Bool, true, false, Option, Result, refl, ap, ◌∙◌}
 use Rattle.phase_bits.specs.declared.phase.Phase.{Phase}
 use Rattle.phase_bits.specs.Number.{number}
 use Rattle.phase_locker.specs.declared.tickets.ReadTicket.{ReadTicket}

@@ -1,9 +1,8 @@
 -- What a call of the sequentializer that takes a lock is for a locked cell.
-use Rattle.std.proofs.Common.{◌≡◌, ℕ, Bool, true, false, Option, Some, None, Result, Ok, Err, refl, sym, ap, ◌∙◌, subst}
+use Rattle.std.proofs.Common.{◌≡◌, Bool, true, false, Option, Some, None, Result, Ok, Err, refl, sym, ◌∙◌, subst}
 use Rattle.std.specs.Prelude.{◌==◌, MatchBool, if◌then◌else◌, ◌&&◌, ◌||◌, not}
 use Rattle.phase_bits.specs.declared.phase.Phase.{Phase}
 use Rattle.phase_bits.specs.declared.holders.Holders.{Holders}
-use Rattle.phase_bits.specs.Number.{IsKnown}
 use Rattle.phase_bits.specs.Records as record_of
 use Rattle.phase_locker.specs.declared.tickets.LockNature.TheVariants as nature
 use Rattle.phase_locker.specs.declared.tickets.ReadTicket.{ReadTicket}
@@ -18,7 +17,7 @@ use Rattle.phase_seq.specs.declared.ask.Want.TheVariants.{Read, Write}
 use Rattle.phase_seq.specs.Asks.{shall_init}
 use Rattle.phase_seq.specs.Direct as direct
 use Rattle.lazy_cells.specs.Cells.{is_there}
-use Rattle.lazy_cells.specs.Locked.{Locked, bars_read, bars_write, Entry, Barred, Enters, tried, entry_by, made_by, HasRun, HasNone, Comes, Calls}
+use Rattle.lazy_cells.specs.Locked.{Locked, bars_read, bars_write, Barred, Enters, entry_by, made_by, Calls}
 use Rattle.lazy_cells.specs.Guards.{IsGuarded, cell_of, to_read, to_write, in_to_read, in_to_write}
 use Rattle.lazy_cells.specs.Fills.{put_in, entered, next_after}
 

@@ -1,6 +1,6 @@
 -- What the turn of a locked cell leaves.
 use Rattle.std.proofs.Common.{◌≡◌, ℕ, Bool, true, false, Option, Some, None, Result, Ok, Err, refl, sym, ap, ◌∙◌, subst}
-use Rattle.std.specs.Prelude.{◌==◌, MatchBool, ◌&&◌, ◌||◌, not, if◌then◌else◌}
+use Rattle.std.specs.Prelude.{◌==◌, ◌&&◌, ◌||◌, not}
 use Rattle.std.proofs.lemmas.Nat.{and_or_self, and_or_apart}
 use Rattle.phase_bits.specs.declared.phase.Phase.{Phase}
 use Rattle.phase_bits.specs.Flags.{has, initialized}
@@ -12,10 +12,10 @@ use Rattle.phase_seq.specs.declared.finalizer.FinalFault.{FinalFault}
 use Rattle.phase_seq.specs.Phases.{finalized, flags_finalized, finalized_flag, finalization_panicked}
 use Rattle.lazy_cells.specs.Kinds.{is_finalized, is_within_reach}
 use Rattle.lazy_cells.specs.Cells.{is_there}
-use Rattle.lazy_cells.specs.Locked.{Locked, bars_write, rests}
+use Rattle.lazy_cells.specs.Locked.{Locked, bars_write}
 use Rattle.lazy_cells.specs.Sound.{IsSound}
-use Rattle.lazy_cells.specs.Finalizers.{meanings_of, Kept, Dropped, HasEnded, HasFinalized, Finalizes}
-use Rattle.lazy_cells.proofs.Entered.{both_cases, left_false, right_false}
+use Rattle.lazy_cells.specs.Finalizers.{meanings_of, KeepsValue, DropsValue, HasEnded, HasFinalized, Finalizes}
+use Rattle.lazy_cells.proofs.Entered.{both_cases, right_false}
 
 -- a finalizer leaves INITIALIZED
 stays_made : (p : ℕ) (fine : Bool) → has (flags_finalized p fine) initialized ≡ has p initialized
@@ -100,12 +100,12 @@ and_true true e = refl
 and_true false e = e
 
 -- the value that stays is in reach
-pub kept_due : {T : Type 0} (finalizes : T → Result (Unit {0}) FinalFault → Type 0) (p : Phase) (old : Option T) (fine : Bool) (r : Result (Unit {0}) FinalFault) (left : Option T) → Kept finalizes old r left → has (number p) initialized ≡ true → is_there left ≡ false || is_within_reach false (finalized p fine)
+pub kept_due : {T : Type 0} (finalizes : T → Result (Unit {0}) FinalFault → Type 0) (p : Phase) (old : Option T) (fine : Bool) (r : Result (Unit {0}) FinalFault) (left : Option T) → KeepsValue finalizes old r left → has (number p) initialized ≡ true → is_there left ≡ false || is_within_reach false (finalized p fine)
 kept_due finalizes p None fine r left g made = absurd g
 kept_due finalizes p (Some v) fine r left g made = ap is_there g.1 ∙ sym (and_true _ (stays_made (number p) fine ∙ made))
 
 -- nothing is in reach of a value that was dropped
-pub dropped_due : {T : Type 0} (p : Phase) (old : Option T) (fine : Bool) (r : Result (Unit {0}) FinalFault) (left : Option T) → Dropped old r left → has (number p) initialized ≡ true → is_there left ≡ false || is_within_reach true (finalized p fine)
+pub dropped_due : {T : Type 0} (p : Phase) (old : Option T) (fine : Bool) (r : Result (Unit {0}) FinalFault) (left : Option T) → DropsValue old r left → has (number p) initialized ≡ true → is_there left ≡ false || is_within_reach true (finalized p fine)
 dropped_due p old fine r left g made = ap is_there g.1 ∙ sym (out (has (flags_finalized (number p) fine) initialized) _ (ends_marked (number p) fine))
   where
     out : (b m : Bool) → m ≡ true → b && not m ≡ false

@@ -1,5 +1,5 @@
 -- What a call on a locked cell answers and leaves, by what it keeps of its lock.
-use Rattle.std.proofs.Common.{◌≡◌, ℕ, ◌+◌, ◌-◌, Bool, true, false, Option, Some, None, Result, Ok, Err, refl, sym, ap, ◌∙◌, subst, arith}
+use Rattle.std.proofs.Common.{◌≡◌, ℕ, ◌+◌, ◌-◌, Bool, true, Option, Result, refl, sym, ap, ◌∙◌, subst, arith}
 use Rattle.std.specs.Prelude.{if◌then◌else◌, ◌<◌, IfOk}
 use Rattle.phase_locker.specs.declared.tickets.ReadTicket.{ReadTicket}
 use Rattle.phase_locker.specs.declared.tickets.WriteTicket.{WriteTicket}
@@ -8,7 +8,7 @@ use Rattle.phase_seq.specs.declared.generator.InitFault.{InitFault}
 use Rattle.phase_seq.specs.declared.init_error.InitError.{InitError}
 use Rattle.phase_seq.specs.declared.tolerance.Tolerance.{Tolerance}
 use Rattle.lazy_cells.specs.Kinds.{is_within_reach}
-use Rattle.lazy_cells.specs.Locked.{Locked, bars_read, bars_write, reads, rests, releases, publishes, downgrades, Entry, Barred, Fails, Enters, tried, Calls, Tries}
+use Rattle.lazy_cells.specs.Locked.{Locked, reads, rests, releases, publishes, downgrades, Entry, Barred, Fails, Enters, tried, Calls, Tries}
 use Rattle.lazy_cells.specs.Access.{say_read, say_write, say_init, say_primed_read, say_primed_write, left_read, left_write, left_init, left_primed_read, left_primed_write}
 use Rattle.lazy_cells.specs.Guards.{to_read, to_write, in_to_read, in_to_write, kept, kept_phase, kept_primed, kept_primed_write, left_kept, left_published}
 

@@ -1,11 +1,11 @@
 -- The value of a locked cell that is lent to its owner.
-use Rattle.std.proofs.Common.{◌≡◌, Option, Some, None, Result, Ok, Err, refl, sym, ap, ◌∙◌, subst, false}
+use Rattle.std.proofs.Common.{◌≡◌, Option, Some, Result, Ok, refl, sym, ap, ◌∙◌, subst, false}
 use Rattle.phase_bits.specs.declared.phase.Phase.{Phase}
 use Rattle.phase_seq.specs.declared.generator.InitFault.{InitFault}
 use Rattle.phase_seq.specs.declared.init_error.InitError.{InitError}
 use Rattle.phase_seq.specs.declared.tolerance.Tolerance.{Tolerance}
 use Rattle.lazy_cells.specs.Locked.{Locked, bars_write, Calls}
-use Rattle.lazy_cells.specs.Access.{say_init, left_init, lent, Shows, EndsWith}
+use Rattle.lazy_cells.specs.Access.{say_init, left_init, lent, EndsWith}
 
 module _ {T G P : Type 0} (att : G → Result T InitFault → G → Type 0) (t : Tolerance) (s : Option Phase) (old mid cell : Locked T G P) (told : Result Phase InitError) (p : Phase) (v w : T) where
   -- a cell of which this value was shown, and that one written

@@ -8,3 +8,4 @@ pub mod Finalized
 pub mod Lent
 pub mod Starting
 pub mod Lists
+pub mod OneKind

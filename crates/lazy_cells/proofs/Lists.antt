@@ -1,15 +1,15 @@
 -- A list of cells, of which those before some place were started.
-use Rattle.std.proofs.Common.{◌≡◌, ◌≢◌, ℕ, zero, suc, ◌+◌, ◌<◌, ◌≤◌, Bool, true, false, List, [], ◌∷◌, length, Option, Some, None, Result, Ok, Err, refl, sym, ap, ◌∙◌, subst, arith, inl, inr}
+use Rattle.std.proofs.Common.{◌≡◌, ◌≢◌, ℕ, zero, suc, ◌<◌, List, [], ◌∷◌, length, Some, Result, Ok, Err, refl, sym, ◌∙◌, subst, arith, inl, inr}
 use Rattle.std.specs.Prelude.{slice_get}
 use Rattle.std.proofs.Math.ListN.{set, get_or, length-set}
 use Rattle.std.proofs.lemmas.Bool.{cases_eq}
 use Rattle.std.proofs.lemmas.Option.{slice_get-get_or}
 use Rattle.phase_bits.specs.declared.phase.Phase.{Phase}
-use Rattle.exit_registry.specs.Registry.{Registry, is_known}
+use Rattle.exit_registry.specs.Registry.{Registry}
 use Rattle.exit_registry.proofs.Exiting.{set_others}
 use Rattle.phase_seq.specs.declared.init_error.InitError.{InitError}
-use Rattle.lazy_cells.specs.Startup.{Standing, MayBeNew, MayStart, Answers, Starts, is_own, KnowsMore}
-use Rattle.lazy_cells.specs.StartAll.{At, Each, AreDistinct, HasStarted, fine, failed, NoneBears, KnowsAll, AreStarted, StopsAt, StartsAt, StartsAll}
+use Rattle.lazy_cells.specs.Startup.{Standing, MayStart, Answers, Starts}
+use Rattle.lazy_cells.specs.StartAll.{At, Each, AreDistinct, HasStarted, fine, failed, NoneBears, KnowsAll, AreStarted, StopsAt, StartsAt}
 
 set_here : {X : Type 0} (c : ℕ) (xs : List X) (y : X) → c < length xs → slice_get (set xs c y) c ≡ Some y
 set_here c [] y l = absurd (omega arith)

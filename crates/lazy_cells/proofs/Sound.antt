@@ -1,8 +1,8 @@
 -- Each call keeps what is kept of a locked cell.
-use Rattle.std.proofs.Common.{◌≡◌, ℕ, ◌+◌, ◌-◌, Bool, true, false, Option, Some, None, Result, Ok, Err, refl, sym, ap, ◌∙◌, subst, arith}
-use Rattle.std.specs.Prelude.{◌==◌, ◌<◌, ◌^◌, MatchBool, if◌then◌else◌, ◌&&◌, ◌||◌, not}
-use Rattle.std.specs.Int.RustNames.{bit_and, bit_or}
-use Rattle.std.proofs.lemmas.Nat.{and_assoc, and_or_self, and_or_apart}
+use Rattle.std.proofs.Common.{◌≡◌, ℕ, ◌-◌, Bool, true, false, Option, Some, None, Result, Ok, Err, refl, sym, ap, ◌∙◌, subst}
+use Rattle.std.specs.Prelude.{◌==◌, ◌^◌, if◌then◌else◌, ◌&&◌, ◌||◌, not}
+use Rattle.std.specs.Int.RustNames.{bit_or}
+use Rattle.std.proofs.lemmas.Nat.{and_assoc, and_or_apart}
 use Rattle.phase_bits.specs.declared.phase.Phase.{Phase}
 use Rattle.phase_bits.specs.Flags.{has, without_flags, initialized}
 use Rattle.phase_bits.specs.Number.{number}
@@ -10,12 +10,12 @@ use Rattle.exit_registry.specs.Registry.{Registry}
 use Rattle.phase_seq.specs.declared.generator.InitFault.{InitFault}
 use Rattle.phase_seq.specs.declared.tolerance.Tolerance.{Tolerance}
 use Rattle.phase_seq.specs.Asks.{shall_init}
-use Rattle.phase_seq.specs.Phases.{registration, initialization_flags, flags_staying, flags_reached, outcome, finalized_flag, finalization_panicked}
+use Rattle.phase_seq.specs.Phases.{registration, initialization_flags, flags_reached, finalized_flag, finalization_panicked}
 use Rattle.phase_seq.specs.Registers.{is_refused}
 use Rattle.phase_seq.specs.Direct.{enlisted, stays_at, reached_by, Came}
 use Rattle.lazy_cells.specs.Kinds.{is_finalized, is_within_reach}
-use Rattle.lazy_cells.specs.Cells.{is_there, value_by}
-use Rattle.lazy_cells.specs.Locked.{Locked, bars_read, bars_write, reads, writes, rests, releases, publishes, downgrades, Entry, Barred, Fails, Enters, tried, entry_by, made_by, HasRun, HasNone, Comes, Calls, Tries}
+use Rattle.lazy_cells.specs.Cells.{is_there}
+use Rattle.lazy_cells.specs.Locked.{Locked, bars_read, bars_write, reads, writes, rests, Entry, Barred, Fails, Enters, tried, entry_by, made_by, HasRun, HasNone, Comes, Calls, Tries}
 use Rattle.lazy_cells.specs.Access.{left_read, left_write, left_init, left_primed_read, left_primed_write}
 use Rattle.lazy_cells.specs.Sound.{IsSound}
 use Rattle.lazy_cells.proofs.Flags.{made_has, failed_lacks, stays_lack, due_lacks}

@@ -1,28 +1,27 @@
 -- What a start does.
-use Rattle.std.proofs.Common.{◌≡◌, ◌≢◌, ℕ, ◌<◌, Bool, true, false, Option, Some, None, Result, Ok, Err, refl, sym, ap, ◌∙◌, subst, inl, inr, arith, length}
-use Rattle.std.specs.Prelude.{◌==◌, MatchBool, ◌&&◌, ◌||◌, not, if◌then◌else◌, slice_index_or, slice_set}
+use Rattle.std.proofs.Common.{◌≡◌, ◌≢◌, ℕ, ◌<◌, Bool, true, false, Option, Some, None, Result, Ok, Err, refl, sym, ap, ◌∙◌, subst, inl, inr, arith}
+use Rattle.std.specs.Prelude.{◌==◌, ◌&&◌, if◌then◌else◌}
 use Rattle.std.specs.Int.RustNames.{bit_and, bit_or}
-use Rattle.std.proofs.Math.ListN.{length-set, get_or, set}
+use Rattle.std.proofs.Math.ListN.{length-set}
 use Rattle.std.proofs.lemmas.List.{get_or-set_other, get_or-set_same}
 use Rattle.std.proofs.lemmas.Bool.{cases_eq}
 use Rattle.std.proofs.lemmas.Nat.{and_or_self, and_assoc}
 use Rattle.phase_bits.specs.declared.phase.Phase.{Phase}
-use Rattle.phase_bits.specs.Flags.{has, initialized, initialization_panicked}
+use Rattle.phase_bits.specs.Flags.{has, initialization_panicked}
 use Rattle.phase_bits.specs.Number.{number}
 use Rattle.exit_registry.specs.Registry.{Registry, cells_of, is_known, registered, after_register}
 use Rattle.phase_seq.specs.declared.generator.InitFault.{InitFault}
 use Rattle.phase_seq.specs.declared.init_error.InitError.{InitError}
-use Rattle.phase_seq.specs.declared.init_error.InitError.TheVariants.{Access, Borrowed, Failed}
+use Rattle.phase_seq.specs.declared.init_error.InitError.TheVariants.{Access, Borrowed}
 use Rattle.phase_seq.specs.declared.tolerance.Tolerance.{Tolerance}
 use Rattle.phase_seq.specs.Asks.{shall_init}
-use Rattle.phase_seq.specs.Phases.{flags_reached}
 use Rattle.phase_seq.specs.Registers.{after_asking}
 use Rattle.phase_seq.specs.Direct.{reached_by, Came}
 use Rattle.lazy_cells.specs.Kinds.{is_within_reach}
 use Rattle.lazy_cells.specs.Cells as plain
-use Rattle.lazy_cells.specs.Locked.{Locked, bars_write, rests, Entry, Barred, Fails, Enters, tried, entry_by, made_by, HasRun, HasNone, Comes, Calls}
+use Rattle.lazy_cells.specs.Locked.{Locked, bars_write, rests, Entry, Barred, Enters, tried, entry_by, made_by, Comes, Calls}
 use Rattle.lazy_cells.specs.Access.{say_init, left_init, reached}
-use Rattle.lazy_cells.specs.Startup.{Standing, standing_plain, standing_locked, IsFailed, Answers, is_own, KnowsMore, accessed}
+use Rattle.lazy_cells.specs.Startup.{Standing, standing_plain, standing_locked, IsFailed, Answers, KnowsMore, accessed}
 use Rattle.lazy_cells.proofs.Flags.{Lacks, failed_lacks}
 use Rattle.lazy_cells.proofs.Entered.{both_cases, left_false, right_false}
 

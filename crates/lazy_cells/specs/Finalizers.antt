@@ -21,13 +21,13 @@ meanings_of c = record {
 -- ---- what a finalizer may answer, with the value that it leaves
 
 -- the value is finalized, and stays
-abbrev pub Kept : {T : Type 0} → (T → Result (Unit {0}) FinalFault → Type 0) → Option T → Result (Unit {0}) FinalFault → Option T → Type 0
-Kept finalizes None r left = ⊥
-Kept finalizes (Some v) r left = finalizes v r × (left ≡ Some v)
+abbrev pub KeepsValue : {T : Type 0} → (T → Result (Unit {0}) FinalFault → Type 0) → Option T → Result (Unit {0}) FinalFault → Option T → Type 0
+KeepsValue finalizes None r left = ⊥
+KeepsValue finalizes (Some v) r left = finalizes v r × (left ≡ Some v)
 
 -- the value is dropped
-abbrev pub Dropped : {T : Type 0} → Option T → Result (Unit {0}) FinalFault → Option T → Type 0
-Dropped old r left = (r ≡ Ok tt) × (left ≡ None)
+abbrev pub DropsValue : {T : Type 0} → Option T → Result (Unit {0}) FinalFault → Option T → Type 0
+DropsValue old r left = (r ≡ Ok tt) × (left ≡ None)
 
 -- the value is taken out of use, and what is left of it stays
 abbrev pub TakenOut : {T : Type 0} → (T → Result (Unit {0}) FinalFault → T → Type 0) → Option T → Result (Unit {0}) FinalFault → Option T → Type 0

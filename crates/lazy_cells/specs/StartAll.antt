@@ -1,9 +1,9 @@
 -- A list of cells that a program starts, in order. `st` is what is seen of a cell.
-use Rattle.std.specs.Prelude.{◌≡◌, ◌≢◌, ℕ, suc, ◌<◌, ◌≤◌, Bool, true, false, List, length, slice_get, Option, Some, None, Result, Ok, Err}
+use Rattle.std.specs.Prelude.{◌≡◌, ◌≢◌, ℕ, suc, ◌<◌, ◌≤◌, true, false, List, length, slice_get, Some, Result, Ok, Err}
 use Rattle.phase_bits.specs.declared.phase.Phase.{Phase}
 use Rattle.exit_registry.specs.Registry.{Registry, cells_of, is_known}
 use Rattle.phase_seq.specs.declared.init_error.InitError.{InitError}
-use Rattle.lazy_cells.specs.Startup.{Standing, MayStart, Answers, Starts, is_own}
+use Rattle.lazy_cells.specs.Startup.{Standing, Answers, Starts, is_own}
 
 module _ {X : Type 0} where
   -- this is so of the cell at this place of the list

@@ -10,6 +10,8 @@ use phase_locker::UnSyncPhaseLocker;
 use phase_seq::LazySequentializer;
 use std::marker::Model;
 
+#[cfg(test)]
+mod exit_tests;
 mod finalize;
 mod lending;
 mod making;

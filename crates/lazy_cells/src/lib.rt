@@ -16,6 +16,8 @@ mod markers;
 mod names;
 mod policy;
 mod start_all;
+#[cfg(test)]
+mod start_tests;
 mod started;
 
 pub use access::{Lazy, LazyAccess, LazyFinalize, UnSyncLazy};

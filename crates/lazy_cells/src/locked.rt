@@ -4,6 +4,8 @@ use crate::guarded::Guarded;
 use crate::markers::Reach;
 use std::marker::Model;
 
+#[cfg(test)]
+mod exit_tests;
 mod finalize;
 mod lending;
 mod making;

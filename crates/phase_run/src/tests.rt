@@ -298,7 +298,16 @@ fn writes_page_by_page(rt: HostRuntime) -> Result<(), Fail> {
     let text = long_schedule(alloc)?;
     let transcript = long_transcript(alloc)?;
     let all = transcript.len();
-    for room in [0, 1, 65_000, 65_536, 66_000, 131_071, all - 1, all] {
+    for room in [
+        0,
+        1,
+        65_000,
+        65_536,
+        66_000,
+        131_071,
+        all.saturating_sub(1),
+        all,
+    ] {
         let mut source = MemSource::new(text.to_vec(alloc)?, Vec::new(alloc));
         let mut sink = MemSink::new(alloc, room, Vec::new(alloc))?;
         let status = run_program(alloc, &[], &mut source, &mut sink);

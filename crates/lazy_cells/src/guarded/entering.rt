@@ -18,7 +18,9 @@ use phase_seq::{Generator, InitError};
 impl<T, G, P> Guarded<T, G, P> {
     /// Takes a lock to read the cell as it is.
     pub(crate) fn enter_read_only(&mut self) -> Result<(ReadTicket, Phase), InitError>
-        ensures { Tries bars_read to_read in_to_read self.old result self.new }
+        ensures tries { Tries bars_read to_read in_to_read self.old result self.new }
+        ensures generator { self.new.generator ≡ self.old.generator }
+        ensures marker { self.new.marker ≡ self.old.marker }
     {
         let phase = self.phase();
         match self.sequentializer.locker_mut().try_read() {
@@ -29,7 +31,9 @@ impl<T, G, P> Guarded<T, G, P> {
 
     /// Takes a lock to write the cell as it is.
     pub(crate) fn enter_write_only(&mut self) -> Result<(WriteTicket, Phase), InitError>
-        ensures { Tries bars_write to_write in_to_write self.old result self.new }
+        ensures tries { Tries bars_write to_write in_to_write self.old result self.new }
+        ensures generator { self.new.generator ≡ self.old.generator }
+        ensures marker { self.new.marker ≡ self.old.marker }
     {
         let phase = self.phase();
         let entered = match self.sequentializer.locker_mut().try_write() {
@@ -47,6 +51,7 @@ impl<T: Drop, G: Generator<T>, P> Guarded<T, G, P> {
         requires { G.may_call self.old.generator }
         ensures calls { Calls G.attempts (tolerance G.INIT_FAILURE G.FINAL_REGISTRATION_FAILURE) (Some unregistered) bars_read to_read in_to_read self.old result self.new }
         ensures again { G.may_call self.new.generator }
+        ensures marker { self.new.marker ≡ self.old.marker }
     {
         let told = self.sequentializer.generate_then_read(&mut self.generator);
         put_in(&mut self.body, told)
@@ -57,6 +62,7 @@ impl<T: Drop, G: Generator<T>, P> Guarded<T, G, P> {
         requires { G.may_call self.old.generator }
         ensures calls { Calls G.attempts (tolerance G.INIT_FAILURE G.FINAL_REGISTRATION_FAILURE) (Some unregistered) bars_write to_write in_to_write self.old result self.new }
         ensures again { G.may_call self.new.generator }
+        ensures marker { self.new.marker ≡ self.old.marker }
     {
         let told = self.sequentializer.generate_then_write(&mut self.generator);
         let entered = put_in(&mut self.body, told);
@@ -76,6 +82,7 @@ impl<T: Drop, G: Generator<T>, Q> Guarded<T, G, WithExit<Q>> {
         ensures calls { Calls G.attempts (tolerance G.INIT_FAILURE G.FINAL_REGISTRATION_FAILURE) (enlisted G.FINAL_REGISTRATION_FAILURE (Some registry.old) self.old.phase) bars_read to_read in_to_read self.old result self.new }
         ensures registry { registry.new ≡ after_asking (is_due (tolerance G.INIT_FAILURE G.FINAL_REGISTRATION_FAILURE) self.old) self.old.marker.cell self.old.phase registry.old }
         ensures again { G.may_call self.new.generator }
+        ensures marker { self.new.marker ≡ self.old.marker }
     {
         let cell = self.marker.cell;
         let told = self
@@ -94,6 +101,7 @@ impl<T: Drop, G: Generator<T>, Q> Guarded<T, G, WithExit<Q>> {
         ensures calls { Calls G.attempts (tolerance G.INIT_FAILURE G.FINAL_REGISTRATION_FAILURE) (enlisted G.FINAL_REGISTRATION_FAILURE (Some registry.old) self.old.phase) bars_write to_write in_to_write self.old result self.new }
         ensures registry { registry.new ≡ after_asking (is_due (tolerance G.INIT_FAILURE G.FINAL_REGISTRATION_FAILURE) self.old) self.old.marker.cell self.old.phase registry.old }
         ensures again { G.may_call self.new.generator }
+        ensures marker { self.new.marker ≡ self.old.marker }
     {
         let cell = self.marker.cell;
         let told = self

@@ -42,6 +42,7 @@ impl<T, G, P> Guarded<T, G, P> {
         ensures left { self.new ≡ left_kept releases hard entered self.old }
         ensures opens { IfOk result (λ _. 0 < self.new.readers) }
         ensures generator { self.new.generator ≡ self.old.generator }
+        ensures marker { self.new.marker ≡ self.old.marker }
     {
         let (ticket, phase) = entered?;
         if within_reach(hard, phase) {
@@ -62,6 +63,7 @@ impl<T, G, P> Guarded<T, G, P> {
         ensures left { self.new ≡ left_kept publishes hard entered self.old }
         ensures opens { IfOk result (λ _. self.new.writing ≡ true) }
         ensures generator { self.new.generator ≡ self.old.generator }
+        ensures marker { self.new.marker ≡ self.old.marker }
     {
         let (ticket, phase) = entered?;
         if within_reach(hard, phase) {
@@ -81,6 +83,7 @@ impl<T, G, P> Guarded<T, G, P> {
         ensures answer { result ≡ kept_phase hard entered }
         ensures left { self.new ≡ left_published entered self.old }
         ensures generator { self.new.generator ≡ self.old.generator }
+        ensures marker { self.new.marker ≡ self.old.marker }
     {
         let (ticket, phase) = entered?;
         self.release_write(ticket);
@@ -102,6 +105,7 @@ impl<T, G, P> Guarded<T, G, P> {
         ensures left { self.new ≡ left_kept downgrades hard entered self.old }
         ensures opens { OpensEither result self.new }
         ensures generator { self.new.generator ≡ self.old.generator }
+        ensures marker { self.new.marker ≡ self.old.marker }
     {
         let (ticket, phase) = entered?;
         if within_reach(hard, phase) {

@@ -26,6 +26,7 @@ impl<T: Drop, G: Generator<T>, C: Content> GenericLockedLazy<T, G, NoExit<C>> {
         ensures calls { Calls G.attempts (tolerance G.INIT_FAILURE G.FINAL_REGISTRATION_FAILURE) (Some unregistered) bars_read (say_read false) (left_read false) self.old result self.new }
         ensures opens { IfOk result (λ _. 0 < self.new.readers) }
         ensures again { G.may_call self.new.generator }
+        ensures marker { self.new.marker ≡ self.old.marker }
     {
         let entered = self.cell.enter_read();
         self.cell.keep_read(entered, false)
@@ -41,6 +42,7 @@ impl<T: Drop, G: Generator<T>, C: Content> GenericLockedLazy<T, G, NoExit<C>> {
         ensures calls { Calls G.attempts (tolerance G.INIT_FAILURE G.FINAL_REGISTRATION_FAILURE) (Some unregistered) bars_write (say_write false) (left_write false) self.old result self.new }
         ensures opens { IfOk result (λ _. self.new.writing ≡ true) }
         ensures again { G.may_call self.new.generator }
+        ensures marker { self.new.marker ≡ self.old.marker }
     {
         let entered = self.cell.enter_write();
         self.cell.keep_write(entered, false)
@@ -55,6 +57,7 @@ impl<T: Drop, G: Generator<T>, C: Content> GenericLockedLazy<T, G, NoExit<C>> {
         requires { G.may_call self.old.generator }
         ensures calls { Calls G.attempts (tolerance G.INIT_FAILURE G.FINAL_REGISTRATION_FAILURE) (Some unregistered) bars_write (say_init false) left_init self.old result self.new }
         ensures again { G.may_call self.new.generator }
+        ensures marker { self.new.marker ≡ self.old.marker }
     {
         let entered = self.cell.enter_write();
         self.cell.keep_none(entered, false)
@@ -70,6 +73,7 @@ impl<T: Drop, G: Generator<T>, C: Content> GenericLockedLazy<T, G, NoExit<C>> {
         ensures calls { Calls G.attempts (tolerance G.INIT_FAILURE G.FINAL_REGISTRATION_FAILURE) (Some unregistered) bars_read (say_fast_read false) (left_read false) self.old result self.new }
         ensures opens { IfSome result (λ r. IfOk r (λ _. 0 < self.new.readers)) }
         ensures again { G.may_call self.new.generator }
+        ensures marker { self.new.marker ≡ self.old.marker }
     {
         unless_borrowed(self.read())
     }
@@ -84,6 +88,7 @@ impl<T: Drop, G: Generator<T>, C: Content> GenericLockedLazy<T, G, NoExit<C>> {
         ensures calls { Calls G.attempts (tolerance G.INIT_FAILURE G.FINAL_REGISTRATION_FAILURE) (Some unregistered) bars_write (say_fast_write false) (left_write false) self.old result self.new }
         ensures opens { IfSome result (λ r. IfOk r (λ _. self.new.writing ≡ true)) }
         ensures again { G.may_call self.new.generator }
+        ensures marker { self.new.marker ≡ self.old.marker }
     {
         unless_borrowed(self.write())
     }

@@ -25,6 +25,8 @@ impl<T, G, P: IsPrimed> GenericLockedLazy<T, G, P> {
         ensures tries { Tries bars_read (say_primed_read P.hard) left_primed_read self.old result self.new }
         ensures opens { IfOk result (λ _. 0 < self.new.readers) }
         ensures phase { self.new.phase ≡ self.old.phase }
+        ensures generator { self.new.generator ≡ self.old.generator }
+        ensures marker { self.new.marker ≡ self.old.marker }
     {
         let entered = self.cell.enter_read_only();
         self.cell.keep_primed_read(entered, P::is_hard())
@@ -42,6 +44,8 @@ impl<T, G, P: IsPrimed> GenericLockedLazy<T, G, P> {
         ensures tries { Tries bars_write (say_primed_write P.hard) (left_primed_write P.hard) self.old result self.new }
         ensures opens { OpensEither result self.new }
         ensures phase { self.new.phase ≡ self.old.phase }
+        ensures generator { self.new.generator ≡ self.old.generator }
+        ensures marker { self.new.marker ≡ self.old.marker }
     {
         let entered = self.cell.enter_write_only();
         self.cell.keep_primed_write(entered, P::is_hard())

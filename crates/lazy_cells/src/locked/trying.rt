@@ -22,6 +22,8 @@ impl<T, G, P: Reach> GenericLockedLazy<T, G, P> {
         ensures tries { Tries bars_read (say_read P.hard) (left_read P.hard) self.old result self.new }
         ensures opens { IfOk result (λ _. 0 < self.new.readers) }
         ensures phase { self.new.phase ≡ self.old.phase }
+        ensures generator { self.new.generator ≡ self.old.generator }
+        ensures marker { self.new.marker ≡ self.old.marker }
     {
         let entered = self.cell.enter_read_only();
         self.cell.keep_read(entered, P::is_hard())
@@ -36,6 +38,8 @@ impl<T, G, P: Reach> GenericLockedLazy<T, G, P> {
         ensures tries { Tries bars_write (say_write P.hard) (left_write P.hard) self.old result self.new }
         ensures opens { IfOk result (λ _. self.new.writing ≡ true) }
         ensures phase { self.new.phase ≡ self.old.phase }
+        ensures generator { self.new.generator ≡ self.old.generator }
+        ensures marker { self.new.marker ≡ self.old.marker }
     {
         let entered = self.cell.enter_write_only();
         self.cell.keep_write(entered, P::is_hard())
@@ -50,6 +54,8 @@ impl<T, G, P: Reach> GenericLockedLazy<T, G, P> {
         ensures tries { Tries bars_read (say_fast_try_read P.hard) (left_read P.hard) self.old result self.new }
         ensures opens { IfSome result (λ r. IfOk r (λ _. 0 < self.new.readers)) }
         ensures phase { self.new.phase ≡ self.old.phase }
+        ensures generator { self.new.generator ≡ self.old.generator }
+        ensures marker { self.new.marker ≡ self.old.marker }
     {
         unless_barred(self.try_read())
     }
@@ -63,6 +69,8 @@ impl<T, G, P: Reach> GenericLockedLazy<T, G, P> {
         ensures tries { Tries bars_write (say_fast_try_write P.hard) (left_write P.hard) self.old result self.new }
         ensures opens { IfSome result (λ r. IfOk r (λ _. self.new.writing ≡ true)) }
         ensures phase { self.new.phase ≡ self.old.phase }
+        ensures generator { self.new.generator ≡ self.old.generator }
+        ensures marker { self.new.marker ≡ self.old.marker }
     {
         unless_barred(self.try_write())
     }

@@ -29,6 +29,7 @@ impl<T: Drop, G: Generator<T>, C: Content> GenericLockedLazy<T, G, WithExit<C>> 
         ensures opens { IfOk result (λ _. 0 < self.new.readers) }
         ensures registry { registry.new ≡ after_asking (is_due (tolerance G.INIT_FAILURE G.FINAL_REGISTRATION_FAILURE) self.old) self.old.marker.cell self.old.phase registry.old }
         ensures again { G.may_call self.new.generator }
+        ensures marker { self.new.marker ≡ self.old.marker }
     {
         let entered = self.cell.enter_read_registered(registry);
         self.cell.keep_read(entered, C::is_taken())
@@ -46,6 +47,7 @@ impl<T: Drop, G: Generator<T>, C: Content> GenericLockedLazy<T, G, WithExit<C>> 
         ensures opens { IfOk result (λ _. self.new.writing ≡ true) }
         ensures registry { registry.new ≡ after_asking (is_due (tolerance G.INIT_FAILURE G.FINAL_REGISTRATION_FAILURE) self.old) self.old.marker.cell self.old.phase registry.old }
         ensures again { G.may_call self.new.generator }
+        ensures marker { self.new.marker ≡ self.old.marker }
     {
         let entered = self.cell.enter_write_registered(registry);
         self.cell.keep_write(entered, C::is_taken())
@@ -62,6 +64,7 @@ impl<T: Drop, G: Generator<T>, C: Content> GenericLockedLazy<T, G, WithExit<C>> 
         ensures calls { Calls G.attempts (tolerance G.INIT_FAILURE G.FINAL_REGISTRATION_FAILURE) (enlisted G.FINAL_REGISTRATION_FAILURE (Some registry.old) self.old.phase) bars_write (say_init C.is_taken) left_init self.old result self.new }
         ensures registry { registry.new ≡ after_asking (is_due (tolerance G.INIT_FAILURE G.FINAL_REGISTRATION_FAILURE) self.old) self.old.marker.cell self.old.phase registry.old }
         ensures again { G.may_call self.new.generator }
+        ensures marker { self.new.marker ≡ self.old.marker }
     {
         let entered = self.cell.enter_write_registered(registry);
         self.cell.keep_none(entered, C::is_taken())
@@ -82,6 +85,7 @@ impl<T: Drop, G: Generator<T>, C: Content> GenericLockedLazy<T, G, WithExit<C>> 
         ensures opens { IfSome result (λ r. IfOk r (λ _. 0 < self.new.readers)) }
         ensures registry { registry.new ≡ after_asking (is_due (tolerance G.INIT_FAILURE G.FINAL_REGISTRATION_FAILURE) self.old) self.old.marker.cell self.old.phase registry.old }
         ensures again { G.may_call self.new.generator }
+        ensures marker { self.new.marker ≡ self.old.marker }
     {
         unless_borrowed(self.read(registry))
     }
@@ -101,6 +105,7 @@ impl<T: Drop, G: Generator<T>, C: Content> GenericLockedLazy<T, G, WithExit<C>> 
         ensures opens { IfSome result (λ r. IfOk r (λ _. self.new.writing ≡ true)) }
         ensures registry { registry.new ≡ after_asking (is_due (tolerance G.INIT_FAILURE G.FINAL_REGISTRATION_FAILURE) self.old) self.old.marker.cell self.old.phase registry.old }
         ensures again { G.may_call self.new.generator }
+        ensures marker { self.new.marker ≡ self.old.marker }
     {
         unless_borrowed(self.write(registry))
     }

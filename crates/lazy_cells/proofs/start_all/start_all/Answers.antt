@@ -1,4 +1,4 @@
-use Rattle.std.proofs.Common.{◌≡◌, ◌<◌, ℕ, ◌+◌, suc, length, arith}
+use Rattle.std.proofs.Common.{◌≡◌, ◌<◌, ◌+◌, suc, length, arith}
 use Rattle.lazy_cells.proofs.Lists.{may_next, next_started, stops, to_place}
 use Rattle.lazy_cells.proofs.start_all.start_all.Goals as goal
 

@@ -25,6 +25,7 @@ impl<T: Drop, G: Generator<T>, Q> GenericLockedLazy<T, G, NoExit<Primed<Q>>> {
         ensures calls { Calls G.attempts (tolerance G.INIT_FAILURE G.FINAL_REGISTRATION_FAILURE) (Some unregistered) bars_read (say_primed_read false) left_primed_read self.old result self.new }
         ensures opens { IfOk result (λ _. 0 < self.new.readers) }
         ensures again { G.may_call self.new.generator }
+        ensures marker { self.new.marker ≡ self.old.marker }
     {
         let entered = self.cell.enter_read();
         self.cell.keep_primed_read(entered, false)
@@ -41,6 +42,7 @@ impl<T: Drop, G: Generator<T>, Q> GenericLockedLazy<T, G, NoExit<Primed<Q>>> {
         ensures calls { Calls G.attempts (tolerance G.INIT_FAILURE G.FINAL_REGISTRATION_FAILURE) (Some unregistered) bars_write (say_primed_write false) (left_primed_write false) self.old result self.new }
         ensures opens { OpensEither result self.new }
         ensures again { G.may_call self.new.generator }
+        ensures marker { self.new.marker ≡ self.old.marker }
     {
         let entered = self.cell.enter_write();
         self.cell.keep_primed_write(entered, false)

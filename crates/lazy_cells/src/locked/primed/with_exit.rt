@@ -31,6 +31,7 @@ impl<T: Drop, G: Generator<T>, Q> GenericLockedLazy<T, G, WithExit<Primed<Q>>> {
         ensures opens { IfOk result (λ _. 0 < self.new.readers) }
         ensures registry { registry.new ≡ after_asking (is_due (tolerance G.INIT_FAILURE G.FINAL_REGISTRATION_FAILURE) self.old) self.old.marker.cell self.old.phase registry.old }
         ensures again { G.may_call self.new.generator }
+        ensures marker { self.new.marker ≡ self.old.marker }
     {
         let entered = self.cell.enter_read_registered(registry);
         self.cell.keep_primed_read(entered, true)
@@ -52,6 +53,7 @@ impl<T: Drop, G: Generator<T>, Q> GenericLockedLazy<T, G, WithExit<Primed<Q>>> {
         ensures opens { OpensEither result self.new }
         ensures registry { registry.new ≡ after_asking (is_due (tolerance G.INIT_FAILURE G.FINAL_REGISTRATION_FAILURE) self.old) self.old.marker.cell self.old.phase registry.old }
         ensures again { G.may_call self.new.generator }
+        ensures marker { self.new.marker ≡ self.old.marker }
     {
         let entered = self.cell.enter_write_registered(registry);
         self.cell.keep_primed_write(entered, true)

@@ -1,7 +1,6 @@
 use Rattle.std.proofs.Common.{Some, refl}
 use Rattle.phase_seq.specs.Asks.{shall_init}
 use Rattle.phase_seq.specs.Direct.{tolerance, enlisted}
-use Rattle.lazy_cells.specs.Startup.{Answers, standing_plain}
 use Rattle.lazy_cells.proofs.Flags.{enlisted_lack}
 use Rattle.lazy_cells.proofs.Starting.{stands_plain, knows_more}
 use Rattle.lazy_cells.proofs.lesser.GenericLazyWithExitLesserFormLesser.start.Goals as goal

@@ -1,4 +1,3 @@
-use Rattle.std.proofs.Common.{refl}
 use Rattle.lazy_cells.proofs.Ended.{write_tries, write_rests, write_stays}
 use Rattle.lazy_cells.proofs.locked.GenericLockedLazy.try_write.Goals as goal
 
@@ -8,18 +7,18 @@ invariant_of-self g c =
     let came = c.enter_write_only-entered in
     let out = c.keep_write in
     write_rests g.P.Reach.hard g.P.Reach.primed old c.self.invariant out.result out.new.self
-    (write_tries g.P.Reach.hard g.P.Reach.primed c.is_hard.result c.is_hard.ensures old came.result came.new.self out.result out.new.self out.ensures.answer out.ensures.left came.ensures)
+    (write_tries g.P.Reach.hard g.P.Reach.primed c.is_hard.result c.is_hard.ensures old came.result came.new.self out.result out.new.self out.ensures.answer out.ensures.left came.ensures.tries)
 
 pub returns-clause-tries : goal.returns-clause-tries
 returns-clause-tries g c =
     let old = c.self.inside.cell in
     let came = c.enter_write_only-entered in
     let out = c.keep_write in
-    rw (← c.self.view_is) (write_tries g.P.Reach.hard g.P.Reach.primed c.is_hard.result c.is_hard.ensures old came.result came.new.self out.result out.new.self out.ensures.answer out.ensures.left came.ensures)
+    rw (← c.self.view_is) (write_tries g.P.Reach.hard g.P.Reach.primed c.is_hard.result c.is_hard.ensures old came.result came.new.self out.result out.new.self out.ensures.answer out.ensures.left came.ensures.tries)
 
 pub returns-clause-phase : goal.returns-clause-phase
 returns-clause-phase g c =
     let old = c.self.inside.cell in
     let came = c.enter_write_only-entered in
     let out = c.keep_write in
-    rw (← c.self.view_is) (write_stays g.P.Reach.hard old out.result out.new.self (write_tries g.P.Reach.hard g.P.Reach.primed c.is_hard.result c.is_hard.ensures old came.result came.new.self out.result out.new.self out.ensures.answer out.ensures.left came.ensures))
+    rw (← c.self.view_is) (write_stays g.P.Reach.hard old out.result out.new.self (write_tries g.P.Reach.hard g.P.Reach.primed c.is_hard.result c.is_hard.ensures old came.result came.new.self out.result out.new.self out.ensures.answer out.ensures.left came.ensures.tries))

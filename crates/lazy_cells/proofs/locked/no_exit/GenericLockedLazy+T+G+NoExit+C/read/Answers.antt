@@ -1,4 +1,4 @@
-use Rattle.std.proofs.Common.{Some, true, false, refl}
+use Rattle.std.proofs.Common.{Some, false, refl}
 use Rattle.phase_seq.specs.Phases.{unregistered}
 use Rattle.phase_seq.specs.Direct.{tolerance}
 use Rattle.lazy_cells.proofs.Sound.{unregistered_fresh}

@@ -1,4 +1,4 @@
-use Rattle.std.proofs.Common.{Some, false, refl}
+use Rattle.std.proofs.Common.{Some, refl}
 use Rattle.phase_seq.specs.Direct.{tolerance, enlisted, unless_borrowed}
 use Rattle.lazy_cells.specs.Locked.{bars_read}
 use Rattle.lazy_cells.specs.Access.{say_read, left_read, say_fast_read}

@@ -1,4 +1,4 @@
-use Rattle.std.proofs.Common.{Some, false, refl}
+use Rattle.std.proofs.Common.{Some, refl}
 use Rattle.phase_seq.specs.Direct.{tolerance, enlisted, unless_borrowed}
 use Rattle.lazy_cells.specs.Locked.{bars_write}
 use Rattle.lazy_cells.specs.Access.{say_write, left_write, say_fast_write}

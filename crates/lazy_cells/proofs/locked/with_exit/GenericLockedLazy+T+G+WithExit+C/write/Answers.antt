@@ -1,4 +1,4 @@
-use Rattle.std.proofs.Common.{Some, true, false, refl}
+use Rattle.std.proofs.Common.{Some}
 use Rattle.phase_seq.specs.Direct.{tolerance, enlisted}
 use Rattle.lazy_cells.proofs.Sound.{enlisted_fresh}
 use Rattle.lazy_cells.proofs.Ended.{write_calls, write_sound}
