@@ -21,24 +21,6 @@ use Rattle.phase_run.specs.Runs.{Accepted, IsTooLong, IsNoText, IsInvalid, IsRef
 use Rattle.phase_run.specs.Steps.{IsWhole, SpellsOnly, IsBegun, IsReady}
 use Rattle.phase_run.specs.Stops.{StopsRun, StopsAnswer, StopsBeforeWriting}
 
--- a text whose schedule is not run is not answered
-pub stops_answer : (text : List ℕ) (x : Schedule) (s : Stop) → SpellsOnly text x → StopsRun x s → StopsAnswer text s
-stops_answer text x stop.Fault spells h = h
-stops_answer text x stop.TooLong spells h = h
-stops_answer text x stop.BadLine spells h = absurd h
-stops_answer text x stop.Refused spells h = record { schedule = x; spelled = spells.spelled; only = spells.only; invalid = h }
-stops_answer text x stop.Memory spells h = tt
-
--- nor is the source whose text that is
-pub stops_before : (input rest : Option (List ℕ)) (old new : ℕ) (text : List ℕ) (s : Stop) → IsWhole input rest text → StopsAnswer text s → StopsBeforeWriting input old new s
-stops_before input rest old new text stop.Fault whole h = absurd h
-stops_before input rest old new text stop.TooLong whole h = absurd h
-stops_before None rest old new text stop.BadLine whole h = tt
-stops_before (Some bytes) rest old new text stop.BadLine whole h = rw whole.all h
-stops_before None rest old new text stop.Refused whole h = tt
-stops_before (Some bytes) rest old new text stop.Refused whole h = rw whole.all h
-stops_before input rest old new text stop.Memory whole h = tt
-
 -- the run of the schedule that all spells which the source had can be told
 pub is_ready : (input rest : Option (List ℕ)) (text page : List ℕ) (run : Run) → length text ≤ most_bytes → IsWhole input rest text → IsBegun text run → page ≡ [] → IsReady input rest run page
 is_ready None rest text page run fits whole b clear = record { schedule = b.schedule; read = tt; made = b.made; clear = clear }
@@ -94,11 +76,3 @@ answered_in_part words input rest before after page run old new told x call r te
       count = part.0;
       written = part.1;
     }
-
--- the sink failed
-pub answered_failed : (input rest before after : Option (List ℕ)) (page : List ℕ) (run : Run) (old new : ℕ) (told : Result (Unit {0}) Failed) (x : Failed) → IsReady input rest run page → TellsRun run before after old new told → told ≡ Err x → Rose old new
-answered_failed input rest before after page run old new told x r tells bad = subst (λ o. OnErr o (Rose old new)) bad (tells r.schedule r.made).failed
-
--- its faults did not fall
-pub answered_steady : (input rest before after : Option (List ℕ)) (page : List ℕ) (run : Run) (old new : ℕ) (told : Result (Unit {0}) Failed) → IsReady input rest run page → TellsRun run before after old new told → old ≤ new
-answered_steady input rest before after page run old new told r tells = (tells r.schedule r.made).steady

@@ -10,11 +10,6 @@ use Rattle.std.specs.Io.KnownBytes.{Appends, Consumes, Keeps, IsAtEnd, ReadConsu
 use Rattle.phase_run.specs.Runs.{TakesAtMost}
 use Rattle.phase_run.specs.Steps.{IsWhole}
 
--- nothing was given yet
-pub Appends-none : (known : Option (List ℕ)) (text : List ℕ) → Appends known known (take 0 text)
-Appends-none None text = tt
-Appends-none (Some xs) text = grind (arith, common_steps)
-
 -- one piece more was given
 pub Appends-more : (a b c : Option (List ℕ)) (text : List ℕ) (at n : ℕ) → Appends a b (take at text) → Appends b c (take n (drop at text)) → Appends a c (take (at + n) text)
 Appends-more None b c text at n first more = tt
@@ -22,13 +17,6 @@ Appends-more (Some xs) None c text at n first more = absurd first
 Appends-more (Some xs) (Some ys) None text at n first more = absurd more
 Appends-more (Some xs) (Some ys) (Some zs) text at n first more =
     more ∙ ap (λ v. v ++ take n (drop at text)) first ∙ append_assoc xs (take at text) (take n (drop at text)) ∙ ap (λ v. xs ++ v) (sym (take-add at n text))
-
--- nothing more was given
-pub Appends-keeps : (a b c : Option (List ℕ)) (bs : List ℕ) → Appends a b bs → Keeps b c → Appends a c bs
-Appends-keeps None b c bs first kept = tt
-Appends-keeps (Some xs) None c bs first kept = absurd first
-Appends-keeps (Some xs) (Some ys) None bs first kept = absurd kept
-Appends-keeps (Some xs) (Some ys) (Some zs) bs first kept = cc
 
 -- nothing was taken yet
 pub Consumes-none : (known : Option (List ℕ)) → Consumes known known []
@@ -90,13 +78,3 @@ Keeps-appends None b c bs kept more = tt
 Keeps-appends (Some xs) None c bs kept more = absurd kept
 Keeps-appends (Some xs) (Some ys) None bs kept more = absurd more
 Keeps-appends (Some xs) (Some ys) (Some zs) bs kept more = more ∙ ap (λ v. v ++ bs) kept
-
--- what is read after nothing was taken is read at first
-pub Keeps-read : {E : Type 0} (a b c : Option (List ℕ)) (r : Result ℕ E) (buf : List ℕ) → Keeps a b → ReadConsumes b c r buf → ReadConsumes a c r buf
-Keeps-read a b c (Ok n) buf kept h = (Keeps-consumes a b c (take n buf) kept h.0, h.1)
-Keeps-read a b c (Err e) buf kept h = Keeps-keeps a b c kept h
-
--- what is written after nothing was given is written at first
-pub Keeps-write : {E : Type 0} (a b c : Option (List ℕ)) (r : Result ℕ E) (buf : List ℕ) → Keeps a b → WriteAppends b c r buf → WriteAppends a c r buf
-Keeps-write a b c (Ok n) buf kept h = Keeps-appends a b c (take n buf) kept h
-Keeps-write a b c (Err e) buf kept h = Keeps-keeps a b c kept h

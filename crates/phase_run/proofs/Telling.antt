@@ -18,10 +18,6 @@ Appends-after (Some us) None c xs ys first more = absurd first
 Appends-after (Some us) (Some vs) None xs ys first more = absurd more
 Appends-after (Some us) (Some vs) (Some ws) xs ys first more = more ∙ ap (λ v. v ++ ys) first ∙ append_assoc us xs ys
 
--- nothing is told where nothing changes
-pub tells-nothing : (t : Teller) → Tells [] t t
-tells-nothing t given faults text h = subst (λ bytes. HasTold given faults bytes t) (sym (append-nil text)) h
-
 -- one after the other
 pub tells-two : (a b : List ℕ) (s t u : Teller) → Tells a s t → Tells b t u → Tells (a ++ b) s u
 tells-two a b s t u f g given faults text h =
