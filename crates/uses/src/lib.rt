@@ -1,6 +1,7 @@
 //! Callers of the crates below, as a user writes them. Each file is one story:
 //!
 //! - `plugins`: a host shuts two plugins down in the opposite order of their start. It is the one to read first.
+//! - `service`: cells are started, used, and finalized by the exit.
 //! - `shared_value`: a value is made once, and read by two.
 //! - `stepping`: a harness makes the steps of an engine one by one, over lockers of its own, and looks at who waits.
 //! - `built`: a schedule is built in code, run and printed.
@@ -17,6 +18,7 @@ mod from_text;
 mod in_memory;
 mod parked;
 mod plugins;
+mod service;
 mod shared_counter;
 mod shared_value;
 mod stepping;
@@ -30,6 +32,7 @@ pub use from_text::{TextError, run_text};
 pub use in_memory::{Ended, run_in_memory};
 pub use parked::{Barred, read_behind_a_writer};
 pub use plugins::{Plugin, run_host};
+pub use service::{Served, ServiceError, serve};
 pub use shared_counter::count_together;
 pub use shared_value::{Seen, read_by_two};
 pub use stepping::{step_and_look, watch_a_reader};
