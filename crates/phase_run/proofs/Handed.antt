@@ -1,25 +1,24 @@
 -- What each step of a run hands on.
-use Rattle.std.proofs.Common.{ℕ, [], ◌≡◌, ◌≤◌, ◌⊎◌, inl, inr, refl, sym, subst, arith, List, length, IsSomeAnd, IfSome}
+use Rattle.std.proofs.Common.{ℕ, [], ◌≡◌, ◌≤◌, inl, inr, refl, sym, subst, arith, List, length, IsSomeAnd, IfSome}
 use Rattle.std.specs.declared.option.Option.{Option}
 use Rattle.std.specs.declared.option.Option.TheVariants.{None, Some}
 use Rattle.std.specs.declared.result.Result.{Result}
 use Rattle.std.specs.declared.result.Result.TheVariants.{Ok, Err}
 use Rattle.std.specs.Prelude.{take, OnOk, OnErr}
 use Rattle.std.specs.Io.KnownBytes.{Appends}
-use Rattle.schedule_rules.specs.Transcripts.{Schedule, IsValid}
+use Rattle.schedule_rules.specs.Transcripts.{IsValid}
 use Rattle.phase_run.specs.declared.stop.Stop.{Stop}
 use Rattle.phase_run.specs.declared.stop.Stop.TheVariants as stop
 use Rattle.phase_run.specs.declared.status.Status.TheVariants as status
 use Rattle.phase_schedule.specs.declared.running.Run.{Run}
 use Rattle.schedule_text.specs.TranscriptText.{transcript_text}
 use Rattle.phase_run.specs.declared.failed.Failed.{Failed}
-use Rattle.phase_run.specs.Faults.{Rose}
 use Rattle.phase_run.specs.Telling.{IsToldOf, TellsRun}
 use Rattle.phase_run.specs.Words.{IsScheduleCall}
 use Rattle.schedule_text.specs.ScheduleText.{most_bytes}
-use Rattle.phase_run.specs.Runs.{Accepted, IsTooLong, IsNoText, IsInvalid, IsRefused, Due, IsWritten, IsWrittenInPart}
-use Rattle.phase_run.specs.Steps.{IsWhole, SpellsOnly, IsBegun, IsReady}
-use Rattle.phase_run.specs.Stops.{StopsRun, StopsAnswer, StopsBeforeWriting}
+use Rattle.phase_run.specs.Runs.{Accepted, IsInvalid, IsRefused, Due, IsWritten, IsWrittenInPart}
+use Rattle.phase_run.specs.Steps.{IsWhole, IsBegun, IsReady}
+use Rattle.phase_run.specs.Stops.{StopsBeforeWriting}
 
 -- the run of the schedule that all spells which the source had can be told
 pub is_ready : (input rest : Option (List ℕ)) (text page : List ℕ) (run : Run) → length text ≤ most_bytes → IsWhole input rest text → IsBegun text run → page ≡ [] → IsReady input rest run page

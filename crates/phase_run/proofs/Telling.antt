@@ -8,7 +8,7 @@ use Rattle.std.specs.declared.result.Result.{Result}
 use Rattle.std.specs.declared.result.Result.TheVariants.{Ok, Err}
 use Rattle.std.specs.Io.KnownBytes.{Appends}
 use Rattle.phase_run.specs.declared.failed.Failed.{Failed}
-use Rattle.phase_run.specs.Faults.{Rose, most_faults}
+use Rattle.phase_run.specs.Faults.{Rose}
 use Rattle.phase_run.specs.Telling.{HasTold, Teller, Tells, teller}
 
 -- bytes were appended after others

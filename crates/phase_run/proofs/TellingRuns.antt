@@ -9,7 +9,7 @@ use Rattle.std.specs.declared.result.Result.TheVariants.{Ok, Err}
 use Rattle.std.specs.Io.KnownBytes.{Appends}
 use Rattle.phase_schedule.specs.declared.ending.Ending.{Ending}
 use Rattle.phase_schedule.specs.declared.running.Run.{Run}
-use Rattle.phase_schedule.specs.Running.{EndsSo, GoesOn, HasMade, IsEnd, account_with}
+use Rattle.phase_schedule.specs.Running.{EndsSo, GoesOn, IsEnd, account_with}
 use Rattle.schedule_rules.specs.declared.line.Line.{Line}
 use Rattle.schedule_rules.specs.declared.transcript.Final.{Final}
 use Rattle.exit_registry.specs.declared.turns.Turned.{Turned}

@@ -52,25 +52,6 @@ answer_goes_on (answer.Refused r) vs = line_text-more (codes "refused") (refusal
 pub answer_ends : (a : Answer) → line_text (answer_words a) ≡ front (answer_words a) ++ (10 ∷ [])
 answer_ends a = sym (ap line_text (append-nil (answer_words a))) ∙ answer_goes_on a []
 
--- behind the number of a step stand a space and the line of its answer and its gift
-pub step_goes_on : (a : Answer) (vs : List Word) → line_rest (answer_words a ++ vs) ≡ 32 ∷ line_text (answer_words a ++ vs)
-step_goes_on (answer.Phase p) vs = refl
-step_goes_on (answer.Value v) vs = refl
-step_goes_on answer.ReadGuard vs = refl
-step_goes_on answer.WriteGuard vs = refl
-step_goes_on answer.Running vs = refl
-step_goes_on (answer.Finalizing c) vs = refl
-step_goes_on (answer.Skipped c) vs = refl
-step_goes_on (answer.Round n) vs = refl
-step_goes_on answer.Closed vs = refl
-step_goes_on answer.Done vs = refl
-step_goes_on (answer.Access p) vs = refl
-step_goes_on answer.Failed vs = refl
-step_goes_on answer.Cyclic vs = refl
-step_goes_on answer.Borrowed vs = refl
-step_goes_on (answer.Waiting w) vs = refl
-step_goes_on (answer.Refused r) vs = refl
-
 -- the text before the line feed that was taken off
 without_last : (xs : List ℕ) (x : ℕ) (k : ℕ) → k ≡ length xs → take k (xs ++ (x ∷ [])) ≡ xs
 without_last [] x zero e = refl

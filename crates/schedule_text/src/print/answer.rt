@@ -14,7 +14,7 @@ use schedule_rules::{Answer, How, Refusal};
 
 impl Page {
     /// Puts an answer behind the number of its step, and ends the line.
-    pub fn put_answer(&mut self, answer: Answer)
+    pub(crate) fn put_answer(&mut self, answer: Answer)
         requires { HasRoom 176 self.old }
         ensures text { self.new ≡ self.old ++ line_text (answer_words answer) }
         ensures room { GrowsBy 176 self.old self.new }

@@ -11,7 +11,7 @@ use phase_bits::Phase;
 impl Page {
     /// Puts the text of a phase, flag by flag.
     #[tactic(auto, unfolding(phase_bits::specs::Text::phase_text))]
-    pub fn put_flags(&mut self, phase: Phase)
+    pub(crate) fn put_flags(&mut self, phase: Phase)
         requires { HasRoom 168 self.old }
         ensures text { self.new ≡ self.old ++ phase_text (number phase) }
         ensures room { GrowsBy 168 self.old self.new }

@@ -72,7 +72,7 @@ impl Page {
 
     /// Puts these bytes.
     #[inline(always)]
-    pub fn put(&mut self, text: &[u8])
+    pub(crate) fn put(&mut self, text: &[u8])
         requires { HasRoom (length text.now) self.old }
         ensures { self.new ≡ self.old ++ text.now }
     {
@@ -82,7 +82,7 @@ impl Page {
     }
 
     /// Takes the last byte off the page.
-    pub fn take_back(&mut self)
+    pub(crate) fn take_back(&mut self)
         requires { 0 < length self.old }
         ensures { self.new ≡ take (length self.old - 1) self.old }
     {
@@ -91,7 +91,7 @@ impl Page {
 
     /// Puts a number in decimal, and a byte that ends it.
     #[inline(always)]
-    pub fn put_decimal(&mut self, number: u64, end: u8)
+    pub(crate) fn put_decimal(&mut self, number: u64, end: u8)
         requires { HasRoom 21 self.old }
         ensures text { self.new ≡ self.old ++ (decimal number ++ end ∷ []) }
         ensures room { GrowsBy 21 self.old self.new }

@@ -10,7 +10,7 @@ use phase_bits::Phase;
 
 impl Page {
     /// Puts the text of a phase. The phases that cells mostly have have it ready.
-    pub fn put_phase(&mut self, phase: Phase)
+    pub(crate) fn put_phase(&mut self, phase: Phase)
         requires { HasRoom 168 self.old }
         ensures text { self.new ≡ self.old ++ phase_text (number phase) }
         ensures room { GrowsBy 168 self.old self.new }

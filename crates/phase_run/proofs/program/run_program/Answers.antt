@@ -1,4 +1,4 @@
-use Rattle.phase_run.proofs.Handed.{answered, answered_in_part, invalid_is_refused, ready_is_accepted}
+use Rattle.phase_run.proofs.Handed.{answered, answered_in_part}
 use Rattle.phase_run.proofs.program.run_program.Goals as goal
 
 pub returns-in-Ok-tell-clause-whole : goal.returns-in-Ok-tell-clause-whole

@@ -1,4 +1,4 @@
-use Rattle.phase_run.proofs.Telling.{tells-cleared, tells-handed}
+use Rattle.phase_run.proofs.Telling.{tells-handed}
 use Rattle.phase_run.proofs.tell.hand_on.Goals as goal
 
 pub returns-in-Ok-clause-tells : goal.returns-in-Ok-clause-tells

@@ -1,5 +1,4 @@
 use Rattle.schedule_rules.proofs.NeverBusy.{none_busy}
-use Rattle.phase_schedule.specs.Running.{account_with}
 use Rattle.phase_run.proofs.TellingRuns.{told_all, end_of}
 use Rattle.phase_run.proofs.tell.tell.Goals as goal
 

@@ -1,4 +1,3 @@
-use Rattle.std.proofs.Common.{append-nil}
 use Rattle.phase_run.proofs.Telling.{tells-line, tells-two}
 use Rattle.phase_run.proofs.tell.tell_end.Goals as goal
 

@@ -1,10 +1,7 @@
-use Rattle.std.proofs.Common.{◌≡◌, length, List, [], Ok}
-use Rattle.schedule_rules.specs.declared.line.Line.{Line}
+use Rattle.std.proofs.Common.{[], Ok}
 use Rattle.schedule_rules.specs.Transcripts.{Schedule}
-use Rattle.schedule_text.specs.Lines.{lines_text}
-use Rattle.schedule_text.specs.TranscriptText.{step_lines}
 use Rattle.phase_schedule.specs.Running.{HasMade}
-use Rattle.phase_run.specs.Telling.{HasToldFirst, Tells, teller}
+use Rattle.phase_run.specs.Telling.{HasToldFirst, teller}
 use Rattle.phase_run.proofs.tell.tell_steps.Given as goal
 
 -- so many steps were told, whatever the run is of
