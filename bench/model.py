@@ -138,7 +138,7 @@ class Model:
     def answer(self, party, act, args):
         if act == "again":
             return self.call(party, *self.waiting[party])
-        if act in ("phase", "read", "write"):
+        if act in ("phase", "read", "write", "try_read"):
             return self.call(party, act, args[0])
         if act in ("made", "made_failed"):
             return self.outcome(party, args)
@@ -185,6 +185,8 @@ class Model:
             return None
         if call == "turn":
             return "write" if cell.phase & INITIALIZED else None
+        if call == "try_read":
+            return "read"
         return "write" if call == "write" or cell.wants_run() else "read"
 
     def call(self, party, call, number):
@@ -213,7 +215,7 @@ class Model:
         self.waiting[party] = (call, number)
         if not cell.plan.parks:
             return "waiting spin"
-        woken = "read" if call == "read" else "write"
+        woken = "read" if call in ("read", "try_read") else "write"
         cell.parked[woken][party] = None
         return f"waiting {woken}"
 

@@ -43,7 +43,7 @@ use Rattle.phase_moves.specs.Histories.{event, standing}
 use Rattle.phase_moves.specs.Moves.{KeptGuards, KeptWith, Pushes}
 use Rattle.phase_moves.specs.Reading.{RunsBy, target_of_section}
 use Rattle.phase_moves.specs.Standing.{Standing, guarded, run_closed, ended, finalized, writer_of}
-use Rattle.phase_moves.specs.Stands.{want_of}
+use Rattle.phase_moves.specs.Stands.{run_as as sought_as}
 use Rattle.phase_moves.proofs.Hand.{pushed_free}
 use Rattle.phase_moves.proofs.Histories.{made_read, made_write, made_failed, final_ended}
 use Rattle.phase_acts.specs.Steps.{IsAwake, HasStepped, step_of, outcome}
@@ -95,15 +95,17 @@ turn_due cells h p true ws = refl
 turn_due cells h p false ws = refl
 
 -- what is answered where a call goes on as it wants
-read_made : (w : Want) → want_of w ≡ sought.Read → answer_of_made w ≡ answer.ReadGuard
+read_made : (w : Want) → sought_as w ≡ sought.Read → answer_of_made w ≡ answer.ReadGuard
 read_made (Calls call.Read) e = refl
 read_made (Calls call.Phase) e = absurd (cc)
 read_made (Calls call.Write) e = absurd (cc)
+read_made (Calls call.TryRead) e = absurd (cc)
 read_made Turns e = absurd (cc)
 
-write_made : (w : Want) → want_of w ≡ sought.Write → answer_of_made w ≡ answer.WriteGuard
+write_made : (w : Want) → sought_as w ≡ sought.Write → answer_of_made w ≡ answer.WriteGuard
 write_made (Calls call.Phase) e = refl
 write_made (Calls call.Write) e = refl
+write_made (Calls call.TryRead) e = refl
 write_made (Calls call.Read) e = absurd (cc)
 write_made Turns e = absurd (cc)
 

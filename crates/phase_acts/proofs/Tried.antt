@@ -134,13 +134,13 @@ module _ (cells : List CellPlan) (h : List Event) (p : ℕ) (a : Act) (c : ℕ) 
     after_runs (Calls j) e none = quiet (answer_settled c w taken.Runs) none ∙ ap (λ v. standing cells (event p a (record { answer = answer_running c v; given = g }) ∷ h)) e ∙ try_runs cells h p a c w r o k j e (same j e) accepted g
     after_runs Turns e none = quiet (answer_settled c w taken.Runs) none ∙ ap (λ v. standing cells (event p a (record { answer = answer_running c v; given = g }) ∷ h)) e ∙ try_finalizes cells h p a c w r o k accepted e g
 
-    after_read : (t : ReadTicket) (q : Phase) → w ≡ Calls call.Read → q ≡ phase_asked c w m → GivesSettled n p c w g d (taken.Read t q) m → after (taken.Read t q) g d ≡ settled n p c w g d (taken.Read t q) m
-    after_read t q reads told gives = by (is_made q) refl gives
+    after_read : (j : Call) (t : ReadTicket) (q : Phase) → w ≡ Calls j → q ≡ phase_asked c w m → GivesSettled n p c w g d (taken.Read t q) m → after (taken.Read t q) g d ≡ settled n p c w g d (taken.Read t q) m
+    after_read j t q reads told gives = by (is_made q) refl gives
       where
         by : (b : Bool) → is_made q ≡ b → MatchBool b (d ≡ given.Nobody) (MayGive c (left (reader n p c) given.Nobody (took n p c w g (taken.Read t q) m)) d)
             → standing cells (event p a (record { answer = if b then answer.ReadGuard else answer.Access q; given = given_first g d }) ∷ h) ≡ (if b then took n p c w g (taken.Read t q) m else left (reader n p c) d (took n p c w g (taken.Read t q) m))
-        by true made gives = quiet answer.ReadGuard gives ∙ try_reads cells h p a c w r o k call.Read reads (same call.Read reads) accepted (undeclined c w m call.Read reads q told made) t q g
-        by false lacks gives_last = try_denied_read cells h p a c w r o k call.Read reads (same call.Read reads) accepted g d (one (taken.Read t q) gives) q t
+        by true made gives = quiet answer.ReadGuard gives ∙ try_reads cells h p a c w r o k j reads (same j reads) accepted (undeclined c w m j reads q told made) t q g
+        by false lacks gives_last = try_denied_read cells h p a c w r o k j reads (same j reads) accepted g d (one (taken.Read t q) gives) q t
 
     after_write : (t : WriteTicket) (q : Phase) → w ≡ Calls call.Write → q ≡ phase_asked c w m → GivesSettled n p c w g d (taken.Write t q) m → after (taken.Write t q) g d ≡ settled n p c w g d (taken.Write t q) m
     after_write t q writes told gives = by (is_made q) refl gives
@@ -160,6 +160,6 @@ module _ (cells : List CellPlan) (h : List Event) (p : ℕ) (a : Act) (c : ℕ) 
     after_tried (taken.Wait how) of told gives alone = quiet (answer.Waiting how) gives ∙ try_waits cells h p a c w r o k how g
     after_tried taken.Cyclic of told gives alone = let k = alone refl in after_cyclic w refl of gives k.0 k.1
     after_tried (taken.Nothing q) of told gives alone = after_nothing q of gives
-    after_tried (taken.Read t q) of told gives alone = after_read t q of told gives
+    after_tried (taken.Read t q) of told gives alone = after_read of.0 t q of.1 told gives
     after_tried (taken.Write t q) of told gives alone = after_write t q of told gives
     after_tried taken.Runs of told gives alone = after_runs w refl gives

@@ -46,12 +46,17 @@ and_if : (x y : Bool) → (if x then y else false) ≡ true → (x && y) ≡ tru
 and_if true y e = e
 and_if false y e = absurd (cc)
 
+-- the second of two that hold
+if_so : (x y : Bool) → (if x then y else false) ≡ true → y ≡ true
+if_so true y e = e
+if_so false y e = absurd (cc)
+
 -- the answer of what was taken
 settled_taken : (cells : List CellPlan) (c : ℕ) (w : Want) (g : Given) (b : Taken) → IsOf w g b → answer_settled c w b ≡ answer_taken (cell_at cells c).kind (record { cell = c; want = w }) b
 settled_taken cells c w g (taken.Wait how) of = refl
 settled_taken cells c w g taken.Cyclic of = refl
 settled_taken cells c w g (taken.Nothing q) of = ap (λ v. answer_settled c v (taken.Nothing q)) of ∙ ap (λ v. answer_taken (cell_at cells c).kind (record { cell = c; want = v }) (taken.Nothing q)) (sym of)
-settled_taken cells c w g (taken.Read t q) of = ap (λ v. answer_taken (cell_at cells c).kind (record { cell = c; want = v }) (taken.Read t q)) (sym of)
+settled_taken cells c w g (taken.Read t q) of = ap (λ r. if is_made q then r else answer.Access q) (sym of.2) ∙ ap (λ v. answer_taken (cell_at cells c).kind (record { cell = c; want = v }) (taken.Read t q)) (sym of.1)
 settled_taken cells c w g (taken.Write t q) of = ap (λ v. answer_taken (cell_at cells c).kind (record { cell = c; want = v }) (taken.Write t q)) (sym of)
 settled_taken cells c (Calls k) g taken.Runs of = refl
 settled_taken cells c Turns g taken.Runs of = refl
@@ -115,7 +120,7 @@ module _ (cells : List CellPlan) (h : List Event) (p : ℕ) (a : Act) (c : ℕ) 
         by true e = ap (may_give_last cells h (step_of p a) answer.ReadGuard) e
         by false gift =
             gave_freed cells h p a (answer.Access q) c k.concerned d
-            (subst (λ z. MayGive c z d) (sym (try_denied_read cells h p a c w r o k call.Read of (same call.Read of) accepted given.Nobody given.Nobody refl q l)) (subst (λ x. MayGive c (left (reader n p c) given.Nobody (took n p c w x (taken.Read l q) m)) d) nobody gift)) refl
+            (subst (λ z. MayGive c z d) (sym (try_denied_read cells h p a c w r o k of.0 of.1 (same of.0 of.1) accepted given.Nobody given.Nobody refl q l)) (subst (λ x. MayGive c (left (reader n p c) given.Nobody (took n p c w x (taken.Read l q) m)) d) nobody gift)) refl
     gave_settled (taken.Write l q) of gives = by (is_made q) gives
       where
         by : (b : Bool) → MatchBool b (d ≡ given.Nobody) (MayGive c (left (writer_asked n p c (changes_at c w m)) given.Nobody (took n p c w g (taken.Write l q) m)) d) → may_give_last cells h (step_of p a) (if b then answer.WriteGuard else answer.Access q) d ≡ true
@@ -162,8 +167,8 @@ module _ (cells : List CellPlan) (h : List Event) (p : ℕ) (a : Act) (c : ℕ) 
       where
         access : (b : Taken) → IsOf w g b → TellsPhase (phase_asked c w m) b → is_read b ≡ true → GivesDown p t b m → may_give_last cells h (step_of p a) (answer_settled c w b) given.Readers ≡ true
         access (taken.Read l q) of told taken_so f =
-            let declined : is_declined (cell_at cells c).kind (tolerance_at cells c) call.Read r.is_open (phase_at cells c h) ≡ true = ap (λ v. declines_in c v m) (sym of) ∙ f.declined in
-            let lacks = denied c w m call.Read of q told declined in
+            let declined : is_declined (cell_at cells c).kind (tolerance_at cells c) of.0 r.is_open (phase_at cells c h) ≡ true = if_so (reads_on of.0) _ (ap (λ v. declines_in c v m) (sym of.1) ∙ f.declined) in
+            let lacks = denied c w m of.0 of.1 q told declined in
             ap (λ z. may_give_last cells h (step_of p a) (if z then answer.ReadGuard else answer.Access q) given.Readers) lacks ∙ gave_down q (taken.Read l q) f
         access (taken.Wait how) of told taken_so f = absurd (cc)
         access taken.Cyclic of told taken_so f = absurd (cc)

@@ -36,6 +36,7 @@ impl<L: PhaseLocker> Machine<L> {
             }
             Call::Read => self.tries(party, target, false),
             Call::Write => self.tries(party, target, false),
+            Call::TryRead => self.tries(party, target, false),
         }
     }
 }

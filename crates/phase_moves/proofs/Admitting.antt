@@ -74,6 +74,7 @@ pub own_same : (w : Want) (b : Bool) (o : Option ℕ) (p : ℕ) → w ≢ Calls 
 own_same (Calls call.Phase) b o p ne e = absurd (ne refl)
 own_same (Calls call.Read) b o p ne e = e
 own_same (Calls call.Write) b o p ne e = e
+own_same (Calls call.TryRead) b o p ne e = refl
 own_same Turns b o p ne e = refl
 
 -- ---- an attempt that is admitted
@@ -82,12 +83,14 @@ pub wanted_same : (x : CellPlan) (w : Want) (q : ℕ) → w ≢ Calls call.Phase
 wanted_same x (Calls call.Phase) q ne = absurd (ne refl)
 wanted_same x (Calls call.Read) q ne = refl
 wanted_same x (Calls call.Write) q ne = refl
+wanted_same x (Calls call.TryRead) q ne = refl
 wanted_same x Turns q ne = refl
 
 pub wakes_same : (x : CellPlan) (w : Want) → w ≢ Calls call.Phase → wake_of (ask_of x w).want ≡ wakes_as w
 wakes_same x (Calls call.Phase) ne = absurd (ne refl)
 wakes_same x (Calls call.Read) ne = refl
 wakes_same x (Calls call.Write) ne = refl
+wakes_same x (Calls call.TryRead) ne = refl
 wakes_same x Turns ne = refl
 
 module _ (x : CellPlan) (c p : ℕ) (reg : Registry) (y : Content) where
@@ -134,6 +137,7 @@ module _ (x : CellPlan) (c p : ℕ) (reg : Registry) (y : Content) where
       by : (b : Bool) → shall_init (tolerance_of x) q ≡ b → Due (Calls call.Write)
       by false e = written_due call.Write false refl refl e e refl
       by true e = written_due call.Write true refl refl e e (run_due call.Write (begun.Write write_ticket refused) (section_by who want.Write (stays_asked o q) write_ticket) refl)
+  admitted_due (Calls call.TryRead) ne = refl
   admitted_due Turns ne = by (has y.phase initialized) refl
     where
       by : (b : Bool) → has y.phase initialized ≡ b → Due Turns
@@ -161,13 +165,14 @@ module _ (x : CellPlan) (c p : ℕ) (reg : Registry) (y : Content) where
   admitted_of (Calls call.Read) ne g = by (shall_init (tolerance_of x) q) refl
     where
       by : (b : Bool) → shall_init (tolerance_of x) q ≡ b → IsOf (Calls call.Read) g (taken_of (begun_settled (ask_of x (Calls call.Read)) o q (begun_of who (ask_of x (Calls call.Read)) q (got (nature_of (ask_of x (Calls call.Read)) q) q))))
-      by false e = subst (λ z. IsOf (Calls call.Read) g (taken_of (begun_settled (ask_of x (Calls call.Read)) o q (begun_of who (ask_of x (Calls call.Read)) q (got z q))))) (sym (ap (λ z. if z then nature.Write else nature.Read) e)) refl
-      by true e = written_of call.Read true g (ap (λ z. if z then nature.Write else nature.Read) e) e (run_of call.Read (begun.Read read_ticket refused) (section_by who want.Read (stays_asked o q) write_ticket) g refl (is_refused x.leak o q))
+      by false e = subst (λ z. IsOf (Calls call.Read) g (taken_of (begun_settled (ask_of x (Calls call.Read)) o q (begun_of who (ask_of x (Calls call.Read)) q (got z q))))) (sym (ap (λ z. if z then nature.Write else nature.Read) e)) (call.Read, refl, refl)
+      by true e = written_of call.Read true g (ap (λ z. if z then nature.Write else nature.Read) e) e (run_of call.Read (begun.Read read_ticket refused) (section_by who want.Read (stays_asked o q) write_ticket) g (call.Read, refl, refl) (is_refused x.leak o q))
   admitted_of (Calls call.Write) ne g = by (shall_init (tolerance_of x) q) refl
     where
       by : (b : Bool) → shall_init (tolerance_of x) q ≡ b → IsOf (Calls call.Write) g (taken_of (begun_settled (ask_of x (Calls call.Write)) o q (begun_of who (ask_of x (Calls call.Write)) q (got (nature_of (ask_of x (Calls call.Write)) q) q))))
       by false e = written_of call.Write false g refl e refl
       by true e = written_of call.Write true g refl e (run_of call.Write (begun.Write write_ticket refused) (section_by who want.Write (stays_asked o q) write_ticket) g refl (is_refused x.leak o q))
+  admitted_of (Calls call.TryRead) ne g = (call.TryRead, refl, refl)
   admitted_of Turns ne g = by (has y.phase initialized)
     where
       by : (b : Bool) → IsOf Turns g (taken_of (begun_settled (ask_of x Turns) o q (begun_of who (ask_of x Turns) q (got (if b then nature.Write else nature.None) q))))

@@ -42,11 +42,11 @@ use Rattle.phase_moves.specs.declared.rows.Rows.{Rows}
 use Rattle.phase_moves.specs.declared.rows.Taken.TheVariants as taken
 use Rattle.phase_moves.specs.Calls.{Calls as CallOf, registry_for, registry_begun}
 use Rattle.phase_moves.specs.Standing.{Standing, run_in, runner_of, reads_in, writes_in, changes_at, section_asked, registry_asked}
-use Rattle.phase_moves.specs.Stands.{seen_at, IsCell, IsExit, IsLocked, AreShown, party_row, open_run, stays_in, want_of}
+use Rattle.phase_moves.specs.Stands.{seen_at, IsCell, IsExit, IsLocked, AreShown, party_row, open_run, run_as, stays_in, want_of}
 use Rattle.phase_moves.specs.Tries.{IsAttempting, IsTook, WaitsAt, ask_of, opens_section, party_after, run_after, taken_of}
 use Rattle.phase_moves.specs.declared.rows.Taken.{Taken}
 use Rattle.phase_moves.specs.Meets.{IsMet}
-use Rattle.phase_moves.proofs.Asked.{stays_same, run_calls, final_turns, registry_run, cells_stay}
+use Rattle.phase_moves.proofs.Asked.{asked_as, stays_same, run_calls, final_turns, registry_run, cells_stay}
 use Rattle.phase_moves.proofs.Attempts.{IsBegun, IsTurned, Tells, declines, phase_left, rows_begun, stays_asked, writes_begun, wrote}
 use Rattle.phase_moves.proofs.Answered.{answered as begun_as}
 use Rattle.phase_moves.proofs.Calling.{answered_moved}
@@ -138,7 +138,7 @@ module _ {L : Type 0} (held : L → Holders) (place : L → LockerKind) where
     took_wait : (d : IsBegun who ask reg (held row.seq.locker) v.parks b g (held row'.seq.locker) v'.parks) (few : (held row'.seq.locker).readers ≤ most_readers) (tell : (z : Taken) → taken_of b ≡ z → IsMet p t z g m) → (way : How) → b ≡ begun.Wait way → of' ≡ record { waiting = Some (record { cell = t.cell; want = t.want }); innermost = of.innermost } → row'.run ≡ row.run → IsTook held place m v p t (taken.Wait way) g v'
     took_wait d few tell = took_wait_of held place m v v' p t waits is row row' row_is of of' of_is cells guards parties plan value owner turns b g registry running stands op k cyc d few tell
 
-    took_run : (d : IsBegun who ask reg (held row.seq.locker) v.parks b g (held row'.seq.locker) v'.parks) (few : (held row'.seq.locker).readers ≤ most_readers) (tell : (z : Taken) → taken_of b ≡ z → IsMet p t z g m) → (s : SeqSection) → reads_begun b ≡ 0 → writes_begun b ≡ 1 → (held row'.seq.locker).phase ≡ (held row.seq.locker).phase → v'.parks ≡ rows_handed t.cell g (freed p v.parks) → IsExit (length v.cells.items) (record m { registry = registry_asked t.cell t.want m }) v'.exit → row'.seq.running ≡ runner_of (Some (record { section = section_asked n p t.cell t.want m; outer = cell_of_section (innermost p m.sections) })) → s ≡ section_by who (ask_of x t.want).want (stays_in x t.want m.registry.is_open y.phase) write_ticket → false ≡ is_cyclic (want_of t.want) p (runner_of (run_in t.cell m.sections)) → IsMet p t taken.Runs g m → of' ≡ record { waiting = None; innermost = Some t.cell } → row'.run ≡ Some (record { run = record { party = p; want = t.want; outer = of.innermost }; section = s }) → IsTook held place m v p t taken.Runs g v'
+    took_run : (d : IsBegun who ask reg (held row.seq.locker) v.parks b g (held row'.seq.locker) v'.parks) (few : (held row'.seq.locker).readers ≤ most_readers) (tell : (z : Taken) → taken_of b ≡ z → IsMet p t z g m) → (s : SeqSection) → reads_begun b ≡ 0 → writes_begun b ≡ 1 → (held row'.seq.locker).phase ≡ (held row.seq.locker).phase → v'.parks ≡ rows_handed t.cell g (freed p v.parks) → IsExit (length v.cells.items) (record m { registry = registry_asked t.cell t.want m }) v'.exit → row'.seq.running ≡ runner_of (Some (record { section = section_asked n p t.cell t.want m; outer = cell_of_section (innermost p m.sections) })) → s ≡ section_by who (run_as t.want) (stays_in x t.want m.registry.is_open y.phase) write_ticket → false ≡ is_cyclic (want_of t.want) p (runner_of (run_in t.cell m.sections)) → IsMet p t taken.Runs g m → of' ≡ record { waiting = None; innermost = Some t.cell } → row'.run ≡ Some (record { run = record { party = p; want = t.want; outer = of.innermost }; section = s }) → IsTook held place m v p t taken.Runs g v'
     took_run d few tell = took_run_of held place m v v' p t waits is row row' row_is of of' of_is cells guards parties plan value owner turns b g registry running stands op k cyc d few tell
 
     -- ---- it was turned back: nothing changed
@@ -265,7 +265,7 @@ module _ {L : Type 0} (held : L → Holders) (place : L → LockerKind) where
           let here = cell_here in
           took_run d (few_now (ap is_turned_back e)) (told_met (ap is_turned_back e)) s (ap reads_begun e) (ap writes_begun e) (phase_as d (begun.Run s) e) (rows_as d (begun.Run s) e) (exit_run e call)
           (running ∙ ap (λ x. running_after x row.seq.running) e ∙ ap (λ (z : SeqSection). Some z.who.party) tells.0 ∙ (rw call refl))
-          (tells.0 ∙ (λ i. section_by who (ask_of (here.planned i) t.want).want (stays_asked (registry_for (here.planned i).kind (is.rests.stands.exit.registry_is i)) (here.locked.phase_is i)) write_ticket) ∙ ap (λ q. section_by who (ask_of x t.want).want q write_ticket) (stays_same x t.want m.registry y.phase call)) (cyclic_as (begun.Run s) e) (told_met (ap is_turned_back e) taken.Runs (ap taken_of e)) o run
+          (tells.0 ∙ (λ i. section_by who (ask_of (here.planned i) t.want).want (stays_asked (registry_for (here.planned i).kind (is.rests.stands.exit.registry_is i)) (here.locked.phase_is i)) write_ticket) ∙ ap (λ q. section_by who (ask_of x t.want).want q write_ticket) (stays_same x t.want m.registry y.phase call) ∙ ap (λ w. section_by who w (stays_in x t.want m.registry.is_open y.phase) write_ticket) (asked_as row.plan t.want _ tells.1)) (cyclic_as (begun.Run s) e) (told_met (ap is_turned_back e) taken.Runs (ap taken_of e)) o run
         where
           exit_run : b ≡ begun.Run s → is_turn t.want ≡ false → IsExit (length v.cells.items) (record m { registry = registry_asked t.cell t.want m }) v'.exit
           exit_run e call = by t.want refl call
@@ -289,7 +289,7 @@ module _ {L : Type 0} (held : L → Holders) (place : L → LockerKind) where
           took_run d (few_now (ap is_turned_back e)) (told_met (ap is_turned_back e)) s (ap reads_begun e) (ap writes_begun e) (phase_as d (begun.Final s) e) (rows_as d (begun.Final s) e)
           (subst (λ w. IsExit (length v.cells.items) (record m { registry = registry_asked t.cell w m }) v'.exit) (sym turn) (exit_still (ap is_run e)))
           (running ∙ ap (λ x. running_after x row.seq.running) e ∙ here.runner ∙ ap runner_of (none_runs t.cell m.sections (let z = was_none d (ap (wrote _) e) in omega (arith, z))) ∙ sym (ap (λ w. if is_turn w then None else Some p) turn))
-          (tells.0 ∙ (λ i. section_by who (ask_of (here.planned i) t.want).want (here.locked.phase_is i) write_ticket) ∙ ap (λ w. section_by who (ask_of x t.want).want (stays_in x w m.registry.is_open y.phase) write_ticket) (sym turn)) (cyclic_as (begun.Final s) e) (told_met (ap is_turned_back e) taken.Runs (ap taken_of e)) o run
+          (tells.0 ∙ (λ i. section_by who (ask_of (here.planned i) t.want).want (here.locked.phase_is i) write_ticket) ∙ ap (λ w. section_by who (ask_of x t.want).want (stays_in x w m.registry.is_open y.phase) write_ticket) (sym turn) ∙ ap (λ w. section_by who w (stays_in x t.want m.registry.is_open y.phase) write_ticket) (subst (λ w. want_of w ≡ run_as w) (sym turn) refl)) (cyclic_as (begun.Final s) e) (told_met (ap is_turned_back e) taken.Runs (ap taken_of e)) o run
 
       -- no section ran where one is opened
       pub none_before : opens_section b ≡ true → row.run ≡ None

@@ -21,7 +21,7 @@ use Rattle.schedule_rules.specs.Changes.{Content, Asked, effect, is_declined}
 use Rattle.schedule_rules.specs.Sections.{is_turn}
 use Rattle.phase_moves.specs.Calls.{registry_for, registry_begun}
 use Rattle.phase_moves.specs.Standing.{changes_asked}
-use Rattle.phase_moves.specs.Stands.{stays_in, want_of}
+use Rattle.phase_moves.specs.Stands.{run_as, stays_in, want_of}
 use Rattle.phase_moves.specs.Tries.{ask_of}
 use Rattle.phase_moves.proofs.Attempts.{declines, stays_asked, phase_told}
 
@@ -30,6 +30,7 @@ pub asks_same : (x : CellPlan) (w : Want) (p : Phase) → w ≢ Calls call.Phase
 asks_same x (Calls call.Phase) p ne = absurd (ne refl)
 asks_same x (Calls call.Read) p ne = refl
 asks_same x (Calls call.Write) p ne = refl
+asks_same x (Calls call.TryRead) p ne = refl
 asks_same x Turns p ne = refl
 
 -- only a call asks a run, and only a turn the finalizer
@@ -41,7 +42,16 @@ pub final_turns : (w : Want) → finalizes (want_of w) ≡ true → w ≡ Turns
 final_turns (Calls call.Phase) e = absurd (cc)
 final_turns (Calls call.Read) e = absurd (cc)
 final_turns (Calls call.Write) e = absurd (cc)
+final_turns (Calls call.TryRead) e = absurd (cc)
 final_turns Turns e = refl
+
+-- what asks for a run or the finalizer has its section run as it seeks
+pub asked_as : (x : CellPlan) (w : Want) (p : Phase) → seq_asks_run (ask_of x w) p ≡ true → want_of w ≡ run_as w
+asked_as x (Calls call.Phase) p e = refl
+asked_as x (Calls call.Read) p e = refl
+asked_as x (Calls call.Write) p e = refl
+asked_as x (Calls call.TryRead) p e = absurd (cc)
+asked_as x Turns p e = refl
 
 -- the flags that stay beside those of a section
 pub stays_same : (x : CellPlan) (w : Want) (m : Registry) (p : ℕ) → is_turn w ≡ false → stays_asked (registry_for x.kind m) (phase_of p) ≡ stays_in x w m.is_open p

@@ -42,7 +42,7 @@ use Rattle.phase_moves.specs.declared.rows.OpenRun.{OpenRun}
 use Rattle.phase_moves.specs.declared.rows.PartyRow.{PartyRow}
 use Rattle.phase_moves.specs.declared.rows.Rows.{Rows}
 use Rattle.phase_moves.specs.Standing.{Standing, run_in, reads_in, writes_in, runner_of, run_closed, guarded, writer_of}
-use Rattle.phase_moves.specs.Stands.{Seen, seen_at, IsCell, IsLocked, Stands, section_of, stays_in, target_of, want_of}
+use Rattle.phase_moves.specs.Stands.{Seen, seen_at, IsCell, IsLocked, Stands, run_as, section_of, stays_in, target_of, want_of}
 use Rattle.phase_moves.specs.Ends.{IsEnding, EndsAs, GoesAs}
 use Rattle.phase_moves.proofs.Known.{change_known, stays_known}
 use Rattle.phase_locker.proofs.Leaving.{write_has_no_reader}
@@ -94,17 +94,26 @@ reached_as x (Calls k) is_open y None true e m = absurd (cc)
 reached_as x (Calls k) is_open y None false e m = refl
 reached_as x Turns is_open y made b e m = absurd (cc)
 
-pub asked_run : (w : Want) → is_turn w ≡ false → initializes (want_of w) ≡ true
+pub asked_run : (w : Want) → is_turn w ≡ false → initializes (run_as w) ≡ true
 asked_run (Calls call.Phase) e = refl
 asked_run (Calls call.Read) e = refl
 asked_run (Calls call.Write) e = refl
+asked_run (Calls call.TryRead) e = refl
 asked_run Turns e = absurd (cc)
 
 pub never_init : (w : Want) → want_of w ≡ want.Init → ⊥
 never_init (Calls call.Phase) e = cc
 never_init (Calls call.Read) e = cc
 never_init (Calls call.Write) e = cc
+never_init (Calls call.TryRead) e = cc
 never_init Turns e = cc
+
+never_runs_init : (w : Want) → run_as w ≡ want.Init → ⊥
+never_runs_init (Calls call.Phase) e = cc
+never_runs_init (Calls call.Read) e = cc
+never_runs_init (Calls call.Write) e = cc
+never_runs_init (Calls call.TryRead) e = cc
+never_runs_init Turns e = cc
 
 module _ {L : Type 0} (held : L → Holders) (place : L → LockerKind) (m : Standing) (v : Rows L) (p c : ℕ) (made : Option ℕ) (s : Section) (is : IsEnding held place m v p c made s) (row : CellRow L) (row_is : row ≡ get_or v.cells.items c row) where
   abbrev n : ℕ
@@ -238,7 +247,7 @@ module _ {L : Type 0} (held : L → Holders) (place : L → LockerKind) (m : Sta
             ∙ seen_reader n s.party c (run_closed s made r.1 m)
             ∙ ap (λ (w : Seen). record { plan = w.plan; content = w.content; reads = w.reads + 1; writes = w.writes; run = w.run }) (seen_closed held place m v p c s is.inner row row_is (Ran s.is_open made ∷ []) r.1)
 
-        going : (x : Option ℕ) → IsMadeAs x true → (want_of s.want ≡ want.Read) × (q ≡ phase_of (content_of_run (cell_at m.plans s.cell).kind s.is_open x (m.content s.cell)).phase) → GoesAs s.want x (phase_of (content_of_run (cell_at m.plans s.cell).kind s.is_open x (m.content s.cell)).phase) (finished.Read l q) r.1
+        going : (x : Option ℕ) → IsMadeAs x true → (run_as s.want ≡ want.Read) × (q ≡ phase_of (content_of_run (cell_at m.plans s.cell).kind s.is_open x (m.content s.cell)).phase) → GoesAs s.want x (phase_of (content_of_run (cell_at m.plans s.cell).kind s.is_open x (m.content s.cell)).phase) (finished.Read l q) r.1
         going None z f = absurd (cc)
         going (Some x) z f = f
 
@@ -274,10 +283,10 @@ module _ {L : Type 0} (held : L → Holders) (place : L → LockerKind) (m : Sta
             let more : count (writes_cell c) m.guards + 1 + count (runs_in c) (without_innermost s.party m.sections) ≡ writes_in c gone + 1 = omega arith in
             rw e ((λ i. record { plan = cell_at m.plans c; content = m.content c; reads = reads_in c m; writes = more i; run = run_in c (without_innermost s.party m.sections) }) ∙ ap (λ (w : Seen). record { plan = w.plan; content = w.content; reads = w.reads; writes = w.writes + 1; run = w.run }) (seen_without held place m v p c s is.inner row row_is))
 
-        going : (x : Option ℕ) → IsMadeAs x true → (want_of s.want ≡ want.Write) × (q ≡ phase_of (content_of_run (cell_at m.plans s.cell).kind s.is_open x (m.content s.cell)).phase) × (r.1 ≡ given.Nobody) → GoesAs s.want x (phase_of (content_of_run (cell_at m.plans s.cell).kind s.is_open x (m.content s.cell)).phase) (finished.Write l q) r.1
+        going : (x : Option ℕ) → IsMadeAs x true → (run_as s.want ≡ want.Write) × (q ≡ phase_of (content_of_run (cell_at m.plans s.cell).kind s.is_open x (m.content s.cell)).phase) × (r.1 ≡ given.Nobody) → GoesAs s.want x (phase_of (content_of_run (cell_at m.plans s.cell).kind s.is_open x (m.content s.cell)).phase) (finished.Write l q) r.1
         going None z f = absurd (cc)
         going (Some x) z f = f
 
     -- it never only ends
     pub ends_phase : (q : Phase) → r.0 ≡ finished.Phase q → EndsAs held place m v s made (Some (finished.Phase q, r.1)) v'
-    ends_phase q e = absurd (never_init s.want (how (finished.Phase q) e).1)
+    ends_phase q e = absurd (never_runs_init s.want (how (finished.Phase q) e).1)

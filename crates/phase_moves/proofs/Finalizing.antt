@@ -26,7 +26,7 @@ use Rattle.phase_moves.specs.declared.rows.OpenRun.{OpenRun}
 use Rattle.phase_moves.specs.declared.rows.PartyRow.{PartyRow}
 use Rattle.phase_moves.specs.declared.rows.Rows.{Rows}
 use Rattle.phase_moves.specs.Standing.{Standing, runner_of, finalized, turn_of}
-use Rattle.phase_moves.specs.Stands.{Seen, seen_at, IsCell, IsExit, want_of}
+use Rattle.phase_moves.specs.Stands.{Seen, seen_at, IsCell, IsExit, run_as}
 use Rattle.phase_moves.specs.Ends.{IsFinalizing, FinalizesAs}
 use Rattle.phase_moves.proofs.Known.{change_known}
 use Rattle.phase_moves.proofs.Leaving.{parked_few}
@@ -37,7 +37,7 @@ use Rattle.phase_moves.proofs.EndGives.{gives_closed}
 use Rattle.phase_moves.proofs.Innermost.{in_cells, cell_here, runs_here, o_is, its_row, write_open, seen_closed, closed_moved, cell_ended, parties_ended}
 use Rattle.phase_moves.proofs.Moved.{moved}
 
-pub asked_final : (w : Want) → is_turn w ≡ true → finalizes (want_of w) ≡ true
+pub asked_final : (w : Want) → is_turn w ≡ true → finalizes (run_as w) ≡ true
 asked_final (Calls k) e = absurd (cc)
 asked_final Turns e = refl
 

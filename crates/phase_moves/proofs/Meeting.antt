@@ -282,6 +282,7 @@ module _ (n : ℕ) (k : LockerKind) (h : Holders) (s : Parking) (m : Standing) (
             by (Calls call.Read) e f = f
             by (Calls call.Phase) e f = absurd (cc)
             by (Calls call.Write) e f = absurd (cc)
+            by (Calls call.TryRead) e f = absurd (cc)
             by Turns e f = absurd (cc)
 
     -- the answer is due, and the gift allowed

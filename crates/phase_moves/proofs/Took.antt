@@ -47,7 +47,7 @@ use Rattle.phase_moves.specs.declared.rows.Rows.{Rows}
 use Rattle.phase_moves.specs.declared.rows.Taken.TheVariants as taken
 use Rattle.phase_moves.specs.Calls.{registry_for, registry_begun}
 use Rattle.phase_moves.specs.Standing.{Standing, Run, run_in, runner_of, reads_in, writes_in, changes_at, called, answered, waiting, guarded, opened, section_asked, writer_asked, registry_asked}
-use Rattle.phase_moves.specs.Stands.{Seen, seen_at, IsCell, IsExit, IsLocked, AreShown, party_row, open_run, stays_in, target_of, want_of}
+use Rattle.phase_moves.specs.Stands.{Seen, seen_at, IsCell, IsExit, IsLocked, AreShown, party_row, open_run, run_as, stays_in, target_of, want_of}
 use Rattle.phase_moves.specs.Tries.{IsAttempting, IsTook, ask_of, phase_asked, taken_of}
 use Rattle.phase_moves.specs.declared.rows.Taken.{Taken}
 use Rattle.phase_moves.specs.Meets.{IsMet}
@@ -369,7 +369,7 @@ module _ {L : Type 0} (held : L → Holders) (place : L → LockerKind) where
         run_r = record { section = section_asked n p t.cell t.want m; outer = cell_of_section (innermost p m.sections) }
 
         pub took_run : (s : SeqSection) → reads_begun b ≡ 0 → writes_begun b ≡ 1 → (held row'.seq.locker).phase ≡ (held row.seq.locker).phase → v'.parks ≡ rows_handed t.cell g (freed p v.parks) → IsExit (length v.cells.items) (record m { registry = registry_asked t.cell t.want m }) v'.exit → row'.seq.running ≡ runner_of (Some run_r)
-            → s ≡ section_by who (ask_of x t.want).want (stays_in x t.want m.registry.is_open y.phase) write_ticket → false ≡ is_cyclic (want_of t.want) p (runner_of (run_in t.cell m.sections)) → IsMet p t taken.Runs g m → of' ≡ record { waiting = None; innermost = Some t.cell } → row'.run ≡ Some (record { run = record { party = p; want = t.want; outer = of.innermost }; section = s }) → IsTook held place m v p t taken.Runs g v'
+            → s ≡ section_by who (run_as t.want) (stays_in x t.want m.registry.is_open y.phase) write_ticket → false ≡ is_cyclic (want_of t.want) p (runner_of (run_in t.cell m.sections)) → IsMet p t taken.Runs g m → of' ≡ record { waiting = None; innermost = Some t.cell } → row'.run ≡ Some (record { run = record { party = p; want = t.want; outer = of.innermost }; section = s }) → IsTook held place m v p t taken.Runs g v'
         took_run s none one phase rows exit runner section turned told o run =
             record {
               stands = moved held place t.cell n n m run_m v v' row' is.rests.stands is.cell cells

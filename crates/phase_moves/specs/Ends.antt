@@ -21,7 +21,7 @@ use Rattle.phase_moves.specs.declared.rows.Rows.{Rows}
 use Rattle.phase_moves.specs.Moves.{Rests}
 use Rattle.phase_moves.specs.Standing.{Standing, run_closed, ended, finalized}
 use Rattle.phase_moves.specs.Gifts.{MayGive, MayGiveDown}
-use Rattle.phase_moves.specs.Stands.{Stands, want_of}
+use Rattle.phase_moves.specs.Stands.{Stands, run_as}
 
 -- a run that made a value for this want goes on so, and one that failed fails; the phase is told, and a write keeps its
 -- lock, so that it gives nothing
@@ -32,8 +32,8 @@ GoesAs w None p (finished.Read t q) g = ⊥
 GoesAs w None p (finished.Write t q) g = ⊥
 GoesAs w (Some v) p (finished.Failed q) g = ⊥
 GoesAs w (Some v) p (finished.Phase q) g = ⊥
-GoesAs w (Some v) p (finished.Read t q) g = (want_of w ≡ want.Read) × (q ≡ p)
-GoesAs w (Some v) p (finished.Write t q) g = (want_of w ≡ want.Write) × (q ≡ p) × (g ≡ given.Nobody)
+GoesAs w (Some v) p (finished.Read t q) g = (run_as w ≡ want.Read) × (q ≡ p)
+GoesAs w (Some v) p (finished.Write t q) g = (run_as w ≡ want.Write) × (q ≡ p) × (g ≡ given.Nobody)
 
 -- what may be given as the run of this section goes on so: a write keeps its lock, and a read keeps a reader
 abbrev pub GivesAs : Standing → Section → Option ℕ → Finished → Given → Type 0

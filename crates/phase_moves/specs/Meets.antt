@@ -138,13 +138,13 @@ abbrev pub MayGiveAt : Moment → ℕ → Target → Taken → Given → Standin
 MayGiveAt First p t b g m = GivesFirst p t g m
 MayGiveAt Last p t b g m = GivesLast p t b g m
 
--- what is got is of the kind that is wanted: a read a lock to read, a write the lock to write, and a turn none, but that it
+-- what is got is of the kind that is wanted: a call for a guard to read a lock to read, a write the lock to write, and a turn none, but that it
 -- may run; a call that is turned back gives nothing
 abbrev pub IsOf : Want → Given → Taken → Type 0
 IsOf w g (taken.Wait how) = Unit {0}
 IsOf w g taken.Cyclic = g ≡ given.Nobody
 IsOf w g (taken.Nothing p) = w ≡ Turns
-IsOf w g (taken.Read lock p) = w ≡ Calls call.Read
+IsOf w g (taken.Read lock p) = (k : Call) × (w ≡ Calls k) × (answer_opened k ≡ answer.ReadGuard)
 IsOf w g (taken.Write lock p) = w ≡ Calls call.Write
 IsOf w g taken.Runs = Unit {0}
 

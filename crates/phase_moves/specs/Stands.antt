@@ -1,5 +1,5 @@
 -- When rows stand for what is open.
-use Rattle.std.specs.Prelude.{ℕ, Bool, List, [], ◌∷◌, ◌≡◌, ◌≢◌, ◌≤◌, ◌<◌, ◌^◌, ◌==◌, length, slice_get, if◌then◌else◌}
+use Rattle.std.specs.Prelude.{ℕ, Bool, List, [], ◌∷◌, ◌≡◌, ◌≢◌, ◌≤◌, ◌<◌, ◌^◌, ◌==◌, length, slice_get, ◌||◌, if◌then◌else◌}
 use Rattle.std.specs.Option.{unwrap_or}
 use Rattle.std.specs.declared.option.Option.{Option}
 use Rattle.std.specs.declared.option.Option.TheVariants.{None, Some}
@@ -16,7 +16,7 @@ use Rattle.phase_locker.specs.Fits.{Fits, IsWriteOpen, open_reads}
 use Rattle.phase_seq.specs.declared.ask.Want.{Want as SeqWant}
 use Rattle.phase_seq.specs.declared.ask.Want.TheVariants as want
 use Rattle.phase_seq.specs.declared.section.Section.{Section as SeqSection}
-use Rattle.schedule_rules.specs.Calls.{seeks}
+use Rattle.schedule_rules.specs.Calls.{initializes, seeks}
 use Rattle.schedule_rules.specs.declared.plan.CellPlan.{CellPlan}
 use Rattle.schedule_rules.specs.declared.plan.Place.{Place}
 use Rattle.schedule_rules.specs.declared.plan.Place.TheVariants as place_of
@@ -26,7 +26,7 @@ use Rattle.schedule_rules.specs.Kinds.{cell_at}
 use Rattle.schedule_rules.specs.Phases.{flags_kept}
 use Rattle.schedule_rules.specs.Changes.{Content}
 use Rattle.schedule_rules.specs.History.{count}
-use Rattle.schedule_rules.specs.Sections.{Section, innermost}
+use Rattle.schedule_rules.specs.Sections.{Section, innermost, is_turn}
 use Rattle.schedule_rules.specs.Guards.{Guard, numbered}
 use Rattle.schedule_rules.specs.Waits.{Wait, wait_of, cell_of_section}
 use Rattle.waiting_rows.specs.Shown.{Shows, IsSingle, AreWithin}
@@ -46,6 +46,10 @@ use Rattle.phase_moves.specs.Standing.{Standing, Run, run_in, runner_of, reads_i
 abbrev pub want_of : Want → SeqWant
 want_of w = unwrap_or (seeks w) want.Write
 
+-- as what its section runs. Write for a call that asks for no run does not occur: it opens none
+abbrev pub run_as : Want → SeqWant
+run_as w = if is_turn w || initializes w then want_of w else want.Write
+
 -- the flags that stay beside those of a section that runs
 abbrev pub stays_in : CellPlan → Want → Bool → ℕ → Phase
 stays_in x (Calls k) is_open p = phase_of (flags_kept x.kind is_open p)
@@ -54,7 +58,7 @@ stays_in x Turns is_open p = phase_of p
 -- the section of the cell's sequentializer
 abbrev pub section_of : CellPlan → ℕ → ℕ → Section → SeqSection
 section_of x c phase s =
-    record { who = record { cell = c; party = s.party }; want = want_of s.want; stays = stays_in x s.want s.is_open phase; ticket = write_ticket }
+    record { who = record { cell = c; party = s.party }; want = run_as s.want; stays = stays_in x s.want s.is_open phase; ticket = write_ticket }
 
 -- the row of a section that runs in the cell
 abbrev pub open_run : CellPlan → ℕ → ℕ → Option Run → Option OpenRun

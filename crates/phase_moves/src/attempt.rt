@@ -18,6 +18,7 @@ fn ask_of(plan: CellPlan, want: Want) -> Ask
     let want = match want {
         Want::Calls(Call::Read) => phase_seq::Want::Read,
         Want::Calls(Call::Write | Call::Phase) => phase_seq::Want::Write,
+        Want::Calls(Call::TryRead) => phase_seq::Want::ReadOnly,
         Want::Turns => phase_seq::Want::Finalize,
     };
     let tol = Tolerance {

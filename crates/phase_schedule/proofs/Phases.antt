@@ -62,6 +62,7 @@ module _ (cells : List CellPlan) where
       opened call.Phase = tt
       opened call.Read = tt
       opened call.Write = tt
+      opened call.TryRead = tt
 
       by : (b : Bool) → TellsKnown (if b then answer_opened k else answer_denied k y.phase)
       by true = opened k
@@ -111,6 +112,7 @@ module _ (cells : List CellPlan) where
   made_known : (w : Want) → TellsKnown (answer_of_made w)
   made_known (Calls call.Read) = tt
   made_known (Calls call.Write) = tt
+  made_known (Calls call.TryRead) = tt
   made_known (Calls call.Phase) = tt
   made_known Turns = tt
 

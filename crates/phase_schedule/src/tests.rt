@@ -25,6 +25,8 @@ fn answers_are_those_known(rt: HostRuntime) -> Result<(), Fail> {
         row(release(0, 4), Answer::Done),
         row(call(0, 0, Call::Read), Answer::ReadGuard),
         row(look(0, 7), Answer::Value(33)),
+        row(call(0, 0, Call::TryRead), Answer::ReadGuard),
+        row(look(0, 9), Answer::Value(33)),
     ];
     let one = plan(alloc, 1, 1, Place::Spin)?;
     let is_left = [left(Phase::INITIALIZED, 33)];
@@ -58,9 +60,11 @@ fn answers_are_those_known(rt: HostRuntime) -> Result<(), Fail> {
 fn a_generator_runs_once(rt: HostRuntime) -> Result<(), Fail> {
     let skipped = Phase::INITIALIZATION_PANICKED.union(Phase::INITIALIZATION_SKIPED);
     let rows = [
+        row(call(0, 0, Call::TryRead), Answer::Access(Phase::empty())),
         row(call(0, 0, Call::Read), Answer::Running),
         row(made_failed(0), Answer::Failed),
         row(call(0, 0, Call::Read), Answer::Access(skipped)),
+        row(call(0, 0, Call::TryRead), Answer::Access(skipped)),
         row(call(0, 0, Call::Write), Answer::Access(skipped)),
         row(call(0, 0, Call::Phase), Answer::Phase(skipped)),
     ];

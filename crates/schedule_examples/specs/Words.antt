@@ -67,6 +67,9 @@ read p c = step p (act.Call c call.Read)
 abbrev pub write : ℕ → ℕ → Step
 write p c = step p (act.Call c call.Write)
 
+abbrev pub try_read : ℕ → ℕ → Step
+try_read p c = step p (act.Call c call.TryRead)
+
 abbrev pub again : ℕ → Step
 again p = step p act.Again
 

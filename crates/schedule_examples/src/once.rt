@@ -3,7 +3,7 @@
 ghost use Rattle.std.specs.Prelude.{[], ◌∷◌, ◌++◌};
 ghost use Rattle.schedule_examples.specs.Examples.{Goes, GoesOnlySo, row};
 ghost use Rattle.schedule_examples.specs.Openings.{writes_first, fails_first};
-ghost use Rattle.schedule_examples.specs.Words.{cell, once_cell, parking_once_cell, phase, read, write, again, made_failed, look, put, release, readers, writer, giving, initialized_phase, failed_phase, value, read_guard, write_guard, running, done, empty_access, failed_access, failed, waiting_read, waiting_write, initialized_with, left_failed};
+ghost use Rattle.schedule_examples.specs.Words.{cell, once_cell, parking_once_cell, phase, read, write, try_read, again, made, made_failed, look, put, release, readers, writer, giving, initialized_phase, failed_phase, value, read_guard, write_guard, running, done, empty_access, failed_access, failed, waiting_read, waiting_write, initialized_with, left_failed};
 
 /// After the only run failed, a read and a write are told that the value may not be accessed, and leave the phase.
 pub fn a_failed_run_is_not_tried_again()
@@ -14,6 +14,18 @@ pub fn a_failed_run_is_not_tried_again()
         ∷ row (phase 0 0) failed_phase
         ∷ [])
         (left_failed ∷ []) }
+{}
+
+/// A `try_read` runs no generator: it is told that the value may not be accessed, until another call has made it.
+pub fn a_try_read_runs_nothing()
+    ensures { Goes (once_cell ∷ [])
+        (row (try_read 0 0) empty_access
+        ∷ row (read 0 0) running
+        ∷ row (made 0 7) read_guard
+        ∷ row (try_read 1 0) read_guard
+        ∷ row (look 1 3) (value 7)
+        ∷ [])
+        (initialized_with 7 ∷ []) }
 {}
 
 /// Where the only run succeeds, all goes as with retry.

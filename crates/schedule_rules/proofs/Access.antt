@@ -124,10 +124,12 @@ module _ (cells : List CellPlan) where
           reason = inl (
             stays,
             record {
+              call = j;
+              tried = t.tried;
               shown = e;
-              once = once-where-unwanted (tolerance_at cells c) (phase_at cells c h) r.unwanted r.accessed;
               lacks = r.accessed;
-              ended = ended-where-unwanted (tolerance_at cells c) (phase_at cells c h) r.unwanted r.accessed;
+              once = λ u. once-where-unwanted (tolerance_at cells c) (phase_at cells c h) (r.unwanted u) r.accessed;
+              ended = λ u. ended-where-unwanted (tolerance_at cells c) (phase_at cells c h) (r.unwanted u) r.accessed;
             },
           );
         }

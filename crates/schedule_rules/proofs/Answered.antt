@@ -49,6 +49,7 @@ module _ (P : Answer → Type 0) where
         by (Calls call.Phase) = w
         by (Calls call.Read) = r
         by (Calls call.Write) = w
+        by (Calls call.TryRead) = w
         by Turns = w
 
     -- that of a finalizer that ends

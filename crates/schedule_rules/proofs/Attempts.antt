@@ -208,14 +208,18 @@ module _ (cells : List CellPlan) (h : List Event) (p : ℕ) where
         read_admitted (P a) (cell_at cells c).kind (tolerance_at cells c) c (accepts h) (replay cells c h)
         (λ e. asking a c call.Read ws t mine e e (subst (IsFree c ws) (ap (λ b. if b then nature.Write else nature.Read) e) free))
         (λ e. where_accessible (P a) (cell_at cells c).kind (tolerance_at cells c) c (accepts h) (replay cells c h) call.Read
-        (λ f. k.reading a c t (record { unasked = e; unwanted = e; accessed = f }))
-        (λ f. k.denied a c call.Read t (record { unasked = e; unwanted = e; accessed = f })))
+        (λ f. k.reading a c t (record { unasked = e; unwanted = λ u. e; accessed = f }))
+        (λ f. k.denied a c call.Read t (record { unasked = e; unwanted = λ u. e; accessed = f })))
     called a c call.Write ws t mine free =
         write_admitted (P a) (cell_at cells c).kind (tolerance_at cells c) c (accepts h) (replay cells c h)
         (λ e. asking a c call.Write ws t mine e e free)
         (λ e. where_accessible (P a) (cell_at cells c).kind (tolerance_at cells c) c (accepts h) (replay cells c h) call.Write
-        (λ f. k.writing a c t (record { unasked = e; unwanted = e; accessed = f }))
-        (λ f. k.denied a c call.Write t (record { unasked = e; unwanted = e; accessed = f })))
+        (λ f. k.writing a c t (record { unasked = e; unwanted = λ u. e; accessed = f }))
+        (λ f. k.denied a c call.Write t (record { unasked = e; unwanted = λ u. e; accessed = f })))
+    called a c call.TryRead ws t mine free =
+        where_accessible (P a) (cell_at cells c).kind (tolerance_at cells c) c (accepts h) (replay cells c h) call.TryRead
+        (λ f. k.peeking a c t (record { unasked = refl; unwanted = λ u. absurd (apart (sym u)); accessed = f }))
+        (λ f. k.denied a c call.TryRead t (record { unasked = refl; unwanted = λ u. absurd (apart (sym u)); accessed = f }))
 
     turned : (a : Act) (c : ℕ) (ws : List Wait) → Turning cells h p a c → IsMine c → IsFree c ws (lock_wanted (tolerance_at cells c) Turns (phase_at cells c h))
         → P a (answer_admitted (cell_at cells c).kind (tolerance_at cells c) c (accepts h) Turns (replay cells c h))

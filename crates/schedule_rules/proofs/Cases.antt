@@ -18,7 +18,7 @@ use Rattle.schedule_rules.specs.declared.line.Answer.{Answer}
 use Rattle.schedule_rules.specs.declared.line.Answer.TheVariants as answer
 use Rattle.schedule_rules.specs.Kinds.{cell_at, tolerance_at}
 use Rattle.schedule_rules.specs.Phases.{runs_generator, phase_finalized}
-use Rattle.schedule_rules.specs.Calls.{asks}
+use Rattle.schedule_rules.specs.Calls.{asks, initializes}
 use Rattle.schedule_rules.specs.History.{Event, act_of, accepts}
 use Rattle.schedule_rules.specs.Sections.{Section, innermost, is_turn, sections}
 use Rattle.schedule_rules.specs.Guards.{Guard, numbered, guards}
@@ -95,7 +95,7 @@ module _ (cells : List CellPlan) (h : List Event) (p : ℕ) where
   -- no generator is asked at the cell, and its value may be accessed or not
   pub record Resting (c : ℕ) (k : Call) (accessible : Bool) : Type 0 where
     pub unasked : asks (tolerance_at cells c) (Calls k) (phase_at cells c h) ≡ false
-    pub unwanted : shall_init (tolerance_at cells c) (phase_of (phase_at cells c h)) ≡ false
+    pub unwanted : initializes (Calls k) ≡ true → shall_init (tolerance_at cells c) (phase_of (phase_at cells c h)) ≡ false
     pub accessed : has (phase_at cells c h) initialized ≡ accessible
 
   -- what holds of the act and the answer of each legal step that is not refused
@@ -105,6 +105,7 @@ module _ (cells : List CellPlan) (h : List Event) (p : ℕ) where
     pub phased : (a : Act) (c : ℕ) → Calling a c call.Phase → P a (answer.Phase (phase_of (phase_at cells c h)))
     pub reading : (a : Act) (c : ℕ) → Calling a c call.Read → Resting c call.Read true → P a answer.ReadGuard
     pub writing : (a : Act) (c : ℕ) → Calling a c call.Write → Resting c call.Write true → P a answer.WriteGuard
+    pub peeking : (a : Act) (c : ℕ) → Calling a c call.TryRead → Resting c call.TryRead true → P a answer.ReadGuard
     pub running : (a : Act) (c : ℕ) (k : Call) → Calling a c k → Asking c k true → P a answer.Running
     pub declined : (a : Act) (c : ℕ) (k : Call) → Calling a c k → Asking c k false → P a (answer.Access (phase_of flags_refused))
     pub denied : (a : Act) (c : ℕ) (k : Call) → Calling a c k → Resting c k false → P a (answer.Access (phase_of (phase_at cells c h)))

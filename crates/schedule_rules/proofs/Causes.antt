@@ -124,6 +124,7 @@ module _ (q : Kind) (t : Tolerance) (c : ℕ) (o : Bool) (y : Content) where
       by : (b : Bool) → is_running (if b then answer_of_run q t o call.Write y else answer_locked q call.Write y) ≡ (b && runs_generator q t o y.phase)
       by true = runs_asked q t o call.Write y
       by false = accessed (λ a. is_running a ≡ false) q call.Write y refl refl
+  admitted_runs (Calls call.TryRead) = accessed (λ a. is_running a ≡ false) q call.TryRead y refl refl
   admitted_runs Turns = by (has y.phase initialized)
     where
       by : (b : Bool) → is_running (turn_answer_admitted (if b then nature.Write else nature.None) c) ≡ false
@@ -151,6 +152,7 @@ module _ (q : Kind) (t : Tolerance) (c : ℕ) (o : Bool) (y : Content) where
           ≡ (if b then not (runs_generator q t o y.phase) else true && (true && not (is_accessible q y.phase)))
       by true = declines_asked q t o call.Write y
       by false = keeps_out q call.Write y refl
+  admitted_away (Calls call.TryRead) = keeps_out q call.TryRead y refl
   admitted_away Turns = by (has y.phase initialized)
     where
       by : (b : Bool) → is_access (turn_answer_admitted (if b then nature.Write else nature.None) c) ≡ false
@@ -163,6 +165,7 @@ module _ (q : Kind) (t : Tolerance) (c : ℕ) (o : Bool) (y : Content) where
     opened call.Phase = read_guard
     opened call.Read = read_guard
     opened call.Write = write_guard
+    opened call.TryRead = read_guard
 
     ruled : (n : LockNature) (k : Call) → P (call_answer_admitted n q t o k y)
     ruled nature.None k = phase _

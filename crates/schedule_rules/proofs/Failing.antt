@@ -46,6 +46,7 @@ module _ (cells : List CellPlan) (h : List Event) where
     phased = λ a c t. no_failure a (calling-tries a t.acts);
     reading = λ a c t q. no_failure a (calling-tries a t.acts);
     writing = λ a c t q. no_failure a (calling-tries a t.acts);
+    peeking = λ a c t q. no_failure a (calling-tries a t.acts);
     running = λ a c j t q. no_failure a (calling-tries a t.acts);
     declined = λ a c j t q. no_failure a (calling-tries a t.acts);
     denied = λ a c j t q. no_failure a (calling-tries a t.acts);

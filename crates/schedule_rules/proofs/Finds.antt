@@ -103,6 +103,7 @@ module _ (cells : List CellPlan) (h : List Event) (p : ℕ) where
     phased = λ a c t. by_act a (act.Call c call.Phase) (answer.Phase (phase_of (phase_at cells c h))) t.does (tt, tt);
     reading = λ a c t q. by_act a (act.Call c call.Read) answer.ReadGuard t.does (q.accessed, tt);
     writing = λ a c t q. by_act a (act.Call c call.Write) answer.WriteGuard t.does (q.accessed, tt);
+    peeking = λ a c t q. by_act a (act.Call c call.TryRead) answer.ReadGuard t.does (q.accessed, tt);
     running = λ a c k t q. by_act a (act.Call c k) answer.Running t.does (q, tt);
     declined = λ a c k t q. by_act a (act.Call c k) (answer.Access (phase_of flags_refused)) t.does (record { asked = k; does = refl; finds = inl q }, (record { asked = k; does = refl; finds = inl q }, t));
     denied = λ a c k t q. by_act a (act.Call c k) (answer.Access (phase_of (phase_at cells c h))) t.does (record { asked = k; does = refl; finds = inr q }, (record { asked = k; does = refl; finds = inr q }, t));

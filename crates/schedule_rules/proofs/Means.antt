@@ -66,6 +66,7 @@ module _ (cells : List CellPlan) (h : List Event) (p : ℕ) where
     phased = λ a c t. inl (c, t);
     reading = λ a c t q. tt;
     writing = λ a c t q. tt;
+    peeking = λ a c t q. tt;
     running = λ a c k t q. record { cell = c; asked = k; calls = t; asks = q };
     declined = λ a c k t q. record { cell = c; asked = k; calls = t; reason = inl (q, refl) };
     denied = λ a c k t q. record { cell = c; asked = k; calls = t; reason = inr (q, refl) };

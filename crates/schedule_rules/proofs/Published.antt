@@ -22,6 +22,10 @@ use Rattle.schedule_rules.proofs.Finds.{Finds, Tells, finds, tells}
 use Rattle.schedule_rules.proofs.Leaves.{left_at, holds_left, Settles, settles, rests, GivesOf, moves}
 use Rattle.schedule_rules.proofs.Facts.{same_number}
 
+-- a number that is found equal is the same
+number_found : (z c : ℕ) → (z == c) ≡ true → z ≡ c
+number_found z c e = grind arith
+
 module _ (cells : List CellPlan) (h : List Event) (s : Step) (r : Answer) (legal : IsLegal cells h) where
   -- it is a call that leaves nothing open
   abbrev IsVisit : Deed → Type 0
@@ -80,14 +84,14 @@ module _ (cells : List CellPlan) (h : List Event) (s : Step) (r : Answer) (legal
         )
           where
             at : z ≡ c
-            at = grind arith
+            at = number_found z c same
 
             declines : is_declined (cell_at cells z).kind (tolerance_at cells z) v.asked (accepts h) (phase_at cells z h) ≡ true
             declines = rw q.asked (ap not q.generates)
 
         still : (z == c) ≡ true → Resting cells h s.party z v.asked false → (left_at cells h s.party (Visits z chs) c).phase ≡ phase_at cells c h
         still same q =
-            let at : z ≡ c = grind arith in
+            let at : z ≡ c = number_found z c same in
             ap (λ (b : Bool). (if b then effect (cell_at cells c) chs (replay cells c h) else replay cells c h).phase) same
             ∙ subst (λ y. (effect (cell_at cells y) chs (replay cells y h)).phase ≡ phase_at cells y h) at (ap (λ y. y.phase) (rests cells h s.party (alone cells h legal) z chs v.asked v.does q))
 

@@ -84,6 +84,7 @@ module _ (cells : List CellPlan) (h : List Event) (p : ℕ) (P : Act → Answer 
       reads t e (Calls call.Phase) d g = k.made_write v t e (ap is_turn d)
       reads t e (Calls call.Read) d g = k.made_read v t e d
       reads t e (Calls call.Write) d g = k.made_write v t e (ap is_turn d)
+      reads t e (Calls call.TryRead) d g = k.made_write v t e (ap is_turn d)
       reads t e Turns d g = absurd (apart g)
 
       by : (o : Option Section) → innermost p (sections h) ≡ o → (t : Section) × (o ≡ Some t) × (is_turn t.want ≡ false) → P (act.Made v) (due_made cells h v o)

@@ -201,6 +201,7 @@ module _ (cells : List CellPlan) (c : ℕ) where
       phased = λ a d t f. let n : _ = called_count a d call.Phase t f in called a d call.Phase (answer.Phase (phase_of (phase_at cells d h))) t n n;
       reading = λ a d t q f. let n : _ = called_count a d call.Read t f in called a d call.Read answer.ReadGuard t n n;
       writing = λ a d t q f. let n : _ = called_count a d call.Write t f in called a d call.Write answer.WriteGuard t n n;
+      peeking = λ a d t q f. let n : _ = called_count a d call.TryRead t f in called a d call.TryRead answer.ReadGuard t n n;
       running = λ a d j t q f. let n : _ = called_count a d j t f in called a d j answer.Running t n n;
       declined = λ a d j t q f. let n : _ = called_count a d j t f in called a d j (answer.Access (phase_of flags_refused)) t n n;
       denied = λ a d j t q f. let n : _ = called_count a d j t f in called a d j (answer.Access (phase_of (phase_at cells d h))) t n n;

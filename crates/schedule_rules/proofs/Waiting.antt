@@ -139,6 +139,7 @@ module _ (t : Answer → Bool) (waiting borrowed : Bool) (is : Tests t waiting b
   opened call.Phase = is.read_guard
   opened call.Read = is.read_guard
   opened call.Write = is.write_guard
+  opened call.TryRead = is.read_guard
 
   locked : (q : Kind) (k : Call) (y : Content) → t (answer_locked q k y) ≡ false
   locked q k y = one_of_two (is_accessible q y.phase) (answer_opened k) (answer_denied k y.phase) (opened k) (is.access _)
@@ -189,6 +190,7 @@ module _ (t : Answer → Bool) (waiting borrowed : Bool) (is : Tests t waiting b
     made_call (Calls call.Phase) = is.write_guard
     made_call (Calls call.Read) = is.read_guard
     made_call (Calls call.Write) = is.write_guard
+    made_call (Calls call.TryRead) = is.write_guard
     made_call Turns = is.write_guard
 
     made : (v : ℕ) (o : Option Section) → t (due_made cells h v o) ≡ false

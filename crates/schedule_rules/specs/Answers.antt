@@ -38,6 +38,7 @@ abbrev pub answer_opened : Call → Answer
 answer_opened call.Phase = answer.ReadGuard  -- does not occur: it wants no lock
 answer_opened call.Read = answer.ReadGuard
 answer_opened call.Write = answer.WriteGuard
+answer_opened call.TryRead = answer.ReadGuard
 
 -- of a call that gets its lock at this phase, where the value may not be accessed
 abbrev pub answer_denied : Call → ℕ → Answer
@@ -52,6 +53,7 @@ abbrev pub call_answer_of_made : Call → Answer
 call_answer_of_made call.Phase = answer.WriteGuard  -- does not occur: it asks for no run
 call_answer_of_made call.Read = answer.ReadGuard
 call_answer_of_made call.Write = answer.WriteGuard
+call_answer_of_made call.TryRead = answer.WriteGuard  -- does not occur: it asks for no run
 
 -- the same of whatever was attempted
 abbrev pub answer_of_made : Want → Answer

@@ -23,6 +23,7 @@ abbrev pub call_seeks : Call → Option Sought
 call_seeks call.Phase = None
 call_seeks call.Read = Some sought.Read
 call_seeks call.Write = Some sought.Write
+call_seeks call.TryRead = Some sought.ReadOnly
 
 -- the same of whatever is attempted
 abbrev pub seeks : Want → Option Sought

@@ -34,6 +34,7 @@ abbrev pub reads_on : Call → Bool
 reads_on call.Phase = false
 reads_on call.Read = true
 reads_on call.Write = false
+reads_on call.TryRead = false
 
 -- the calls that a gift is for are parked on the cell
 abbrev pub reaches : ℕ → Given → List Wait → Bool

@@ -17,7 +17,7 @@ use Rattle.schedule_rules.specs.declared.step.Want.TheVariants.{Calls, Turns}
 use Rattle.schedule_rules.specs.Kinds.{cell_at, tolerance_at, is_parking}
 use Rattle.schedule_rules.specs.Changes.{is_declined}
 use Rattle.schedule_rules.specs.Phases.{Failure, phase_reached, phase_finalized, tries_registration}
-use Rattle.schedule_rules.specs.Calls.{asks}
+use Rattle.schedule_rules.specs.Calls.{asks, initializes}
 use Rattle.schedule_rules.specs.Deeds.{Deed, EndsToRead, EndsToWrite}
 use Rattle.schedule_rules.specs.History.{Event, before, is_closed, accepts, deed_of, count}
 use Rattle.schedule_rules.specs.Sections.{Section, innermost, is_turn, sections}
@@ -47,13 +47,15 @@ pub record IsWithoutEffect (cells : List CellPlan) (h : List Event) (e : Event) 
   pub guards_stay : guards (e ∷ h) ≡ guards h
   pub published_stays : (c : ℕ) → replay cells c (e ∷ h) ≡ replay cells c h
 
--- this phase is shown, and it is published and the value of the cell may not be accessed: the cell has no retry, its phase
--- lacks INITIALIZED, and it is not empty
-pub record IsDenied (cells : List CellPlan) (h : List Event) (c : ℕ) (shows : Phase) : Type 0 where
+-- this phase is shown, and it is published and the value of the cell may not be accessed: its phase lacks INITIALIZED.
+-- Where the call of the step asks for runs, the cell has no retry, and its phase is not empty
+pub record IsDenied (cells : List CellPlan) (h : List Event) (s : Step) (c : ℕ) (shows : Phase) : Type 0 where
+  pub call : Call
+  pub tried : attempt cells h s ≡ Some (record { cell = c; want = Calls call })
   pub shown : shows ≡ phase_of (phase_at cells c h)
-  pub once : (cell_at cells c).retry ≡ false
   pub lacks : has (phase_at cells c h) initialized ≡ false
-  pub ended : phase_at cells c h ≢ 0
+  pub once : initializes (Calls call) ≡ true → (cell_at cells c).retry ≡ false
+  pub ended : initializes (Calls call) ≡ true → phase_at cells c h ≢ 0
 
 -- the event leaves what is open, and every published value
 pub record KeepsValues (cells : List CellPlan) (h : List Event) (e : Event) : Type 0 where
@@ -89,7 +91,7 @@ pub record IsDeclined (cells : List CellPlan) (h : List Event) (e : Event) (c : 
 pub record IsTurnedAway (cells : List CellPlan) (h : List Event) (e : Event) (c : ℕ) (shows : Phase) : Type 0 where
   pub shown : shows ≡ phase_of (phase_at cells c (e ∷ h))
   pub others_stay : (d : ℕ) → c ≢ d → replay cells d (e ∷ h) ≡ replay cells d h
-  pub reason : ((replay cells c (e ∷ h) ≡ replay cells c h) × IsDenied cells h c shows) ⊎ IsDeclined cells h e c shows
+  pub reason : ((replay cells c (e ∷ h) ≡ replay cells c h) × IsDenied cells h e.step c shows) ⊎ IsDeclined cells h e c shows
 
 -- the event leaves the value of the cell and gives it the phase of a run that failed, which is the innermost of its
 -- party, and it leaves every other cell

@@ -235,8 +235,8 @@ pub fn without_retry_one_run()
 
 /// A call that answers Access leaves all sections and guards, and every published value, as they were. Where its line is
 /// legal, it leaves every cell but its own, and shows the phase that is then published there. That is the phase as it was,
-/// of a cell without retry, whose only run has failed or was declined; or the call itself was declined, since its cell is
-/// not registered, and leaves the phase that says so.
+/// which lacks INITIALIZED, and where the call is one for runs, that of a cell without retry, whose only run has failed or
+/// was declined; or the call itself was declined, since its cell is not registered, and leaves the phase that says so.
 pub fn access_changes_no_value()
     ensures changes { (cells : List CellPlan) (h : List Event) (s : Step) (p : Phase) (g : Given) →
         KeepsValues cells h (record { step = s; line = record { answer = answer.Access p; given = g } }) }

@@ -29,6 +29,8 @@ pub enum Call {
     Read,
     /// A guard to write, after a run of the generator where one is wanted.
     Write,
+    /// A guard to read the value as it is: no generator is run for it. static_init's `try_read`.
+    TryRead,
 }
 
 /// A cell of a plan.

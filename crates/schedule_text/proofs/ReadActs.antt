@@ -99,7 +99,7 @@ unfolding call_at act_text
 called_takes bytes k start a rest f e =
     let n = bind_some (last_name_at start) (found (λ c. act.Call c k)) (a, rest) e in
     let t = last_name_takes start n.0.0 n.0.1 n.1 in
-    let word : bytes ≡ call_name k ++ (32 ∷ start) = call_found call_table bytes k start (refl, (refl, (refl, tt))) f in
+    let word : bytes ≡ call_name k ++ (32 ∷ start) = call_found call_table bytes k start (refl, (refl, (refl, (refl, tt)))) f in
     carry (TakesAct bytes) (act.Call n.0.0 k) a n.0.1 rest n.2
     (record { spelling = word ∙ ap (λ (x : List ℕ). call_name k ++ (32 ∷ x)) t.0 ∙ sym (append_assoc (call_name k) (32 ∷ ended n.0.0) n.0.1); fits = t.1 })
 
@@ -212,6 +212,7 @@ unfolding act_at act_text bytes_after called_at call_at called_or_release_at rel
 act_again (act.Call c call.Phase) more fits = rw (last_name_again c more fits) refl
 act_again (act.Call c call.Read) more fits = rw (last_name_again c more fits) refl
 act_again (act.Call c call.Write) more fits = rw (last_name_again c more fits) refl
+act_again (act.Call c call.TryRead) more fits = rw (last_name_again c more fits) refl
 act_again act.Again more fits = refl
 act_again (act.Made v) more fits = rw (last_number_again v more fits) refl
 act_again act.MadeFailed more fits = refl

@@ -42,7 +42,7 @@ last_name_at bytes = do
 
 -- the words of the calls, each with the space behind it, in the order in which they are tried
 abbrev pub call_table : List (Word × Call)
-call_table = (codes "phase ", call.Phase) ∷ (codes "read ", call.Read) ∷ (codes "write ", call.Write) ∷ []
+call_table = (codes "phase ", call.Phase) ∷ (codes "read ", call.Read) ∷ (codes "write ", call.Write) ∷ (codes "try_read ", call.TryRead) ∷ []
 
 -- this, where its word was found, and else the other
 abbrev pub word_else : {A : Type 0} → Option (List ℕ) → A → Field A → Field A

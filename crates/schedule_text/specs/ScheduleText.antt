@@ -40,6 +40,7 @@ abbrev pub call_name : Call → Word
 call_name call.Phase = codes "phase"
 call_name call.Read = codes "read"
 call_name call.Write = codes "write"
+call_name call.TryRead = codes "try_read"
 
 -- the words of an act
 abbrev pub act_words : Act → List Word

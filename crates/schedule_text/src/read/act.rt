@@ -29,6 +29,9 @@ fn call_word(text: &[u8]) -> Option<(Call, &[u8])>
     if let Some(rest) = after_word(text, b"write ") {
         return Some((Call::Write, rest));
     }
+    if let Some(rest) = after_word(text, b"try_read ") {
+        return Some((Call::TryRead, rest));
+    }
     None
 }
 
