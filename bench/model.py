@@ -25,9 +25,39 @@ PHASES = [
 ]
 MOST_READERS = 2**20 - 1
 
-# What the plan says of a cell: whether the exit finalizes it, whether its calls park, whether its generator runs once, and
-# whether it also runs where registration is refused.
-Plan = namedtuple("Plan", "finalized parks once leak")
+PLAIN = ("Lazy", "LazyFinalize")
+PRIMED = ("PrimedLockedLazy", "PrimedLockedLazyDroped")
+HARD = ("LockedLazyDroped", "PrimedLockedLazyDroped")
+FINALIZED_KINDS = ("LazyFinalize", "LockedLazyFinalize") + HARD
+KINDS = PLAIN + ("LockedLazy", "LockedLazyFinalize", "LockedLazyDroped") + PRIMED
+
+# What a call seeks of its cell, what it answers, and whether it does not wait. An init of a locked kind seeks to write, and
+# tells the phase only where the value may be accessed.
+Call = namedtuple("Call", "seeks answers fast", defaults=(False,))
+CALLS = {
+    "phase": Call(None, "phase"),
+    "try_get": Call(None, "value"),
+    "get": Call("init", "value"),
+    "init": Call("init", "phase"),
+    "read": Call("read", "guard"),
+    "write": Call("write", "guard"),
+    "fast_read": Call("read", "guard", True),
+    "fast_write": Call("write", "guard", True),
+    "try_read": Call("read_only", "guard"),
+    "try_write": Call("write_only", "guard"),
+    "fast_try_read": Call("read_only", "guard", True),
+    "fast_try_write": Call("write_only", "guard", True),
+    "primed_read": Call("read", "guard or err"),
+    "primed_write": Call("write", "guard or err"),
+    "primed_read_non_initializing": Call("read_only", "guard or err"),
+    "primed_write_non_initializing": Call("write_only", "guard or err"),
+    "turn": Call("finalize", None),
+}
+LOCKED_CALLS = [name for name, call in CALLS.items() if call.answers == "guard"]
+
+# What the plan says of a cell: its kind, its place (the party that it belongs to, or how its calls wait), whether its
+# generator runs once, whether it also runs where registration is refused, and the value that it has from the start.
+Plan = namedtuple("Plan", "kind place once leak prime", defaults=(0,))
 
 # A section that runs: its cell, what the party is in it for, and the phase that its generator adds the outcome to.
 Section = namedtuple("Section", "cell call base")
@@ -36,7 +66,8 @@ Section = namedtuple("Section", "cell call base")
 class Cell:
     def __init__(self, plan):
         self.plan = plan
-        self.phase, self.value = EMPTY, None
+        self.phase = EMPTY
+        self.value = plan.prime if plan.kind in PRIMED else None
         self.guards = 0  # open read guards
         self.runner = None  # the party whose generator runs
         self.finalizer = None  # the party whose finalizer runs
@@ -47,6 +78,24 @@ class Cell:
 
     def wants_run(self):
         return self.phase == EMPTY if self.plan.once else not self.phase & INITIALIZED
+
+    def has_call(self, name):
+        kind = self.plan.kind
+        if name in ("phase", "init"):
+            return True
+        if name in ("get", "try_get"):
+            return kind in PLAIN
+        return kind in PRIMED if name.startswith("primed") else kind not in PLAIN
+
+    def seeks(self, name):
+        """What the call seeks: an init of a locked kind, to write."""
+        if name == "init" and self.plan.kind not in PLAIN:
+            return "write"
+        return CALLS[name].seeks
+
+    def is_accessible(self):
+        hard = self.plan.kind in HARD
+        return bool(self.phase & INITIALIZED) and not (hard and self.phase & (FINALIZED | FINALIZATION_PANICKED))
 
     def readers(self):
         return self.guards + self.shared["read"]
@@ -92,7 +141,7 @@ class Guard:
 
 
 class Model:
-    """Cells that park or spin. On a parking cell each barred call parks, and a downgrade gives nothing."""
+    """On a parking cell each barred call parks, and a downgrade gives nothing."""
 
     def __init__(self, parties, plan):
         self.cells = [Cell(cell) for cell in plan]
@@ -117,6 +166,12 @@ class Model:
             return None if act == "again" else "refused 1 Waits"
         if act == "again":
             return "refused 2 NotWaiting"
+        if act in CALLS:
+            cell = self.cells[args[0]]
+            if cell.plan.place not in ("park", "spin", party):
+                return "refused 3 NotOwner"
+            if not cell.has_call(act):
+                return "refused 4 NoSuchCall"
         if act in ("look", "set", "release", "downgrade", "clone"):
             guard = self.guards.get(args[0])
             if guard is None or guard.party != party or (act == "clone" and guard.writes):
@@ -126,7 +181,7 @@ class Model:
         if act in ("made", "made_failed", "finished", "finish_failed"):
             if not self.running[party]:
                 return "refused 7 NoSection"
-            if (self.running[party][-1].call == "turn") != (act in ("finished", "finish_failed")):
+            if not self.ends_so(self.running[party][-1], act, args):
                 return "refused 8 NoOutcome"
         if act == "exit":
             if self.is_closed or self.owner not in (None, party):
@@ -135,15 +190,21 @@ class Model:
                 return "refused 11 Inside"
         return None
 
+    def ends_so(self, section, act, args):
+        if section.call != "turn" or act not in ("finished", "finish_failed"):
+            return section.call != "turn" and act in ("made", "made_failed")
+        kind = self.cells[section.cell].plan.kind
+        return (len(args) == 1) == (kind == "PrimedLockedLazyDroped") and (act == "finished" or kind != "LockedLazyDroped")
+
     def answer(self, party, act, args):
         if act == "again":
             return self.call(party, *self.waiting[party])
-        if act in ("phase", "read", "write", "try_read"):
+        if act in CALLS:
             return self.call(party, act, args[0])
         if act in ("made", "made_failed"):
             return self.outcome(party, args)
         if act in ("finished", "finish_failed"):
-            return self.end_turn(party, act == "finished")
+            return self.end_turn(party, act == "finished", args)
         if act == "exit":
             return self.exit(party)
         return self.use(party, act, args)
@@ -181,13 +242,18 @@ class Model:
 
     def nature(self, cell, call):
         """The lock that the call wants, judged at the published phase."""
-        if call == "phase":
+        seeks = cell.seeks(call)
+        if seeks is None:
             return None
-        if call == "turn":
+        if seeks == "finalize":
             return "write" if cell.phase & INITIALIZED else None
-        if call == "try_read":
-            return "read"
-        return "write" if call == "write" or cell.wants_run() else "read"
+        if seeks in ("init", "read") and cell.wants_run():
+            return "write"
+        return {"init": None, "read": "read", "read_only": "read", "write": "write", "write_only": "write"}[seeks]
+
+    def asks(self, cell, call):
+        """Whether the call asks for a run where one is due."""
+        return cell.seeks(call) in ("init", "read", "write")
 
     def call(self, party, call, number):
         cell = self.cells[number]
@@ -197,10 +263,10 @@ class Model:
         given = ""
         if share is None or share != nature:
             given = cell.hand_over() if share is not None else ""
-            if call in ("read", "write") and cell.runner == party:
+            if self.asks(cell, call) and cell.runner == party:
                 return "cyclic"
             if self.bars(cell, nature):
-                return self.wait(party, call, number) + given
+                return self.barred(party, call, number) + given
         return self.admit(party, call, number, nature) + given
 
     def bars(self, cell, nature):
@@ -210,43 +276,60 @@ class Model:
             return cell.is_held_to_write() or cell.readers() > 0
         return cell.is_held_to_write() or cell.readers() == MOST_READERS
 
-    def wait(self, party, call, number):
+    def barred(self, party, call, number):
+        """A call that is barred: it waits, unless it is fast, or its cell is the party's own."""
         cell = self.cells[number]
+        if CALLS[call].fast:
+            return "none"
+        if cell.plan.place not in ("park", "spin"):
+            return "borrowed"
         self.waiting[party] = (call, number)
-        if not cell.plan.parks:
+        if cell.plan.place == "spin":
             return "waiting spin"
-        woken = "read" if call in ("read", "try_read") else "write"
+        woken = "read" if cell.seeks(call) in ("init", "read", "read_only") else "write"
         cell.parked[woken][party] = None
         return f"waiting {woken}"
 
     def admit(self, party, call, number, nature):
         cell = self.cells[number]
-        if call == "phase":
-            return "phase " + PHASES[cell.phase]
         if call == "turn":
             return self.begin_turn(party, number, nature)
-        if nature == "write" and cell.wants_run():
+        if nature == "write" and self.asks(cell, call) and cell.wants_run():
             return self.run(party, call, number)
-        if not cell.phase & INITIALIZED:
-            return "access " + PHASES[cell.phase] + cell.hand_over()
-        if nature == "read":
-            return self.read_guard(party, number)
-        return self.write_guard(party, number, cell.phase, cell.value)
+        return self.reached(party, call, number, nature)
+
+    def reached(self, party, call, number, nature):
+        """The answer of a call that got this lock and runs nothing: what it does not keep is given back."""
+        cell = self.cells[number]
+        answers = CALLS[call].answers
+        if answers in ("guard", "guard or err"):
+            if cell.is_accessible():
+                if nature == "read":
+                    return self.read_guard(party, number)
+                return self.write_guard(party, number, cell.phase, cell.value)
+            if answers == "guard or err":
+                return self.read_guard(party, number, "err-guard")
+        handed = "" if nature is None else cell.hand_over()
+        tests = answers != "phase" or (call == "init" and cell.plan.kind not in PLAIN)
+        if tests and not cell.is_accessible():
+            return "access " + PHASES[cell.phase] + handed
+        return (f"value {cell.value}" if answers == "value" else "phase " + PHASES[cell.phase]) + handed
 
     def run(self, party, call, number):
         """A run that is asked for, of a cell that nobody else holds. A cell that is to be finalized is registered first,
         once; where that is refused its generator runs only if it puts up with the leak."""
         cell = self.cells[number]
+        finalized = cell.plan.kind in FINALIZED_KINDS
         base = cell.phase & ~(INITIALIZED | FAILED)
-        if cell.plan.finalized and cell.phase == EMPTY:
+        if finalized and cell.phase == EMPTY:
             base = REFUSED if self.is_closed else REGISTERED
             if not self.is_closed:
                 self.registered.append(number)
-        if cell.plan.finalized and not base & REGISTERED and not cell.plan.leak:
+        if finalized and not base & REGISTERED and not cell.plan.leak:
             cell.phase = REFUSED | SKIPED
-            return "access " + PHASES[cell.phase] + cell.hand_over()
+            return self.reached(party, call, number, "write")
         cell.runner = party
-        self.running[party].append(Section(number, call, base))
+        self.running[party].append(Section(number, call, base if finalized else EMPTY))
         return "running"
 
     def outcome(self, party, args):
@@ -256,10 +339,13 @@ class Model:
         if not args:
             cell.phase = section.base | FAILED
             return "failed" + cell.hand_over()
-        if section.call == "write":
+        answers = CALLS[section.call].answers
+        if answers in ("guard", "guard or err") and cell.seeks(section.call) == "write":
             return self.write_guard(party, section.cell, section.base | INITIALIZED, args[0])
         cell.phase, cell.value = section.base | INITIALIZED, args[0]
-        return self.read_guard(party, section.cell)
+        if answers in ("guard", "guard or err"):
+            return self.read_guard(party, section.cell)
+        return (f"value {cell.value}" if answers == "value" else "phase " + PHASES[cell.phase]) + cell.hand_over()
 
     def begin_turn(self, party, number, nature):
         if nature is None:
@@ -269,18 +355,20 @@ class Model:
         self.running[party].append(Section(number, "turn", None))
         return f"finalizing {number}"
 
-    def end_turn(self, party, succeeds):
+    def end_turn(self, party, succeeds, left):
         number = self.running[party].pop().cell
         cell = self.cells[number]
         cell.finalizer = None
         cell.phase |= FINALIZED if succeeds else FINALIZATION_PANICKED
+        if cell.plan.kind in HARD:
+            cell.value = left[0] if left else None
         self.exits.append((number, "done" if succeeds else "failed"))
         return "phase " + PHASES[cell.phase] + cell.hand_over()
 
-    def read_guard(self, party, number):
+    def read_guard(self, party, number, name="read-guard"):
         self.cells[number].guards += 1
         self.guards[self.steps] = Guard(party, number, False)
-        return "read-guard"
+        return name
 
     def write_guard(self, party, number, phase, value):
         self.cells[number].writer = self.steps
@@ -300,16 +388,35 @@ class Player:
     """Chooses steps that mostly do something, with some that are refused or wait. Where cells are to be finalized one
     party exits, from some step on, and all are quicker to give back what they hold."""
 
-    def __init__(self, parties, cells, steps, seed, greatest, parking, once, finalized, leak):
+    def __init__(self, parties, cells, steps, seed, greatest, parking, once, finalized, leak, mixed):
         self.random = random.Random(seed)
         draw = self.random.random
-        self.plan = [Plan(draw() < finalized, draw() < parking, draw() < once, draw() < leak) for _ in range(cells)]
+        self.greatest = greatest
+        self.plan = [self.draw_cell(parking, once, finalized, leak) for _ in range(cells)]
+        if mixed:
+            self.plan = [self.mix(plan, parties) if draw() < mixed else plan for plan in self.plan]
         self.model = Model(parties, self.plan)
-        self.parties, self.cells, self.greatest = parties, cells, greatest
+        self.parties, self.cells, self.mixed = parties, cells, mixed
         self.own = [[] for _ in range(parties)]  # the numbers of each party's guards
+        finalized = finalized or mixed
         self.exiting = self.random.randrange(parties) if finalized else None
         self.exits_from = int(steps * draw() ** 2)
         self.care = 0.95 if finalized else 0.75  # how often a party goes on with what it holds
+
+    def draw_cell(self, parking, once, finalized, leak):
+        draw = self.random.random
+        kind = "LockedLazyFinalize" if draw() < finalized else "LockedLazy"
+        place = "park" if draw() < parking else "spin"
+        return Plan(kind, place, draw() < once, draw() < leak)
+
+    def mix(self, plan, parties):
+        """The cell as one of any kind, and of any place that its kind may have."""
+        kind = self.random.choice(KINDS)
+        place = plan.place
+        if kind in ("Lazy", "LockedLazy") and self.random.random() < 0.3:
+            place = self.random.randrange(parties)
+        prime = self.random.randrange(self.greatest) if self.random.random() < 0.5 else 0
+        return plan._replace(kind=kind, place=place, prime=prime)
 
     def choose(self, party):
         draw = self.random.random
@@ -317,6 +424,7 @@ class Player:
         if draw() < 0.03:
             return self.random.choice(
                 [("again",), ("made", 1), ("made_failed",), ("finished",), ("finish_failed",)]
+                + ([("finished", 5)] if self.mixed else [])
                 + [(act, number(model.steps + 1)) for act in ("look", "release", "downgrade", "clone")]
                 + [("set", number(model.steps + 1), 7)]
                 + [("exit",)] * (3 if model.owner is not None else 0)
@@ -327,8 +435,10 @@ class Player:
             return ("exit",)
         if model.running[party] and draw() < self.care - 0.05:
             fails = draw() < 0.15
-            if model.running[party][-1].call == "turn":
-                return ("finish_failed",) if fails else ("finished",)
+            section = model.running[party][-1]
+            if section.call == "turn":
+                left = (number(self.greatest),) if self.plan[section.cell].kind == "PrimedLockedLazyDroped" else ()
+                return ("finish_failed" if fails else "finished",) + left
             return ("made_failed",) if fails else ("made", number(self.greatest))
         if self.own[party] and draw() < self.care:
             guard = self.random.choice(self.own[party])
@@ -339,6 +449,10 @@ class Player:
             if not model.guards[guard].writes:
                 return ("clone", guard)
             return ("downgrade", guard) if draw() < 0.3 else ("set", guard, number(self.greatest))
+        if self.mixed and draw() < 0.7:
+            cell = number(self.cells)
+            calls = [name for name in CALLS if name != "turn" and (model.cells[cell].has_call(name) or draw() < 0.05)]
+            return (self.random.choice(calls), cell)
         call = "phase" if draw() < 0.1 else "read" if draw() < 0.6 else "write"
         return (call, number(self.cells))
 
@@ -362,15 +476,15 @@ class Player:
 
 
 def cell_line(plan):
-    kind = "LockedLazyFinalize" if plan.finalized else "LockedLazy"
-    place = "park" if plan.parks else "spin"
-    return f"cell {kind} {place}{' once' if plan.once else ''}{' leak' if plan.leak else ''}"
+    place = plan.place if plan.place in ("park", "spin") else f"own {plan.place}"
+    options = (" once" if plan.once else "") + (" leak" if plan.leak else "") + (f" prime {plan.prime}" if plan.prime else "")
+    return f"cell {plan.kind} {place}{options}"
 
 
-def schedule(parties, cells, steps, seed, greatest=10**6, parking=0.0, once=0.0, finalized=0.0, leak=0.0):
+def schedule(parties, cells, steps, seed, greatest=10**6, parking=0.0, once=0.0, finalized=0.0, leak=0.0, mixed=0.0):
     """The text of a random schedule, and the text of its transcript. These shares of its cells park, have no retry, are
-    registered for the exit, and put up with a leak."""
-    player = Player(parties, cells, steps, seed, greatest, parking, once, finalized, leak)
+    registered for the exit, put up with a leak, and are of any kind and place."""
+    player = Player(parties, cells, steps, seed, greatest, parking, once, finalized, leak, mixed)
     text = ["schedule 1", f"parties {parties}"] + [cell_line(plan) for plan in player.plan] + ["steps"]
     lines = ["transcript 1"]
     for n in range(steps):

@@ -210,4 +210,4 @@ def word_of(step: Step) -> str:
         return behind[0] if len(behind[0]) <= 6 else "value"
     if name in ("round", "skipped"):
         return {"round": "round", "skipped": "skip"}[name] + (f" {behind[0]}" if len(behind[0]) == 1 else "")
-    return {"read-guard": "reads", "write-guard": "writes", "running": "runs", "finalizing": "turn", "borrowed": "barred"}.get(name, name[:6])
+    return {"read-guard": "reads", "err-guard": "reads", "write-guard": "writes", "running": "runs", "finalizing": "turn", "borrowed": "barred"}.get(name, name[:6])

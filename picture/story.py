@@ -111,8 +111,8 @@ class Teller:
             span = self.hold(name, party, cell, number)
             self.sections.setdefault(party, []).append(span)
             self.register(name, cell)
-        elif name in ("read-guard", "write-guard"):
-            self.guards[number] = self.hold(name.removesuffix("-guard"), party, cell, number)
+        elif name in ("read-guard", "err-guard", "write-guard"):
+            self.guards[number] = self.hold("write" if name == "write-guard" else "read", party, cell, number)
         elif name == "waiting":
             span = Span("waiting", party, cell, number)
             self.story.waits.append(span)
@@ -125,7 +125,7 @@ class Teller:
 
     def register(self, name: str, cell: int) -> None:
         """The first run of a cell that has a finalizer registers it, while the registry is open."""
-        is_finalizable = "Finalize" in self.run.cells[cell].words.split(" ")[0]
+        is_finalizable = self.run.cells[cell].words.split(" ")[0].endswith(("Finalize", "Droped"))
         if name == "running" and is_finalizable and cell not in self.known and not self.is_closed:
             self.pending.append(cell)
         self.known.add(cell)

@@ -6,7 +6,7 @@ use std::rt::Files;
 use std::{fs, io};
 
 /// The examples, by the names of their files.
-const NAMES: [&str; 11] = [
+const NAMES: [&str; 17] = [
     "first",
     "readers_and_a_writer",
     "nested_generators",
@@ -18,6 +18,12 @@ const NAMES: [&str; 11] = [
     "a_round_and_a_late_cell",
     "a_turn_skips_a_cell",
     "a_refused_registration",
+    "a_value_without_guards",
+    "a_service",
+    "a_primed_cell",
+    "a_dropped_value",
+    "own_cells",
+    "calls_that_do_not_wait",
 ];
 
 /// More bytes than any of their transcripts has.

@@ -1,17 +1,14 @@
 -- A registry stays sound.
-use Rattle.std.proofs.Common.{◌≡◌, ◌≢◌, ℕ, zero, suc, ◌+◌, ◌^◌, ◌<◌, ◌≤◌, ◌==◌, Bool, true, false, cond, List, [], ◌∷◌, ◌++◌, length, refl, arith, sym, subst, inl, inr, All}
+use Rattle.std.proofs.Common.{◌≡◌, ◌≢◌, ℕ, zero, suc, ◌^◌, ◌<◌, ◌≤◌, ◌==◌, Bool, true, false, cond, List, [], ◌∷◌, ◌++◌, length, refl, arith, sym, subst, inl, inr, All}
 use Rattle.std.specs.Prelude.{replicate, slice_index_or}
 use Rattle.std.proofs.Math.ListN.{length-set, length-replicate, get_or}
 use Rattle.std.proofs.lemmas.List.{get_or-set_other, get_or-set_same}
 use Rattle.std.proofs.lemmas.Bool.{cases_eq}
 use Rattle.std.proofs.lemmas.List.Elements.{All-nil, All-cons}
+pub use Rattle.phase_bits.proofs.Lists.{eq_self, occurs-append}
 use Rattle.exit_registry.specs.Registry.{Registry, IsSound, cells_of, is_known, rest_of, occurs, new_registry, registered, looked, after_turn, due}
 
 -- ---- how often a cell is in a list
-
--- a number is itself
-pub eq_self : (c : ℕ) → (c == c) ≡ true
-eq_self c = grind arith
 
 -- two numbers differ
 pub apart : (c d : ℕ) → c ≢ d → (c == d) ≡ false
@@ -24,11 +21,6 @@ occurs-first c cs = rw (eq_self c) (omega arith)
 -- another cell that is put first does not count
 pub occurs-other : (c d : ℕ) (cs : List ℕ) → d ≢ c → occurs c (d ∷ cs) ≡ occurs c cs
 occurs-other c d cs n = rw (apart d c n) (omega arith)
-
--- a cell is in two lists as often as in each, together
-pub occurs-append : (c : ℕ) (xs ys : List ℕ) → occurs c (xs ++ ys) ≡ occurs c xs + occurs c ys
-occurs-append c [] ys = omega arith
-occurs-append c (x ∷ xs) ys = omega (arith, occurs-append c xs ys)
 
 -- a cell that is not in a list is not its first, and not in the rest
 pub none_first : (d c : ℕ) (cs : List ℕ) → occurs d (c ∷ cs) ≡ 0 → (c ≢ d) × (occurs d cs ≡ 0)

@@ -1,5 +1,6 @@
 -- The cells that are registered for the exit, and the rounds in which it takes them.
-use Rattle.std.specs.Prelude.{◌≡◌, ℕ, ◌+◌, ◌^◌, ◌<◌, ◌≤◌, ◌==◌, Bool, true, false, ◌&&◌, not, if◌then◌else◌, List, [], ◌∷◌, ◌++◌, length, replicate, slice_index_or, slice_set, All, Option, Some, None}
+use Rattle.std.specs.Prelude.{◌≡◌, ℕ, ◌^◌, ◌<◌, ◌≤◌, Bool, true, false, ◌&&◌, not, if◌then◌else◌, List, [], ◌∷◌, ◌++◌, length, replicate, slice_index_or, slice_set, All}
+pub use Rattle.phase_bits.specs.Lists.{is_empty, first_of, occurs}
 use Rattle.exit_registry.specs.declared.registry.Look.{Look}
 use Rattle.exit_registry.specs.declared.registry.Look.TheVariants.{Round, Closed}
 
@@ -22,25 +23,10 @@ is_known r c = slice_index_or r.known c false
 
 -- ---- lists
 
--- there is none
-abbrev pub is_empty : List ℕ → Bool
-is_empty [] = true
-is_empty (c ∷ cs) = false
-
--- the first
-abbrev pub first_of : List ℕ → Option ℕ
-first_of [] = None
-first_of (c ∷ cs) = Some c
-
 -- all but the first
 abbrev pub rest_of : List ℕ → List ℕ
 rest_of [] = []
 rest_of (c ∷ cs) = cs
-
--- how often a cell is in a list
-abbrev pub occurs : ℕ → List ℕ → ℕ
-occurs c [] = 0
-occurs c (d ∷ ds) = (if d == c then 1 else 0) + occurs c ds
 
 -- ---- registration and rounds
 

@@ -1,5 +1,5 @@
 //! The exit registry: which cells are registered for the exit, in which rounds their turns come, and the exit itself.
-//! It stands on no other crate.
+//! Of the other crates it stands on `phase_bits` alone, for a few definitions of lists.
 #![tactic(auto)]
 
 mod exit;

@@ -73,7 +73,7 @@ module _ {T G P : Type 0} (att : G → Result T InitFault → G → Type 0) (t :
       subst (λ (z : G). Reads n r h' z) (sym el) two
 
   ran_read : (ran : Result (Option T) InitFault) (left : G) → direct.Came att s g ran left → bars_write old ≡ false → shall_init t h.phase ≡ true
-      → Reads None (direct.answer_by direct.told_read (direct.reached_by s ran) ran) (direct.held_by Read (direct.reached_by s ran) ran (record_of.admit_write h)) left
+      → Reads None (direct.answer_by direct.told_read Read (direct.reached_by s ran) ran) (direct.held_by Read (direct.reached_by s ran) ran (record_of.admit_write h)) left
   ran_read ran left came free due = record {
     entry = entry_by (direct.reached_by s ran) ran;
     made = made_by ran left old;
@@ -85,11 +85,11 @@ module _ {T G P : Type 0} (att : G → Result T InitFault → G → Type 0) (t :
       p : Phase
       p = direct.reached_by s ran
 
-      says : (x : Result (Option T) InitFault) → entered (direct.answer_by direct.told_read p x) ≡ to_read (entry_by p x)
+      says : (x : Result (Option T) InitFault) → entered (direct.answer_by direct.told_read Read p x) ≡ to_read (entry_by p x)
       says (Ok v) = refl
       says (Err e) = refl
 
-      leaves : (x : Result (Option T) InitFault) → cell_of (direct.held_by Read p x (record_of.admit_write h)) None (put_in (direct.answer_by direct.told_read p x) b) left m ≡ in_to_read (entry_by p x) (made_by x left old)
+      leaves : (x : Result (Option T) InitFault) → cell_of (direct.held_by Read p x (record_of.admit_write h)) None (put_in (direct.answer_by direct.told_read Read p x) b) left m ≡ in_to_read (entry_by p x) (made_by x left old)
       leaves (Ok None) = refl
       leaves (Ok (Some v)) = refl
       leaves (Err e) = refl
@@ -170,7 +170,7 @@ module _ {T G P : Type 0} (att : G → Result T InitFault → G → Type 0) (t :
       subst (λ (z : G). Writes n r h' z) (sym el) two
 
   ran_write : (ran : Result (Option T) InitFault) (left : G) → direct.Came att s g ran left → bars_write old ≡ false → shall_init t h.phase ≡ true
-      → Writes None (direct.answer_by direct.told_write (direct.reached_by s ran) ran) (direct.held_by Write (direct.reached_by s ran) ran (record_of.admit_write h)) left
+      → Writes None (direct.answer_by direct.told_write Write (direct.reached_by s ran) ran) (direct.held_by Write (direct.reached_by s ran) ran (record_of.admit_write h)) left
   ran_write ran left came free due = record {
     entry = entry_by (direct.reached_by s ran) ran;
     made = made_by ran left old;
@@ -182,11 +182,11 @@ module _ {T G P : Type 0} (att : G → Result T InitFault → G → Type 0) (t :
       p : Phase
       p = direct.reached_by s ran
 
-      says : (x : Result (Option T) InitFault) → entered (direct.answer_by direct.told_write p x) ≡ to_write (entry_by p x)
+      says : (x : Result (Option T) InitFault) → entered (direct.answer_by direct.told_write Write p x) ≡ to_write (entry_by p x)
       says (Ok v) = refl
       says (Err e) = refl
 
-      leaves : (x : Result (Option T) InitFault) → cell_of (direct.held_by Write p x (record_of.admit_write h)) (next_after (entered (direct.answer_by direct.told_write p x)) None) (put_in (direct.answer_by direct.told_write p x) b) left m ≡ in_to_write (entry_by p x) (made_by x left old)
+      leaves : (x : Result (Option T) InitFault) → cell_of (direct.held_by Write p x (record_of.admit_write h)) (next_after (entered (direct.answer_by direct.told_write Write p x)) None) (put_in (direct.answer_by direct.told_write Write p x) b) left m ≡ in_to_write (entry_by p x) (made_by x left old)
       leaves (Ok None) = refl
       leaves (Ok (Some v)) = refl
       leaves (Err e) = refl

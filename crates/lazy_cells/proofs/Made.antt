@@ -53,7 +53,7 @@ module _ {T G P : Type 0} (att : G → Result T InitFault → G → Type 0) (t :
   Rests r new = HasNone say_phase old r new
 
   ran_so : IsIdle h → is_there b ≡ false → (s : Option Phase) → Lacks s → (ran : Result (Option T) InitFault) (left : G) → direct.Came att s g ran left
-      → IsLeft (Runs s) (direct.answer_by direct.told (direct.reached_by s ran) ran) (direct.held_by Init (direct.reached_by s ran) ran (admit_write h)) left
+      → IsLeft (Runs s) (direct.answer_by direct.told Init (direct.reached_by s ran) ran) (direct.held_by Init (direct.reached_by s ran) ran (admit_write h)) left
   ran_so i e None l (Ok None) left c = record {
     says = record { ran = Ok None; came = c; phase = refl; value = refl; marker = refl; answer = refl };
     idle = record { readers = i.readers; locked = refl };

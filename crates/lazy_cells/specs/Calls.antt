@@ -29,29 +29,38 @@ has_call k call.PrimedWrite = is_primed k
 has_call k call.PrimedReadNonInitializing = is_primed k
 has_call k call.PrimedWriteNonInitializing = is_primed k
 
--- a call that may wait
-abbrev pub slow : Want → Tolerance → Option Ask
-slow w t = Some (record { want = w; fast = false; tol = t })
+-- what a call seeks of the cell: nothing, where it looks at the cell as it is
+abbrev pub seeks : Kind → Call → Option Want
+seeks k call.Phase = None
+seeks k call.TryGet = None
+seeks k call.Get = Some want.Init
+seeks k call.Init = Some (if is_plain k then want.Init else want.Write)
+seeks k call.Read = Some want.Read
+seeks k call.Write = Some want.Write
+seeks k call.FastRead = Some want.Read
+seeks k call.FastWrite = Some want.Write
+seeks k call.TryRead = Some want.ReadOnly
+seeks k call.TryWrite = Some want.WriteOnly
+seeks k call.FastTryRead = Some want.ReadOnly
+seeks k call.FastTryWrite = Some want.WriteOnly
+seeks k call.PrimedRead = Some want.Read
+seeks k call.PrimedWrite = Some want.Write
+seeks k call.PrimedReadNonInitializing = Some want.ReadOnly
+seeks k call.PrimedWriteNonInitializing = Some want.WriteOnly
 
 -- a call that does not wait
-abbrev pub fast : Want → Tolerance → Option Ask
-fast w t = Some (record { want = w; fast = true; tol = t })
+abbrev pub is_fast : Call → Bool
+is_fast call.FastRead = true
+is_fast call.FastWrite = true
+is_fast call.FastTryRead = true
+is_fast call.FastTryWrite = true
+is_fast _ = false
 
--- what a call asks: nothing, where it looks at the cell as it is
+-- what is sought is asked
+abbrev pub asking : Option Want → Bool → Tolerance → Option Ask
+asking None fast t = None
+asking (Some w) fast t = Some (record { want = w; fast = fast; tol = t })
+
+-- what a call asks: nothing, where it seeks nothing
 abbrev pub ask_of : Kind → Call → Tolerance → Option Ask
-ask_of k call.Phase t = None
-ask_of k call.TryGet t = None
-ask_of k call.Get t = slow want.Init t
-ask_of k call.Init t = slow (if is_plain k then want.Init else want.Write) t
-ask_of k call.Read t = slow want.Read t
-ask_of k call.Write t = slow want.Write t
-ask_of k call.FastRead t = fast want.Read t
-ask_of k call.FastWrite t = fast want.Write t
-ask_of k call.TryRead t = slow want.ReadOnly t
-ask_of k call.TryWrite t = slow want.WriteOnly t
-ask_of k call.FastTryRead t = fast want.ReadOnly t
-ask_of k call.FastTryWrite t = fast want.WriteOnly t
-ask_of k call.PrimedRead t = slow want.Read t
-ask_of k call.PrimedWrite t = slow want.Write t
-ask_of k call.PrimedReadNonInitializing t = slow want.ReadOnly t
-ask_of k call.PrimedWriteNonInitializing t = slow want.WriteOnly t
+ask_of k c t = asking (seeks k c) (is_fast c) t

@@ -11,6 +11,8 @@ use phase_seq::LazySequentializer;
 use std::marker::Model;
 
 #[cfg(test)]
+mod call_table_tests;
+#[cfg(test)]
 mod exit_tests;
 mod finalize;
 mod lending;

@@ -28,7 +28,7 @@ pub enum Kind {
 
 impl Kind {
     /// Whether cells of this kind have no lock that a user holds.
-    pub(crate) fn is_plain(self) -> bool
+    pub fn is_plain(self) -> bool
         ensures { result ≡ is_plain self }
     {
         match self {
@@ -41,8 +41,8 @@ impl Kind {
         }
     }
 
-    /// Whether a finalizer takes the value out of reach.
-    pub(crate) fn is_hard(self) -> bool
+    /// Whether a finalizer takes the value out of reach: the *hard* kinds.
+    pub fn is_hard(self) -> bool
         ensures { result ≡ is_hard self }
     {
         match self {

@@ -15,10 +15,12 @@ mod locked;
 mod markers;
 mod names;
 mod policy;
-mod start_all;
+mod start_list;
 #[cfg(test)]
 mod start_tests;
 mod started;
+#[cfg(test)]
+mod started_exit_tests;
 
 pub use access::{Lazy, LazyAccess, LazyFinalize, UnSyncLazy};
 pub use call::{Call, ask_of, has_call};
@@ -39,4 +41,5 @@ pub use policy::{
     InitializedChecker, InitializedHardFinalizedChecker, InitializedSoftFinalizedChecker,
     LazyPolicy,
 };
+pub use start_list::start_all;
 pub use started::{Started, start};

@@ -4,7 +4,7 @@ ghost use Rattle.std.specs.Prelude.{true, false};
 
 use crate::lesser::Lesser;
 use crate::names::{LesserLazy, LesserLockedLazy, PrimedLesserLockedLazy};
-use crate::start_all::start_all;
+use crate::start_list::start_all;
 use crate::started::{Started, start};
 use exit_registry::ExitRegistry;
 use phase_bits::Phase;

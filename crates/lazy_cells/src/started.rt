@@ -33,6 +33,16 @@ impl<C: Phased> Model for Started<C> {
     ghost invariant = { λ s. has (number (C.phase s.cell)) initialized ≡ true };
 }
 
+impl<C: Phased> Started<C> {
+    /// The cell, which is to have its turn in an exit, say. It is as it was.
+    pub fn into_inner(self) -> C
+        ensures cell { result ≡ self }
+        ensures initialized { has (number (C.phase result)) initialized ≡ true }
+    {
+        self.cell
+    }
+}
+
 impl<C: Startable> Started<C> {
     /// A cell that is initialized already.
     ///

@@ -135,14 +135,16 @@ impl SyncTable {
         ensures phase { TellsPhase result (view_of seat.new) }
     {
         let mut spin = SpinWait::new();
+        let mut got = None;
+        // The loop ends with an answer alone.
         for _ in rt.forever() {
             spin.spin_or_yield();
-            if let Some(got) = self.try_enter(seat, how) {
-                return got;
+            if let Some(found) = self.try_enter(seat, how) {
+                got = Some(found);
+                break;
             }
         }
-        // The loop has no end of its own.
-        unreachable!()
+        got.unwrap()
     }
 
     /// One more read hold, which `into` gets: one load by `seat`, which has a read hold, then at most one exchange by `into`,

@@ -7,7 +7,7 @@ use Rattle.phase_bits.specs.declared.holders.Holders.{Holders}
 use Rattle.phase_locker.specs.declared.ways.LockerKind.{LockerKind}
 use Rattle.schedule_rules.specs.declared.line.Answer.TheVariants as answer
 use Rattle.schedule_rules.specs.declared.line.Line.{Line}
-use Rattle.schedule_rules.specs.declared.plan.Call.{Call}
+use Rattle.lazy_cells.specs.declared.call.Call.{Call}
 use Rattle.schedule_rules.specs.declared.plan.CellPlan.{CellPlan}
 use Rattle.schedule_rules.specs.declared.step.Act.{Act}
 use Rattle.schedule_rules.specs.declared.step.Want.{Want}
@@ -33,7 +33,7 @@ use Rattle.phase_acts.proofs.Trying.{IsAttempt, standing_at}
 module _ {L : Type 0} (held : L → Holders) (place : L → LockerKind) (cells : List CellPlan) (h : List Event) (old new : Rows L) (p : ℕ) (a : Act) (c : ℕ) (w : Want) (r : Registry) (o : Option ℕ) (k : IsAttempt cells h p a c w r o) (next : IsNext held place cells h old (step_of p a)) (free : refusal cells h (step_of p a) ≡ None) (accepted : accepts h ≡ r.is_open) (same : (j : Call) → w ≡ Calls j → r ≡ registry cells h) where
   -- it was tried: the rows follow the step
   pub tried_steps : (l : Line) → IsTried held place (length old.guards.items) (standing_at cells h r o) p (record { cell = c; want = w }) l new → KeptWith 1 old new → (IsLegalLine cells h (step_of p a) l → l.answer ≡ answer.Cyclic → wait_of p (waits cells h) ≡ None) → HasStepped held place cells h old (step_of p a) l new
-  tried_steps l tried kept alone = subst (λ x. HasStepped held place cells h old (step_of p a) x new) (sym s.line) (stepped held place cells h old new (step_of p a) next line _ (after_tried cells h p a c w r o k accepted same tried.first s.last (gift_reaches cells h p a c w r o k accepted same free tried.taken tried.first s.last taking.told taking.met gives) tried.taken taking.met.wanted taking.told gives turned) s.rests kept legal)
+  tried_steps l tried kept alone = subst (λ x. HasStepped held place cells h old (step_of p a) x new) (sym s.line) (stepped held place cells h old new (step_of p a) next line _ (after_tried cells h p a c w r o k accepted same tried.first s.last (gift_reaches cells h p a c w r o k accepted same free tried.taken tried.first s.last taking.told taking.met gives) tried.taken taking.met.wanted gives turned) s.rests kept legal)
     where
       s : IsSettled held place (length h) (standing_at cells h r o) p (record { cell = c; want = w }) tried.taken tried.first l new
       s = subst (λ i. IsSettled held place i (standing_at cells h r o) p (record { cell = c; want = w }) tried.taken tried.first l new) next.follows.steps tried.settled
@@ -45,15 +45,15 @@ module _ {L : Type 0} (held : L → Holders) (place : L → LockerKind) (cells :
       gives = s.gave
 
       line : Line
-      line = record { answer = answer_settled c w tried.taken; given = given_first tried.first s.last }
+      line = record { answer = answer_settled c w tried.taken (standing_at cells h r o); given = given_first tried.first s.last }
 
-      legal : IsLegalLine cells h (step_of p a) (record { answer = answer_settled c w tried.taken; given = given_first tried.first s.last })
+      legal : IsLegalLine cells h (step_of p a) (record { answer = answer_settled c w tried.taken (standing_at cells h r o); given = given_first tried.first s.last })
       legal = legal_tried cells h p a c w r o k accepted same free tried.taken tried.first s.last taking.told taking.met gives
 
       -- a turn is never cyclic
       calls : tried.taken ≡ taken.Cyclic → w ≡ Turns → ⊥
       calls e turns =
-          differ (sym (ap (λ b. is_cyclic (answer_settled c w b)) e) ∙ cyclic_where_own cells h (step_of p a) line legal ∙ ap (λ x. is_none (refusal cells h (step_of p a)) && is_attempted (is_of_own_run cells h p) x) (k.attempted ∙ ap (λ v. Some (record { cell = c; want = v })) turns) ∙ none (is_none (refusal cells h (step_of p a))))
+          differ (sym (ap (λ b. is_cyclic (answer_settled c w b (standing_at cells h r o))) e) ∙ cyclic_where_own cells h (step_of p a) line legal ∙ ap (λ x. is_none (refusal cells h (step_of p a)) && is_attempted (is_of_own_run cells h p) x) (k.attempted ∙ ap (λ v. Some (record { cell = c; want = v })) turns) ∙ none (is_none (refusal cells h (step_of p a))))
         where
           none : (b : Bool) → (b && false) ≡ false
           none true = refl
@@ -63,4 +63,4 @@ module _ {L : Type 0} (held : L → Holders) (place : L → LockerKind) (cells :
           differ x = cc
 
       turned : tried.taken ≡ taken.Cyclic → (wait_of p (waits cells h) ≡ None) × (w ≡ Turns → ⊥)
-      turned e = (alone (subst (IsLegalLine cells h (step_of p a)) (sym s.line) legal) (ap (λ (x : Line). x.answer) s.line ∙ ap (answer_settled c w) e), calls e)
+      turned e = (alone (subst (IsLegalLine cells h (step_of p a)) (sym s.line) legal) (ap (λ (x : Line). x.answer) s.line ∙ ap (λ b. answer_settled c w b (standing_at cells h r o)) e), calls e)

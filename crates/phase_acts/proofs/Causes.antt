@@ -1,37 +1,41 @@
 -- Who may attempt what: a call, one more attempt of a call or a turn that waits, and the first attempt of a turn.
-use Rattle.std.proofs.Common.{◌≡◌, ◌≢◌, ◌∙◌, ◌<◌, ◌≤◌, ℕ, List, length, ap, sym, subst, refl, arith, true, false, None, Some}
-use Rattle.std.specs.Prelude.{IsTrue, nat_lt, vec_capacity, is_some}
+use Rattle.std.proofs.Common.{◌≡◌, ◌∙◌, ◌<◌, ◌≤◌, ℕ, List, length, ap, sym, subst, refl, arith, true, false, None, Some}
+use Rattle.std.specs.Prelude.{◌||◌, vec_capacity, is_some}
 use Rattle.std.specs.declared.option.Option.{Option}
 use Rattle.exit_registry.specs.Registry.{after_turn, first_of}
 use Rattle.phase_bits.specs.declared.holders.Holders.{Holders}
 use Rattle.phase_locker.specs.declared.ways.LockerKind.{LockerKind}
 use Rattle.schedule_rules.specs.declared.line.Line.{Line}
-use Rattle.schedule_rules.specs.declared.plan.Call.{Call}
-use Rattle.schedule_rules.specs.declared.plan.Call.TheVariants as call
+use Rattle.lazy_cells.specs.declared.call.Call.{Call}
 use Rattle.schedule_rules.specs.declared.plan.CellPlan.{CellPlan}
 use Rattle.schedule_rules.specs.declared.step.Act.TheVariants as act
 use Rattle.schedule_rules.specs.declared.step.Want.TheVariants.{Calls, Turns}
+use Rattle.schedule_rules.specs.declared.step.Want.{Want}
+use Rattle.schedule_rules.specs.Calls.{is_fast, seeks}
+use Rattle.schedule_rules.specs.Kinds.{is_owned}
+use Rattle.schedule_rules.specs.Kinds.{cell_at}
 use Rattle.schedule_rules.specs.Exits.{registry, owner, owner_by, ended_turns}
 use Rattle.schedule_rules.specs.Guards.{guards, numbered}
 use Rattle.schedule_rules.specs.History.{Event, latest_act}
-use Rattle.schedule_rules.specs.Refusals.{refusal, refusal_by}
+use Rattle.schedule_rules.specs.Refusals.{refusal, refusal_by, refusal_free}
 use Rattle.schedule_rules.specs.Waits.{Wait, wait_of, waits, attempt, attempt_of_wait, attempt_of_turn, cell_of_attempt}
 use Rattle.schedule_rules.proofs.Accepts.{open-accepts}
 use Rattle.schedule_rules.proofs.GoesOn.{Matches, wait-matches}
 use Rattle.schedule_rules.proofs.NotCyclic.{again-not-cyclic}
-use Rattle.schedule_rules.proofs.Registered.{fresh-unknown}
+use Rattle.schedule_rules.proofs.Registered.{fresh-unknown, left-finalizable}
 use Rattle.schedule_rules.proofs.TurnRoom.{room-taken}
-use Rattle.schedule_rules.proofs.WaitsToLock.{waiting-no-phase}
+use Rattle.schedule_rules.proofs.WaitsToLock.{attempted-has, waiting-asks, waiting-shared, waiting-slow}
 use Rattle.phase_moves.specs.declared.rows.Rows.{Rows}
 use Rattle.phase_moves.specs.declared.rows.Target.{Target}
 use Rattle.phase_moves.specs.Histories.{standing}
 use Rattle.phase_moves.specs.Moves.{KeptGuards, KeptWith}
 use Rattle.phase_moves.specs.Standing.{Standing}
 use Rattle.phase_moves.specs.Stands.{Stands, target_of}
-use Rattle.phase_moves.specs.Tries.{WaitsAt}
+use Rattle.phase_moves.specs.Tries.{MayWait, WaitsAt, has_want}
 use Rattle.phase_acts.specs.Steps.{IsAwake, IsNext, HasStepped, step_of}
 use Rattle.phase_acts.specs.Tries.{IsTried, IsTrying}
 use Rattle.phase_acts.proofs.Attempting.{tried_steps}
+use Rattle.phase_acts.proofs.Calling.{below}
 use Rattle.phase_acts.proofs.Keeping.{guards_with}
 use Rattle.phase_acts.proofs.Lines.{refusal_awake}
 use Rattle.phase_acts.proofs.Trying.{IsAttempt, standing_at}
@@ -42,8 +46,8 @@ call_no_turn k e = cc
 turn_no_call : (k : Call) → Turns ≡ Calls k → ⊥
 turn_no_call k e = cc
 
-pub below : (n m : ℕ) → IsTrue (nat_lt n m) → n < m
-below n m e = grind (arith, e)
+never : {X : Type 0} → false ≡ true → X
+never e = absurd (cc)
 
 module _ {L : Type 0} (held : L → Holders) (place : L → LockerKind) (cells : List CellPlan) (h : List Event) (old : Rows L) (p : ℕ) where
   -- the turns that ended, and the room for more
@@ -56,24 +60,31 @@ module _ {L : Type 0} (held : L → Holders) (place : L → LockerKind) (cells :
     call_attempts : IsAttempt cells h p (act.Call c k) c (Calls k) (registry cells h) (owner h)
     call_attempts = record { attempted = refl; concerned = refl; does = refl; tries = λ vs chosen. refl; taken = refl; owned = refl }
 
-    pub call_trying : k ≢ call.Phase → IsTrying held place (standing cells h) old p (record { cell = c; want = Calls k }) false
-    call_trying asks =
+    -- it is not refused
+    module _ (had : refusal_free cells h p (act.Call c k) ≡ None) where
+      not_refused : refusal cells h (step_of p (act.Call c k)) ≡ None
+      not_refused = refusal_awake cells h p is.awake (act.Call c k) ∙ had
+
+    pub call_trying : refusal_free cells h p (act.Call c k) ≡ None → IsTrying held place (standing cells h) old p (record { cell = c; want = Calls k }) false
+    call_trying had =
         record {
           attempting =
               record {
                 rests = is.next.follows.rests;
                 party = is.next.known.party;
                 cell = below c (length old.cells.items) is.next.known.cell;
-                asks = λ e. asks (cc);
+                had = attempted-has cells h (step_of p (act.Call c k)) c k is.next.follows.legal (not_refused had) refl;
                 waited = is.awake;
+                waits_so = λ e. never e;
                 unknown = λ f empty none. fresh-unknown cells h c is.next.follows.legal empty none;
+                shared = λ e. absurd (call_no_turn k e);
               };
           turns = λ e. absurd (call_no_turn k e);
         }
 
-    pub call_steps : (l : Line) (new : Rows L) → IsTried held place (length old.guards.items) (standing cells h) p (record { cell = c; want = Calls k }) l new → KeptWith 1 old new → HasStepped held place cells h old (step_of p (act.Call c k)) l new
-    call_steps l new tried kept =
-        tried_steps held place cells h old new p (act.Call c k) c (Calls k) (registry cells h) (owner h) call_attempts is.next (refusal_awake cells h p is.awake (act.Call c k)) (sym (open-accepts cells h is.next.follows.legal)) (λ j e. refl) l tried kept (λ legal e. is.awake)
+    pub call_steps : refusal_free cells h p (act.Call c k) ≡ None → (l : Line) (new : Rows L) → IsTried held place (length old.guards.items) (standing cells h) p (record { cell = c; want = Calls k }) l new → KeptWith 1 old new → HasStepped held place cells h old (step_of p (act.Call c k)) l new
+    call_steps had l new tried kept =
+        tried_steps held place cells h old new p (act.Call c k) c (Calls k) (registry cells h) (owner h) call_attempts is.next (not_refused had) (sym (open-accepts cells h is.next.follows.legal)) (λ j e. refl) l tried kept (λ legal e. is.awake)
 
   -- ---- one more attempt
 
@@ -108,6 +119,26 @@ module _ {L : Type 0} (held : L → Holders) (place : L → LockerKind) (cells :
     cell_inside : t.cell < length old.cells.items
     cell_inside = subst (λ (x : Target). x.cell < length old.cells.items) (sym waiting.is) (next.follows.rests.stands.waits.within p waiting.w waiting.found)
 
+    free : refusal cells h (step_of p act.Again) ≡ None
+    free = ap (λ x. refusal_by cells (is_some x) h p act.Again) waiting.found
+
+    has_waiting : (v : Want) → t.want ≡ v → has_want (cell_at cells t.cell).kind t.want ≡ true
+    has_waiting (Calls k) e = ap (has_want (cell_at cells t.cell).kind) e ∙ attempted-has cells h (step_of p act.Again) t.cell k next.follows.legal free (attempted ∙ ap (λ v. Some (record { cell = t.cell; want = v })) e)
+    has_waiting Turns e = ap (has_want (cell_at cells t.cell).kind) e
+
+    shared_waiting : is_owned (cell_at cells t.cell).place ≡ false
+    shared_waiting = ap (λ (x : Target). is_owned (cell_at cells x.cell).place) waiting.is ∙ waiting-shared cells h p waiting.w next.follows.legal waiting.found
+
+    may_wait : MayWait (cell_at cells t.cell) t.want
+    may_wait =
+        record {
+          sought = ap (λ (x : Target). is_some (seeks (cell_at cells x.cell).kind x.want)) waiting.is ∙ waiting-asks cells h p waiting.w next.follows.legal waiting.found;
+          slow = (λ i. slow_fast i || shared_waiting i);
+        }
+      where
+        slow_fast : is_fast t.want ≡ false
+        slow_fast = ap (λ (x : Target). is_fast x.want) waiting.is ∙ waiting-slow cells h p waiting.w next.follows.legal waiting.found
+
     pub again_trying : IsTrying held place (standing cells h) old p t true
     again_trying =
         record {
@@ -116,15 +147,14 @@ module _ {L : Type 0} (held : L → Holders) (place : L → LockerKind) (cells :
                 rests = next.follows.rests;
                 party = next.known.party;
                 cell = cell_inside;
-                asks = λ e. waiting-no-phase cells h p waiting.w next.follows.legal waiting.found (sym (ap (λ (x : Target). x.want) waiting.is) ∙ e);
+                had = has_waiting t.want refl;
                 waited = subst (λ x. WaitsAt t.cell x) (sym waiting.found) (ap (λ (x : Target). x.cell) (sym waiting.is));
+                waits_so = λ e. may_wait;
                 unknown = λ f empty none. fresh-unknown cells h t.cell next.follows.legal empty none;
+                shared = λ e. shared_waiting;
               };
           turns = λ e. turn_room (standing cells h) (length old.guards.items) old next.follows.rests.stands refl (room-taken cells h next.follows.legal (step_of p act.Again) t.cell (attempted ∙ ap (λ v. Some (record { cell = t.cell; want = v })) e)) next.follows.turns;
         }
-
-    free : refusal cells h (step_of p act.Again) ≡ None
-    free = ap (λ x. refusal_by cells (is_some x) h p act.Again) waiting.found
 
     pub again_steps : (l : Line) (new : Rows L) → IsTried held place (length old.guards.items) (standing cells h) p t l new → KeptWith 1 old new → HasStepped held place cells h old (step_of p act.Again) l new
     again_steps l new tried kept =
@@ -153,9 +183,11 @@ module _ {L : Type 0} (held : L → Holders) (place : L → LockerKind) (cells :
                   rests = record { stands = subst (λ i. Stands held place i (standing_at cells h (after_turn (registry cells h)) (Some p)) mid) (sym mid_n) stands; empty = ap (λ i. numbered i (guards h)) mid_n ∙ is.next.follows.rests.empty };
                   party = (let a = is.next.known.party in let b = between.kept.parties in omega (arith, a, b));
                   cell = (let b = between.kept.cells in omega (arith, inside, b));
-                  asks = λ e. turn_no_call call.Phase e;
+                  had = refl;
                   waited = is.awake;
+                  waits_so = λ e. never e;
                   unknown = λ f empty none. fresh-unknown cells h c is.next.follows.legal empty none;
+                  shared = λ e. is.next.follows.placed c (left-finalizable cells h c first);
                 };
             turns = λ e. turn_room (standing_at cells h (after_turn (registry cells h)) (Some p)) (length old.guards.items) mid stands refl (room-taken cells h is.next.follows.legal (step_of p act.Exit) c (ap attempt_of_turn first)) (let a = is.next.follows.turns in let b = between.kept.turns in omega (arith, a, b));
           }

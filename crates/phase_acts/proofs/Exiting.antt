@@ -21,11 +21,12 @@ use Rattle.schedule_rules.specs.Waits.{attempt_of_turn, other_waits}
 use Rattle.schedule_rules.proofs.Accepts.{open-accepts}
 use Rattle.phase_moves.specs.declared.rows.GuardRow.TheVariants as guard
 use Rattle.phase_moves.specs.declared.rows.Rows.{Rows}
+use Rattle.phase_moves.specs.declared.look_up.Running.{Running}
 use Rattle.phase_moves.specs.declared.rows.Target.{Target}
 use Rattle.phase_moves.specs.Exits.{Owns, TakesTurn, IsTurn, MayLook, Looks}
 use Rattle.phase_moves.specs.Histories.{standing}
 use Rattle.phase_moves.specs.Moves.{KeptGuards, KeptWith, Pushes}
-use Rattle.phase_moves.specs.Reading.{RunsBy, target_of_section}
+use Rattle.phase_moves.specs.Reading.{RunsBy, running_of}
 use Rattle.phase_moves.specs.Standing.{Standing, owned, turn_taken, round_looked}
 use Rattle.phase_moves.proofs.Hand.{pushed_free}
 use Rattle.phase_moves.proofs.HistoryExits.{exit_looks}
@@ -42,9 +43,9 @@ none_first [] e = refl
 none_first (c ∷ cs) e = absurd (cc)
 
 -- a party that runs a section is told one
-some_told : (o : Option Section) → is_some (target_of_section o) ≡ is_some o
-some_told None = refl
-some_told (Some s) = refl
+some_told : (m : Standing) (o : Option Section) → is_some (running_of m o) ≡ is_some o
+some_told m None = refl
+some_told m (Some s) = refl
 
 -- whom no other party owns, the party owns
 mine_first : (o : Option ℕ) (p : ℕ) (b : Bool) → (is_other o p || b) ≡ false → owner_by p true o ≡ Some p
@@ -84,9 +85,9 @@ module _ {L : Type 0} (held : L → Holders) (place : L → LockerKind) (old : R
     pub exit_begun : begun ≡ true → refusal cells h (step_of p act.Exit) ≡ Some refused.ExitBegun
     exit_begun e = refusal_is ∙ ap (λ b. no_exit b (is_some (innermost p (sections h)))) e
 
-    module _ (free : begun ≡ false) (r : Option Target) (told : RunsBy held place old p r) where
+    module _ (free : begun ≡ false) (r : Option Running) (told : RunsBy held place old p r) where
       inside_is : is_some r ≡ is_some (innermost p (sections h))
-      inside_is = ap (λ o. is_some o) (told m is.next.follows.rests is.next.known.party) ∙ some_told (innermost p (sections h))
+      inside_is = ap (λ o. is_some o) (told m is.next.follows.rests is.next.known.party) ∙ some_told m (innermost p (sections h))
 
       pub exit_inside : is_some r ≡ true → refusal cells h (step_of p act.Exit) ≡ Some refused.Inside
       exit_inside e = refusal_is ∙ (λ i. no_exit (free i) (sym inside_is i)) ∙ ap (λ b. no_exit false b) e

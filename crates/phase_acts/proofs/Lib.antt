@@ -10,6 +10,7 @@ pub mod Trying
 pub mod Lines
 -- The acts on guards
 pub mod Holding
+pub mod Formed
 pub mod Ending
 pub mod Exiting
 pub mod Releasing
@@ -17,11 +18,11 @@ pub mod Looking
 pub mod Downgrading
 pub mod Cloning
 -- Attempts
+pub mod Calling
 pub mod Settling
 pub mod Taking
 pub mod Tried
 pub mod TriedLegal
 pub mod Attempting
 pub mod Causes
-pub mod Telling
 pub mod Performing

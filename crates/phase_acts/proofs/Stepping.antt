@@ -37,6 +37,7 @@ module _ {L : Type 0} (held : L → Holders) (place : L → LockerKind) (cells :
               legal = (legal, exclusive held place (length new.guards.items) cells (record { step = s; line = l } ∷ h) new r.stands, n.follows.legal);
               steps = (let a = n.follows.steps in let b = k.guards in omega (arith, a, b));
               planned = k.kept.cells ∙ n.follows.planned;
+              placed = n.follows.placed;
               turns = (let a = n.follows.turns in let b = k.kept.turns in omega (arith, a, b));
             };
         kept = k;
@@ -52,6 +53,7 @@ module _ {L : Type 0} (held : L → Holders) (place : L → LockerKind) (cells :
               legal = n.follows.legal;
               steps = (let a = n.follows.steps in let b = k.guards in omega (arith, a, b));
               planned = k.kept.cells ∙ n.follows.planned;
+              placed = n.follows.placed;
               turns = (let a = n.follows.turns in let b = k.kept.turns in omega (arith, a, b));
             };
         known =

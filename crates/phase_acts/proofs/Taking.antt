@@ -20,6 +20,7 @@ use Rattle.phase_acts.specs.Tries.{IsTried, IsTrying}
 -- no turn ends as something is taken
 same_turns : (n p c : ℕ) (w : Want) (g : Given) (b : Taken) (m : Standing) → (took n p c w g b m).turns ≡ m.turns
 same_turns n p c w g (taken.Wait how) m = refl
+same_turns n p c w g taken.Missed m = refl
 same_turns n p c w g taken.Cyclic m = refl
 same_turns n p c w g (taken.Nothing q) m = refl
 same_turns n p c w g (taken.Read t q) m = refl
@@ -35,6 +36,8 @@ module _ {L : Type 0} (held : L → Holders) (place : L → LockerKind) (m : Sta
       record {
         stands = subst (λ i. Stands held place i (took i p t.cell t.want g b m) mid) (sym mid_n) k.stands;
         empty = ap (λ i. numbered i m.guards) mid_n ∙ is.attempting.rests.empty;
+        party = (let lt = is.attempting.party in let same = kept.kept.parties in omega (arith, lt, same));
+        cell = (let lt = is.attempting.cell in let same = kept.kept.cells in omega (arith, lt, same));
         told = k.told;
         turns = λ e. (let room = is.turns e in let a = turns_same in let c = kept.kept.turns in omega (arith, room, a, c));
       }

@@ -1,44 +1,49 @@
 -- What stands open after an attempt, with what became of what it took.
-use Rattle.std.proofs.Common.{◌≡◌, ◌≢◌, ◌∙◌, ◌+◌, ◌<◌, ℕ, List, [], ◌∷◌, length, ap, sym, refl, arith, Bool, true, false, None, ◌⊎◌, inl, inr}
+use Rattle.std.proofs.Common.{◌≡◌, ◌≢◌, ◌∙◌, ◌+◌, ◌<◌, ℕ, List, ◌∷◌, length, ap, sym, refl, arith, Bool, true, false, None, ◌⊎◌, inl, inr}
 use Rattle.std.specs.Prelude.{MatchBool, if◌then◌else◌}
+use Rattle.std.specs.Option.{unwrap_or}
 use Rattle.std.specs.declared.option.Option.{Option}
 use Rattle.exit_registry.specs.Registry.{Registry}
-use Rattle.phase_bits.specs.Flags.{has, initialized}
-use Rattle.phase_bits.specs.Number.{number}
+use Rattle.phase_bits.specs.Number.{phase_of}
 use Rattle.phase_bits.specs.declared.phase.Phase.{Phase}
 use Rattle.phase_locker.specs.declared.tickets.ReadTicket.{ReadTicket}
 use Rattle.phase_locker.specs.declared.tickets.WriteTicket.{WriteTicket}
 use Rattle.phase_locker.specs.declared.ways.Given.{Given}
 use Rattle.phase_locker.specs.declared.ways.Given.TheVariants as given
+use Rattle.lazy_cells.specs.declared.call.Call.{Call}
+use Rattle.schedule_rules.specs.declared.form.Form.{Form}
+use Rattle.schedule_rules.specs.declared.form.Form.TheVariants.{Told, Shown, Held}
 use Rattle.schedule_rules.specs.declared.line.Answer.{Answer}
 use Rattle.schedule_rules.specs.declared.line.Answer.TheVariants as answer
-use Rattle.schedule_rules.specs.declared.plan.Call.{Call}
-use Rattle.schedule_rules.specs.declared.plan.Call.TheVariants as call
 use Rattle.schedule_rules.specs.declared.plan.CellPlan.{CellPlan}
 use Rattle.schedule_rules.specs.declared.step.Act.{Act}
 use Rattle.schedule_rules.specs.declared.step.Want.{Want}
 use Rattle.schedule_rules.specs.declared.step.Want.TheVariants.{Calls, Turns}
-use Rattle.schedule_rules.specs.Changes.{Asked, effect, is_declined}
-use Rattle.schedule_rules.specs.Phases.{NoRun, phase_reached}
+use Rattle.schedule_rules.specs.Answers.{answer_at}
+use Rattle.schedule_rules.specs.Changes.{Content, is_declined}
+use Rattle.schedule_rules.specs.Forms.{form_of, is_to_read}
+use Rattle.schedule_rules.specs.Phases.{NoRun, is_accessible, phase_reached}
 use Rattle.schedule_rules.specs.Exits.{registry}
 use Rattle.schedule_rules.specs.Gifts.{reaches}
 use Rattle.schedule_rules.specs.Guards.{reader}
 use Rattle.schedule_rules.specs.History.{Event, accepts, count}
 use Rattle.schedule_rules.specs.Kinds.{cell_at, tolerance_at}
+use Rattle.schedule_rules.specs.Replay.{phase_at}
 use Rattle.schedule_rules.specs.Waits.{Wait, waits, wait_of, without_wait, shares_read, shares_write}
 use Rattle.waiting_rows.specs.Given.{given_on}
 use Rattle.waiting_rows.proofs.Gave.{gave_share}
 use Rattle.phase_moves.specs.declared.rows.Taken.{Taken}
 use Rattle.phase_moves.specs.declared.rows.Taken.TheVariants as taken
-use Rattle.phase_moves.specs.Gifts.{MayGive}
+use Rattle.phase_moves.specs.declared.rows.Target.{Target}
+use Rattle.phase_moves.specs.Gifts.{MayGive, MayGiveDown}
 use Rattle.phase_moves.specs.Histories.{standing, event}
-use Rattle.phase_moves.specs.Meets.{IsOf, answer_nothing, answer_running}
-use Rattle.phase_moves.specs.Standing.{Standing, took, left, changes_at, writer_asked}
-use Rattle.phase_moves.specs.Tries.{TellsPhase, phase_asked}
-use Rattle.phase_acts.specs.Settles.{is_made, answer_settled, unlocked, settled, GivesSettled}
+use Rattle.phase_moves.specs.Meets.{IsCallOf, IsOf, IsUnlocked, answer_left, answer_missed, answer_running, takes_none, takes_write}
+use Rattle.phase_moves.specs.Standing.{Standing, content_tried, downgraded, guarded, took, left, changes_at, writer_asked}
+use Rattle.phase_moves.proofs.Asked.{call_left}
+use Rattle.phase_acts.specs.Settles.{answer_settled, answer_tried, reads_on, unlocked, settled, writes_on, GivesSettled}
 use Rattle.phase_acts.specs.Steps.{given_first}
 use Rattle.phase_acts.proofs.Settling.{first_alone}
-use Rattle.phase_acts.proofs.Trying.{IsAttempt, standing_at, try_waits, try_cyclic, try_skips, try_finalizes, try_runs, try_reads, try_writes, try_denied_read, try_denied_write}
+use Rattle.phase_acts.proofs.Trying.{IsAttempt, left_open, read_left, standing_at, try_cyclic, try_denied, try_falls_back, try_finalizes, try_missed, try_reads, try_runs, try_shown, try_skips, try_told, try_waits, try_writes, write_left}
 
 -- ---- one gift of two
 
@@ -48,62 +53,51 @@ none_given c m given.Nobody some k = refl
 none_given c m (given.Writer q) some k = let free = k.free in absurd (omega (arith, free, some))
 none_given c m given.Readers some k = let free = k.free in absurd (omega (arith, free, some))
 
-module _ (n p c : ℕ) (w : Want) (g d : Given) (m : Standing) (reach : g ≢ given.Nobody → reaches c g (without_wait p m.waits) ≡ true) where
-  shared : g ≢ given.Nobody → 0 < count (shares_read c) (given_on c g (without_wait p m.waits)) + count (shares_write c) (given_on c g (without_wait p m.waits))
-  shared ne = gave_share c g (without_wait p m.waits) (reach ne) ne
+module _ (n p : ℕ) (t : Target) (g d : Given) (m : Standing) (reach : g ≢ given.Nobody → reaches t.cell g (without_wait p m.waits) ≡ true) where
+  shared : g ≢ given.Nobody → 0 < count (shares_read t.cell) (given_on t.cell g (without_wait p m.waits)) + count (shares_write t.cell) (given_on t.cell g (without_wait p m.waits))
+  shared ne = gave_share t.cell g (without_wait p m.waits) (reach ne) ne
 
   -- a step that gave as it attempted, gives no more
-  pub last_none : (b : Taken) → g ≢ given.Nobody → GivesSettled n p c w g d b m → d ≡ given.Nobody
-  last_none (taken.Wait how) ne k = k
-  last_none taken.Cyclic ne k = k
-  last_none (taken.Nothing q) ne k = k
-  last_none (taken.Read t q) ne k = by (is_made q) k
+  pub last_none : (b : Taken) → IsOf p t g m b → g ≢ given.Nobody → GivesSettled n p t.cell t.want g d b m → d ≡ given.Nobody
+  last_none (taken.Wait how) of ne k = k
+  last_none taken.Missed of ne k = k
+  last_none taken.Cyclic of ne k = k
+  last_none (taken.Nothing q) of ne k = k
+  last_none (taken.Read l q) of ne k = by (reads_on (answer_tried t.cell t.want m)) k
     where
-      by : (z : Bool) → MatchBool z (d ≡ given.Nobody) (MayGive c (left (reader n p c) given.Nobody (took n p c w g (taken.Read t q) m)) d) → d ≡ given.Nobody
+      by : (z : Bool) → MatchBool z (d ≡ given.Nobody) (MayGive t.cell (left (reader n p t.cell) given.Nobody (took n p t.cell t.want g (taken.Read l q) m)) d) → d ≡ given.Nobody
       by true k = k
-      by false k = none_given c (left (reader n p c) given.Nobody (took n p c w g (taken.Read t q) m)) d (shared ne) k
-  last_none (taken.Write t q) ne k = by (is_made q) k
-    where
-      by : (z : Bool) → MatchBool z (d ≡ given.Nobody) (MayGive c (left (writer_asked n p c (changes_at c w m)) given.Nobody (took n p c w g (taken.Write t q) m)) d) → d ≡ given.Nobody
-      by true k = k
-      by false k = none_given c (left (writer_asked n p c (changes_at c w m)) given.Nobody (took n p c w g (taken.Write t q) m)) d (shared ne) k
-  last_none taken.Runs ne k = k
+      by false k = none_given t.cell (left (reader n p t.cell) given.Nobody (took n p t.cell t.want g (taken.Read l q) m)) d (shared ne) k
+  last_none (taken.Write l q) of ne k = absurd (ne of.2)
+  last_none taken.Runs of ne k = k
 
-  one_of_two : (b : Taken) → GivesSettled n p c w g d b m → (g ≡ given.Nobody) ⊎ (d ≡ given.Nobody)
-  one_of_two b k = by g refl
+  one_of_two : (b : Taken) → IsOf p t g m b → GivesSettled n p t.cell t.want g d b m → (g ≡ given.Nobody) ⊎ (d ≡ given.Nobody)
+  one_of_two b of k = by g refl
     where
       by : (x : Given) → g ≡ x → (g ≡ given.Nobody) ⊎ (d ≡ given.Nobody)
       by given.Nobody e = inl e
-      by (given.Writer q) e = inr (last_none b (λ z. (let f : given.Writer q ≡ given.Nobody = sym e ∙ z in cc)) k)
-      by given.Readers e = inr (last_none b (λ z. (let f : given.Readers ≡ given.Nobody = sym e ∙ z in cc)) k)
+      by (given.Writer q) e = inr (last_none b of (λ z. (let f : given.Writer q ≡ given.Nobody = sym e ∙ z in cc)) k)
+      by given.Readers e = inr (last_none b of (λ z. (let f : given.Readers ≡ given.Nobody = sym e ∙ z in cc)) k)
 
   -- so both are one
-  pub given_both : (b : Taken) → GivesSettled n p c w g d b m → (ws : List Wait) → given_on c d (given_on c g ws) ≡ given_on c (given_first g d) ws
-  given_both b k ws =
-      elim (one_of_two b k) [
-        | inl e ↦ ap (λ x. given_on c d (given_on c x ws)) e ∙ ap (λ x. given_on c (given_first x d) ws) (sym e)
-        | inr e ↦ ap (λ x. given_on c x (given_on c g ws)) e ∙ ap (λ x. given_on c x ws) (sym (first_alone g)) ∙ ap (λ x. given_on c (given_first g x) ws) (sym e)
+  pub given_both : (b : Taken) → IsOf p t g m b → GivesSettled n p t.cell t.want g d b m → (ws : List Wait) → given_on t.cell d (given_on t.cell g ws) ≡ given_on t.cell (given_first g d) ws
+  given_both b of k ws =
+      elim (one_of_two b of k) [
+        | inl e ↦ ap (λ x. given_on t.cell d (given_on t.cell x ws)) e ∙ ap (λ x. given_on t.cell (given_first x d) ws) (sym e)
+        | inr e ↦ ap (λ x. given_on t.cell x (given_on t.cell g ws)) e ∙ ap (λ x. given_on t.cell x ws) (sym (first_alone g)) ∙ ap (λ x. given_on t.cell (given_first g x) ws) (sym e)
       ]
 
--- ---- the phase tells whether a call was declined
+-- ---- where the value may be accessed, the call was not declined
 
-module _ (c : ℕ) (w : Want) (m : Standing) (j : Call) (calls : w ≡ Calls j) where
-  -- the phase that says so is not that of a value
-  declined_lacks : is_declined (cell_at m.plans c).kind (tolerance_at m.plans c) j m.registry.is_open (m.content c).phase ≡ true → has (number (phase_asked c w m)) initialized ≡ false
-  declined_lacks e =
-      ap (λ v. has (number (phase_asked c v m)) initialized) calls
-      ∙ ap (λ b. has (effect (cell_at m.plans c) (if b then Asked m.registry.is_open j ∷ [] else []) (m.content c)).phase initialized) e
-      ∙ ap (λ b. has (if b then record { phase = phase_reached (cell_at m.plans c).kind m.registry.is_open (m.content c).phase NoRun; value = (m.content c).value } else m.content c).phase initialized) e
-
-  pub undeclined : (q : Phase) → q ≡ phase_asked c w m → is_made q ≡ true → is_declined (cell_at m.plans c).kind (tolerance_at m.plans c) j m.registry.is_open (m.content c).phase ≡ false
-  undeclined q q_is made = by (is_declined (cell_at m.plans c).kind (tolerance_at m.plans c) j m.registry.is_open (m.content c).phase) refl
-    where
-      by : (b : Bool) → is_declined (cell_at m.plans c).kind (tolerance_at m.plans c) j m.registry.is_open (m.content c).phase ≡ b → b ≡ false
-      by false e = refl
-      by true e = absurd (let f : true ≡ false = sym made ∙ ap (λ x. has (number x) initialized) q_is ∙ declined_lacks e in cc)
-
-  pub denied : (q : Phase) → q ≡ phase_asked c w m → is_declined (cell_at m.plans c).kind (tolerance_at m.plans c) j m.registry.is_open (m.content c).phase ≡ true → is_made q ≡ false
-  denied q q_is e = ap (λ x. has (number x) initialized) q_is ∙ declined_lacks e
+pub undeclined : (c : ℕ) (m : Standing) (j : Call) → is_accessible (cell_at m.plans c).kind (content_tried c (Calls j) m).phase ≡ true → is_declined (cell_at m.plans c).kind (tolerance_at m.plans c) j m.registry.is_open (m.content c).phase ≡ false
+undeclined c m j e = by (is_declined (cell_at m.plans c).kind (tolerance_at m.plans c) j m.registry.is_open (m.content c).phase) refl
+  where
+    by : (b : Bool) → is_declined (cell_at m.plans c).kind (tolerance_at m.plans c) j m.registry.is_open (m.content c).phase ≡ b → b ≡ false
+    by false f = refl
+    by true f =
+        let left_as = call_left (cell_at m.plans c) j m.registry.is_open (m.content c) ∙ ap (λ b. if b then record { phase = phase_reached (cell_at m.plans c).kind m.registry.is_open (m.content c).phase NoRun; value = (m.content c).value } else m.content c) f in
+        let lacks : false ≡ true = sym (ap (λ (y : Content). is_accessible (cell_at m.plans c).kind y.phase) left_as) ∙ e in
+        absurd (cc)
 
 -- ---- what stands open
 
@@ -114,52 +108,133 @@ module _ (cells : List CellPlan) (h : List Event) (p : ℕ) (a : Act) (c : ℕ) 
   abbrev n : ℕ
   n = length h
 
+  abbrev t : Target
+  t = record { cell = c; want = w }
+
+  -- the standing of the longer history
+  abbrev after_answer : Answer → Given → Standing
+  after_answer x d = standing cells (event p a (record { answer = x; given = d }) ∷ h)
+
+  -- what the cell holds then
+  abbrev y : Content
+  y = content_tried c w m
+
+  abbrev access : Bool
+  access = is_accessible (cell_at cells c).kind (content_tried c w m).phase
+
+  -- ---- a call by its form
+
+  module _ (j : Call) (calls : w ≡ Calls j) where
+    abbrev lefts : Given → Standing
+    lefts = left_open cells h p a c w r o k j calls (same j calls) accepted
+
+    fine : access ≡ true → is_declined (cell_at cells c).kind (tolerance_at cells c) j r.is_open (phase_at cells c h) ≡ false
+    fine e = undeclined c m j (ap (λ v. is_accessible (cell_at cells c).kind (content_tried c v m).phase) (sym calls) ∙ e)
+
+    -- a call that keeps no lock has its section given back
+    pub nothing_left : (f : Form) (b : Bool) → access ≡ b → takes_none f ≡ true → (d : Given) → after_answer (answer_at f b y) d ≡ lefts d
+    nothing_left (Told tests) true e is d = try_told cells h p a c w r o k j calls (same j calls) accepted (phase_of y.phase) d
+    nothing_left (Told true) false e is d = try_denied cells h p a c w r o k j calls (same j calls) accepted (phase_of y.phase) d
+    nothing_left (Told false) false e is d = try_told cells h p a c w r o k j calls (same j calls) accepted (phase_of y.phase) d
+    nothing_left Shown true e is d = try_shown cells h p a c w r o k j calls (same j calls) accepted (fine e) (unwrap_or y.value 0) d
+    nothing_left Shown false e is d = try_denied cells h p a c w r o k j calls (same j calls) accepted (phase_of y.phase) d
+    nothing_left (Held writes falls_back) b e is d = absurd (cc)
+
+    -- a call to read reads on, or has its section given back
+    pub read_open : (f : Form) (b : Bool) → access ≡ b → is_to_read f ≡ true → (d : Given) → after_answer (answer_at f b y) d ≡ (if reads_on (answer_at f b y) then guarded (reader n p c) (lefts d) else lefts d)
+    read_open (Held false falls_back) true e is d = try_reads cells h p a c w r o k j calls (same j calls) accepted (fine e) d
+    read_open (Held false true) false e is d = try_falls_back cells h p a c w r o k j calls (same j calls) accepted d
+    read_open (Held false false) false e is d = try_denied cells h p a c w r o k j calls (same j calls) accepted (phase_of y.phase) d
+    read_open (Held true falls_back) b e is d = absurd (cc)
+    read_open (Told tests) b e is d = absurd (cc)
+    read_open Shown b e is d = absurd (cc)
+
+    -- a call that gets the lock to write keeps it, reads on, or has its section given back
+    pub write_open : (l : WriteTicket) (q : Phase) (f : Form) (b : Bool) → access ≡ b → takes_write f ≡ true → (d : Given) → after_answer (answer_at f b y) d ≡ (if writes_on (answer_at f b y) then took n p c w d (taken.Write l q) m else (if reads_on (answer_at f b y) then guarded (reader n p c) (lefts d) else lefts d))
+    write_open l q (Held true falls_back) true e is d = try_writes cells h p a c w r o k j calls (same j calls) accepted (fine e) l q d
+    write_open l q (Held true true) false e is d = try_falls_back cells h p a c w r o k j calls (same j calls) accepted d
+    write_open l q (Held true false) false e is d = try_denied cells h p a c w r o k j calls (same j calls) accepted (phase_of y.phase) d
+    write_open l q (Told tests) true e is d = try_told cells h p a c w r o k j calls (same j calls) accepted (phase_of y.phase) d
+    write_open l q (Told true) false e is d = try_denied cells h p a c w r o k j calls (same j calls) accepted (phase_of y.phase) d
+    write_open l q (Told false) false e is d = try_told cells h p a c w r o k j calls (same j calls) accepted (phase_of y.phase) d
+    write_open l q (Held false falls_back) b e is d = absurd (cc)
+    write_open l q Shown b e is d = absurd (cc)
+
+    -- so is its answer
+    pub answer_call : answer_tried c w m ≡ answer_at (form_of (cell_at cells c).kind j) access y
+    answer_call = ap (λ v. answer_left (cell_at cells c).kind c v (content_tried c w m)) calls
+
+  -- ---- what becomes of what it took
+
   -- the standing of the longer history
   abbrev after : Taken → Given → Given → Standing
-  after b g d = standing cells (event p a (record { answer = answer_settled c w b; given = given_first g d }) ∷ h)
+  after b g d = after_answer (answer_settled c w b m) (given_first g d)
 
   module _ (g d : Given) (reach : g ≢ given.Nobody → reaches c g (without_wait p (waits cells h)) ≡ true) where
-    one : (b : Taken) → GivesSettled n p c w g d b m → given_on c d (given_on c g (without_wait p (waits cells h))) ≡ given_on c (given_first g d) (without_wait p (waits cells h))
-    one b gives = given_both n p c w g d m reach b gives (without_wait p (waits cells h))
+    one : (b : Taken) → IsOf p t g m b → GivesSettled n p c w g d b m → given_on c d (given_on c g (without_wait p (waits cells h))) ≡ given_on c (given_first g d) (without_wait p (waits cells h))
+    one b of gives = given_both n p t g d m reach b of gives (without_wait p (waits cells h))
 
     -- nothing was given after
-    quiet : (x : Answer) → d ≡ given.Nobody → standing cells (event p a (record { answer = x; given = given_first g d }) ∷ h) ≡ standing cells (event p a (record { answer = x; given = g }) ∷ h)
-    quiet x e = ap (λ y. standing cells (event p a (record { answer = x; given = y }) ∷ h)) (ap (given_first g) e ∙ first_alone g)
+    quiet : (x : Answer) → d ≡ given.Nobody → after_answer x (given_first g d) ≡ after_answer x g
+    quiet x e = ap (after_answer x) (ap (given_first g) e ∙ first_alone g)
 
-    after_nothing : (q : Phase) → w ≡ Turns → d ≡ given.Nobody → after (taken.Nothing q) g d ≡ settled n p c w g d (taken.Nothing q) m
-    after_nothing q turns e =
-        quiet (answer_settled c w (taken.Nothing q)) e ∙ ap (λ v. standing cells (event p a (record { answer = answer_nothing c v q; given = g }) ∷ h)) turns ∙ try_skips cells h p a c w r o k turns q g ∙ ap (λ v. unlocked c v (took n p c w g (taken.Nothing q) m)) (sym turns)
+    after_nothing : (q : Phase) (v : Want) → w ≡ v → IsUnlocked (cell_at cells c).kind v → d ≡ given.Nobody → after (taken.Nothing q) g d ≡ settled n p c w g d (taken.Nothing q) m
+    after_nothing q (Calls j) calls of e =
+        quiet (answer_tried c w m) e ∙ ap (λ x. after_answer x g) (answer_call j calls) ∙ nothing_left j calls (form_of (cell_at cells c).kind j) access refl of g ∙ ap (λ v. unlocked c v (took n p c w g (taken.Nothing q) m)) (sym calls)
+    after_nothing q Turns turns of e =
+        quiet (answer_tried c w m) e ∙ ap (λ v. after_answer (answer_left (cell_at cells c).kind c v (content_tried c w m)) g) turns ∙ try_skips cells h p a c w r o k turns q g ∙ ap (λ v. unlocked c v (took n p c w g (taken.Nothing q) m)) (sym turns)
 
     after_runs : (v : Want) → w ≡ v → d ≡ given.Nobody → after taken.Runs g d ≡ settled n p c w g d taken.Runs m
-    after_runs (Calls j) e none = quiet (answer_settled c w taken.Runs) none ∙ ap (λ v. standing cells (event p a (record { answer = answer_running c v; given = g }) ∷ h)) e ∙ try_runs cells h p a c w r o k j e (same j e) accepted g
-    after_runs Turns e none = quiet (answer_settled c w taken.Runs) none ∙ ap (λ v. standing cells (event p a (record { answer = answer_running c v; given = g }) ∷ h)) e ∙ try_finalizes cells h p a c w r o k accepted e g
+    after_runs (Calls j) e none = quiet (answer_running c w) none ∙ ap (λ v. after_answer (answer_running c v) g) e ∙ try_runs cells h p a c w r o k j e (same j e) accepted g
+    after_runs Turns e none = quiet (answer_running c w) none ∙ ap (λ v. after_answer (answer_running c v) g) e ∙ try_finalizes cells h p a c w r o k accepted e g
 
-    after_read : (j : Call) (t : ReadTicket) (q : Phase) → w ≡ Calls j → q ≡ phase_asked c w m → GivesSettled n p c w g d (taken.Read t q) m → after (taken.Read t q) g d ≡ settled n p c w g d (taken.Read t q) m
-    after_read j t q reads told gives = by (is_made q) refl gives
+    after_read : (l : ReadTicket) (q : Phase) (v : Want) → w ≡ v → IsCallOf (cell_at cells c).kind v is_to_read → IsOf p t g m (taken.Read l q) → GivesSettled n p c w g d (taken.Read l q) m → after (taken.Read l q) g d ≡ settled n p c w g d (taken.Read l q) m
+    after_read l q Turns e is of gives = absurd is
+    after_read l q (Calls j) calls is of gives =
+        ap (λ x. after_answer x (given_first g d)) (answer_call j calls)
+        ∙ read_open j calls (form_of (cell_at cells c).kind j) access refl is (given_first g d)
+        ∙ ap (λ x. if reads_on x then guarded (reader n p c) (lefts j calls (given_first g d)) else lefts j calls (given_first g d)) (sym (answer_call j calls))
+        ∙ by (reads_on (answer_tried c w m)) gives
       where
-        by : (b : Bool) → is_made q ≡ b → MatchBool b (d ≡ given.Nobody) (MayGive c (left (reader n p c) given.Nobody (took n p c w g (taken.Read t q) m)) d)
-            → standing cells (event p a (record { answer = if b then answer.ReadGuard else answer.Access q; given = given_first g d }) ∷ h) ≡ (if b then took n p c w g (taken.Read t q) m else left (reader n p c) d (took n p c w g (taken.Read t q) m))
-        by true made gives = quiet answer.ReadGuard gives ∙ try_reads cells h p a c w r o k j reads (same j reads) accepted (undeclined c w m j reads q told made) t q g
-        by false lacks gives_last = try_denied_read cells h p a c w r o k j reads (same j reads) accepted g d (one (taken.Read t q) gives) q t
+        by : (b : Bool) → MatchBool b (d ≡ given.Nobody) (MayGive c (left (reader n p c) given.Nobody (took n p c w g (taken.Read l q) m)) d) → (if b then guarded (reader n p c) (lefts j calls (given_first g d)) else lefts j calls (given_first g d)) ≡ (if b then took n p c w g (taken.Read l q) m else left (reader n p c) d (took n p c w g (taken.Read l q) m))
+        by true none = ap (λ x. guarded (reader n p c) (lefts j calls x)) (ap (given_first g) none ∙ first_alone g)
+        by false gift = read_left cells h p a c w r o k j calls (same j calls) accepted g d (one (taken.Read l q) of gives) l q
 
-    after_write : (t : WriteTicket) (q : Phase) → w ≡ Calls call.Write → q ≡ phase_asked c w m → GivesSettled n p c w g d (taken.Write t q) m → after (taken.Write t q) g d ≡ settled n p c w g d (taken.Write t q) m
-    after_write t q writes told gives = by (is_made q) refl gives
+    after_write : (l : WriteTicket) (q : Phase) (v : Want) → w ≡ v → IsCallOf (cell_at cells c).kind v takes_write → IsOf p t g m (taken.Write l q) → GivesSettled n p c w g d (taken.Write l q) m → after (taken.Write l q) g d ≡ settled n p c w g d (taken.Write l q) m
+    after_write l q Turns e is of gives = absurd is
+    after_write l q (Calls j) calls is of gives =
+        ap (λ x. after_answer x (given_first g d)) (answer_call j calls)
+        ∙ write_open j calls l q (form_of (cell_at cells c).kind j) access refl is (given_first g d)
+        ∙ ap (λ x. if writes_on x then took n p c w (given_first g d) (taken.Write l q) m else (if reads_on x then guarded (reader n p c) (lefts j calls (given_first g d)) else lefts j calls (given_first g d))) (sym (answer_call j calls))
+        ∙ by (writes_on (answer_tried c w m)) gives
       where
-        by : (b : Bool) → is_made q ≡ b → MatchBool b (d ≡ given.Nobody) (MayGive c (left (writer_asked n p c (changes_at c w m)) given.Nobody (took n p c w g (taken.Write t q) m)) d)
-            → standing cells (event p a (record { answer = if b then answer.WriteGuard else answer.Access q; given = given_first g d }) ∷ h) ≡ (if b then took n p c w g (taken.Write t q) m else left (writer_asked n p c (changes_at c w m)) d (took n p c w g (taken.Write t q) m))
-        by true made gives = quiet answer.WriteGuard gives ∙ try_writes cells h p a c w r o k call.Write writes (same call.Write writes) accepted (undeclined c w m call.Write writes q told made) t q g
-        by false lacks gives_last = try_denied_write cells h p a c w r o k call.Write writes (same call.Write writes) accepted g d (one (taken.Write t q) gives) q t
+        given_back : lefts j calls (given_first g d) ≡ left (writer_asked n p c (changes_at c w m)) d (took n p c w g (taken.Write l q) m)
+        given_back = write_left cells h p a c w r o k j calls (same j calls) accepted g d (one (taken.Write l q) of gives) l q
 
+        then_on : (b : Bool) → (if b then guarded (reader n p c) (lefts j calls (given_first g d)) else lefts j calls (given_first g d)) ≡ (if b then downgraded n (writer_asked n p c (changes_at c w m)) d (took n p c w g (taken.Write l q) m) else left (writer_asked n p c (changes_at c w m)) d (took n p c w g (taken.Write l q) m))
+        then_on true = ap (guarded (reader n p c)) given_back
+        then_on false = given_back
+
+        by : (b : Bool) → MatchBool b (d ≡ given.Nobody) (MatchBool (reads_on (answer_tried c w m)) (MayGiveDown c (took n p c w g (taken.Write l q) m) d) (MayGive c (left (writer_asked n p c (changes_at c w m)) given.Nobody (took n p c w g (taken.Write l q) m)) d))
+            → (if b then took n p c w (given_first g d) (taken.Write l q) m else (if reads_on (answer_tried c w m) then guarded (reader n p c) (lefts j calls (given_first g d)) else lefts j calls (given_first g d))) ≡ (if b then took n p c w g (taken.Write l q) m else (if reads_on (answer_tried c w m) then downgraded n (writer_asked n p c (changes_at c w m)) d (took n p c w g (taken.Write l q) m) else left (writer_asked n p c (changes_at c w m)) d (took n p c w g (taken.Write l q) m)))
+        by true none = ap (λ x. took n p c w x (taken.Write l q) m) (ap (given_first g) none ∙ first_alone g)
+        by false gift = then_on (reads_on (answer_tried c w m))
+
+    -- it is turned away
     after_cyclic : (v : Want) → w ≡ v → g ≡ given.Nobody → d ≡ given.Nobody → wait_of p (waits cells h) ≡ None → (w ≡ Turns → ⊥) → after taken.Cyclic g d ≡ settled n p c w g d taken.Cyclic m
-    after_cyclic (Calls j) e of none awake calls =
-        quiet answer.Cyclic none ∙ ap (λ y. standing cells (event p a (record { answer = answer.Cyclic; given = y }) ∷ h)) of ∙ try_cyclic cells h p a c w r o k j e (same j e) accepted awake
+    after_cyclic (Calls j) e of none awake calls = quiet answer.Cyclic none ∙ ap (after_answer answer.Cyclic) of ∙ try_cyclic cells h p a c w r o k j e (same j e) accepted awake
     after_cyclic Turns e of none awake calls = absurd (calls e)
 
+    after_missed : (v : Want) → w ≡ v → g ≡ given.Nobody → d ≡ given.Nobody → wait_of p (waits cells h) ≡ None → (w ≡ Turns → ⊥) → after taken.Missed g d ≡ settled n p c w g d taken.Missed m
+    after_missed (Calls j) e of none awake calls = quiet (answer_missed w) none ∙ ap (after_answer (answer_missed w)) of ∙ ap (λ v. after_answer (answer_missed v) given.Nobody) e ∙ try_missed cells h p a c w r o k j e (same j e) accepted awake
+    after_missed Turns e of none awake calls = absurd (calls e)
+
     -- what asks for its own run is a call that does not wait
-    pub after_tried : (b : Taken) → IsOf w g b → TellsPhase (phase_asked c w m) b → GivesSettled n p c w g d b m → (b ≡ taken.Cyclic → (wait_of p (waits cells h) ≡ None) × (w ≡ Turns → ⊥)) → after b g d ≡ settled n p c w g d b m
-    after_tried (taken.Wait how) of told gives alone = quiet (answer.Waiting how) gives ∙ try_waits cells h p a c w r o k how g
-    after_tried taken.Cyclic of told gives alone = let k = alone refl in after_cyclic w refl of gives k.0 k.1
-    after_tried (taken.Nothing q) of told gives alone = after_nothing q of gives
-    after_tried (taken.Read t q) of told gives alone = after_read of.0 t q of.1 told gives
-    after_tried (taken.Write t q) of told gives alone = after_write t q of told gives
-    after_tried taken.Runs of told gives alone = after_runs w refl gives
+    pub after_tried : (b : Taken) → IsOf p t g m b → GivesSettled n p c w g d b m → (b ≡ taken.Cyclic → (wait_of p (waits cells h) ≡ None) × (w ≡ Turns → ⊥)) → after b g d ≡ settled n p c w g d b m
+    after_tried (taken.Wait how) of gives alone = quiet (answer.Waiting how) gives ∙ try_waits cells h p a c w r o k how g
+    after_tried taken.Missed of gives alone = after_missed w refl of.0 gives of.1 of.2
+    after_tried taken.Cyclic of gives alone = let z = alone refl in after_cyclic w refl of gives z.0 z.1
+    after_tried (taken.Nothing q) of gives alone = after_nothing q w refl of gives
+    after_tried (taken.Read l q) of gives alone = after_read l q w refl of of gives
+    after_tried (taken.Write l q) of gives alone = after_write l q w refl of.0 of gives
+    after_tried taken.Runs of gives alone = after_runs w refl gives

@@ -1,65 +1,50 @@
 -- The line of an attempt is legal.
-use Rattle.std.proofs.Common.{◌≡◌, ◌≢◌, ◌∙◌, ◌==◌, ℕ, List, length, ap, sym, subst, refl, Bool, true, false, None, Some}
-use Rattle.std.specs.Prelude.{◌&&◌, IsTrue, MatchBool, if◌then◌else◌}
+use Rattle.std.proofs.Common.{◌≡◌, ◌≢◌, ◌∙◌, ◌==◌, ℕ, List, [], length, ap, sym, subst, refl, Bool, true, false, None}
+use Rattle.std.specs.Prelude.{◌&&◌, ◌∷◌, IsTrue, MatchBool, if◌then◌else◌}
 use Rattle.std.specs.declared.option.Option.{Option}
 use Rattle.exit_registry.specs.Registry.{Registry}
+use Rattle.exit_registry.specs.declared.turns.Turn.TheVariants as turn
 use Rattle.phase_bits.specs.declared.phase.Phase.{Phase}
 use Rattle.phase_locker.specs.declared.ways.Given.{Given}
 use Rattle.phase_locker.specs.declared.ways.Given.TheVariants as given
+use Rattle.lazy_cells.specs.declared.call.Call.{Call}
+use Rattle.schedule_rules.specs.declared.form.Form.{Form}
+use Rattle.schedule_rules.specs.declared.form.Form.TheVariants.{Told, Shown, Held}
 use Rattle.schedule_rules.specs.declared.line.Answer.TheVariants as answer
 use Rattle.schedule_rules.specs.declared.line.Line.{Line}
-use Rattle.schedule_rules.specs.declared.plan.Call.{Call}
-use Rattle.schedule_rules.specs.declared.plan.Call.TheVariants as call
 use Rattle.schedule_rules.specs.declared.plan.CellPlan.{CellPlan}
 use Rattle.schedule_rules.specs.declared.step.Act.{Act}
 use Rattle.schedule_rules.specs.declared.step.Want.{Want}
 use Rattle.schedule_rules.specs.declared.step.Want.TheVariants.{Calls, Turns}
-use Rattle.schedule_rules.specs.Answers.{answer_of_attempt}
-use Rattle.schedule_rules.specs.Changes.{is_declined}
+use Rattle.schedule_rules.specs.Answers.{answer_at, answer_denied, answer_of_attempt}
 use Rattle.schedule_rules.specs.Due.{due_answer, due_tried, meeting}
 use Rattle.schedule_rules.specs.Exits.{registry}
-use Rattle.schedule_rules.specs.Gifts.{declines_read, may_give_first, may_give_last, reads_on, reaches}
+use Rattle.schedule_rules.specs.Forms.{form_of, is_to_read}
+use Rattle.schedule_rules.specs.Gifts.{asks_to_read, downgrades, falls_back, may_give_first, may_give_last, reaches, turns_back}
 use Rattle.schedule_rules.specs.Guards.{reader}
 use Rattle.schedule_rules.specs.History.{Event, accepts}
-use Rattle.schedule_rules.specs.Kinds.{cell_at, tolerance_at}
+use Rattle.schedule_rules.specs.Holds.{wants_to_write}
+use Rattle.schedule_rules.specs.Kinds.{cell_at}
 use Rattle.schedule_rules.specs.Legal.{IsLegalLine, Moment, First, Last, answer_of, due_at, may_give}
+use Rattle.schedule_rules.specs.Phases.{is_accessible}
 use Rattle.schedule_rules.specs.Refusals.{refusal}
-use Rattle.schedule_rules.specs.Replay.{phase_at}
 use Rattle.schedule_rules.specs.Waits.{Wait, waits, without_wait, attempt}
 use Rattle.waiting_rows.specs.Given.{given_on}
 use Rattle.waiting_rows.proofs.GivenOn.{given_concerned}
 use Rattle.phase_moves.specs.declared.rows.Taken.{Taken}
 use Rattle.phase_moves.specs.declared.rows.Taken.TheVariants as taken
 use Rattle.phase_moves.specs.declared.rows.Target.{Target}
-use Rattle.phase_moves.specs.Gifts.{MayGive}
-use Rattle.phase_moves.specs.Meets.{IsMet, IsOf, GivesFirst, GivesLast, GivesDown, MayGiveAt, meets, waits_at, declines_in, is_read, answer_taken}
-use Rattle.phase_moves.specs.Standing.{Standing, took, left, changes_at, writer_asked}
+use Rattle.phase_moves.specs.Gifts.{IsGift, MayGive, MayGiveDown}
+use Rattle.phase_moves.specs.Histories.{standing, event}
+use Rattle.phase_moves.specs.Meets.{GivesDown, GivesFirst, GivesLast, IsCallOf, IsDown, IsMet, IsOf, IsUnlocked, MayGiveAt, answer_missed, answer_running, meets, takes_write, waits_at, wanted_in}
+use Rattle.phase_moves.specs.Standing.{Standing, answered, content_tried, downgraded, took, left, turn_ended, changes_at, writer_asked}
 use Rattle.phase_moves.specs.Tries.{TellsPhase, phase_asked}
-use Rattle.phase_acts.specs.Settles.{is_made, answer_settled, GivesSettled}
+use Rattle.phase_acts.specs.Settles.{answer_settled, answer_tried, reads_on, settled, writes_on, GivesSettled}
 use Rattle.phase_acts.specs.Steps.{step_of, given_first}
 use Rattle.phase_acts.proofs.Lines.{gave_freed, gave_readers}
 use Rattle.phase_acts.proofs.Settling.{first_alone}
-use Rattle.phase_acts.proofs.Tried.{denied, last_none}
-use Rattle.phase_acts.proofs.Trying.{IsAttempt, standing_at, try_denied_read, try_denied_write}
-
-and_if : (x y : Bool) → (if x then y else false) ≡ true → (x && y) ≡ true
-and_if true y e = e
-and_if false y e = absurd (cc)
-
--- the second of two that hold
-if_so : (x y : Bool) → (if x then y else false) ≡ true → y ≡ true
-if_so true y e = e
-if_so false y e = absurd (cc)
-
--- the answer of what was taken
-settled_taken : (cells : List CellPlan) (c : ℕ) (w : Want) (g : Given) (b : Taken) → IsOf w g b → answer_settled c w b ≡ answer_taken (cell_at cells c).kind (record { cell = c; want = w }) b
-settled_taken cells c w g (taken.Wait how) of = refl
-settled_taken cells c w g taken.Cyclic of = refl
-settled_taken cells c w g (taken.Nothing q) of = ap (λ v. answer_settled c v (taken.Nothing q)) of ∙ ap (λ v. answer_taken (cell_at cells c).kind (record { cell = c; want = v }) (taken.Nothing q)) (sym of)
-settled_taken cells c w g (taken.Read t q) of = ap (λ r. if is_made q then r else answer.Access q) (sym of.2) ∙ ap (λ v. answer_taken (cell_at cells c).kind (record { cell = c; want = v }) (taken.Read t q)) (sym of.1)
-settled_taken cells c w g (taken.Write t q) of = ap (λ v. answer_taken (cell_at cells c).kind (record { cell = c; want = v }) (taken.Write t q)) (sym of)
-settled_taken cells c (Calls k) g taken.Runs of = refl
-settled_taken cells c Turns g taken.Runs of = refl
+use Rattle.phase_acts.proofs.Tried.{after_tried, answer_call, last_none, nothing_left}
+use Rattle.phase_acts.proofs.Trying.{IsAttempt, standing_at, try_skips}
 
 module _ (cells : List CellPlan) (h : List Event) (p : ℕ) (a : Act) (c : ℕ) (w : Want) (r : Registry) (o : Option ℕ) (k : IsAttempt cells h p a c w r o) (accepted : accepts h ≡ r.is_open) (same : (j : Call) → w ≡ Calls j → r ≡ registry cells h) (free : refusal cells h (step_of p a) ≡ None) where
   abbrev m : Standing
@@ -101,43 +86,145 @@ module _ (cells : List CellPlan) (h : List Event) (p : ℕ) (a : Act) (c : ℕ) 
       let none = ap (λ x. x == 0) f.free in
       ap (λ x. may_give_first cells h (step_of p a) x g) k.attempted ∙ rw (parks, own, dropped, none, reach) refl
 
-  gave_down : (q : Phase) (b : Taken) → GivesDown p t b m → may_give_last cells h (step_of p a) (answer.Access q) given.Readers ≡ true
-  gave_down q b f = gave_readers cells h p a (answer.Access q) c k.concerned f.reaching.parks f.reaching.reach (ap (declines_read cells h) k.attempted ∙ by w f.declined)
+  -- a section that reads on, or of a call that reads, was made a read lock
+  downs : (j : Call) → w ≡ Calls j → is_to_read (form_of (cell_at cells c).kind j) ≡ true → wants_to_write (wanted_in c w m) ≡ true → (f : Form) → is_to_read f ≡ true → downgrades cells h (step_of p a) (answer_denied f (content_tried c w m).phase) ≡ true
+  downs j calls reads wrote (Held false true) e = ap (falls_back cells h) k.attempted ∙ wrote
+  downs j calls reads wrote (Held false false) e = ap (turns_back cells h) k.attempted ∙ ap (λ v. asks_to_read (cell_at cells c).kind v && wants_to_write (wanted_in c w m)) calls ∙ ap (λ b. b && wants_to_write (wanted_in c w m)) reads ∙ wrote
+  downs j calls reads wrote (Held true fb) e = absurd (cc)
+  downs j calls reads wrote (Told tests) e = absurd (cc)
+  downs j calls reads wrote Shown e = absurd (cc)
+
+  gave_down : (v : Want) → w ≡ v → IsCallOf (cell_at cells c).kind v is_to_read → IsDown p t m → may_give_last cells h (step_of p a) (answer_tried c w m) given.Readers ≡ true
+  gave_down Turns e is f = absurd is
+  gave_down (Calls j) calls is f =
+      ap (λ x. may_give_last cells h (step_of p a) x given.Readers) (answer_call cells h p a c w r o k accepted same j calls ∙ ap (λ b. answer_at (form_of (cell_at cells c).kind j) b (content_tried c w m)) f.lacks)
+      ∙ gave_readers cells h p a (answer_denied (form_of (cell_at cells c).kind j) (content_tried c w m).phase) c k.concerned f.reaching.parks f.reaching.reach (downs j calls is f.wrote (form_of (cell_at cells c).kind j) is)
+
+  -- what a call gave whose section was given back at once
+  gave_back : (q : Phase) (g : Given) (v : Want) → w ≡ v → IsUnlocked (cell_at cells c).kind v → MayGive c (answered p c given.Nobody (changes_at c w m) m) g → may_give_last cells h (step_of p a) (answer_tried c w m) g ≡ true
+  gave_back q g (Calls j) calls of gift =
+      ap (λ x. may_give_last cells h (step_of p a) x g) (answer_call cells h p a c w r o k accepted same j calls)
+      ∙ gave_freed cells h p a (answer_at (form_of (cell_at cells c).kind j) (is_accessible (cell_at cells c).kind (content_tried c w m).phase) (content_tried c w m)) c k.concerned g
+      (subst (λ z. MayGive c z g) (sym left_so) gift) (ap (λ (z : Standing). z.waits) left_so)
     where
-      by : (v : Want) → declines_in c v m ≡ true → declines_read cells h (Some (record { cell = c; want = v })) ≡ true
-      by (Calls j) e = ap (λ x. reads_on j && is_declined (cell_at cells c).kind (tolerance_at cells c) j x (phase_at cells c h)) accepted ∙ and_if (reads_on j) (is_declined (cell_at cells c).kind (tolerance_at cells c) j r.is_open (phase_at cells c h)) e
-      by Turns e = e
+      left_so : standing cells (event p a (record { answer = answer_at (form_of (cell_at cells c).kind j) (is_accessible (cell_at cells c).kind (content_tried c w m).phase) (content_tried c w m); given = given.Nobody }) ∷ h) ≡ answered p c given.Nobody (changes_at c w m) m
+      left_so = nothing_left cells h p a c w r o k accepted same j calls (form_of (cell_at cells c).kind j) (is_accessible (cell_at cells c).kind (content_tried c w m).phase) refl of given.Nobody
+  gave_back q g Turns turns of gift = by g (skipped gift)
+    where
+      skipped : MayGive c (answered p c given.Nobody (changes_at c w m) m) g → MayGive c (answered p c given.Nobody [] m) g
+      skipped = subst (λ v. MayGive c (answered p c given.Nobody (changes_at c v m) m) g) turns
+
+      by : (z : Given) → MayGive c (answered p c given.Nobody [] m) z → may_give_last cells h (step_of p a) (answer_tried c w m) z ≡ true
+      by z gift =
+          ap (λ v. may_give_last cells h (step_of p a) (answer_tried c v m) z) turns
+          ∙ gave_freed cells h p a (answer.Skipped c) c k.concerned z (again z gift) (ap (λ (x : Standing). x.waits) skips)
+        where
+          skips : standing cells (event p a (record { answer = answer.Skipped c; given = given.Nobody }) ∷ h) ≡ turn_ended c turn.Skipped (took n p c w given.Nobody (taken.Nothing q) m)
+          skips = try_skips cells h p a c w r o k turns q given.Nobody
+
+          again : (z : Given) → MayGive c (answered p c given.Nobody [] m) z → MayGive c (standing cells (event p a (record { answer = answer.Skipped c; given = given.Nobody }) ∷ h)) z
+          again given.Nobody gift = tt
+          again (given.Writer u) gift = subst (λ x. IsGift c x (given.Writer u)) (sym skips) (record { parks = gift.parks; reach = gift.reach; free = gift.free })
+          again given.Readers gift = subst (λ x. IsGift c x given.Readers) (sym skips) (record { parks = gift.parks; reach = gift.reach; free = gift.free })
 
   -- what it gave as it gave its lock back
   module _ (g d : Given) (nobody : g ≡ given.Nobody) where
-    gave_settled : (b : Taken) → IsOf w g b → GivesSettled n p c w g d b m → may_give_last cells h (step_of p a) (answer_settled c w b) d ≡ true
+    -- it may give nothing
+    none_settled : (b : Taken) → GivesSettled n p c w g given.Nobody b m
+    none_settled (taken.Wait how) = refl
+    none_settled taken.Missed = refl
+    none_settled taken.Cyclic = refl
+    none_settled (taken.Nothing q) = refl
+    none_settled (taken.Read l q) = by (reads_on (answer_tried c w m))
+      where
+        by : (z : Bool) → MatchBool z (given.Nobody ≡ given.Nobody) (MayGive c (left (reader n p c) given.Nobody (took n p c w g (taken.Read l q) m)) given.Nobody)
+        by true = refl
+        by false = tt
+    none_settled (taken.Write l q) = by (writes_on (answer_tried c w m)) (reads_on (answer_tried c w m))
+      where
+        by : (z u : Bool) → MatchBool z (given.Nobody ≡ given.Nobody) (MatchBool u (MayGiveDown c (took n p c w g (taken.Write l q) m) given.Nobody) (MayGive c (left (writer_asked n p c (changes_at c w m)) given.Nobody (took n p c w g (taken.Write l q) m)) given.Nobody))
+        by true u = refl
+        by false true = tt
+        by false false = tt
+    none_settled taken.Runs = refl
+
+    -- what stands open where nothing is given
+    none_after : (b : Taken) → IsOf p t g m b → (b ≡ taken.Cyclic → ⊥) → standing cells (event p a (record { answer = answer_settled c w b m; given = given.Nobody }) ∷ h) ≡ settled n p c w g given.Nobody b m
+    none_after b of ne =
+        ap (λ z. standing cells (event p a (record { answer = answer_settled c w b m; given = z }) ∷ h)) (sym nobody ∙ sym (first_alone g))
+        ∙ after_tried cells h p a c w r o k accepted same g given.Nobody (λ some. absurd (some nobody)) b of (none_settled b) (λ e. absurd (ne e))
+
+    others_then : given_on c g (without_wait p (waits cells h)) ≡ without_wait p (waits cells h)
+    others_then = ap (λ z. given_on c z (without_wait p (waits cells h))) nobody
+
+    -- nothing stands on the cell then
+    gave_after : (x : Standing) → standing cells (event p a (record { answer = answer_tried c w m; given = given.Nobody }) ∷ h) ≡ x → x.waits ≡ given_on c g (without_wait p (waits cells h)) → MayGive c x d → may_give_last cells h (step_of p a) (answer_tried c w m) d ≡ true
+    gave_after x is ws gift = gave_freed cells h p a (answer_tried c w m) c k.concerned d (subst (λ z. MayGive c z d) (sym is) gift) (ap (λ (z : Standing). z.waits) is ∙ ws ∙ others_then)
+
+    -- a section that reads on was made a read lock
+    downs_write : (f : Form) (b : Bool) → takes_write f ≡ true → wants_to_write (wanted_in c w m) ≡ true → reads_on (answer_at f b (content_tried c w m)) ≡ true → downgrades cells h (step_of p a) (answer_at f b (content_tried c w m)) ≡ true
+    downs_write (Held true fb) true e wrote reads = absurd (cc)
+    downs_write (Held true true) false e wrote reads = ap (falls_back cells h) k.attempted ∙ wrote
+    downs_write (Held true false) false e wrote reads = absurd (cc)
+    downs_write (Told tests) true e wrote reads = absurd (cc)
+    downs_write (Told true) false e wrote reads = absurd (cc)
+    downs_write (Told false) false e wrote reads = absurd (cc)
+    downs_write (Held false fb) b e wrote reads = absurd (cc)
+    downs_write Shown b e wrote reads = absurd (cc)
+
+    gave_reading : (v : Want) → w ≡ v → IsCallOf (cell_at cells c).kind v takes_write → wants_to_write (wanted_in c w m) ≡ true → reads_on (answer_tried c w m) ≡ true → (z : Given) → MayGiveDown c (record m { waits = given_on c g (without_wait p (waits cells h)) }) z → may_give_last cells h (step_of p a) (answer_tried c w m) z ≡ true
+    gave_reading Turns e is wrote reads z may = absurd is
+    gave_reading (Calls j) calls is wrote reads given.Nobody may = refl
+    gave_reading (Calls j) calls is wrote reads (given.Writer u) may = absurd may
+    gave_reading (Calls j) calls is wrote reads given.Readers may =
+        gave_readers cells h p a (answer_tried c w m) c k.concerned may.parks (ap (reaches c given.Readers) (sym others_then) ∙ may.reach)
+        (ap (downgrades cells h (step_of p a)) same_answer ∙ downs_write (form_of (cell_at cells c).kind j) access_now is wrote (ap reads_on (sym same_answer) ∙ reads))
+      where
+        access_now : Bool
+        access_now = is_accessible (cell_at cells c).kind (content_tried c w m).phase
+
+        same_answer : answer_tried c w m ≡ answer_at (form_of (cell_at cells c).kind j) (is_accessible (cell_at cells c).kind (content_tried c w m).phase) (content_tried c w m)
+        same_answer = answer_call cells h p a c w r o k accepted same j calls
+
+    gave_settled : (b : Taken) → IsOf p t g m b → GivesSettled n p c w g d b m → may_give_last cells h (step_of p a) (answer_settled c w b m) d ≡ true
     gave_settled (taken.Wait how) of e = ap (may_give_last cells h (step_of p a) (answer.Waiting how)) e
+    gave_settled taken.Missed of e = ap (may_give_last cells h (step_of p a) (answer_missed w)) e
     gave_settled taken.Cyclic of e = ap (may_give_last cells h (step_of p a) answer.Cyclic) e
-    gave_settled (taken.Nothing q) of e = ap (may_give_last cells h (step_of p a) (answer_settled c w (taken.Nothing q))) e
-    gave_settled (taken.Read l q) of gives = by (is_made q) gives
+    gave_settled (taken.Nothing q) of e = ap (may_give_last cells h (step_of p a) (answer_tried c w m)) e
+    gave_settled (taken.Read l q) of gives = by (reads_on (answer_tried c w m)) refl gives
       where
-        by : (b : Bool) → MatchBool b (d ≡ given.Nobody) (MayGive c (left (reader n p c) given.Nobody (took n p c w g (taken.Read l q) m)) d) → may_give_last cells h (step_of p a) (if b then answer.ReadGuard else answer.Access q) d ≡ true
-        by true e = ap (may_give_last cells h (step_of p a) answer.ReadGuard) e
-        by false gift =
-            gave_freed cells h p a (answer.Access q) c k.concerned d
-            (subst (λ z. MayGive c z d) (sym (try_denied_read cells h p a c w r o k of.0 of.1 (same of.0 of.1) accepted given.Nobody given.Nobody refl q l)) (subst (λ x. MayGive c (left (reader n p c) given.Nobody (took n p c w x (taken.Read l q) m)) d) nobody gift)) refl
-    gave_settled (taken.Write l q) of gives = by (is_made q) gives
+        by : (b : Bool) → reads_on (answer_tried c w m) ≡ b → MatchBool b (d ≡ given.Nobody) (MayGive c (left (reader n p c) given.Nobody (took n p c w g (taken.Read l q) m)) d) → may_give_last cells h (step_of p a) (answer_tried c w m) d ≡ true
+        by true reads e = ap (may_give_last cells h (step_of p a) (answer_tried c w m)) e
+        by false lacks gift =
+            gave_after (left (reader n p c) given.Nobody (took n p c w g (taken.Read l q) m))
+            (none_after (taken.Read l q) of (λ e. absurd (cc)) ∙ ap (λ b. if b then took n p c w g (taken.Read l q) m else left (reader n p c) given.Nobody (took n p c w g (taken.Read l q) m)) lacks) refl gift
+    gave_settled (taken.Write l q) of gives = by (writes_on (answer_tried c w m)) refl (reads_on (answer_tried c w m)) refl gives
       where
-        by : (b : Bool) → MatchBool b (d ≡ given.Nobody) (MayGive c (left (writer_asked n p c (changes_at c w m)) given.Nobody (took n p c w g (taken.Write l q) m)) d) → may_give_last cells h (step_of p a) (if b then answer.WriteGuard else answer.Access q) d ≡ true
-        by true e = ap (may_give_last cells h (step_of p a) answer.WriteGuard) e
-        by false gift =
-            gave_freed cells h p a (answer.Access q) c k.concerned d
-            (subst (λ z. MayGive c z d) (sym (try_denied_write cells h p a c w r o k call.Write of (same call.Write of) accepted given.Nobody given.Nobody refl q l)) (subst (λ x. MayGive c (left (writer_asked n p c (changes_at c w m)) given.Nobody (took n p c w x (taken.Write l q) m)) d) nobody gift)) refl
-    gave_settled taken.Runs of e = ap (may_give_last cells h (step_of p a) (answer_settled c w taken.Runs)) e
+        by : (b : Bool) → writes_on (answer_tried c w m) ≡ b → (u : Bool) → reads_on (answer_tried c w m) ≡ u
+            → MatchBool b (d ≡ given.Nobody) (MatchBool u (MayGiveDown c (took n p c w g (taken.Write l q) m) d) (MayGive c (left (writer_asked n p c (changes_at c w m)) given.Nobody (took n p c w g (taken.Write l q) m)) d))
+            → may_give_last cells h (step_of p a) (answer_tried c w m) d ≡ true
+        by true writes u reads e = ap (may_give_last cells h (step_of p a) (answer_tried c w m)) e
+        by false lacks true reads may = gave_reading w refl of.0 of.1 reads d (as_down d may)
+          where
+            as_down : (z : Given) → MayGiveDown c (took n p c w g (taken.Write l q) m) z → MayGiveDown c (record m { waits = given_on c g (without_wait p (waits cells h)) }) z
+            as_down given.Nobody may = tt
+            as_down (given.Writer u) may = absurd may
+            as_down given.Readers may = record { parks = may.parks; reach = may.reach }
+        by false lacks false reads gift =
+            gave_after (left (writer_asked n p c (changes_at c w m)) given.Nobody (took n p c w g (taken.Write l q) m))
+            (none_after (taken.Write l q) of (λ e. absurd (cc))
+            ∙ ap (λ b. if b then took n p c w g (taken.Write l q) m else (if reads_on (answer_tried c w m) then downgraded n (writer_asked n p c (changes_at c w m)) given.Nobody (took n p c w g (taken.Write l q) m) else left (writer_asked n p c (changes_at c w m)) given.Nobody (took n p c w g (taken.Write l q) m))) lacks
+            ∙ ap (λ b. if b then downgraded n (writer_asked n p c (changes_at c w m)) given.Nobody (took n p c w g (taken.Write l q) m) else left (writer_asked n p c (changes_at c w m)) given.Nobody (took n p c w g (taken.Write l q) m)) reads) refl gift
+    gave_settled taken.Runs of e = ap (may_give_last cells h (step_of p a) (answer_running c w)) e
 
   -- ---- the line
 
   module _ (b : Taken) (g d : Given) (told : TellsPhase (phase_asked c w m) b) (met : IsMet p t b g m) (gives : GivesSettled n p c w g d b m) where
     abbrev line : Line
-    line = record { answer = answer_settled c w b; given = given_first g d }
+    line = record { answer = answer_settled c w b m; given = given_first g d }
 
     -- at this moment
-    legal_at : (mo : Moment) (chosen : Bool) → answer_settled c w b ≡ due_at cells mo h (step_of p a) (given_first g d) chosen → may_give cells None mo h (step_of p a) line ≡ true → IsLegalLine cells h (step_of p a) line
+    legal_at : (mo : Moment) (chosen : Bool) → answer_settled c w b m ≡ due_at cells mo h (step_of p a) (given_first g d) chosen → may_give cells None mo h (step_of p a) line ≡ true → IsLegalLine cells h (step_of p a) line
     legal_at mo chosen due gave =
         record {
           moment = mo;
@@ -150,50 +237,68 @@ module _ (cells : List CellPlan) (h : List Event) (p : ℕ) (a : Act) (c : ℕ) 
     legal_quiet : g ≡ given.Nobody → IsLegalLine cells h (step_of p a) line
     legal_quiet e =
         let all : given_first g d ≡ d = ap (λ x. given_first x d) e in
-        legal_at Last met.chosen (settled_taken cells c w g b met.wanted ∙ met.answered ∙ judged_last met.moment g (given_first g d) met.chosen e) (ap (may_give_last cells h (step_of p a) (answer_settled c w b)) all ∙ gave_settled g d e b met.wanted gives)
+        legal_at Last met.chosen (met.answered ∙ judged_last met.moment g (given_first g d) met.chosen e) (ap (may_give_last cells h (step_of p a) (answer_settled c w b m)) all ∙ gave_settled g d e b met.wanted gives)
+
+    -- something was, for what the step gave back
+    gave_late : (b : Taken) → IsOf p t g m b → (x : Given) → x ≢ given.Nobody → GivesLast p t b x m → may_give_last cells h (step_of p a) (answer_settled c w b m) x ≡ true
+    gave_late (taken.Wait how) of x ne gift = absurd (ne gift)
+    gave_late taken.Missed of x ne gift = absurd (ne gift)
+    gave_late taken.Cyclic of x ne gift = absurd (ne gift)
+    gave_late (taken.Nothing q) of x ne gift = gave_back q x w refl of gift
+    gave_late (taken.Read l q) of given.Nobody ne gift = absurd (ne refl)
+    gave_late (taken.Read l q) of (given.Writer u) ne gift = absurd gift
+    gave_late (taken.Read l q) of given.Readers ne gift = gave_down w refl of gift
+    gave_late (taken.Write l q) of x ne gift = absurd (ne gift)
+    gave_late taken.Runs of x ne gift = absurd (ne gift)
+
+    legal_late : d ≡ given.Nobody → (x : Given) → g ≡ x → x ≢ given.Nobody → met.moment ≡ Last → GivesLast p t b x m → IsLegalLine cells h (step_of p a) line
+    legal_late none x e ne mo_is gift =
+        let all : given_first g d ≡ g = ap (given_first g) none ∙ first_alone g in
+        legal_at Last met.chosen (met.answered ∙ ap (λ y. answer_of_attempt (cell_at cells c) w (meets p c w (waits_at y p c g m) m) met.chosen) mo_is ∙ judged Last g met.chosen)
+        (ap (may_give_last cells h (step_of p a) (answer_settled c w b m)) (all ∙ e) ∙ gave_late b met.wanted x ne gift)
 
     -- something was
     legal_gift : d ≡ given.Nobody → (x : Given) → g ≡ x → x ≢ given.Nobody → (mo : Moment) → met.moment ≡ mo → MayGiveAt mo p t b x m → IsLegalLine cells h (step_of p a) line
     legal_gift none x e ne First mo_is gift =
         let all : given_first g d ≡ g = ap (given_first g) none ∙ first_alone g in
-        legal_at First met.chosen (settled_taken cells c w g b met.wanted ∙ met.answered ∙ ap (λ y. answer_of_attempt (cell_at cells c) w (meets p c w (waits_at y p c g m) m) met.chosen) mo_is ∙ judged First g met.chosen ∙ ap (λ y. due_at cells First h (step_of p a) y met.chosen) (sym all))
+        legal_at First met.chosen (met.answered ∙ ap (λ y. answer_of_attempt (cell_at cells c) w (meets p c w (waits_at y p c g m) m) met.chosen) mo_is ∙ judged First g met.chosen ∙ ap (λ y. due_at cells First h (step_of p a) y met.chosen) (sym all))
         (ap (may_give_first cells h (step_of p a) (attempt cells h (step_of p a))) (all ∙ e) ∙ gave_first x gift)
     legal_gift none given.Nobody e ne Last mo_is gift = absurd (ne refl)
-    legal_gift none (given.Writer q) e ne Last mo_is gift = absurd gift
-    legal_gift none given.Readers e ne Last mo_is gift =
-        let all : given_first g d ≡ g = ap (given_first g) none ∙ first_alone g in
-        legal_at Last met.chosen (settled_taken cells c w g b met.wanted ∙ met.answered ∙ ap (λ y. answer_of_attempt (cell_at cells c) w (meets p c w (waits_at y p c g m) m) met.chosen) mo_is ∙ judged Last g met.chosen)
-        (ap (may_give_last cells h (step_of p a) (answer_settled c w b)) (all ∙ e) ∙ access b met.wanted told gift.reads gift)
-      where
-        access : (b : Taken) → IsOf w g b → TellsPhase (phase_asked c w m) b → is_read b ≡ true → GivesDown p t b m → may_give_last cells h (step_of p a) (answer_settled c w b) given.Readers ≡ true
-        access (taken.Read l q) of told taken_so f =
-            let declined : is_declined (cell_at cells c).kind (tolerance_at cells c) of.0 r.is_open (phase_at cells c h) ≡ true = if_so (reads_on of.0) _ (ap (λ v. declines_in c v m) (sym of.1) ∙ f.declined) in
-            let lacks = denied c w m of.0 of.1 q told declined in
-            ap (λ z. may_give_last cells h (step_of p a) (if z then answer.ReadGuard else answer.Access q) given.Readers) lacks ∙ gave_down q (taken.Read l q) f
-        access (taken.Wait how) of told taken_so f = absurd (cc)
-        access taken.Cyclic of told taken_so f = absurd (cc)
-        access (taken.Nothing q) of told taken_so f = absurd (cc)
-        access (taken.Write l q) of told taken_so f = absurd (cc)
-        access taken.Runs of told taken_so f = absurd (cc)
+    legal_gift none (given.Writer q) e ne Last mo_is gift = legal_late none (given.Writer q) e ne mo_is gift
+    legal_gift none given.Readers e ne Last mo_is gift = legal_late none given.Readers e ne mo_is gift
 
     -- a gift reaches those that it is for
     pub gift_reaches : g ≢ given.Nobody → reaches c g (without_wait p (waits cells h)) ≡ true
     gift_reaches ne = at met.moment met.gives
       where
-        last : (x : Given) → g ≡ x → GivesLast p t b x m → reaches c x (without_wait p (waits cells h)) ≡ true
-        last given.Nobody e gift = absurd (ne e)
-        last (given.Writer q) e gift = absurd gift
-        last given.Readers e gift = gift.reaching.reach
+        back : (x : Given) → g ≡ x → MayGive c (answered p c given.Nobody (changes_at c w m) m) x → reaches c x (without_wait p (waits cells h)) ≡ true
+        back given.Nobody e gift = refl
+        back (given.Writer q) e gift = gift.reach
+        back given.Readers e gift = gift.reach
+
+        down : (x : Given) → g ≡ x → GivesDown p t x m → reaches c x (without_wait p (waits cells h)) ≡ true
+        down given.Nobody e gift = refl
+        down (given.Writer q) e gift = absurd gift
+        down given.Readers e gift = gift.reaching.reach
+
+        last : (b : Taken) → GivesLast p t b g m → reaches c g (without_wait p (waits cells h)) ≡ true
+        last (taken.Wait how) gift = absurd (ne gift)
+        last taken.Missed gift = absurd (ne gift)
+        last taken.Cyclic gift = absurd (ne gift)
+        last (taken.Nothing q) gift = back g refl gift
+        last (taken.Read l q) gift = down g refl gift
+        last (taken.Write l q) gift = absurd (ne gift)
+        last taken.Runs gift = absurd (ne gift)
 
         at : (mo : Moment) → MayGiveAt mo p t b g m → reaches c g (without_wait p (waits cells h)) ≡ true
         at First gift = gift.reaching.reach
-        at Last gift = last g refl gift
+        at Last gift = last b gift
 
     pub legal_tried : IsLegalLine cells h (step_of p a) line
     legal_tried = by g refl
       where
         some : (x : Given) → g ≡ x → x ≢ given.Nobody → IsLegalLine cells h (step_of p a) line
-        some x e ne = legal_gift (last_none n p c w g d m gift_reaches b (λ z. ne (sym e ∙ z)) gives) x e ne met.moment refl (subst (λ y. MayGiveAt met.moment p t b y m) e met.gives)
+        some x e ne = legal_gift (last_none n p t g d m gift_reaches b met.wanted (λ z. ne (sym e ∙ z)) gives) x e ne met.moment refl (subst (λ y. MayGiveAt met.moment p t b y m) e met.gives)
 
         by : (x : Given) → g ≡ x → IsLegalLine cells h (step_of p a) line
         by given.Nobody e = legal_quiet e

@@ -11,20 +11,20 @@ use Rattle.phase_locker.specs.declared.ways.Given.{Given}
 use Rattle.phase_locker.specs.declared.ways.Given.TheVariants as given
 use Rattle.phase_locker.specs.declared.ways.How.{How}
 use Rattle.schedule_rules.specs.declared.line.Answer.TheVariants as answer
-use Rattle.schedule_rules.specs.declared.plan.Call.{Call}
+use Rattle.lazy_cells.specs.declared.call.Call.{Call}
 use Rattle.schedule_rules.specs.declared.plan.CellPlan.{CellPlan}
 use Rattle.schedule_rules.specs.declared.step.Act.{Act}
 use Rattle.schedule_rules.specs.declared.step.Act.TheVariants as act
 use Rattle.schedule_rules.specs.declared.step.Want.{Want}
 use Rattle.schedule_rules.specs.declared.step.Want.TheVariants.{Calls, Turns}
+use Rattle.schedule_rules.specs.Calls.{is_fast}
 use Rattle.schedule_rules.specs.Changes.{Content, Asked, effect, is_declined}
 use Rattle.schedule_rules.specs.Due.{due_answer, due_tried}
 use Rattle.schedule_rules.specs.Exits.{registry, registry_taken, registry_of_run, registry_by, owner, owner_by, ended_turns, turns_by}
-use Rattle.schedule_rules.specs.Deeds.{Deed, deed_running, deed_read, deed_written, deed_accessed, deed_waiting, is_of_exit}
+use Rattle.schedule_rules.specs.Deeds.{Deed, Visits, deed_running, deed_phased, deed_read, deed_shown, deed_visited, deed_written, deed_waiting, is_of_exit}
 use Rattle.schedule_rules.specs.Guards.{Guard, guards, guards_by, reader, writer, without_guard}
 use Rattle.schedule_rules.specs.History.{Event, act_of, is_exit, accepts}
 use Rattle.schedule_rules.specs.Kinds.{cell_at, tolerance_at}
-use Rattle.schedule_rules.specs.Phases.{NoRun, phase_reached}
 use Rattle.schedule_rules.specs.Replay.{replay, phase_at, back_by, content_after_back}
 use Rattle.schedule_rules.specs.Sections.{sections, sections_by}
 use Rattle.schedule_rules.specs.Waits.{Wait, waits, wait_of, without_wait, with_wait, waits_given_with, attempt, act_for, cell_concerned}
@@ -33,7 +33,9 @@ use Rattle.waiting_rows.proofs.Counted.{none_without}
 use Rattle.waiting_rows.proofs.GivenOn.{given_concerned}
 use Rattle.phase_moves.specs.declared.rows.Taken.TheVariants as taken
 use Rattle.phase_moves.specs.Histories.{standing, event}
-use Rattle.phase_moves.specs.Standing.{Standing, took, left, turn_ended, changes_asked, changes_at, writer_asked, content_back, registry_asked}
+use Rattle.phase_moves.specs.Standing.{Standing, answered, guarded, took, left, turn_ended, changes_asked, changes_at, writer_asked, content_back, registry_asked}
+use Rattle.phase_moves.specs.Meets.{answer_missed}
+use Rattle.phase_moves.proofs.Asked.{call_left}
 use Rattle.phase_acts.specs.Steps.{step_of, given_first}
 
 -- the standing of a history, once the exit was taken so far
@@ -121,8 +123,8 @@ module _ (cells : List CellPlan) (h : List Event) (p : ℕ) (a : Act) (c : ℕ) 
         by act.Again e = refl
         by (act.Made v) e = refl
         by act.MadeFailed e = refl
-        by act.Finished e = refl
-        by act.FinishFailed e = refl
+        by (act.Finished left) e = refl
+        by (act.FinishFailed left) e = refl
         by (act.Look g) e = refl
         by (act.Set g v) e = refl
         by (act.Release g) e = refl
@@ -132,9 +134,20 @@ module _ (cells : List CellPlan) (h : List Event) (p : ℕ) (a : Act) (c : ℕ) 
     its_own : owner h ≡ o
     its_own = ap (λ e. owner_by p e (owner h)) (sym no_exit) ∙ k.owned
 
-    -- it asks for its own run
-    pub try_cyclic : wait_of p ws ≡ None → standing cells (event p a (record { answer = answer.Cyclic; given = given.Nobody }) ∷ h) ≡ standing_at cells h r o
-    try_cyclic awake = λ i. record (standing cells h) { waits = none_without p ws awake i; registry = sym same i; owner = its_own i }
+    -- it is turned away, and nothing changes
+    module _ (awake : wait_of p ws ≡ None) where
+      same_then : record (standing cells h) { waits = without_wait p ws } ≡ standing_at cells h r o
+      same_then = λ i. record (standing cells h) { waits = none_without p ws awake i; registry = sym same i; owner = its_own i }
+
+      pub try_cyclic : standing cells (event p a (record { answer = answer.Cyclic; given = given.Nobody }) ∷ h) ≡ standing_at cells h r o
+      try_cyclic = same_then
+
+      pub try_missed : standing cells (event p a (record { answer = answer_missed (Calls j); given = given.Nobody }) ∷ h) ≡ standing_at cells h r o
+      try_missed = by (is_fast (Calls j))
+        where
+          by : (f : Bool) → standing cells (event p a (record { answer = if f then answer.Missed else answer.Borrowed; given = given.Nobody }) ∷ h) ≡ standing_at cells h r o
+          by true = same_then
+          by false = same_then
 
     -- its generator runs
     pub try_runs : (d : Given) → standing cells (event p a (record { answer = answer.Running; given = d }) ∷ h) ≡ took (length h) p c w d taken.Runs (standing_at cells h r o)
@@ -144,7 +157,36 @@ module _ (cells : List CellPlan) (h : List Event) (p : ℕ) (a : Act) (c : ℕ) 
         ap (λ b. by_deed (deed_running b) (waits_given_with cells ws h (step_of p a) d (without_wait p ws))) does_call
         ∙ (λ i. record (standing cells h) { waits = gave d i; sections = sections_are i; registry = registry_is i; owner = its_own i })
 
-    -- it gets a guard: nothing happened to its cell
+    -- what stands open once its section was given back
+    abbrev pub left_open : Given → Standing
+    left_open d = answered p c d (changes_at c w (standing_at cells h r o)) (standing_at cells h r o)
+
+    -- what was asked is published where it was declined
+    asked : (x : ℕ) → content_after_back cells x (Some (record { cell = c; changes = Asked (accepts h) j ∷ [] })) (replay cells x h) ≡ content_back (Some (record { cell = c; changes = changes_at c w (standing_at cells h r o) })) (standing_at cells h r o) x
+    asked x =
+        ap (λ b. content_after_back cells x (Some (record { cell = c; changes = Asked b j ∷ [] })) (replay cells x h)) accepted ∙ by (c == x) refl ∙ ap (λ v. content_back (Some (record { cell = c; changes = changes_at c v (standing_at cells h r o) })) (standing_at cells h r o) x) (sym calls)
+      where
+        by : (b : Bool) → (c == x) ≡ b → (if b then effect (cell_at cells x) (Asked r.is_open j ∷ []) (replay cells x h) else replay cells x h) ≡ (if b then effect (cell_at cells x) (changes_asked (cell_at cells c) (Calls j) r.is_open (replay cells c h)) (replay cells x h) else replay cells x h)
+        by false e = refl
+        by true e = let same_cell : c ≡ x = grind (arith, e) in ap (λ z. effect (cell_at cells z) (Asked r.is_open j ∷ []) (replay cells z h)) (sym same_cell) ∙ sym (call_left (cell_at cells c) j r.is_open (replay cells c h)) ∙ ap (λ z. effect (cell_at cells z) (changes_asked (cell_at cells c) (Calls j) r.is_open (replay cells c h)) (replay cells z h)) same_cell
+
+    -- its section was given back, and it was told the phase, or that the value may not be accessed
+    visited : (d : Given) → by_deed (Visits c (Asked (accepts h) j ∷ []) false) (waits_given_with cells ws h (step_of p a) d (without_wait p ws)) ≡ left_open d
+    visited d = λ i. record (standing cells h) { waits = gave d i; content = λ x. asked x i; registry = sym same i; owner = its_own i }
+
+    pub try_told : (q : Phase) (d : Given) → standing cells (event p a (record { answer = answer.Phase q; given = d }) ∷ h) ≡ left_open d
+    try_told q d = ap (λ b. by_deed (deed_phased (accepts h) b) (waits_given_with cells ws h (step_of p a) d (without_wait p ws))) does_call ∙ visited d
+
+    pub try_denied : (q : Phase) (d : Given) → standing cells (event p a (record { answer = answer.Access q; given = d }) ∷ h) ≡ left_open d
+    try_denied q d = ap (λ b. by_deed (deed_visited (accepts h) false b) (waits_given_with cells ws h (step_of p a) d (without_wait p ws))) does_call ∙ visited d
+
+    -- it reads on
+    pub try_falls_back : (d : Given) → standing cells (event p a (record { answer = answer.ErrGuard; given = d }) ∷ h) ≡ guarded (reader (length h) p c) (left_open d)
+    try_falls_back d =
+        ap (λ b. by_deed (deed_visited (accepts h) true b) (waits_given_with cells ws h (step_of p a) d (without_wait p ws))) does_call
+        ∙ (λ i. record (standing cells h) { waits = gave d i; guards = reader (length h) p c ∷ guards h; content = λ x. asked x i; registry = sym same i; owner = its_own i })
+
+    -- it accesses the value: nothing happened to its cell
     module _ (undeclined : is_declined (cell_at cells c).kind (tolerance_at cells c) j r.is_open (phase_at cells c h) ≡ false) where
       nothing : changes_at c w (standing_at cells h r o) ≡ []
       nothing = ap (λ v. changes_at c v (standing_at cells h r o)) calls ∙ ap (λ b. if b then Asked r.is_open j ∷ [] else []) undeclined
@@ -152,8 +194,13 @@ module _ (cells : List CellPlan) (h : List Event) (p : ℕ) (a : Act) (c : ℕ) 
       content_is : (x : ℕ) → replay cells x h ≡ content_back (Some (record { cell = c; changes = changes_at c w (standing_at cells h r o) })) (standing_at cells h r o) x
       content_is x = sym (ap (λ chs. content_back (Some (record { cell = c; changes = chs })) (standing_at cells h r o) x) nothing ∙ same_content cells c x (replay cells x h))
 
-      pub try_reads : (t : ReadTicket) (q : Phase) (d : Given) → standing cells (event p a (record { answer = answer.ReadGuard; given = d }) ∷ h) ≡ took (length h) p c w d (taken.Read t q) (standing_at cells h r o)
-      try_reads t q d =
+      pub try_shown : (v : ℕ) (d : Given) → standing cells (event p a (record { answer = answer.Value v; given = d }) ∷ h) ≡ left_open d
+      try_shown v d =
+          ap (λ b. by_deed (deed_shown b) (waits_given_with cells ws h (step_of p a) d (without_wait p ws))) does_call
+          ∙ (λ i. record (standing cells h) { waits = gave d i; content = λ x. content_is x i; registry = sym same i; owner = its_own i })
+
+      pub try_reads : (d : Given) → standing cells (event p a (record { answer = answer.ReadGuard; given = d }) ∷ h) ≡ guarded (reader (length h) p c) (left_open d)
+      try_reads d =
           ap (λ b. by_deed (deed_read b) (waits_given_with cells ws h (step_of p a) d (without_wait p ws))) does_call
           ∙ (λ i. record (standing cells h) { waits = gave d i; guards = reader (length h) p c ∷ guards h; content = λ x. content_is x i; registry = sym same i; owner = its_own i })
 
@@ -163,35 +210,13 @@ module _ (cells : List CellPlan) (h : List Event) (p : ℕ) (a : Act) (c : ℕ) 
           ap (λ b. by_deed (deed_written b) (waits_given_with cells ws h (step_of p a) d (without_wait p ws))) does_call
           ∙ (λ i. record (standing cells h) { waits = gave d i; guards = guards_are i; registry = sym same i; owner = its_own i })
 
-    -- it may not access the value, and gives its lock back in the same step
-    module _ (first last : Given) (one : given_on c last (given_on c first (without_wait p ws)) ≡ given_on c (given_first first last) (without_wait p ws)) (q : Phase) where
+    -- a lock that it gives back leaves that
+    module _ (first last : Given) (one : given_on c last (given_on c first (without_wait p ws)) ≡ given_on c (given_first first last) (without_wait p ws)) where
       head_off : (x : Guard) → x.number ≡ length h → without_guard (length h) (x ∷ guards h) ≡ guards h
       head_off x e = grind (arith, e)
 
-      waits_are : waits_given_with cells ws h (step_of p a) (given_first first last) (without_wait p ws) ≡ given_on c last (given_on c first (without_wait p ws))
-      waits_are = gave (given_first first last) ∙ sym one
+      pub read_left : (t : ReadTicket) (q : Phase) → left_open (given_first first last) ≡ left (reader (length h) p c) last (took (length h) p c w first (taken.Read t q) (standing_at cells h r o))
+      read_left t q = let guards_are : guards h ≡ without_guard (length h) (reader (length h) p c ∷ guards h) = sym (head_off (reader (length h) p c) refl) in λ i. record (left_open last) { waits = sym one i; guards = guards_are i }
 
-      -- what was asked is published where it was declined
-      asked : (x : ℕ) → content_after_back cells x (Some (record { cell = c; changes = Asked (accepts h) j ∷ [] })) (replay cells x h) ≡ content_back (Some (record { cell = c; changes = changes_at c w (standing_at cells h r o) })) (standing_at cells h r o) x
-      asked x =
-          ap (λ b. content_after_back cells x (Some (record { cell = c; changes = Asked b j ∷ [] })) (replay cells x h)) accepted ∙ by (c == x) refl ∙ ap (λ v. content_back (Some (record { cell = c; changes = changes_at c v (standing_at cells h r o) })) (standing_at cells h r o) x) (sym calls)
-        where
-          by : (b : Bool) → (c == x) ≡ b → (if b then effect (cell_at cells x) (Asked r.is_open j ∷ []) (replay cells x h) else replay cells x h) ≡ (if b then effect (cell_at cells x) (changes_asked (cell_at cells c) (Calls j) r.is_open (replay cells c h)) (replay cells x h) else replay cells x h)
-          by false e = refl
-          by true e = let same_cell : c ≡ x = grind (arith, e) in ap (λ z. effect (cell_at cells z) (Asked r.is_open j ∷ []) (replay cells z h)) (sym same_cell) ∙ split (is_declined (cell_at cells c).kind (tolerance_at cells c) j r.is_open (phase_at cells c h)) refl ∙ ap (λ z. effect (cell_at cells z) (changes_asked (cell_at cells c) (Calls j) r.is_open (replay cells c h)) (replay cells z h)) same_cell
-            where
-              split : (b : Bool) → is_declined (cell_at cells c).kind (tolerance_at cells c) j r.is_open (phase_at cells c h) ≡ b → effect (cell_at cells c) (Asked r.is_open j ∷ []) (replay cells c h) ≡ effect (cell_at cells c) (changes_asked (cell_at cells c) (Calls j) r.is_open (replay cells c h)) (replay cells c h)
-              split true d = ap (λ z. effect (cell_at cells c) (if z then Asked r.is_open j ∷ [] else []) (replay cells c h)) (sym d)
-              split false d = ap (λ z. if z then record { phase = phase_reached (cell_at cells c).kind r.is_open (phase_at cells c h) NoRun; value = (replay cells c h).value } else replay cells c h) d ∙ ap (λ z. effect (cell_at cells c) (if z then Asked r.is_open j ∷ [] else []) (replay cells c h)) (sym d)
-
-      pub try_denied_read : (t : ReadTicket) → standing cells (event p a (record { answer = answer.Access q; given = given_first first last }) ∷ h) ≡ left (reader (length h) p c) last (took (length h) p c w first (taken.Read t q) (standing_at cells h r o))
-      try_denied_read t =
-          let guards_are : guards h ≡ without_guard (length h) (reader (length h) p c ∷ guards h) = sym (head_off (reader (length h) p c) refl) in
-          ap (λ b. by_deed (deed_accessed (accepts h) b) (waits_given_with cells ws h (step_of p a) (given_first first last) (without_wait p ws))) does_call
-          ∙ (λ i. record (standing cells h) { waits = waits_are i; guards = guards_are i; content = λ x. asked x i; registry = sym same i; owner = its_own i })
-
-      pub try_denied_write : (t : WriteTicket) → standing cells (event p a (record { answer = answer.Access q; given = given_first first last }) ∷ h) ≡ left (writer_asked (length h) p c (changes_at c w (standing_at cells h r o))) last (took (length h) p c w first (taken.Write t q) (standing_at cells h r o))
-      try_denied_write t =
-          let guards_are : guards h ≡ without_guard (length h) (writer_asked (length h) p c (changes_at c w (standing_at cells h r o)) ∷ guards h) = sym (head_off (writer_asked (length h) p c (changes_at c w (standing_at cells h r o))) refl) in
-          ap (λ b. by_deed (deed_accessed (accepts h) b) (waits_given_with cells ws h (step_of p a) (given_first first last) (without_wait p ws))) does_call
-          ∙ (λ i. record (standing cells h) { waits = waits_are i; guards = guards_are i; content = λ x. asked x i; registry = sym same i; owner = its_own i })
+      pub write_left : (t : WriteTicket) (q : Phase) → left_open (given_first first last) ≡ left (writer_asked (length h) p c (changes_at c w (standing_at cells h r o))) last (took (length h) p c w first (taken.Write t q) (standing_at cells h r o))
+      write_left t q = let guards_are : guards h ≡ without_guard (length h) (writer_asked (length h) p c (changes_at c w (standing_at cells h r o)) ∷ guards h) = sym (head_off (writer_asked (length h) p c (changes_at c w (standing_at cells h r o))) refl) in λ i. record (left_open last) { waits = sym one i; guards = guards_are i }

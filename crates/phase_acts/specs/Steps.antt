@@ -1,18 +1,26 @@
 -- When rows follow a legal history, and what one step more does.
-use Rattle.std.specs.Prelude.{ℕ, List, ◌∷◌, ◌≡◌, ◌≤◌, ◌<◌, length, vec_capacity}
+use Rattle.std.specs.Prelude.{ℕ, List, true, false, ◌∷◌, ◌≡◌, ◌≤◌, ◌<◌, length, vec_capacity}
 use Rattle.std.specs.declared.option.Option.{Option}
 use Rattle.std.specs.declared.option.Option.TheVariants.{None, Some}
 use Rattle.phase_bits.specs.declared.holders.Holders.{Holders}
 use Rattle.phase_locker.specs.declared.ways.Given.{Given}
 use Rattle.phase_locker.specs.declared.ways.Given.TheVariants as given
 use Rattle.phase_locker.specs.declared.ways.LockerKind.{LockerKind}
+use Rattle.phase_bits.specs.declared.phase.Phase.{Phase}
+use Rattle.schedule_rules.specs.declared.form.Form.{Form}
+use Rattle.schedule_rules.specs.declared.form.Form.TheVariants.{Told, Shown, Held}
+use Rattle.schedule_rules.specs.declared.line.Answer.{Answer}
+use Rattle.schedule_rules.specs.declared.line.Answer.TheVariants as answer
 use Rattle.schedule_rules.specs.declared.line.Line.{Line}
 use Rattle.schedule_rules.specs.declared.line.Refusal.{Refusal}
 use Rattle.schedule_rules.specs.declared.plan.CellPlan.{CellPlan}
 use Rattle.schedule_rules.specs.declared.step.Act.{Act}
 use Rattle.schedule_rules.specs.declared.step.Act.TheVariants as act
 use Rattle.schedule_rules.specs.declared.step.Step.{Step}
+use Rattle.lazy_cells.specs.Kinds.{is_finalizable}
+use Rattle.schedule_rules.specs.Kinds.{is_owned}
 use Rattle.schedule_rules.specs.History.{Event}
+use Rattle.schedule_rules.specs.Kinds.{cell_at}
 use Rattle.schedule_rules.specs.Legal.{IsLegal}
 use Rattle.schedule_rules.specs.Refusals.{refusal}
 use Rattle.schedule_rules.specs.Transcripts.{NamesKnown}
@@ -30,6 +38,13 @@ abbrev pub outcome : Option ℕ → Act
 outcome None = act.MadeFailed
 outcome (Some v) = act.Made v
 
+-- the answer of a call whose run made this value and reached this phase, and which keeps no lock. That it keeps a guard does
+-- not occur
+abbrev pub answer_back : Form → ℕ → Phase → Answer
+answer_back (Told tests) v q = answer.Phase q
+answer_back Shown v q = answer.Value v
+answer_back (Held writes falls_back) v q = answer.Phase q
+
 -- what a step gave at its two moments, at one of which it gave nothing
 abbrev pub given_first : Given → Given → Given
 given_first given.Nobody last = last
@@ -37,13 +52,15 @@ given_first g last = g
 
 module _ {L : Type 0} (held : L → Holders) (place : L → LockerKind) where
   -- the rows follow a legal history of these cells: they stand for what stands open after it, each step has its row of
-  -- guards, each cell of the plan its row, and there is room for the turn of each cell
+  -- guards, each cell of the plan its row, and there is room for the turn of each cell. No cell that is finalized belongs to
+  -- a party
   pub record Follows (cells : List CellPlan) (h : List Event) (v : Rows L) : Type 0 where
     pub rests : Rests held place (standing cells h) v
     pub legal : IsLegal cells h
     pub steps : length v.guards.items ≡ length h
     pub planned : length v.cells.items ≡ length cells
     pub turns : length cells ≤ vec_capacity v.exit.turns
+    pub placed : (c : ℕ) → is_finalizable (cell_at cells c).kind ≡ true → is_owned (cell_at cells c).place ≡ false
 
   -- the step may come next: it names a known party and a known cell, and there is room for its row of guards
   pub record IsNext (cells : List CellPlan) (h : List Event) (v : Rows L) (s : Step) : Type 0 where

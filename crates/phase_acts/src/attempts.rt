@@ -1,13 +1,26 @@
 //! The attempts of calls and turns.
 
+ghost use Rattle.std.specs.Prelude.{◌≡◌};
+ghost use Rattle.schedule_rules.specs.Kinds.{is_of_other};
 ghost use Rattle.phase_moves.specs.Moves.{KeptWith};
 ghost use Rattle.phase_acts.specs.Steps.{MayAct, Acts};
 ghost use Rattle.phase_acts.specs.Tries.{MayTry, Tries};
 
 use crate::machine::Machine;
-use phase_locker::{Given, PhaseLocker};
-use phase_moves::{GuardRow, Target};
-use schedule_rules::{Act, Answer, Call, Line, Want};
+use lazy_cells::has_call;
+use phase_locker::PhaseLocker;
+use phase_moves::Target;
+use schedule_rules::{Act, Call, Line, Place, Refusal, Want};
+
+/// Whether the cell at this place belongs to another party.
+fn is_of_other(place: Place, party: u32) -> bool
+    ensures { result ≡ is_of_other place party }
+{
+    match place {
+        Place::Park | Place::Spin => false,
+        Place::Own(owner) => owner != party,
+    }
+}
 
 impl<L: PhaseLocker> Machine<L> {
     /// One attempt of a call or a turn, to the end of the step.
@@ -20,23 +33,23 @@ impl<L: PhaseLocker> Machine<L> {
         self.settle(party, target, taken, given)
     }
 
-    /// A call of a party that does not wait. A call for the phase takes no lock.
+    /// A call of a party that does not wait. It is refused on a cell of another party, and where cells of its kind do
+    /// not have it.
     pub(crate) fn call(&mut self, party: u32, cell: u32, call: Call) -> Line
         requires { MayAct L.held L.place self.old.rows party (Act.Call cell call) }
         ensures { Acts L.held L.place self.old.rows party (Act.Call cell call) result self.new.rows }
     {
+        let plan = self.rows.cells[cell as usize].plan;
+        if is_of_other(plan.place, party) {
+            return self.refuse(Refusal::NotOwner);
+        }
+        if !has_call(plan.kind, call) {
+            return self.refuse(Refusal::NoSuchCall);
+        }
         let target = Target {
             cell,
             want: Want::Calls(call),
         };
-        match call {
-            Call::Phase => {
-                let phase = self.rows.cells[cell as usize].seq.locker().phase();
-                self.end_step(GuardRow::Free, Answer::Phase(phase), Given::Nobody)
-            }
-            Call::Read => self.tries(party, target, false),
-            Call::Write => self.tries(party, target, false),
-            Call::TryRead => self.tries(party, target, false),
-        }
+        self.tries(party, target, false)
     }
 }

@@ -1,11 +1,11 @@
 -- A party comes to the end of a linked list.
-use Rattle.std.proofs.Common.{suc, ◌≡◌, ◌≢◌, ◌⊎◌, inl, inr, ◌==◌, ℕ, ◌+◌, ◌<◌, ◌≤◌, List, [], ◌∷◌, ◌++◌, length, refl, arith, ◌∙◌, ap, sym, subst, cond}
+use Rattle.std.proofs.Common.{◌≡◌, ◌≢◌, ◌⊎◌, inl, inr, ◌==◌, ℕ, ◌+◌, ◌<◌, List, [], ◌∷◌, ◌++◌, length, refl, arith, ◌∙◌, ap, sym, subst, cond}
 use Rattle.std.proofs.Math.ListN.{set, length-set}
 use Rattle.phase_locker.specs.declared.links.Link.{Link}
 use Rattle.phase_locker.specs.declared.links.Queue.{Queue}
 use Rattle.phase_locker.specs.Rows.{occurs}
-use Rattle.phase_locker.specs.Links.{link_of, last_of, IsLinked, IsQueue, IsRoster, LinksStay}
-use Rattle.phase_locker.proofs.Filters.{eq_self, ne_zero, occurs-append, length-snoc}
+use Rattle.phase_locker.specs.Links.{link_of, last_of, IsQueue, IsRoster, LinksStay}
+use Rattle.phase_locker.proofs.Filters.{occurs-append, length-snoc}
 use Rattle.phase_locker.proofs.Linked.{linked_append, linked_relast, linked_on, link_here, link_there, part_stays, apart_from, last_in, last_of-snoc}
 
 last_member : (y x : ℕ) (xs : List ℕ) → y ≡ last_of x xs → 0 < occurs y (x ∷ xs)

@@ -1,13 +1,9 @@
 -- Lists of parties: what a filter leaves, and how often a party is in a list.
-use Rattle.std.proofs.Common.{suc, ◌≡◌, ◌≢◌, ◌==◌, ℕ, ◌+◌, ◌<◌, Bool, true, false, List, [], ◌∷◌, ◌++◌, length, refl, arith, ◌∙◌, ap, sym, not, cond, ◌||◌, ◌&&◌}
-use Rattle.std.proofs.lemmas.List.{append-nil}
-use Rattle.std.proofs.lemmas.List.Elements.{filter-append}
+use Rattle.std.proofs.Common.{◌≡◌, ◌≢◌, ◌==◌, ℕ, ◌+◌, ◌<◌, Bool, true, false, List, [], ◌∷◌, ◌++◌, length, refl, arith, ◌∙◌, ap, not, cond}
 use Rattle.std.proofs.lemmas.Grind.{common_steps}
 use Rattle.std.specs.Prelude.{filter}
+pub use Rattle.phase_bits.proofs.Lists.{eq_self, occurs-append}
 use Rattle.phase_locker.specs.Rows.{without, occurs}
-
-pub eq_self : (c : ℕ) → (c == c) ≡ true
-eq_self c = grind arith
 
 pub ne_zero : (p x : ℕ) → p ≢ x → cond {A = ℕ} (p == x) 1 0 ≡ 0
 ne_zero p x n = grind arith
@@ -44,10 +40,6 @@ without_absent p [] h = refl
 without_absent p (x ∷ xs) h =
     let c : (x == p) ≡ false = not_first p x xs h in
     rw c (ap (λ ys. x ∷ ys) (without_absent p xs (omega (arith, h))))
-
-pub occurs-append : (x : ℕ) (ps qs : List ℕ) → occurs x (ps ++ qs) ≡ occurs x ps + occurs x qs
-occurs-append x [] qs = omega arith
-occurs-append x (p ∷ ps) qs = omega (arith, occurs-append x ps qs)
 
 pub length-snoc : (ps : List ℕ) (p : ℕ) → length (ps ++ p ∷ []) ≡ length ps + 1
 length-snoc ps p = grind (arith, common_steps)

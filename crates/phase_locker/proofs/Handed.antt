@@ -1,5 +1,5 @@
 -- The parked readers of a cell are given read shares.
-use Rattle.std.proofs.Common.{zero, suc, inl, inr, ◌≡◌, ◌==◌, ℕ, ◌+◌, ◌<◌, Bool, true, false, List, [], ◌∷◌, length, refl, arith, sym, cond}
+use Rattle.std.proofs.Common.{zero, suc, inl, inr, ◌≡◌, ℕ, ◌<◌, List, [], ◌∷◌, refl, arith, sym}
 use Rattle.std.proofs.lemmas.List.{get_or-set_same}
 use Rattle.std.proofs.Math.ListN.{get_or, set}
 use Rattle.std.proofs.lemmas.Bool.{cases_eq}

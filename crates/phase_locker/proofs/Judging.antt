@@ -1,10 +1,11 @@
 -- A judged call keeps what fits of record and rows.
-use Rattle.std.proofs.Common.{inl, inr, ◌≡◌, ◌==◌, ◌⊎◌, ℕ, ◌+◌, ◌-◌, ◌^◌, ◌<◌, Bool, true, false, List, [], length, refl, arith, ◌∙◌, not, ◌||◌, ◌&&◌}
+use Rattle.std.proofs.Common.{inl, inr, ◌≡◌, ◌==◌, ◌⊎◌, ℕ, ◌+◌, ◌<◌, Bool, true, false, List, [], length, refl, arith, ◌∙◌, not, ◌||◌, ◌&&◌}
 use Rattle.std.proofs.Math.ListN.{get_or, set}
 use Rattle.std.specs.Prelude.{slice_index_or, count_by, MatchBool}
 use Rattle.phase_locker.specs.declared.ways.Row.{Row}
 use Rattle.phase_locker.specs.declared.ways.Waiting.TheVariants as way
 use Rattle.phase_locker.specs.Rows.{Rows, is_empty, free_row, row_of, shares_at, drains_at, claims_at, put}
+use Rattle.phase_bits.specs.Records.{most_readers}
 use Rattle.phase_bits.specs.declared.holders.Holders.{Holders}
 use Rattle.phase_locker.specs.declared.tickets.LockNature.{LockNature}
 use Rattle.phase_locker.specs.declared.tickets.LockNature.TheVariants as nature
@@ -28,7 +29,7 @@ same_row f rows p r h e g = let c = rw (e, g) at (count-set f rows p r h) in ome
 
 -- ---- a judged call
 
-pub bar_tests : (l : Bool) (r : ℕ) → ((l && (r == 0)) || (r == 2 ^ 20 - 1)) ≡ true → l ≡ false → r ≡ 0 → ⊥
+pub bar_tests : (l : Bool) (r : ℕ) → ((l && (r == 0)) || (r == most_readers)) ≡ true → l ≡ false → r ≡ 0 → ⊥
 bar_tests l r e f g = grind (arith, rw (f, g) at e)
 
 pub no_bar : (h : Holders) → bars h nature.Read ≡ true → h.locked ≡ false → h.readers ≡ 0 → ⊥
@@ -37,7 +38,7 @@ no_bar h e f g = bar_tests h.locked h.readers e f g
 pub no_write_bar : (h : Holders) → bars h nature.Write ≡ true → h.locked ≡ false → h.readers ≡ 0 → ⊥
 no_write_bar h e f g = let x = rw (f, g) at e in cc
 
-pub read_tests : (l : Bool) (r : ℕ) → ((l && (r == 0)) || (r == 2 ^ 20 - 1)) ≡ false → l ≡ true → 0 < r
+pub read_tests : (l : Bool) (r : ℕ) → ((l && (r == 0)) || (r == most_readers)) ≡ false → l ≡ true → 0 < r
 read_tests l r e f = grind (arith, rw f at e)
 
 pub beside : (h : Holders) → bars h nature.Read ≡ false → h.locked ≡ true → 0 < h.readers

@@ -1,5 +1,5 @@
 -- Lists that are linked by number: how a party comes to the end of one, and how it leaves.
-use Rattle.std.proofs.Common.{suc, inl, inr, ◌≡◌, ◌≢◌, ◌==◌, ℕ, ◌+◌, ◌<◌, ◌≤◌, zero, Bool, true, false, List, [], ◌∷◌, ◌++◌, length, refl, arith, ◌∙◌, ap, sym, subst, cond, not}
+use Rattle.std.proofs.Common.{inl, inr, ◌≡◌, ◌≢◌, ◌==◌, ℕ, ◌<◌, ◌≤◌, List, [], ◌∷◌, ◌++◌, length, refl, arith, ◌∙◌, ap, sym, subst, not}
 use Rattle.std.proofs.lemmas.List.Elements.{filter-append}
 use Rattle.std.proofs.Math.ListN.{set}
 use Rattle.std.proofs.lemmas.List.{get_or-set_other, get_or-set_same}
@@ -8,7 +8,7 @@ use Rattle.phase_locker.specs.declared.links.Link.{Link}
 use Rattle.phase_locker.specs.declared.links.Queue.{Queue}
 use Rattle.phase_locker.specs.Rows.{occurs, without}
 use Rattle.phase_locker.specs.Links.{link_of, walk, listed, last_of, IsLinked, IsQueue}
-use Rattle.phase_locker.proofs.Filters.{eq_self, ne_zero, first_in, occurs-append, without_absent, length-snoc}
+use Rattle.phase_locker.proofs.Filters.{eq_self, ne_zero, first_in, occurs-append, without_absent}
 
 -- ---- a list that is linked
 

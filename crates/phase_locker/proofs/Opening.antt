@@ -1,5 +1,5 @@
 -- Only a call that gets the lock to write opens a write hold.
-use Rattle.std.proofs.Common.{inl, inr, ◌≡◌, ℕ, ◌<◌, Bool, true, false, length, refl, arith, ◌∙◌, sym, ap}
+use Rattle.std.proofs.Common.{inl, inr, ◌≡◌, ℕ, ◌<◌, Bool, true, false, length, refl, arith, ◌∙◌, sym}
 use Rattle.phase_bits.specs.declared.holders.Holders.{Holders}
 use Rattle.phase_bits.specs.Records.{leave_read}
 use Rattle.phase_locker.specs.declared.ways.Waiting.{Waiting}
@@ -15,16 +15,16 @@ use Rattle.phase_locker.specs.declared.tickets.LockNature.TheVariants as nature
 use Rattle.phase_locker.specs.declared.tickets.Attempt.{Attempt}
 use Rattle.phase_locker.specs.declared.tickets.Attempt.TheVariants.{Got}
 use Rattle.phase_locker.specs.Natures.{bars, admitted, got}
-use Rattle.phase_locker.specs.Rows.{Rows, free_row, row_of, claims_at, left, freed, IsSound, SameSize}
+use Rattle.phase_locker.specs.Rows.{Rows, free_row, row_of, claims_at, left, freed, IsSound}
 use Rattle.phase_locker.specs.Fits.{Fits, open_reads, IsWriteOpen, flagged}
-use Rattle.phase_locker.specs.Gifts.{Hands, StayFree}
+use Rattle.phase_locker.specs.Gifts.{Hands}
 use Rattle.phase_locker.specs.Attempts.{Judged, rows_waiting, held_waiting, keeps, given_up}
 use Rattle.phase_locker.specs.Stands.{Opens, is_write, opens_write, reads_opened}
 use Rattle.phase_locker.proofs.Counts.{count-set, free_is, drain_is}
 use Rattle.phase_locker.proofs.Judging.{by_bool, same_row}
 use Rattle.phase_locker.proofs.Keeping.{freed_size}
 use Rattle.phase_locker.proofs.Leaving.{write_has_no_reader}
-use Rattle.phase_locker.proofs.Standing.{Between, judged_reads, judged_writes, again_reads, again_writes, keeps_reads, keeps_writes, handed_closed, between}
+use Rattle.phase_locker.proofs.Standing.{Between, judged_reads, judged_writes, again_reads, again_writes, keeps_reads, keeps_writes, handed_closed}
 
 -- the waiter flags say nothing of a write hold
 pub unflagged_writes : (c : ℕ) (h : Holders) (s : Rows) → IsWriteOpen (flagged c s h) s c → IsWriteOpen h s c

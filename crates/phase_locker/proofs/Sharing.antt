@@ -1,6 +1,6 @@
 -- The parties of a linked list are given shares, one after the other.
-use Rattle.std.proofs.Common.{suc, ◌≡◌, ℕ, ◌+◌, ◌-◌, ◌<◌, ◌≤◌, List, [], ◌∷◌, length, refl, arith, ◌∙◌, ap, sym}
-use Rattle.std.proofs.Math.ListN.{set, length-set}
+use Rattle.std.proofs.Common.{suc, ◌≡◌, ℕ, ◌+◌, ◌-◌, ◌<◌, ◌≤◌, List, [], ◌∷◌, refl, arith, ◌∙◌, ap}
+use Rattle.std.proofs.Math.ListN.{set}
 use Rattle.phase_locker.specs.declared.ways.Row.{Row}
 use Rattle.phase_locker.specs.declared.ways.Waiting.TheVariants as way
 use Rattle.phase_locker.specs.declared.links.Link.{Link}

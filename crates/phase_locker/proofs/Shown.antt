@@ -1,24 +1,24 @@
 -- Linked rows show what contracts see.
-use Rattle.std.proofs.Common.{zero, suc, ◌≡◌, ◌≢◌, inl, inr, ℕ, ◌+◌, ◌^◌, ◌<◌, ◌≤◌, Bool, true, false, ◌&&◌, List, [], ◌∷◌, ◌++◌, length, refl, arith, ◌∙◌, ap, sym}
+use Rattle.std.proofs.Common.{zero, suc, ◌≡◌, ◌≢◌, inl, inr, ℕ, ◌<◌, true, false, ◌&&◌, List, [], ◌∷◌, ◌++◌, length, refl, arith, ◌∙◌, ap, sym}
 use Rattle.std.proofs.Math.ListN.{set, get_or, length-set, length-map, length-replicate}
 use Rattle.std.proofs.lemmas.List.{get_or-set_other, get_or-set_same, get_or-map, get_or_read, ext_get_or}
 use Rattle.std.proofs.lemmas.Bool.{cases_eq}
-use Rattle.std.specs.Prelude.{map, replicate, not, ◌==◌, Option, Some, None, IfSome, IsNone, ◌↔◌}
+use Rattle.std.specs.Prelude.{map, replicate, not, ◌==◌, Some, IfSome, IsNone, ◌↔◌}
 use Rattle.std.specs.Bool.{then_some}
+use Rattle.phase_bits.specs.Records.{readers_limit}
 use Rattle.phase_locker.specs.declared.ways.Row.{Row}
 use Rattle.phase_locker.specs.declared.ways.Waiting.{Waiting}
 use Rattle.phase_locker.specs.declared.ways.Waiting.TheVariants as way
 use Rattle.phase_locker.specs.declared.links.Link.{Link}
 use Rattle.phase_locker.specs.declared.links.Queue.{Queue}
 use Rattle.phase_locker.specs.declared.links.Queues.{Queues}
-use Rattle.phase_locker.specs.Rows.{Rows, no_rows, free_row, row_of, readers_of, writers_of, first_of, occurs, without, is_parked, is_empty, is_parked_read, is_parked_write, reads_at, writes_at, park_reader, park_writer, rows_to_readers, shared, freed, left, IsSound}
-use Rattle.phase_locker.specs.Links.{link_of, queues_of, listed, seen, writer_left, IsQueue, IsRoster, IsShown, LinksStay}
+use Rattle.phase_locker.specs.Rows.{Rows, no_rows, free_row, row_of, readers_of, writers_of, first_of, occurs, without, is_parked, is_empty, is_parked_read, is_parked_write, reads_at, writes_at, park_reader, park_writer, rows_to_readers, shared, freed, left}
+use Rattle.phase_locker.specs.Links.{queues_of, listed, seen, writer_left, IsQueue, IsRoster, IsShown, LinksStay}
 use Rattle.phase_locker.proofs.Filters.{eq_self, occurs-append, ne_zero, first_in}
 use Rattle.phase_locker.proofs.Linked.{listed_is, queue_same, apart_from}
 use Rattle.phase_locker.proofs.Handed.{at_free}
 use Rattle.phase_locker.proofs.Shares.{length-shared}
 use Rattle.phase_locker.proofs.Sound.{IsWhole, no_reader, no_writer, unparked, reader_apart, writer_apart, whole_plain, whole_park_reader, whole_park_writer, whole_reader_left, whole_writer_left, whole_shared, is_reader, is_writer, readers_roster, writers_roster, roster_few, free_unparked}
-use Rattle.phase_locker.proofs.Counts.{one_if}
 
 pub whole_of : (links : List Link) (queues : List Queues) (s : Rows) → IsShown links queues s → IsWhole s
 whole_of links queues s k = record { sound = k.sound; inside = k.inside }
@@ -178,7 +178,7 @@ empty_queues zero c = refl
 empty_queues (suc n) zero = refl
 empty_queues (suc n) (suc c) = empty_queues n c
 
-pub shown_new : (links : List Link) (cells parties : ℕ) → parties < 2 ^ 20 → length links ≡ parties → IsShown links (replicate cells no_queues) (no_rows cells parties)
+pub shown_new : (links : List Link) (cells parties : ℕ) → parties < readers_limit → length links ≡ parties → IsShown links (replicate cells no_queues) (no_rows cells parties)
 shown_new links cells parties few size = record {
   size = omega (arith, size, length-replicate parties free_row);
   cells = omega (arith, length-replicate cells no_queues, length-replicate cells nobody);
@@ -224,10 +224,10 @@ pub record IsLent (links : List Link) (q : Queue) (ps : List ℕ) : Type 0 where
   pub queue : IsQueue links q (listed links q)
   pub roster : IsRoster (length links) (listed links q)
   pub is : listed links q ≡ ps
-  pub few : q.count < 2 ^ 20
+  pub few : q.count < readers_limit
   pub count : q.count ≡ length ps
 
-lent : (links : List Link) (q : Queue) (ps : List ℕ) (n : ℕ) → IsQueue links q ps → IsRoster n ps → length links ≡ n → n < 2 ^ 20 → IsLent links q ps
+lent : (links : List Link) (q : Queue) (ps : List ℕ) (n : ℕ) → IsQueue links q ps → IsRoster n ps → length links ≡ n → n < readers_limit → IsLent links q ps
 lent links q ps n k roster size few =
     let is = listed_is links q ps k in
     record {
@@ -366,5 +366,5 @@ plain_left way.ShareWrite c p s e = refl
 pub plain_freed : (p : ℕ) (s : Rows) → is_parked (row_of s p).waiting ≡ false → freed p s ≡ record { rows = set s.rows p free_row; readers = s.readers; writers = s.writers }
 plain_freed p s e = plain_left (row_of s p).waiting (row_of s p).cell p s e
 
-pub shown_made : (links : List Link) (queues : List Queues) (cells parties : ℕ) → parties < 2 ^ 20 → links ≡ replicate parties (record { next = 0; previous = 0 }) → queues ≡ replicate cells no_queues → IsShown links queues (no_rows cells parties)
+pub shown_made : (links : List Link) (queues : List Queues) (cells parties : ℕ) → parties < readers_limit → links ≡ replicate parties (record { next = 0; previous = 0 }) → queues ≡ replicate cells no_queues → IsShown links queues (no_rows cells parties)
 shown_made links queues cells parties few e f = rw f (shown_new links cells parties few (ap (λ (x : List Link). length x) e ∙ length-replicate parties (record { next = 0; previous = 0 })))

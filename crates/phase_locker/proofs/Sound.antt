@@ -1,5 +1,5 @@
 -- The lists of each cell have exactly the parties whose rows say so, whatever a party does.
-use Rattle.std.proofs.Common.{suc, ◌≡◌, ◌≢◌, ◌⊎◌, inl, inr, ◌==◌, ℕ, ◌+◌, ◌<◌, ◌≤◌, Bool, true, false, List, [], ◌∷◌, ◌++◌, length, refl, arith, ◌∙◌, ap, sym, subst, cond, ◌&&◌, ◌||◌}
+use Rattle.std.proofs.Common.{◌≡◌, ◌≢◌, ◌⊎◌, inl, inr, ◌==◌, ℕ, ◌<◌, ◌≤◌, Bool, true, false, List, [], ◌∷◌, ◌++◌, length, refl, arith, ◌∙◌, ap, sym, ◌&&◌, ◌||◌}
 use Rattle.std.proofs.Math.ListN.{set, get_or, length-set, length-replicate}
 use Rattle.std.proofs.lemmas.List.{get_or-set_other, get_or-set_same, get_or-replicate}
 use Rattle.std.proofs.lemmas.List.Sums.{count_by-le-length}

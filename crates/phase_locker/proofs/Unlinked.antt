@@ -1,13 +1,13 @@
 -- A party leaves a linked list.
-use Rattle.std.proofs.Common.{suc, ◌≡◌, ◌≢◌, ◌⊎◌, inl, inr, ◌==◌, ℕ, ◌+◌, ◌-◌, ◌<◌, ◌≤◌, List, [], ◌∷◌, ◌++◌, length, refl, arith, ◌∙◌, ap, sym, subst, cond}
-use Rattle.std.proofs.Math.ListN.{set, length-set}
+use Rattle.std.proofs.Common.{suc, ◌≡◌, ◌≢◌, ◌⊎◌, inl, inr, ℕ, ◌+◌, ◌-◌, ◌<◌, ◌≤◌, List, [], ◌∷◌, ◌++◌, length, refl, arith, ◌∙◌, ap, sym, subst}
+use Rattle.std.proofs.Math.ListN.{length-set}
 use Rattle.std.proofs.lemmas.List.{append-nil, length-append}
 use Rattle.phase_locker.specs.declared.links.Link.{Link}
 use Rattle.phase_locker.specs.declared.links.Queue.{Queue}
 use Rattle.phase_locker.specs.Rows.{occurs, without}
 use Rattle.phase_locker.specs.Links.{link_of, last_of, IsLinked, IsQueue, IsRoster, LinksStay}
-use Rattle.phase_locker.proofs.Filters.{eq_self, ne_zero, first_in, occurs-append}
-use Rattle.phase_locker.proofs.Linked.{IsSplit, split_at, without-split, linked_same, linked_append, linked_cut, linked_relast, linked_refirst, linked_on, linked_back, link_here, link_there, part_stays, apart_from, last_in}
+use Rattle.phase_locker.proofs.Filters.{eq_self, first_in, occurs-append}
+use Rattle.phase_locker.proofs.Linked.{split_at, without-split, linked_same, linked_append, linked_cut, linked_relast, linked_refirst, linked_on, linked_back, link_here, link_there, part_stays, apart_from, last_in}
 
 -- the one before the party, or the queue, leads on to the one behind it
 abbrev pub LedPast : List Link → Queue → ℕ → List Link → Queue → Type 0

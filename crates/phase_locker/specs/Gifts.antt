@@ -40,17 +40,21 @@ pub record Hands (c : ℕ) (h : Holders) (s : Rows) (g : Given) (h' : Holders) (
   pub rows : s' ≡ rows_handed c g s
   pub held : h' ≡ flagged c s' (held_handed c g s h)
 
--- this may be given at a downgrade: the lock to the parked readers
+-- this may be given beside a read hold: the lock to the parked readers
 abbrev pub MayShare : ℕ → Rows → Given → Type 0
 MayShare c s Nobody = Unit {0}
 MayShare c s (Writer p) = ⊥
 MayShare c s Readers = is_empty (readers_of s c) ≡ false
 
--- a write hold becomes a read hold
-pub record Downgrades (c : ℕ) (q : Phase) (h : Holders) (s : Rows) (g : Given) (h' : Holders) (s' : Rows) : Type 0 where
+-- a hand-over beside a read hold, after a move that left this record and these rows
+pub record HandsBeside (c : ℕ) (h : Holders) (s : Rows) (g : Given) (h' : Holders) (s' : Rows) : Type 0 where
   pub may : MayShare c s g
   pub rows : s' ≡ rows_handed c g s
-  pub held : h' ≡ flagged c s' (held_handed c g s (downgrade q h))
+  pub held : h' ≡ flagged c s' (held_handed c g s h)
+
+-- a write hold becomes a read hold
+abbrev pub Downgrades : ℕ → Phase → Holders → Rows → Given → Holders → Rows → Type 0
+Downgrades c q h s g h' s' = HandsBeside c (downgrade q h) s g h' s'
 
 -- a party that does not wait is given nothing
 abbrev pub StayFree : Rows → Rows → Type 0

@@ -1,5 +1,5 @@
 -- Lists of parties that are linked by number, and the rows that are seen of them.
-use Rattle.std.specs.Prelude.{◌≡◌, ℕ, zero, suc, ◌<◌, ◌≤◌, Bool, true, List, [], ◌∷◌, length, map, slice_index_or, slice_set}
+use Rattle.std.specs.Prelude.{◌≡◌, ℕ, zero, suc, ◌<◌, ◌≤◌, true, List, [], ◌∷◌, length, map, slice_index_or, slice_set}
 use Rattle.phase_locker.specs.declared.ways.Row.{Row}
 use Rattle.phase_locker.specs.declared.links.Link.{Link}
 use Rattle.phase_locker.specs.declared.links.Queue.{Queue}

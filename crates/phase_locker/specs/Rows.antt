@@ -1,5 +1,7 @@
 -- The rows of the parties, the lists of the parked parties of each cell, and how they change.
-use Rattle.std.specs.Prelude.{◌≡◌, ℕ, ◌+◌, ◌^◌, ◌<◌, ◌==◌, Bool, true, false, ◌&&◌, ◌||◌, not, if◌then◌else◌, List, [], ◌∷◌, ◌++◌, length, filter, count_by, slice_index_or, slice_set, replicate, Option, Some, None}
+use Rattle.std.specs.Prelude.{◌≡◌, ℕ, ◌<◌, ◌==◌, Bool, true, false, ◌&&◌, ◌||◌, not, if◌then◌else◌, List, [], ◌∷◌, ◌++◌, length, filter, count_by, slice_index_or, slice_set, replicate}
+use Rattle.phase_bits.specs.Records.{readers_limit}
+pub use Rattle.phase_bits.specs.Lists.{is_empty, first_of, occurs}
 use Rattle.phase_locker.specs.declared.ways.Waiting.{Waiting}
 use Rattle.phase_locker.specs.declared.ways.Waiting.TheVariants.{Free, ParkedRead, ParkedWrite, Drain, ShareRead, ShareWrite}
 use Rattle.phase_locker.specs.declared.ways.Row.{Row}
@@ -96,21 +98,6 @@ claims s c = count_by (claims_at c) s.rows
 
 -- ---- lists
 
--- nobody is in the list
-abbrev pub is_empty : List ℕ → Bool
-is_empty [] = true
-is_empty (p ∷ ps) = false
-
--- the first of a list
-abbrev pub first_of : List ℕ → Option ℕ
-first_of [] = None
-first_of (p ∷ ps) = Some p
-
--- how often a party is in a list
-abbrev pub occurs : ℕ → List ℕ → ℕ
-occurs p [] = 0
-occurs p (q ∷ qs) = (if q == p then 1 else 0) + occurs p qs
-
 -- the list without this party
 abbrev pub without : ℕ → List ℕ → List ℕ
 without p ps = filter (λ q. not (q == p)) ps
@@ -120,7 +107,7 @@ pub record IsSound (s : Rows) : Type 0 where
   pub readers : (c p : ℕ) → c < length s.readers → occurs p (readers_of s c) ≡ (if reads_at c (row_of s p) then 1 else 0)
   pub writers : (c p : ℕ) → c < length s.readers → occurs p (writers_of s c) ≡ (if writes_at c (row_of s p) then 1 else 0)
   pub cells : length s.writers ≡ length s.readers
-  pub few : length s.rows < 2 ^ 20
+  pub few : length s.rows < readers_limit
 
 -- ---- changes
 

@@ -1,6 +1,7 @@
 //! Lists of parties that are linked by number.
 
-ghost use Rattle.std.specs.Prelude.{◌≡◌, ◌^◌, ◌<◌, ◌++◌, ◌∷◌, [], length};
+ghost use Rattle.std.specs.Prelude.{◌≡◌, ◌<◌, ◌++◌, ◌∷◌, [], length};
+ghost use Rattle.phase_bits.specs.Records.{readers_limit};
 ghost use Rattle.phase_locker.specs.Rows.{occurs, without, shared};
 ghost use Rattle.phase_locker.specs.Links.{listed, IsQueue, IsRoster, LinksStay};
 
@@ -55,7 +56,7 @@ pub(crate) fn append(links: &mut [Link], queue: &mut Queue, party: u32)
     requires queue { IsQueue links.old queue.old (listed links.old queue.old) }
     requires roster { IsRoster (length links.old) (listed links.old queue.old) }
     requires apart { occurs party (listed links.old queue.old) ≡ 0 }
-    requires few { queue.old.count < 2 ^ 20 }
+    requires few { queue.old.count < readers_limit }
     ensures queue { IsQueue links.new queue.new (listed links.old queue.old ++ party ∷ []) }
     ensures others { LinksStay (listed links.old queue.old ++ party ∷ []) links.old links.new }
 {

@@ -1,6 +1,7 @@
 //! The rows of the parties, and who is parked.
 
-ghost use Rattle.std.specs.Prelude.{◌≡◌, ◌≢◌, ◌^◌, ◌<◌, ◌↔◌, IfOk, IfSome, IsNone, not, true, false, length};
+ghost use Rattle.std.specs.Prelude.{◌≡◌, ◌≢◌, ◌<◌, ◌↔◌, IfOk, IfSome, IsNone, not, true, false, length};
+ghost use Rattle.phase_bits.specs.Records.{readers_limit};
 ghost use Rattle.phase_locker.specs.declared.ways.Waiting.{Waiting};
 ghost use Rattle.phase_locker.specs.declared.ways.Waiting.TheVariants.{Free, ParkedRead};
 ghost use Rattle.phase_locker.specs.Rows.{Rows, IsSound, no_rows, row_of, readers_of, writers_of, is_empty, is_parked, first_of, occurs, put, park_reader, park_writer, freed, left, rows_to_readers, rows_to_writer};
@@ -47,7 +48,7 @@ impl Parks {
     ///
     /// `AllocError` where memory is short.
     pub fn new(alloc: Global, cells: u32, parties: u32) -> Result<Parks, AllocError>
-        requires { parties < 2 ^ 20 }
+        requires { parties < readers_limit }
         ensures { IfOk result (λ p. p ≡ no_rows cells parties) }
     {
         let rows = Vec::from_elem(alloc, FREE, parties as usize)?;
@@ -227,7 +228,7 @@ impl Parks {
         requires { cell < length self.old.readers }
         ensures rows { self.new ≡ rows_to_readers cell self.old }
         ensures count { result ≡ length (readers_of self.old cell) }
-        ensures few { result < 2 ^ 20 }
+        ensures few { result < readers_limit }
     {
         let queue = self.queues[cell as usize].readers;
         share(&mut self.rows, &self.links, queue, cell);

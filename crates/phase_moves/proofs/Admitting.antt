@@ -1,44 +1,54 @@
 -- What an attempt took that is admitted is the answer that is due.
-use Rattle.std.proofs.Common.{◌≡◌, ◌≢◌, ◌∙◌, ℕ, List, [], ◌∷◌, ap, sym, subst, refl, Bool, true, false, None, Some, not, ◌&&◌}
-use Rattle.std.specs.Prelude.{if◌then◌else◌, ◌==◌}
+use Rattle.std.proofs.Common.{◌≡◌, ◌∙◌, ℕ, List, [], ◌∷◌, ap, sym, subst, refl, Bool, true, false, None, Some, not, ◌&&◌}
+use Rattle.std.specs.Prelude.{if◌then◌else◌, MatchBool, ◌==◌}
 use Rattle.std.specs.List.{find}
 use Rattle.std.specs.declared.option.Option.{Option}
 use Rattle.phase_bits.specs.declared.phase.Phase.{Phase}
 use Rattle.phase_bits.specs.Flags.{has, initialized}
-use Rattle.phase_bits.specs.Number.{phase_of}
+use Rattle.phase_bits.specs.Number.{number, phase_of}
 use Rattle.exit_registry.specs.Registry.{Registry}
-use Rattle.phase_locker.specs.declared.ways.Given.{Given}
 use Rattle.phase_locker.specs.declared.ways.Who.{Who}
+use Rattle.phase_locker.specs.declared.tickets.LockNature.{LockNature}
+use Rattle.phase_locker.specs.declared.tickets.LockResult.{LockResult}
+use Rattle.phase_locker.specs.declared.tickets.LockResult.TheVariants as result
+use Rattle.phase_locker.specs.declared.tickets.ReadTicket.{ReadTicket}
+use Rattle.phase_locker.specs.declared.tickets.WriteTicket.{WriteTicket}
 use Rattle.phase_locker.specs.declared.tickets.LockNature.TheVariants as nature
 use Rattle.phase_locker.specs.Natures.{got, read_ticket, write_ticket}
+use Rattle.phase_seq.specs.declared.ask.Ask.{Ask}
+use Rattle.phase_seq.specs.declared.ask.Want.{Want as Sought}
 use Rattle.phase_seq.specs.declared.ask.Want.TheVariants as want
-use Rattle.phase_seq.specs.declared.section.Section.{Section as SeqSection}
 use Rattle.phase_seq.specs.declared.section.Begun.{Begun}
 use Rattle.phase_seq.specs.declared.section.Begun.TheVariants as begun
-use Rattle.phase_seq.specs.Asks.{asks_run, nature_of, shall_init, wake_of}
-use Rattle.phase_seq.specs.Begins.{begun_of, begun_write, is_cyclic, runs, section_by}
-use Rattle.phase_seq.specs.Phases.{flags_refused, refused, unregistered}
+use Rattle.phase_seq.specs.declared.tolerance.Tolerance.{Tolerance}
+use Rattle.phase_seq.specs.Asks.{asks_run, finalizes, initializes as run_sought, nature_of, nature_where, shall_init}
+use Rattle.phase_seq.specs.Begins.{begun_of, begun_write, runs, section_by}
+use Rattle.phase_seq.specs.Exactly.{is_run}
+use Rattle.phase_seq.specs.Phases.{unregistered}
 use Rattle.phase_seq.specs.Registers.{is_refused}
+use Rattle.lazy_cells.specs.declared.call.Call.{Call}
+use Rattle.lazy_cells.specs.Calls.{asking}
+use Rattle.schedule_rules.specs.declared.line.Answer.{Answer}
 use Rattle.schedule_rules.specs.declared.line.Answer.TheVariants as answer
-use Rattle.schedule_rules.specs.declared.plan.Call.{Call}
-use Rattle.schedule_rules.specs.declared.plan.Call.TheVariants as call
 use Rattle.schedule_rules.specs.declared.plan.CellPlan.{CellPlan}
 use Rattle.schedule_rules.specs.declared.step.Want.{Want}
 use Rattle.schedule_rules.specs.declared.step.Want.TheVariants.{Calls, Turns}
-use Rattle.schedule_rules.specs.Answers.{answer_admitted, answer_locked, answer_of_run, call_answer_admitted}
-use Rattle.schedule_rules.specs.Calls.{asks, initializes, lock_wanted, wakes_as}
-use Rattle.schedule_rules.specs.Changes.{Content}
+use Rattle.schedule_rules.specs.Answers.{answer_admitted, answer_at, begins_run, turn_answer_admitted}
+use Rattle.schedule_rules.specs.Calls.{asks, is_fast, run_asked, seeks}
+use Rattle.schedule_rules.specs.Changes.{Content, content_asked, effect}
+use Rattle.schedule_rules.specs.Forms.{form_of}
 use Rattle.schedule_rules.specs.Kinds.{tolerance_of}
-use Rattle.schedule_rules.specs.Phases.{runs_generator}
+use Rattle.schedule_rules.specs.Phases.{is_accessible, runs_generator}
 use Rattle.schedule_rules.specs.Sections.{Section, generates_for, is_turn, runs_in}
 use Rattle.phase_moves.specs.Calls.{registry_for}
-use Rattle.phase_moves.specs.Meets.{IsOf, answer_taken}
-use Rattle.phase_moves.specs.Standing.{run_in, runner_of}
-use Rattle.phase_moves.specs.Stands.{want_of}
-use Rattle.phase_moves.specs.Tries.{ask_of, taken_of}
-use Rattle.phase_moves.proofs.Asked.{refuses_same}
+use Rattle.phase_moves.specs.Meets.{answer_taken}
+use Rattle.phase_moves.specs.Standing.{changes_asked, run_in, runner_of}
+use Rattle.phase_moves.specs.declared.rows.Taken.TheVariants as taken
+use Rattle.phase_moves.specs.Tries.{taken_of}
+use Rattle.phase_moves.proofs.Asked.{IsAsked, asks_same, call_left, refuses_same}
 use Rattle.phase_moves.proofs.Attempts.{stays_asked}
-use Rattle.phase_moves.proofs.Settling.{begun_settled}
+use Rattle.phase_moves.proofs.Seeking.{gets_none, gets_read, gets_write, seeks_as, sought_as}
+use Rattle.phase_moves.proofs.Settling.{begun_declined, begun_settled}
 
 -- ---- the three answers of an attempt
 
@@ -70,28 +80,152 @@ runs_same p c (s ∷ ss) = by (s.cell == c) refl (runs_same p c ss)
     by true e rest = rw e (turn (is_turn s.want))
     by false e rest = rw e rest
 
-pub own_same : (w : Want) (b : Bool) (o : Option ℕ) (p : ℕ) → w ≢ Calls call.Phase → runs p o ≡ b → is_cyclic (want_of w) p o ≡ (initializes w && b)
-own_same (Calls call.Phase) b o p ne e = absurd (ne refl)
-own_same (Calls call.Read) b o p ne e = e
-own_same (Calls call.Write) b o p ne e = e
-own_same (Calls call.TryRead) b o p ne e = refl
-own_same Turns b o p ne e = refl
+-- ---- what an admitted attempt begins
 
--- ---- an attempt that is admitted
+-- no section is left to run
+abbrev pub is_left : Begun → Bool
+is_left (begun.Wait way) = false
+is_left begun.Missed = false
+is_left begun.Cyclic = false
+is_left (begun.Nothing q) = true
+is_left (begun.Read t q) = true
+is_left (begun.Write t q) = true
+is_left (begun.Run s) = false
+is_left (begun.Final s) = false
 
-pub wanted_same : (x : CellPlan) (w : Want) (q : ℕ) → w ≢ Calls call.Phase → nature_of (ask_of x w) (phase_of q) ≡ lock_wanted (tolerance_of x) w q
-wanted_same x (Calls call.Phase) q ne = absurd (ne refl)
-wanted_same x (Calls call.Read) q ne = refl
-wanted_same x (Calls call.Write) q ne = refl
-wanted_same x (Calls call.TryRead) q ne = refl
-wanted_same x Turns q ne = refl
+-- what was begun fits what was sought
+abbrev pub FitsSought : Sought → Begun → Type 0
+FitsSought s (begun.Wait way) = ⊥
+FitsSought s begun.Missed = ⊥
+FitsSought s begun.Cyclic = ⊥
+FitsSought s (begun.Nothing q) = gets_none s ≡ true
+FitsSought s (begun.Read t q) = gets_read s ≡ true
+FitsSought s (begun.Write t q) = gets_write s ≡ true
+FitsSought s (begun.Run x) = Unit {0}
+FitsSought s (begun.Final x) = Unit {0}
 
-pub wakes_same : (x : CellPlan) (w : Want) → w ≢ Calls call.Phase → wake_of (ask_of x w).want ≡ wakes_as w
-wakes_same x (Calls call.Phase) ne = absurd (ne refl)
-wakes_same x (Calls call.Read) ne = refl
-wakes_same x (Calls call.Write) ne = refl
-wakes_same x (Calls call.TryRead) ne = refl
-wakes_same x Turns ne = refl
+module _ (who : Who) (o : Option Registry) (q : Phase) where
+  -- what is begun where a run is due or not, and the value is there or not
+  abbrev pub run_or_not : Ask → Begun
+  run_or_not ask = if is_refused ask.tol.leak o q then begun_declined ask.want else begun.Run (section_by who ask.want (stays_asked o q) write_ticket)
+
+  abbrev pub met_as : Ask → Sought → Bool → Bool → Begun
+  met_as ask want.Init due there = if due then run_or_not ask else begun.Nothing q
+  met_as ask want.Read due there = if due then run_or_not ask else begun.Read read_ticket q
+  met_as ask want.Write due there = if due then run_or_not ask else begun.Write write_ticket q
+  met_as ask want.ReadOnly due there = begun.Read read_ticket q
+  met_as ask want.WriteOnly due there = begun.Write write_ticket q
+  met_as ask want.Finalize due there = if there then begun.Final (section_by who ask.want q write_ticket) else begun.Nothing q
+
+  -- what an attempt begins that is admitted, once it is settled
+  abbrev pub begun_met : Ask → Begun
+  begun_met ask = begun_settled ask o q (begun_of who ask q (got (nature_of ask q) q))
+
+  -- the same, where it asks for a run or not
+  abbrev begun_with : Ask → Bool → LockResult ReadTicket WriteTicket → Begun
+  begun_with ask run (result.None z) = begun.Nothing z
+  begun_with ask run (result.Read l) = begun.Read l q
+  begun_with ask run (result.Write l) = if run then begun.Run (section_by who ask.want unregistered l) else begun_write who ask.want q l
+
+  got_is : (ask : Ask) (n : LockNature) → begun_of who ask q (got n q) ≡ begun_with ask (asks_run ask q) (got n q)
+  got_is ask nature.None = refl
+  got_is ask nature.Read = refl
+  got_is ask nature.Write = refl
+
+  by_cases : (s : Sought) (f : Bool) (t : Tolerance) (due there : Bool) → begun_settled (record { want = s; fast = f; tol = t }) o q (begun_with (record { want = s; fast = f; tol = t }) (run_sought s && due) (got (nature_where s due there) q)) ≡ met_as (record { want = s; fast = f; tol = t }) s due there
+  by_cases want.Init f t true there = refl
+  by_cases want.Init f t false there = refl
+  by_cases want.Read f t true there = refl
+  by_cases want.Read f t false there = refl
+  by_cases want.Write f t true there = refl
+  by_cases want.Write f t false there = refl
+  by_cases want.ReadOnly f t due there = refl
+  by_cases want.WriteOnly f t due there = refl
+  by_cases want.Finalize f t due true = refl
+  by_cases want.Finalize f t due false = refl
+
+  pub met_is : (ask : Ask) → begun_met ask ≡ met_as ask ask.want (shall_init ask.tol q) (has (number q) initialized)
+  met_is ask = ap (begun_settled ask o q) (got_is ask (nature_of ask q)) ∙ by_cases ask.want ask.fast ask.tol (shall_init ask.tol q) (has (number q) initialized)
+
+  -- it fits
+  fits_declined : (r : Bool) (s : Sought) (x : _) → run_sought s ≡ true → FitsSought s (if r then begun_declined s else begun.Run x)
+  fits_declined true want.Init x e = refl
+  fits_declined true want.Read x e = refl
+  fits_declined true want.Write x e = refl
+  fits_declined true want.ReadOnly x e = absurd (cc)
+  fits_declined true want.WriteOnly x e = absurd (cc)
+  fits_declined true want.Finalize x e = absurd (cc)
+  fits_declined false s x e = tt
+
+  pub met_fits : (ask : Ask) → FitsSought ask.want (begun_met ask)
+  met_fits ask = subst (FitsSought ask.want) (sym (met_is ask)) (by ask.want refl (shall_init ask.tol q) (has (number q) initialized))
+    where
+      run : (s : Sought) → ask.want ≡ s → run_sought s ≡ true → FitsSought s (run_or_not ask)
+      run s e is = subst (λ z. FitsSought s (if is_refused ask.tol.leak o q then begun_declined z else begun.Run (section_by who ask.want (stays_asked o q) write_ticket))) (sym e) (fits_declined (is_refused ask.tol.leak o q) s (section_by who ask.want (stays_asked o q) write_ticket) is)
+
+      by : (s : Sought) → ask.want ≡ s → (due there : Bool) → FitsSought s (met_as ask s due there)
+      by want.Init e true there = run want.Init e refl
+      by want.Init e false there = refl
+      by want.Read e true there = run want.Read e refl
+      by want.Read e false there = refl
+      by want.Write e true there = run want.Write e refl
+      by want.Write e false there = refl
+      by want.ReadOnly e due there = refl
+      by want.WriteOnly e due there = refl
+      by want.Finalize e due true = tt
+      by want.Finalize e due false = refl
+
+  -- a call has its section run, or not
+  abbrev pub RunsOr : Bool → Begun → Type 0
+  RunsOr runs b = MatchBool runs (is_run b ≡ true) (is_left b ≡ true)
+
+  runs_declined : (r : Bool) (s : Sought) (x : _) → run_sought s ≡ true → RunsOr (not r) (if r then begun_declined s else begun.Run x)
+  runs_declined true want.Init x e = refl
+  runs_declined true want.Read x e = refl
+  runs_declined true want.Write x e = refl
+  runs_declined true want.ReadOnly x e = absurd (cc)
+  runs_declined true want.WriteOnly x e = absurd (cc)
+  runs_declined true want.Finalize x e = absurd (cc)
+  runs_declined false s x e = refl
+
+  pub met_runs : (ask : Ask) → (ask.want ≡ want.Finalize → ⊥) → RunsOr (asks_run ask q && not (is_refused ask.tol.leak o q)) (begun_met ask)
+  met_runs ask ne = subst (RunsOr (asks_run ask q && not (is_refused ask.tol.leak o q))) (sym (met_is ask)) (by ask.want refl (shall_init ask.tol q) refl (has (number q) initialized))
+    where
+      by_want : (s : Sought) (due : Bool) (b : Begun) → ask.want ≡ s → shall_init ask.tol q ≡ due → RunsOr ((run_sought s && due) && not (is_refused ask.tol.leak o q)) b → RunsOr (asks_run ask q && not (is_refused ask.tol.leak o q)) b
+      by_want s due b e f is = subst (λ z. RunsOr ((run_sought z && shall_init ask.tol q) && not (is_refused ask.tol.leak o q)) b) (sym e) (subst (λ z. RunsOr ((run_sought s && z) && not (is_refused ask.tol.leak o q)) b) (sym f) is)
+
+      run : (s : Sought) → ask.want ≡ s → run_sought s ≡ true → RunsOr (not (is_refused ask.tol.leak o q)) (run_or_not ask)
+      run s e is = subst (λ z. RunsOr (not (is_refused ask.tol.leak o q)) (if is_refused ask.tol.leak o q then begun_declined z else begun.Run (section_by who ask.want (stays_asked o q) write_ticket))) (sym e) (runs_declined (is_refused ask.tol.leak o q) s (section_by who ask.want (stays_asked o q) write_ticket) is)
+
+      by : (s : Sought) → ask.want ≡ s → (due : Bool) → shall_init ask.tol q ≡ due → (there : Bool) → RunsOr (asks_run ask q && not (is_refused ask.tol.leak o q)) (met_as ask s due there)
+      by want.Init e true f there = by_want want.Init true (run_or_not ask) e f (run want.Init e refl)
+      by want.Init e false f there = by_want want.Init false (begun.Nothing q) e f refl
+      by want.Read e true f there = by_want want.Read true (run_or_not ask) e f (run want.Read e refl)
+      by want.Read e false f there = by_want want.Read false (begun.Read read_ticket q) e f refl
+      by want.Write e true f there = by_want want.Write true (run_or_not ask) e f (run want.Write e refl)
+      by want.Write e false f there = by_want want.Write false (begun.Write write_ticket q) e f refl
+      by want.ReadOnly e due f there = by_want want.ReadOnly due (begun.Read read_ticket q) e f refl
+      by want.WriteOnly e due f there = by_want want.WriteOnly due (begun.Write write_ticket q) e f refl
+      by want.Finalize e due f there = absurd (ne e)
+
+-- ---- the answer of an attempt that is admitted
+
+-- no call finalizes
+pub calls_no_turn : (x : CellPlan) (k : Call) (ask : Ask) → IsAsked x (Calls k) ask → ask.want ≡ want.Finalize → ⊥
+calls_no_turn x k ask is e = let f : seeks_as (form_of x.kind k) (Some want.Finalize) ≡ true = ap (λ s. seeks_as (form_of x.kind k) (Some s)) (sym e) ∙ ap (seeks_as (form_of x.kind k)) (sym is.sought) ∙ sought_as x.kind k in absurd (cc)
+
+-- only a turn does
+pub final_turns : (x : CellPlan) (w : Want) (ask : Ask) → IsAsked x w ask → finalizes ask.want ≡ true → w ≡ Turns
+final_turns x (Calls k) ask is e = absurd (calls_no_turn x k ask is (sought_final ask.want e))
+  where
+    sought_final : (s : Sought) → finalizes s ≡ true → s ≡ want.Finalize
+    sought_final want.Finalize e = refl
+    sought_final want.Init e = absurd (cc)
+    sought_final want.Read e = absurd (cc)
+    sought_final want.Write e = absurd (cc)
+    sought_final want.ReadOnly e = absurd (cc)
+    sought_final want.WriteOnly e = absurd (cc)
+final_turns x Turns ask is e = refl
 
 module _ (x : CellPlan) (c p : ℕ) (reg : Registry) (y : Content) where
   abbrev who : Who
@@ -103,78 +237,69 @@ module _ (x : CellPlan) (c p : ℕ) (reg : Registry) (y : Content) where
   abbrev q : Phase
   q = phase_of y.phase
 
-  abbrev Due : Want → Type 0
-  Due w = answer_taken x.kind (record { cell = c; want = w }) (taken_of (begun_settled (ask_of x w) o q (begun_of who (ask_of x w) q (got (nature_of (ask_of x w) q) q)))) ≡ answer_admitted x.kind (tolerance_of x) c reg.is_open w y
+  -- what the cell holds then
+  abbrev y_then : Want → Content
+  y_then w = effect x (changes_asked x w reg.is_open y) y
 
-  -- a run that is asked: the generator runs, or the call is declined
-  run_due : (k : Call) (b : Begun) (s : SeqSection) → answer_taken x.kind (record { cell = c; want = Calls k }) (taken_of b) ≡ answer.Access refused
-      → answer_taken x.kind (record { cell = c; want = Calls k }) (taken_of (if is_refused x.leak o q then b else begun.Run s)) ≡ (if runs_generator x.kind (tolerance_of x) reg.is_open y.phase then answer.Running else answer.Access (phase_of flags_refused))
-  run_due k b s declined = ap (λ z. answer_taken x.kind (record { cell = c; want = Calls k }) (taken_of (if z then b else begun.Run s))) (refuses_same x reg y.phase) ∙ by (runs_generator x.kind (tolerance_of x) reg.is_open y.phase)
+  abbrev Due : Want → Begun → Type 0
+  Due w b = answer_taken x.kind (record { cell = c; want = w }) (y_then w) (taken_of b) ≡ answer_admitted x.kind (tolerance_of x) c reg.is_open w y
+
+  -- a call: its generator runs, or it is answered by what the cell holds then
+  called_due : (k : Call) (b : Begun) (runs : Bool) → begins_run x.kind (tolerance_of x) reg.is_open k y.phase ≡ runs → RunsOr who o q runs b → Due (Calls k) b
+  called_due k b true e is = running b is ∙ sym (ap (λ r. if r then answer.Running else left_so) e)
     where
-      by : (g : Bool) → answer_taken x.kind (record { cell = c; want = Calls k }) (taken_of (if not g then b else begun.Run s)) ≡ (if g then answer.Running else answer.Access (phase_of flags_refused))
+      left_so : Answer
+      left_so = answer_at (form_of x.kind k) (is_accessible x.kind (content_asked x.kind (tolerance_of x) reg.is_open k y).phase) (content_asked x.kind (tolerance_of x) reg.is_open k y)
+
+      running : (b : Begun) → is_run b ≡ true → answer_taken x.kind (record { cell = c; want = Calls k }) (y_then (Calls k)) (taken_of b) ≡ answer.Running
+      running (begun.Run s) e = refl
+      running (begun.Wait way) e = absurd (cc)
+      running begun.Missed e = absurd (cc)
+      running begun.Cyclic e = absurd (cc)
+      running (begun.Nothing z) e = absurd (cc)
+      running (begun.Read l z) e = absurd (cc)
+      running (begun.Write l z) e = absurd (cc)
+      running (begun.Final s) e = absurd (cc)
+  called_due k b false e is = left b is ∙ ap (λ (z : Content). answer_at (form_of x.kind k) (is_accessible x.kind z.phase) z) (call_left x k reg.is_open y) ∙ sym (ap (λ r. if r then answer.Running else left_so) e)
+    where
+      left_so : Answer
+      left_so = answer_at (form_of x.kind k) (is_accessible x.kind (content_asked x.kind (tolerance_of x) reg.is_open k y).phase) (content_asked x.kind (tolerance_of x) reg.is_open k y)
+
+      left : (b : Begun) → is_left b ≡ true → answer_taken x.kind (record { cell = c; want = Calls k }) (y_then (Calls k)) (taken_of b) ≡ answer_at (form_of x.kind k) (is_accessible x.kind (y_then (Calls k)).phase) (y_then (Calls k))
+      left (begun.Nothing z) e = refl
+      left (begun.Read l z) e = refl
+      left (begun.Write l z) e = refl
+      left (begun.Run s) e = absurd (cc)
+      left (begun.Wait way) e = absurd (cc)
+      left begun.Missed e = absurd (cc)
+      left begun.Cyclic e = absurd (cc)
+      left (begun.Final s) e = absurd (cc)
+
+  -- what looks at the cell as it is
+  pub looked_due : (w : Want) → seeks x.kind w ≡ None → answer_taken x.kind (record { cell = c; want = w }) (y_then w) (taken.Nothing q) ≡ answer_admitted x.kind (tolerance_of x) c reg.is_open w y
+  looked_due (Calls k) e = called_due k (begun.Nothing q) false (ap (λ s. run_asked (asking s (is_fast (Calls k)) (tolerance_of x)) y.phase && runs_generator x.kind (tolerance_of x) reg.is_open y.phase) e) refl
+  looked_due Turns e = absurd (cc)
+
+  pub admitted_due : (w : Want) (ask : Ask) → IsAsked x w ask → Due w (begun_met who o q ask)
+  admitted_due (Calls k) ask is = called_due k (begun_met who o q ask) (asks_run ask q && not (is_refused ask.tol.leak o q)) (sym begins) (met_runs who o q ask (calls_no_turn x k ask is))
+    where
+      twice : (b : Bool) → not (not b) ≡ b
+      twice true = refl
+      twice false = refl
+
+      begins : (asks_run ask q && not (is_refused ask.tol.leak o q)) ≡ begins_run x.kind (tolerance_of x) reg.is_open k y.phase
+      begins =
+          ap (λ (t : Tolerance). asks_run ask q && not (is_refused t.leak o q)) is.tol
+          ∙ (λ i. asks_same x (Calls k) ask is q i && not (refuses_same x reg y.phase i))
+          ∙ ap (λ b. asks x.kind (tolerance_of x) (Calls k) y.phase && b) (twice (runs_generator x.kind (tolerance_of x) reg.is_open y.phase))
+  admitted_due Turns ask is =
+      ap (λ b. answer_taken x.kind (record { cell = c; want = Turns }) (y_then Turns) (taken_of b)) (met_is who o q ask)
+      ∙ ap (λ s. answer_taken x.kind (record { cell = c; want = Turns }) (y_then Turns) (taken_of (met_as who o q ask s (shall_init ask.tol q) (has y.phase initialized)))) final
+      ∙ by (has y.phase initialized)
+    where
+      final : ask.want ≡ want.Finalize
+      final = let sought = is.sought in cc
+
+      by : (b : Bool) → answer_taken x.kind (record { cell = c; want = Turns }) (y_then Turns) (taken_of (met_as who o q ask want.Finalize (shall_init ask.tol q) b)) ≡ turn_answer_admitted (if b then nature.Write else nature.None) c
       by true = refl
-      by false = declined
-
-  -- a call that gets the lock to write, where it asks for a run or not
-  written_due : (k : Call) (b : Bool) → nature_of (ask_of x (Calls k)) q ≡ nature.Write → lock_wanted (tolerance_of x) (Calls k) y.phase ≡ nature.Write → asks_run (ask_of x (Calls k)) q ≡ b → asks (tolerance_of x) (Calls k) y.phase ≡ b
-      → answer_taken x.kind (record { cell = c; want = Calls k }) (taken_of (begun_settled (ask_of x (Calls k)) o q (if b then begun.Run (section_by who (want_of (Calls k)) unregistered write_ticket) else begun_write who (want_of (Calls k)) q write_ticket)))
-      ≡ (if b then answer_of_run x.kind (tolerance_of x) reg.is_open k y else answer_locked x.kind k y) → Due (Calls k)
-  written_due k b n n' a a' is =
-      ap (λ z. answer_taken x.kind (record { cell = c; want = Calls k }) (taken_of (begun_settled (ask_of x (Calls k)) o q (begun_of who (ask_of x (Calls k)) q (got z q))))) n
-      ∙ ap (λ z. answer_taken x.kind (record { cell = c; want = Calls k }) (taken_of (begun_settled (ask_of x (Calls k)) o q (if z then begun.Run (section_by who (want_of (Calls k)) unregistered write_ticket) else begun_write who (want_of (Calls k)) q write_ticket)))) a
-      ∙ is
-      ∙ sym (ap (λ z. call_answer_admitted z x.kind (tolerance_of x) reg.is_open k y) n' ∙ ap (λ z. if z then answer_of_run x.kind (tolerance_of x) reg.is_open k y else answer_locked x.kind k y) a')
-
-  pub admitted_due : (w : Want) → w ≢ Calls call.Phase → Due w
-  admitted_due (Calls call.Phase) ne = absurd (ne refl)
-  admitted_due (Calls call.Read) ne = by (shall_init (tolerance_of x) q) refl
-    where
-      by : (b : Bool) → shall_init (tolerance_of x) q ≡ b → Due (Calls call.Read)
-      by false e = rw e refl
-      by true e = written_due call.Read true (ap (λ z. if z then nature.Write else nature.Read) e) (ap (λ z. if z then nature.Write else nature.Read) e) e e (run_due call.Read (begun.Read read_ticket refused) (section_by who want.Read (stays_asked o q) write_ticket) refl)
-  admitted_due (Calls call.Write) ne = by (shall_init (tolerance_of x) q) refl
-    where
-      by : (b : Bool) → shall_init (tolerance_of x) q ≡ b → Due (Calls call.Write)
-      by false e = written_due call.Write false refl refl e e refl
-      by true e = written_due call.Write true refl refl e e (run_due call.Write (begun.Write write_ticket refused) (section_by who want.Write (stays_asked o q) write_ticket) refl)
-  admitted_due (Calls call.TryRead) ne = refl
-  admitted_due Turns ne = by (has y.phase initialized) refl
-    where
-      by : (b : Bool) → has y.phase initialized ≡ b → Due Turns
-      by false e = rw e refl
-      by true e = rw e refl
-
-  -- and what is got is of the kind that is wanted
-  abbrev Kept : Want → Type 0
-  Kept w = (g : Given) → IsOf w g (taken_of (begun_settled (ask_of x w) o q (begun_of who (ask_of x w) q (got (nature_of (ask_of x w) q) q))))
-
-  run_of : (k : Call) (b : Begun) (s : SeqSection) (g : Given) → IsOf (Calls k) g (taken_of b) → (c : Bool) → IsOf (Calls k) g (taken_of (if c then b else begun.Run s))
-  run_of k b s g is true = is
-  run_of k b s g is false = tt
-
-  -- a call that gets the lock to write, where it asks for a run or not
-  written_of : (k : Call) (b : Bool) (g : Given) → nature_of (ask_of x (Calls k)) q ≡ nature.Write → asks_run (ask_of x (Calls k)) q ≡ b
-      → IsOf (Calls k) g (taken_of (begun_settled (ask_of x (Calls k)) o q (if b then begun.Run (section_by who (want_of (Calls k)) unregistered write_ticket) else begun_write who (want_of (Calls k)) q write_ticket)))
-      → IsOf (Calls k) g (taken_of (begun_settled (ask_of x (Calls k)) o q (begun_of who (ask_of x (Calls k)) q (got (nature_of (ask_of x (Calls k)) q) q))))
-  written_of k b g n a is =
-      subst (λ z. IsOf (Calls k) g (taken_of (begun_settled (ask_of x (Calls k)) o q (begun_of who (ask_of x (Calls k)) q (got z q))))) (sym n)
-      (subst (λ z. IsOf (Calls k) g (taken_of (begun_settled (ask_of x (Calls k)) o q (if z then begun.Run (section_by who (want_of (Calls k)) unregistered write_ticket) else begun_write who (want_of (Calls k)) q write_ticket)))) (sym a) is)
-
-  pub admitted_of : (w : Want) → w ≢ Calls call.Phase → Kept w
-  admitted_of (Calls call.Phase) ne g = absurd (ne refl)
-  admitted_of (Calls call.Read) ne g = by (shall_init (tolerance_of x) q) refl
-    where
-      by : (b : Bool) → shall_init (tolerance_of x) q ≡ b → IsOf (Calls call.Read) g (taken_of (begun_settled (ask_of x (Calls call.Read)) o q (begun_of who (ask_of x (Calls call.Read)) q (got (nature_of (ask_of x (Calls call.Read)) q) q))))
-      by false e = subst (λ z. IsOf (Calls call.Read) g (taken_of (begun_settled (ask_of x (Calls call.Read)) o q (begun_of who (ask_of x (Calls call.Read)) q (got z q))))) (sym (ap (λ z. if z then nature.Write else nature.Read) e)) (call.Read, refl, refl)
-      by true e = written_of call.Read true g (ap (λ z. if z then nature.Write else nature.Read) e) e (run_of call.Read (begun.Read read_ticket refused) (section_by who want.Read (stays_asked o q) write_ticket) g (call.Read, refl, refl) (is_refused x.leak o q))
-  admitted_of (Calls call.Write) ne g = by (shall_init (tolerance_of x) q) refl
-    where
-      by : (b : Bool) → shall_init (tolerance_of x) q ≡ b → IsOf (Calls call.Write) g (taken_of (begun_settled (ask_of x (Calls call.Write)) o q (begun_of who (ask_of x (Calls call.Write)) q (got (nature_of (ask_of x (Calls call.Write)) q) q))))
-      by false e = written_of call.Write false g refl e refl
-      by true e = written_of call.Write true g refl e (run_of call.Write (begun.Write write_ticket refused) (section_by who want.Write (stays_asked o q) write_ticket) g refl (is_refused x.leak o q))
-  admitted_of (Calls call.TryRead) ne g = (call.TryRead, refl, refl)
-  admitted_of Turns ne g = by (has y.phase initialized)
-    where
-      by : (b : Bool) → IsOf Turns g (taken_of (begun_settled (ask_of x Turns) o q (begun_of who (ask_of x Turns) q (got (if b then nature.Write else nature.None) q))))
       by false = refl
-      by true = tt

@@ -28,7 +28,7 @@ use Rattle.waiting_rows.specs.Given.{IsListed}
 use Rattle.waiting_rows.proofs.GivenOn.{listed_hand, listed_share}
 use Rattle.phase_moves.specs.Calls.{Calls}
 use Rattle.phase_moves.proofs.Lockers.{hands_phase, downgrades_phase}
-use Rattle.phase_moves.proofs.Attempts.{declines, stays_asked, IsBegun, IsTurned, IsEntered, calm, entered}
+use Rattle.phase_moves.proofs.Attempts.{declines, stays_asked, is_away, IsBegun, IsTurned, IsEntered, calm, entered}
 
 -- ---- whether the cell is registered
 
@@ -139,21 +139,32 @@ module _ (k : LockerKind) (who : Who) (ask : Ask) (h : Holders) (s : Parking) wh
   unsettled (begun.Write t p) g h' s' d = plain None (begun.Write t p) g h' s' refl d
   unsettled (begun.Final x) g h' s' d = plain None (begun.Final x) g h' s' refl d
 
+  -- what is turned away stays so
+  still : (m : Registry) (b : Begun) (g : Given) (h1 : Holders) (s1 : Parking) (r : Begun × Given) (h' : Holders) (s' : Parking) → is_away b ≡ true → Settles ask.tol.leak m h.phase (b, g) h1 s1 r h' s' → Stays (b, g) h1 s1 r h' s'
+  still m (begun.Wait way) g h1 s1 r h' s' e st = absurd (cc)
+  still m begun.Missed g h1 s1 r h' s' e st = st
+  still m begun.Cyclic g h1 s1 r h' s' e st = st
+  still m (begun.Nothing q) g h1 s1 r h' s' e st = absurd (cc)
+  still m (begun.Read t q) g h1 s1 r h' s' e st = absurd (cc)
+  still m (begun.Write t q) g h1 s1 r h' s' e st = absurd (cc)
+  still m (begun.Run x) g h1 s1 r h' s' e st = absurd (cc)
+  still m (begun.Final x) g h1 s1 r h' s' e st = absurd (cc)
+
   -- a call of a party that waits at the cell, or does not wait
-  module _ (running : Option ℕ) (r : Begun × Given) (h' : Holders) (s' : Parking) (slow : ask.fast ≡ false) where
+  module _ (running : Option ℕ) (r : Begun × Given) (h' : Holders) (s' : Parking) where
     pub answered : (o : Option Registry) (waits : Bool) → MatchBool waits ((row_of s who.party).cell ≡ who.cell) (row_of s who.party ≡ free_row) → who.party < length s.rows → Fits k h s who.cell → Calls waits o k who ask running h s r h' s' → IsTurned h s r.0 r.1 h' s' ⊎ IsBegun who ask o h s r.0 r.1 h' s'
     answered None waits row inside fits d =
-        elim (entered k who ask running h s r h' s' slow waits row inside fits d) [
+        elim (entered k who ask running h s r h' s' waits row inside fits d) [
           | inl t ↦ inl t
           | inr e ↦ inr (unsettled r.0 r.1 h' s' e)
         ]
     answered (Some m) waits row inside fits d =
-        elim (entered k who ask running h s d.entered d.held d.rows slow waits row inside fits d.enters) [
+        elim (entered k who ask running h s d.entered d.held d.rows waits row inside fits d.enters) [
           | inl t ↦ inl (back d t)
           | inr e ↦ inr (settled m d.entered.0 d.entered.1 d.held d.rows r h' s' e d.settles)
         ]
       where
         back : (d : Calls waits (Some m) k who ask running h s r h' s') → IsTurned h s d.entered.0 d.entered.1 d.held d.rows → IsTurned h s r.0 r.1 h' s'
         back d t =
-            let st : Stays (begun.Cyclic, d.entered.1) d.held d.rows r h' s' = subst (λ b. Settles ask.tol.leak m h.phase (b, d.entered.1) d.held d.rows r h' s') t.cyclic d.settles in
-            record { cyclic = ap (λ (q : Begun × Given). q.0) st.same; given = ap (λ (q : Begun × Given). q.1) st.same ∙ t.given; held = st.held ∙ t.held; rows = st.rows ∙ t.rows }
+            let st = still m d.entered.0 d.entered.1 d.held d.rows r h' s' t.away d.settles in
+            record { away = ap (λ (q : Begun × Given). is_away q.0) st.same ∙ t.away; given = ap (λ (q : Begun × Given). q.1) st.same ∙ t.given; held = st.held ∙ t.held; rows = st.rows ∙ t.rows }

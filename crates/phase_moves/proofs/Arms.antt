@@ -1,9 +1,10 @@
 -- The rows stand for what is open after an attempt, whatever it was answered.
 use Rattle.std.proofs.Common.{◌≡◌, ◌<◌, ◌≤◌, ◌^◌, ◌+◌, ◌∙◌, ℕ, List, length, set, get_or, ap, sym, subst, refl, arith, Bool, true, false, None, Some, inl, inr}
-use Rattle.std.specs.Prelude.{◌⊎◌, MatchBool, if◌then◌else◌}
+use Rattle.std.specs.Prelude.{◌⊎◌, ◌&&◌, MatchBool, if◌then◌else◌}
 use Rattle.std.specs.declared.option.Option.{Option}
 use Rattle.phase_bits.specs.declared.phase.Phase.{Phase}
 use Rattle.phase_bits.specs.declared.holders.Holders.{Holders}
+use Rattle.phase_bits.specs.Number.{phase_of}
 use Rattle.phase_bits.specs.Records.{most_readers}
 use Rattle.exit_registry.specs.Registry.{Registry, cells_of}
 use Rattle.phase_locker.specs.declared.ways.Given.{Given}
@@ -22,13 +23,14 @@ use Rattle.phase_seq.specs.declared.ask.Ask.{Ask}
 use Rattle.phase_seq.specs.declared.section.Section.{Section as SeqSection}
 use Rattle.phase_seq.specs.declared.section.Begun.{Begun}
 use Rattle.phase_seq.specs.declared.section.Begun.TheVariants as begun
-use Rattle.phase_seq.specs.Asks.{asks_run as seq_asks_run}
-use Rattle.phase_seq.specs.Begins.{is_cyclic, section_by, running_after}
+use Rattle.phase_seq.specs.declared.ask.Want.TheVariants as want
+use Rattle.phase_seq.specs.Begins.{is_cyclic, runs as seq_runs, section_by, running_after}
 use Rattle.phase_seq.specs.Exactly.{is_turned_back, is_run}
-use Rattle.phase_seq.specs.Stands.{BegunStands, opens_write, reads_begun}
+use Rattle.phase_seq.specs.Stands.{BegunStands, begins_write, reads_begun}
 use Rattle.schedule_rules.specs.declared.plan.CellPlan.{CellPlan}
 use Rattle.schedule_rules.specs.declared.step.Want.{Want}
 use Rattle.schedule_rules.specs.declared.step.Want.TheVariants.{Calls, Turns}
+use Rattle.schedule_rules.specs.Calls.{initializes, seeks}
 use Rattle.schedule_rules.specs.Kinds.{cell_at}
 use Rattle.schedule_rules.specs.Changes.{Content, Change}
 use Rattle.schedule_rules.specs.Phases.{tries_registration}
@@ -42,31 +44,32 @@ use Rattle.phase_moves.specs.declared.rows.Rows.{Rows}
 use Rattle.phase_moves.specs.declared.rows.Taken.TheVariants as taken
 use Rattle.phase_moves.specs.Calls.{Calls as CallOf, registry_for, registry_begun}
 use Rattle.phase_moves.specs.Standing.{Standing, run_in, runner_of, reads_in, writes_in, changes_at, section_asked, registry_asked}
-use Rattle.phase_moves.specs.Stands.{seen_at, IsCell, IsExit, IsLocked, AreShown, party_row, open_run, run_as, stays_in, want_of}
-use Rattle.phase_moves.specs.Tries.{IsAttempting, IsTook, WaitsAt, ask_of, opens_section, party_after, run_after, taken_of}
+use Rattle.phase_moves.specs.Stands.{Stands, seen_at, IsCell, IsExit, IsLocked, AreShown, party_row, open_run, run_as, stays_in}
+use Rattle.phase_moves.specs.Tries.{IsAttempting, IsTook, MayWait, WaitsAt, ask_of, is_quick, opens_section, party_after, run_after, taken_of}
 use Rattle.phase_moves.specs.declared.rows.Taken.{Taken}
 use Rattle.phase_moves.specs.Meets.{IsMet}
-use Rattle.phase_moves.proofs.Asked.{asked_as, stays_same, run_calls, final_turns, registry_run, cells_stay}
-use Rattle.phase_moves.proofs.Attempts.{IsBegun, IsTurned, Tells, declines, phase_left, rows_begun, stays_asked, writes_begun, wrote}
+use Rattle.phase_moves.proofs.Admitting.{final_turns}
+use Rattle.phase_moves.proofs.Asked.{IsAsked, asked_as, stays_same, run_calls, registry_run, cells_stay}
+use Rattle.phase_moves.proofs.Attempts.{is_away, IsBegun, IsTurned, Tells, declines, phase_left, rows_begun, stays_asked, writes_begun, wrote}
 use Rattle.phase_moves.proofs.Answered.{answered as begun_as}
 use Rattle.phase_moves.proofs.Calling.{answered_moved}
-use Rattle.phase_moves.proofs.Ending.{never_init}
 use Rattle.phase_moves.proofs.Few.{fewer_readers}
 use Rattle.phase_moves.proofs.Leaving.{sound}
-use Rattle.phase_moves.proofs.Meeting.{met, met_turned}
+use Rattle.phase_moves.proofs.Looked.{met_turned}
+use Rattle.phase_moves.proofs.Meeting.{met}
 use Rattle.phase_moves.proofs.Settling.{IsSettled, call_settled}
 use Rattle.waiting_rows.proofs.Sound.{sound_of}
 use Rattle.phase_locker.proofs.Keeping.{freed_free, freed_size}
 use Rattle.phase_moves.proofs.Moved.{parties_set, moved}
 use Rattle.phase_moves.proofs.Parking.{shown_called, freed_writers}
 use Rattle.phase_moves.proofs.Runs.{none_runs}
-use Rattle.phase_moves.proofs.Took.{cell_here as cell_here_of, cyclic_as as cyclic_as_of, of_here as of_here_of, in_parks as in_parks_of, party_in as party_in_of, sizes_in as sizes_in_of, exit_with as exit_with_of, exit_still as exit_still_of, was_none as was_none_of, rows_as as rows_as_of, told_as as told_as_of, phase_as as phase_as_of, took_nothing as took_nothing_of, took_read as took_read_of, took_write as took_write_of, took_wait as took_wait_of, took_run as took_run_of}
+use Rattle.phase_moves.proofs.Took.{asked_here as asked_here_of, cell_here as cell_here_of, cyclic_as as cyclic_as_of, of_here as of_here_of, in_parks as in_parks_of, party_in as party_in_of, sizes_in as sizes_in_of, exit_with as exit_with_of, exit_still as exit_still_of, was_none as was_none_of, rows_as as rows_as_of, told_as as told_as_of, phase_as as phase_as_of, took_nothing as took_nothing_of, took_read as took_read_of, took_write as took_write_of, took_wait as took_wait_of, took_run as took_run_of}
 
 module _ {L : Type 0} (held : L → Holders) (place : L → LockerKind) where
   module _ (m : Standing) (v v' : Rows L) (p : ℕ) (t : Target) (waits : Bool) (is : IsAttempting held place m v p t waits) (row row' : CellRow L) (row_is : row ≡ get_or v.cells.items t.cell row) (of of' : PartyRow) (of_is : of ≡ get_or v.parties.items p of)
       (cells : v'.cells.items ≡ set v.cells.items t.cell row') (guards : v'.guards ≡ v.guards) (parties : v'.parties.items ≡ set v.parties.items p of') (plan : row'.plan ≡ row.plan) (value : row'.value ≡ row.value) (owner : v'.exit.owner ≡ v.exit.owner) (turns : v'.exit.turns ≡ v.exit.turns)
       (b : Begun) (g : Given) (registry : v'.exit.registry ≡ registry_begun row.plan.kind t.cell (held row.seq.locker).phase b v.exit.registry) (running : row'.seq.running ≡ running_after b row.seq.running) (stands : BegunStands (record { cell = t.cell; party = p }) b row'.seq.running (held row'.seq.locker) v'.parks)
-      (op : Opens t.cell (reads_begun b) (opens_write b) (held row.seq.locker) v.parks (held row'.seq.locker) v'.parks) (k : Left held place t.cell row.seq.locker row'.seq.locker v.parks v'.parks) (cyc : is_turned_back b ≡ is_cyclic (want_of t.want) p row.seq.running) where
+      (op : Opens t.cell (reads_begun b) (begins_write b) (held row.seq.locker) v.parks (held row'.seq.locker) v'.parks) (k : Left held place t.cell row.seq.locker row'.seq.locker v.parks v'.parks) (ask : Ask) (ask_is : ask_of row.plan t.want ≡ Some ask) (cyc : is_turned_back b ≡ is_cyclic ask.want p row.seq.running) where
     abbrev who : Who
     who = record { cell = t.cell; party = p }
 
@@ -82,86 +85,81 @@ module _ {L : Type 0} (held : L → Holders) (place : L → LockerKind) where
     abbrev chs : List Change
     chs = changes_at t.cell t.want m
 
-    abbrev ask : Ask
-    ask = ask_of row.plan t.want
-
     abbrev reg : Option Registry
     reg = registry_for row.plan.kind v.exit.registry
 
     -- ---- what was shown of it
 
     cell_here : IsCell held place (seen_at t.cell m) v.parks t.cell row
-    cell_here = cell_here_of held place m v v' p t waits is row row' row_is of of' of_is cells guards parties plan value owner turns b g registry running stands op k cyc
+    cell_here = cell_here_of held place m v v' p t waits is row row' row_is of of' of_is cells guards parties plan value owner turns b g registry running stands op k ask ask_is cyc
 
-    cyclic_as : (b₁ : Begun) → b ≡ b₁ → is_turned_back b₁ ≡ is_cyclic (want_of t.want) p (runner_of (run_in t.cell m.sections))
-    cyclic_as = cyclic_as_of held place m v v' p t waits is row row' row_is of of' of_is cells guards parties plan value owner turns b g registry running stands op k cyc
+    asked_here : IsAsked x t.want ask
+    asked_here = asked_here_of held place m v v' p t waits is row row' row_is of of' of_is cells guards parties plan value owner turns b g registry running stands op k ask ask_is cyc
+
+    cyclic_as : (b₁ : Begun) → b ≡ b₁ → is_turned_back b₁ ≡ (initializes x.kind t.want && seq_runs p (runner_of (run_in t.cell m.sections)))
+    cyclic_as = cyclic_as_of held place m v v' p t waits is row row' row_is of of' of_is cells guards parties plan value owner turns b g registry running stands op k ask ask_is cyc
 
     of_here : of ≡ party_row m p
-    of_here = of_here_of held place m v v' p t waits is row row' row_is of of' of_is cells guards parties plan value owner turns b g registry running stands op k cyc
+    of_here = of_here_of held place m v v' p t waits is row row' row_is of of' of_is cells guards parties plan value owner turns b g registry running stands op k ask ask_is cyc
 
     in_parks : t.cell < length v.parks.readers
-    in_parks = in_parks_of held place m v v' p t waits is row row' row_is of of' of_is cells guards parties plan value owner turns b g registry running stands op k cyc
+    in_parks = in_parks_of held place m v v' p t waits is row row' row_is of of' of_is cells guards parties plan value owner turns b g registry running stands op k ask ask_is cyc
 
     party_in : p < length v.parks.rows
-    party_in = party_in_of held place m v v' p t waits is row row' row_is of of' of_is cells guards parties plan value owner turns b g registry running stands op k cyc
+    party_in = party_in_of held place m v v' p t waits is row row' row_is of of' of_is cells guards parties plan value owner turns b g registry running stands op k ask ask_is cyc
 
     sizes_in : length v.parks.writers ≡ length v.parks.readers
-    sizes_in = sizes_in_of held place m v v' p t waits is row row' row_is of of' of_is cells guards parties plan value owner turns b g registry running stands op k cyc
+    sizes_in = sizes_in_of held place m v v' p t waits is row row' row_is of of' of_is cells guards parties plan value owner turns b g registry running stands op k ask ask_is cyc
 
     exit_with : (r : Registry) → v'.exit.registry ≡ r → cells_of r ≡ cells_of m.registry → IsExit (length v.cells.items) (record m { registry = r }) v'.exit
-    exit_with = exit_with_of held place m v v' p t waits is row row' row_is of of' of_is cells guards parties plan value owner turns b g registry running stands op k cyc
+    exit_with = exit_with_of held place m v v' p t waits is row row' row_is of of' of_is cells guards parties plan value owner turns b g registry running stands op k ask ask_is cyc
 
     exit_still : is_run b ≡ false → IsExit (length v.cells.items) m v'.exit
-    exit_still = exit_still_of held place m v v' p t waits is row row' row_is of of' of_is cells guards parties plan value owner turns b g registry running stands op k cyc
+    exit_still = exit_still_of held place m v v' p t waits is row row' row_is of of' of_is cells guards parties plan value owner turns b g registry running stands op k ask ask_is cyc
 
     was_none : (d : IsBegun who ask reg (held row.seq.locker) v.parks b g (held row'.seq.locker) v'.parks) → wrote (declines ask reg (held row.seq.locker).phase) b ≡ true → writes_in t.cell m ≡ 0
-    was_none d = was_none_of held place m v v' p t waits is row row' row_is of of' of_is cells guards parties plan value owner turns b g registry running stands op k cyc d
+    was_none d = was_none_of held place m v v' p t waits is row row' row_is of of' of_is cells guards parties plan value owner turns b g registry running stands op k ask ask_is cyc d
 
     rows_as : (d : IsBegun who ask reg (held row.seq.locker) v.parks b g (held row'.seq.locker) v'.parks) → (b₁ : Begun) → b ≡ b₁ → v'.parks ≡ rows_begun b₁ who (rows_handed t.cell g (freed p v.parks))
-    rows_as d = rows_as_of held place m v v' p t waits is row row' row_is of of' of_is cells guards parties plan value owner turns b g registry running stands op k cyc d
+    rows_as d = rows_as_of held place m v v' p t waits is row row' row_is of of' of_is cells guards parties plan value owner turns b g registry running stands op k ask ask_is cyc d
 
     told_as : (d : IsBegun who ask reg (held row.seq.locker) v.parks b g (held row'.seq.locker) v'.parks) → (b₁ : Begun) → b ≡ b₁ → Tells who ask reg (held row.seq.locker).phase b₁
-    told_as d = told_as_of held place m v v' p t waits is row row' row_is of of' of_is cells guards parties plan value owner turns b g registry running stands op k cyc d
+    told_as d = told_as_of held place m v v' p t waits is row row' row_is of of' of_is cells guards parties plan value owner turns b g registry running stands op k ask ask_is cyc d
 
     phase_as : (d : IsBegun who ask reg (held row.seq.locker) v.parks b g (held row'.seq.locker) v'.parks) → (b₁ : Begun) → b ≡ b₁ → (held row'.seq.locker).phase ≡ phase_left (declines ask reg (held row.seq.locker).phase) b₁ (held row.seq.locker).phase
-    phase_as d = phase_as_of held place m v v' p t waits is row row' row_is of of' of_is cells guards parties plan value owner turns b g registry running stands op k cyc d
+    phase_as d = phase_as_of held place m v v' p t waits is row row' row_is of of' of_is cells guards parties plan value owner turns b g registry running stands op k ask ask_is cyc d
 
     took_nothing : (d : IsBegun who ask reg (held row.seq.locker) v.parks b g (held row'.seq.locker) v'.parks) (few : (held row'.seq.locker).readers ≤ most_readers) (tell : (z : Taken) → taken_of b ≡ z → IsMet p t z g m) → (q : Phase) → b ≡ begun.Nothing q → of' ≡ record { waiting = None; innermost = of.innermost } → row'.run ≡ row.run → IsTook held place m v p t (taken.Nothing q) g v'
-    took_nothing d few tell = took_nothing_of held place m v v' p t waits is row row' row_is of of' of_is cells guards parties plan value owner turns b g registry running stands op k cyc d few tell
+    took_nothing d few tell = took_nothing_of held place m v v' p t waits is row row' row_is of of' of_is cells guards parties plan value owner turns b g registry running stands op k ask ask_is cyc d few tell
 
     took_read : (d : IsBegun who ask reg (held row.seq.locker) v.parks b g (held row'.seq.locker) v'.parks) (few : (held row'.seq.locker).readers ≤ most_readers) (tell : (z : Taken) → taken_of b ≡ z → IsMet p t z g m) → (l : ReadTicket) (q : Phase) → b ≡ begun.Read l q → of' ≡ record { waiting = None; innermost = of.innermost } → row'.run ≡ row.run → IsTook held place m v p t (taken.Read l q) g v'
-    took_read d few tell = took_read_of held place m v v' p t waits is row row' row_is of of' of_is cells guards parties plan value owner turns b g registry running stands op k cyc d few tell
+    took_read d few tell = took_read_of held place m v v' p t waits is row row' row_is of of' of_is cells guards parties plan value owner turns b g registry running stands op k ask ask_is cyc d few tell
 
     took_write : (d : IsBegun who ask reg (held row.seq.locker) v.parks b g (held row'.seq.locker) v'.parks) (few : (held row'.seq.locker).readers ≤ most_readers) (tell : (z : Taken) → taken_of b ≡ z → IsMet p t z g m) → (l : WriteTicket) (q : Phase) → b ≡ begun.Write l q → of' ≡ record { waiting = None; innermost = of.innermost } → row'.run ≡ row.run → IsTook held place m v p t (taken.Write l q) g v'
-    took_write d few tell = took_write_of held place m v v' p t waits is row row' row_is of of' of_is cells guards parties plan value owner turns b g registry running stands op k cyc d few tell
+    took_write d few tell = took_write_of held place m v v' p t waits is row row' row_is of of' of_is cells guards parties plan value owner turns b g registry running stands op k ask ask_is cyc d few tell
 
     took_wait : (d : IsBegun who ask reg (held row.seq.locker) v.parks b g (held row'.seq.locker) v'.parks) (few : (held row'.seq.locker).readers ≤ most_readers) (tell : (z : Taken) → taken_of b ≡ z → IsMet p t z g m) → (way : How) → b ≡ begun.Wait way → of' ≡ record { waiting = Some (record { cell = t.cell; want = t.want }); innermost = of.innermost } → row'.run ≡ row.run → IsTook held place m v p t (taken.Wait way) g v'
-    took_wait d few tell = took_wait_of held place m v v' p t waits is row row' row_is of of' of_is cells guards parties plan value owner turns b g registry running stands op k cyc d few tell
+    took_wait d few tell = took_wait_of held place m v v' p t waits is row row' row_is of of' of_is cells guards parties plan value owner turns b g registry running stands op k ask ask_is cyc d few tell
 
-    took_run : (d : IsBegun who ask reg (held row.seq.locker) v.parks b g (held row'.seq.locker) v'.parks) (few : (held row'.seq.locker).readers ≤ most_readers) (tell : (z : Taken) → taken_of b ≡ z → IsMet p t z g m) → (s : SeqSection) → reads_begun b ≡ 0 → writes_begun b ≡ 1 → (held row'.seq.locker).phase ≡ (held row.seq.locker).phase → v'.parks ≡ rows_handed t.cell g (freed p v.parks) → IsExit (length v.cells.items) (record m { registry = registry_asked t.cell t.want m }) v'.exit → row'.seq.running ≡ runner_of (Some (record { section = section_asked n p t.cell t.want m; outer = cell_of_section (innermost p m.sections) })) → s ≡ section_by who (run_as t.want) (stays_in x t.want m.registry.is_open y.phase) write_ticket → false ≡ is_cyclic (want_of t.want) p (runner_of (run_in t.cell m.sections)) → IsMet p t taken.Runs g m → of' ≡ record { waiting = None; innermost = Some t.cell } → row'.run ≡ Some (record { run = record { party = p; want = t.want; outer = of.innermost }; section = s }) → IsTook held place m v p t taken.Runs g v'
-    took_run d few tell = took_run_of held place m v v' p t waits is row row' row_is of of' of_is cells guards parties plan value owner turns b g registry running stands op k cyc d few tell
+    took_run : (d : IsBegun who ask reg (held row.seq.locker) v.parks b g (held row'.seq.locker) v'.parks) (few : (held row'.seq.locker).readers ≤ most_readers) (tell : (z : Taken) → taken_of b ≡ z → IsMet p t z g m) → (s : SeqSection) → reads_begun b ≡ 0 → writes_begun b ≡ 1 → (held row'.seq.locker).phase ≡ (held row.seq.locker).phase → v'.parks ≡ rows_handed t.cell g (freed p v.parks) → IsExit (length v.cells.items) (record m { registry = registry_asked t.cell t.want m }) v'.exit → row'.seq.running ≡ runner_of (Some (record { section = section_asked n p t.cell t.want m; outer = cell_of_section (innermost p m.sections) })) → s ≡ section_by who (run_as x.kind t.want) (stays_in x t.want m.registry.is_open y.phase) write_ticket → false ≡ (initializes x.kind t.want && seq_runs p (runner_of (run_in t.cell m.sections))) → IsMet p t taken.Runs g m → of' ≡ record { waiting = None; innermost = Some t.cell } → row'.run ≡ Some (record { run = record { party = p; want = t.want; outer = of.innermost }; section = s }) → IsTook held place m v p t taken.Runs g v'
+    took_run d few tell = took_run_of held place m v v' p t waits is row row' row_is of of' of_is cells guards parties plan value owner turns b g registry running stands op k ask ask_is cyc d few tell
 
-    -- ---- it was turned back: nothing changed
-    took_cyclic : IsTurned (held row.seq.locker) v.parks b g (held row'.seq.locker) v'.parks → of' ≡ of → row'.run ≡ row.run → IsTook held place m v p t taken.Cyclic g v'
-    took_cyclic d o run =
+    -- ---- it was turned away: nothing changed
+    stays_away : (z : Begun) → b ≡ z → is_run z ≡ false → running_after z row.seq.running ≡ row.seq.running → IsTurned (held row.seq.locker) v.parks b g (held row'.seq.locker) v'.parks → of' ≡ of → row'.run ≡ row.run → Stands held place n m v'
+    stays_away z e still runner d o run =
+        moved held place t.cell n n m m v v' row' is.rests.stands is.cell cells
+        (let k0 = cell_here in
         record {
-          stands = moved held place t.cell n n m m v v' row' is.rests.stands is.cell cells
-              (let k0 = cell_here in
-              record {
-                planned = plan ∙ k0.planned;
-                valued = value ∙ k0.valued;
-                known = k0.known;
-                locked = subst (λ (s : Parking). IsLocked (place row'.seq.locker) (held row'.seq.locker) s t.cell (reads_in t.cell m) (writes_in t.cell m) y.phase) (sym d.rows) (subst (λ (h : Holders). IsLocked (place row'.seq.locker) h v.parks t.cell (reads_in t.cell m) (writes_in t.cell m) y.phase) (sym d.held) (subst (λ k. IsLocked k (held row.seq.locker) v.parks t.cell (reads_in t.cell m) (writes_in t.cell m) y.phase) (sym k.place) k0.locked));
-                placed = k.place ∙ k0.placed;
-                runner = running ∙ ap (λ x. running_after x row.seq.running) d.cyclic ∙ k0.runner;
-                runs = run ∙ k0.runs;
-              })
-              (answered_moved held place t.cell n m v v' m.waits m.content m.registry is.rests.stands k.others k.same (ap (λ (s : Parking). length s.writers) d.rows) guards (exit_still (ap is_run d.cyclic)) (subst (λ (s : Parking). AreShown (length v.cells.items) m.waits s) (sym d.rows) is.rests.stands.waits) (λ d ne. refl) (λ g x e w. refl))
-              (parties_set held place n m m v v' p of' is.rests.stands parties (o ∙ of_here) (λ q ne. refl));
-          told = tt;
-          cyclic = cyclic_as begun.Cyclic d.cyclic;
-          met = subst (λ z. IsMet p t taken.Cyclic z m) (sym d.given) (met_turned m p t is.asks (sym (cyclic_as begun.Cyclic d.cyclic)));
-        }
+          planned = plan ∙ k0.planned;
+          valued = value ∙ k0.valued;
+          known = k0.known;
+          locked = subst (λ (s : Parking). IsLocked (place row'.seq.locker) (held row'.seq.locker) s t.cell (reads_in t.cell m) (writes_in t.cell m) y.phase) (sym d.rows) (subst (λ (h : Holders). IsLocked (place row'.seq.locker) h v.parks t.cell (reads_in t.cell m) (writes_in t.cell m) y.phase) (sym d.held) (subst (λ k. IsLocked k (held row.seq.locker) v.parks t.cell (reads_in t.cell m) (writes_in t.cell m) y.phase) (sym k.place) k0.locked));
+          placed = k.place ∙ k0.placed;
+          runner = running ∙ ap (λ x. running_after x row.seq.running) e ∙ runner ∙ k0.runner;
+          runs = run ∙ k0.runs;
+        })
+        (answered_moved held place t.cell n m v v' m.waits m.content m.registry is.rests.stands k.others k.same (ap (λ (s : Parking). length s.writers) d.rows) guards (exit_still (ap is_run e ∙ still)) (subst (λ (s : Parking). AreShown (length v.cells.items) m.waits s) (sym d.rows) is.rests.stands.waits) (λ d ne. refl) (λ g x e w. refl))
+        (parties_set held place n m m v v' p of' is.rests.stands parties (o ∙ of_here) (λ q ne. refl))
 
     -- ---- what the locker requires
 
@@ -177,6 +175,14 @@ module _ {L : Type 0} (held : L → Holders) (place : L → LockerKind) where
     waits_here true k w e = subst (WaitsAt t.cell) e k
     waits_here false k w e = absurd (let f : None ≡ Some w = sym k ∙ e in cc)
 
+    -- what does not wait did not wait before
+    awake : (w : Bool) → MatchBool w (WaitsAt t.cell (wait_of p m.waits)) (wait_of p m.waits ≡ None) → (w ≡ true → MayWait x t.want) → is_quick x t.want ≡ true → wait_of p m.waits ≡ None
+    awake true k so quick = let slow = (so refl).slow in absurd (let f : false ≡ true = sym slow ∙ quick in cc)
+    awake false k so quick = k
+
+    slow_so : waits ≡ true → ask.fast ≡ false
+    slow_so e = asked_here.fast ∙ (is.waits_so e).slow
+
     abbrev Turned : Type 0
     Turned = IsTurned (held row.seq.locker) v.parks b g (held row'.seq.locker) v'.parks
 
@@ -185,7 +191,7 @@ module _ {L : Type 0} (held : L → Holders) (place : L → LockerKind) where
 
     module _ (calls : CallOf waits reg (place row.seq.locker) who ask row.seq.running (held row.seq.locker) v.parks (b, g) (held row'.seq.locker) v'.parks) where
       all : Turned ⊎ Begun_
-      all = begun_as (place row.seq.locker) who ask (held row.seq.locker) v.parks row.seq.running (b, g) (held row'.seq.locker) v'.parks refl reg waits (calling waits is.waited) party_in cell_here.locked.fits calls
+      all = begun_as (place row.seq.locker) who ask (held row.seq.locker) v.parks row.seq.running (b, g) (held row'.seq.locker) v'.parks reg waits (calling waits is.waited) party_in cell_here.locked.fits calls
 
       -- who is parked after the party left its list
       sound_freed : IsSound (freed p v.parks)
@@ -199,7 +205,7 @@ module _ {L : Type 0} (held : L → Holders) (place : L → LockerKind) where
 
       settled : is_turned_back b ≡ false → IsSettled (place row.seq.locker) who ask reg (held row.seq.locker) v.parks b g (held row'.seq.locker)
       settled e =
-          call_settled (place row.seq.locker) who ask (held row.seq.locker) v.parks row.seq.running (b, g) (held row'.seq.locker) v'.parks refl (sym cyc ∙ e) (never_init t.want) cell_here.locked.fits waits (calling waits is.waited) in_parks party_in (sound held place n m v is.rests.stands) sound_freed room_freed reg calls
+          call_settled (place row.seq.locker) who ask (held row.seq.locker) v.parks row.seq.running (b, g) (held row'.seq.locker) v'.parks (sym cyc ∙ e) cell_here.locked.fits waits slow_so (calling waits is.waited) in_parks party_in (sound held place n m v is.rests.stands) sound_freed room_freed reg calls
 
       few_now : is_turned_back b ≡ false → (held row'.seq.locker).readers ≤ most_readers
       few_now e = (settled e).few cell_here.locked.limit
@@ -207,48 +213,69 @@ module _ {L : Type 0} (held : L → Holders) (place : L → LockerKind) where
       told_met : is_turned_back b ≡ false → (z : Taken) → taken_of b ≡ z → IsMet p t z g m
       told_met e z same =
           subst (λ z. IsMet p t z g m) same
-          (met (length v.cells.items) (place row.seq.locker) (held row.seq.locker) v.parks m p t cell_here.locked cell_here.placed is.rests.stands.waits sizes_in is.rests.stands.sizes.few in_parks party_in is.asks (waits_here waits is.waited) (ap (is_cyclic (want_of t.want) p) (sym cell_here.runner) ∙ sym cyc ∙ e) b g (held row'.seq.locker)
-          (subst (λ r. IsSettled (place row.seq.locker) who (ask_of x t.want) (registry_for x.kind r) (held row.seq.locker) v.parks b g (held row'.seq.locker)) is.rests.stands.exit.registry_is
-          (subst (λ (y : CellPlan). IsSettled (place row.seq.locker) who (ask_of y t.want) (registry_for y.kind v.exit.registry) (held row.seq.locker) v.parks b g (held row'.seq.locker)) cell_here.planned (settled e))))
+          (met (length v.cells.items) (place row.seq.locker) (held row.seq.locker) v.parks m p t cell_here.locked cell_here.placed is.rests.stands.waits sizes_in is.rests.stands.sizes.few in_parks party_in ask asked_here (waits_here waits is.waited) (awake waits is.waited is.waits_so) is.shared (ap (is_cyclic ask.want p) (sym cell_here.runner) ∙ sym cyc ∙ e) b g (held row'.seq.locker)
+          (subst (λ r. IsSettled (place row.seq.locker) who ask (registry_for x.kind r) (held row.seq.locker) v.parks b g (held row'.seq.locker)) is.rests.stands.exit.registry_is
+          (subst (λ (y : CellPlan). IsSettled (place row.seq.locker) who ask (registry_for y.kind v.exit.registry) (held row.seq.locker) v.parks b g (held row'.seq.locker)) cell_here.planned (settled e))))
 
-      did : (b ≡ begun.Cyclic → ⊥) → Begun_
-      did ne = elim all [
-        | inl d ↦ absurd (ne d.cyclic)
+      did : is_away b ≡ false → Begun_
+      did e = elim all [
+        | inl d ↦ absurd (let f : false ≡ true = sym e ∙ d.away in cc)
         | inr d ↦ d
       ]
 
       -- ---- the arms of the code
 
       does_nothing : (q : Phase) → b ≡ begun.Nothing q → of' ≡ record { waiting = None; innermost = of.innermost } → row'.run ≡ row.run → IsTook held place m v p t (taken.Nothing q) g v'
-      does_nothing q e o run = took_nothing (did (λ x. (let f : begun.Nothing q ≡ begun.Cyclic = sym e ∙ x in cc))) (few_now (ap is_turned_back e)) (told_met (ap is_turned_back e)) q e o run
+      does_nothing q e o run = took_nothing (did (ap is_away e)) (few_now (ap is_turned_back e)) (told_met (ap is_turned_back e)) q e o run
 
       does_read : (l : ReadTicket) (q : Phase) → b ≡ begun.Read l q → of' ≡ record { waiting = None; innermost = of.innermost } → row'.run ≡ row.run → IsTook held place m v p t (taken.Read l q) g v'
-      does_read l q e o run = took_read (did (λ x. (let f : begun.Read l q ≡ begun.Cyclic = sym e ∙ x in cc))) (few_now (ap is_turned_back e)) (told_met (ap is_turned_back e)) l q e o run
+      does_read l q e o run = took_read (did (ap is_away e)) (few_now (ap is_turned_back e)) (told_met (ap is_turned_back e)) l q e o run
 
       does_write : (l : WriteTicket) (q : Phase) → b ≡ begun.Write l q → of' ≡ record { waiting = None; innermost = of.innermost } → row'.run ≡ row.run → IsTook held place m v p t (taken.Write l q) g v'
-      does_write l q e o run = took_write (did (λ x. (let f : begun.Write l q ≡ begun.Cyclic = sym e ∙ x in cc))) (few_now (ap is_turned_back e)) (told_met (ap is_turned_back e)) l q e o run
+      does_write l q e o run = took_write (did (ap is_away e)) (few_now (ap is_turned_back e)) (told_met (ap is_turned_back e)) l q e o run
 
       does_wait : (way : How) → b ≡ begun.Wait way → of' ≡ record { waiting = Some (record { cell = t.cell; want = t.want }); innermost = of.innermost } → row'.run ≡ row.run → IsTook held place m v p t (taken.Wait way) g v'
-      does_wait way e o run = took_wait (did (λ x. (let f : begun.Wait way ≡ begun.Cyclic = sym e ∙ x in cc))) (few_now (ap is_turned_back e)) (told_met (ap is_turned_back e)) way e o run
+      does_wait way e o run = took_wait (did (ap is_away e)) (few_now (ap is_turned_back e)) (told_met (ap is_turned_back e)) way e o run
+
+      -- what is turned away
+      turned : is_away b ≡ true → Turned
+      turned e = elim all [
+        | inl d ↦ d
+        | inr d ↦ absurd (stayed b refl e d)
+      ]
+        where
+          stayed : (z : Begun) → b ≡ z → is_away z ≡ true → Begun_ → ⊥
+          stayed begun.Missed f e d = told_as d begun.Missed f
+          stayed begun.Cyclic f e d = told_as d begun.Cyclic f
+          stayed (begun.Wait way) f e d = absurd (cc)
+          stayed (begun.Nothing q) f e d = absurd (cc)
+          stayed (begun.Read l q) f e d = absurd (cc)
+          stayed (begun.Write l q) f e d = absurd (cc)
+          stayed (begun.Run s) f e d = absurd (cc)
+          stayed (begun.Final s) f e d = absurd (cc)
 
       does_cyclic : b ≡ begun.Cyclic → of' ≡ of → row'.run ≡ row.run → IsTook held place m v p t taken.Cyclic g v'
-      does_cyclic e o run = elim all [
-        | inl d ↦ took_cyclic d o run
-        | inr d ↦ absurd (told_as d begun.Cyclic e)
-      ]
+      does_cyclic e o run =
+          let d = turned (ap is_away e) in
+          record {
+            stands = stays_away begun.Cyclic e refl refl d o run;
+            told = tt;
+            cyclic = cyclic_as begun.Cyclic e;
+            met = subst (λ z. IsMet p t taken.Cyclic z m) (sym d.given) (met_turned m p t (sym (cyclic_as begun.Cyclic e)));
+          }
 
-      does_missed : b ≡ begun.Missed → IsTook held place m v p t taken.Cyclic g v'
-      does_missed e = absurd (told_as (did (λ x. (let f : begun.Missed ≡ begun.Cyclic = sym e ∙ x in cc))) begun.Missed e)
+      does_missed : b ≡ begun.Missed → of' ≡ of → row'.run ≡ row.run → IsTook held place m v p t taken.Missed g v'
+      does_missed e o run = record { stands = stays_away begun.Missed e refl refl (turned (ap is_away e)) o run; told = tt; cyclic = cyclic_as begun.Missed e; met = told_met (ap is_turned_back e) taken.Missed (ap taken_of e) }
 
       -- no section ran where one is opened
       none_ran : (d : Begun_) → wrote (declines ask reg (held row.seq.locker).phase) b ≡ true → row.run ≡ None
       none_ran d e = let z = was_none d e in cell_here.runs ∙ ap (open_run x t.cell y.phase) (none_runs t.cell m.sections (omega (arith, z)))
 
       run_began : (s : SeqSection) → b ≡ begun.Run s → Begun_
-      run_began s e = did (λ x. (let f : begun.Run s ≡ begun.Cyclic = sym e ∙ x in cc))
+      run_began s e = did (ap is_away e)
 
       final_began : (s : SeqSection) → b ≡ begun.Final s → Begun_
-      final_began s e = did (λ x. (let f : begun.Final s ≡ begun.Cyclic = sym e ∙ x in cc))
+      final_began s e = did (ap is_away e)
 
       none_before_run : (s : SeqSection) → b ≡ begun.Run s → row.run ≡ None
       none_before_run s e = none_ran (run_began s e) (ap (wrote _) e)
@@ -260,12 +287,11 @@ module _ {L : Type 0} (held : L → Holders) (place : L → LockerKind) where
       does_run s e o run =
           let d = run_began s e in
           let tells = told_as d (begun.Run s) e in
-          let asked : seq_asks_run (ask_of row.plan t.want) (held row.seq.locker).phase ≡ true = tells.1 in
-          let call : is_turn t.want ≡ false = run_calls row.plan t.want (held row.seq.locker).phase asked in
+          let call : is_turn t.want ≡ false = run_calls x t.want ask asked_here (held row.seq.locker).phase tells.1 in
           let here = cell_here in
           took_run d (few_now (ap is_turned_back e)) (told_met (ap is_turned_back e)) s (ap reads_begun e) (ap writes_begun e) (phase_as d (begun.Run s) e) (rows_as d (begun.Run s) e) (exit_run e call)
           (running ∙ ap (λ x. running_after x row.seq.running) e ∙ ap (λ (z : SeqSection). Some z.who.party) tells.0 ∙ (rw call refl))
-          (tells.0 ∙ (λ i. section_by who (ask_of (here.planned i) t.want).want (stays_asked (registry_for (here.planned i).kind (is.rests.stands.exit.registry_is i)) (here.locked.phase_is i)) write_ticket) ∙ ap (λ q. section_by who (ask_of x t.want).want q write_ticket) (stays_same x t.want m.registry y.phase call) ∙ ap (λ w. section_by who w (stays_in x t.want m.registry.is_open y.phase) write_ticket) (asked_as row.plan t.want _ tells.1)) (cyclic_as (begun.Run s) e) (told_met (ap is_turned_back e) taken.Runs (ap taken_of e)) o run
+          (tells.0 ∙ (λ i. section_by who ask.want (stays_asked (registry_for (here.planned i).kind (is.rests.stands.exit.registry_is i)) (here.locked.phase_is i)) write_ticket) ∙ ap (λ q. section_by who ask.want q write_ticket) (stays_same x t.want m.registry y.phase call) ∙ ap (λ w. section_by who w (stays_in x t.want m.registry.is_open y.phase) write_ticket) (asked_as x t.want ask asked_here _ tells.1)) (cyclic_as (begun.Run s) e) (told_met (ap is_turned_back e) taken.Runs (ap taken_of e)) o run
         where
           exit_run : b ≡ begun.Run s → is_turn t.want ≡ false → IsExit (length v.cells.items) (record m { registry = registry_asked t.cell t.want m }) v'.exit
           exit_run e call = by t.want refl call
@@ -284,12 +310,15 @@ module _ {L : Type 0} (held : L → Holders) (place : L → LockerKind) where
       does_final s e o run =
           let d = final_began s e in
           let tells = told_as d (begun.Final s) e in
-          let turn : t.want ≡ Turns = final_turns t.want tells.1 in
+          let turn : t.want ≡ Turns = final_turns x t.want ask asked_here tells.1 in
           let here = cell_here in
           took_run d (few_now (ap is_turned_back e)) (told_met (ap is_turned_back e)) s (ap reads_begun e) (ap writes_begun e) (phase_as d (begun.Final s) e) (rows_as d (begun.Final s) e)
           (subst (λ w. IsExit (length v.cells.items) (record m { registry = registry_asked t.cell w m }) v'.exit) (sym turn) (exit_still (ap is_run e)))
           (running ∙ ap (λ x. running_after x row.seq.running) e ∙ here.runner ∙ ap runner_of (none_runs t.cell m.sections (let z = was_none d (ap (wrote _) e) in omega (arith, z))) ∙ sym (ap (λ w. if is_turn w then None else Some p) turn))
-          (tells.0 ∙ (λ i. section_by who (ask_of (here.planned i) t.want).want (here.locked.phase_is i) write_ticket) ∙ ap (λ w. section_by who (ask_of x t.want).want (stays_in x w m.registry.is_open y.phase) write_ticket) (sym turn) ∙ ap (λ w. section_by who w (stays_in x t.want m.registry.is_open y.phase) write_ticket) (subst (λ w. want_of w ≡ run_as w) (sym turn) refl)) (cyclic_as (begun.Final s) e) (told_met (ap is_turned_back e) taken.Runs (ap taken_of e)) o run
+          (tells.0 ∙ (λ i. section_by who ask.want (here.locked.phase_is i) write_ticket) ∙ ap (λ w. section_by who w (phase_of y.phase) write_ticket) (final_as turn) ∙ ap (λ w. section_by who (run_as x.kind w) (stays_in x w m.registry.is_open y.phase) write_ticket) (sym turn)) (cyclic_as (begun.Final s) e) (told_met (ap is_turned_back e) taken.Runs (ap taken_of e)) o run
+        where
+          final_as : t.want ≡ Turns → ask.want ≡ want.Finalize
+          final_as turn = let sought : Some want.Finalize ≡ Some ask.want = ap (seeks x.kind) (sym turn) ∙ asked_here.sought in cc
 
       -- no section ran where one is opened
       pub none_before : opens_section b ≡ true → row.run ≡ None
@@ -311,7 +340,7 @@ module _ {L : Type 0} (held : L → Holders) (place : L → LockerKind) where
         where
           by : (z : Begun) → b ≡ z → of' ≡ party_after t z of → row'.run ≡ run_after p t of z row.run → IsTook held place m v p t (taken_of z) g v'
           by (begun.Wait way) e o run = does_wait way e o run
-          by begun.Missed e o run = does_missed e
+          by begun.Missed e o run = does_missed e o run
           by begun.Cyclic e o run = does_cyclic e o run
           by (begun.Nothing q) e o run = does_nothing q e o run
           by (begun.Read l q) e o run = does_read l q e o run

@@ -1,57 +1,101 @@
 -- What is asked of a cell is what the rules ask for it, and so is what a call that is declined leaves.
-use Rattle.std.proofs.Common.{◌≡◌, ◌≢◌, ℕ, [], ◌∷◌, refl, ap, Bool, true, false, not, ◌&&◌, None, Some, length-set}
+use Rattle.std.proofs.Common.{◌≡◌, ◌∙◌, ℕ, [], ◌∷◌, refl, sym, ap, Bool, true, false, not, ◌&&◌, None, Some, length-set}
 use Rattle.std.specs.Prelude.{if◌then◌else◌, ◌==◌}
+use Rattle.std.specs.Option.{unwrap_or}
+use Rattle.std.specs.declared.option.Option.{Option}
+use Rattle.phase_bits.specs.Flags.{has, initialized}
 use Rattle.phase_bits.specs.Number.{number, phase_of}
 use Rattle.phase_bits.specs.declared.phase.Phase.{Phase}
 use Rattle.exit_registry.specs.Registry.{Registry, after_register, registered, cells_of}
+use Rattle.phase_seq.specs.declared.ask.Ask.{Ask}
+use Rattle.phase_seq.specs.declared.ask.Want.{Want as Sought}
+use Rattle.phase_seq.specs.declared.ask.Want.TheVariants as want
 use Rattle.phase_seq.specs.declared.section.Begun.{Begun}
-use Rattle.phase_seq.specs.Asks.{asks_run as seq_asks_run, finalizes}
+use Rattle.phase_seq.specs.declared.tolerance.Tolerance.{Tolerance}
+use Rattle.phase_seq.specs.Asks.{asks_run as seq_asks_run, initializes as run_sought, nature_of, nature_where, shall_init, wake_of}
 use Rattle.phase_seq.specs.Exactly.{is_run}
 use Rattle.phase_seq.specs.Phases.{flags_generate, flags_refused, flags_staying}
 use Rattle.phase_seq.specs.Registers.{after_asking, is_refused}
-use Rattle.schedule_rules.specs.declared.plan.Call.TheVariants as call
+use Rattle.lazy_cells.specs.declared.call.Call.{Call}
+use Rattle.lazy_cells.specs.declared.kind.Kind.{Kind}
+use Rattle.lazy_cells.specs.Calls.{asking}
+use Rattle.lazy_cells.specs.Kinds.{is_finalizable}
 use Rattle.schedule_rules.specs.declared.plan.CellPlan.{CellPlan}
-use Rattle.schedule_rules.specs.declared.plan.Kind.{Kind}
 use Rattle.schedule_rules.specs.declared.step.Want.{Want}
 use Rattle.schedule_rules.specs.declared.step.Want.TheVariants.{Calls, Turns}
-use Rattle.schedule_rules.specs.Kinds.{is_finalizable, tolerance_of}
+use Rattle.schedule_rules.specs.Forms.{form_of}
+use Rattle.schedule_rules.specs.Kinds.{tolerance_of}
 use Rattle.schedule_rules.specs.Phases.{NoRun, phase_reached, runs_generator, tries_registration}
-use Rattle.schedule_rules.specs.Calls.{asks}
-use Rattle.schedule_rules.specs.Changes.{Content, Asked, effect, is_declined}
+use Rattle.schedule_rules.specs.Calls.{asks, initializes, is_fast, lock_asked, lock_wanted, run_asked, seeks, seeks_run, wakes_as, woken_as}
+use Rattle.schedule_rules.specs.Changes.{Content, Asked, content_asked, effect, is_declined}
 use Rattle.schedule_rules.specs.Sections.{is_turn}
 use Rattle.phase_moves.specs.Calls.{registry_for, registry_begun}
 use Rattle.phase_moves.specs.Standing.{changes_asked}
-use Rattle.phase_moves.specs.Stands.{run_as, stays_in, want_of}
-use Rattle.phase_moves.specs.Tries.{ask_of}
+use Rattle.phase_moves.specs.Stands.{form_as, run_as, stays_in}
+use Rattle.phase_moves.specs.Tries.{ask_of, is_quick}
 use Rattle.phase_moves.proofs.Attempts.{declines, stays_asked, phase_told}
 
--- a run is asked where the rules ask it
-pub asks_same : (x : CellPlan) (w : Want) (p : Phase) → w ≢ Calls call.Phase → seq_asks_run (ask_of x w) p ≡ asks (tolerance_of x) w (number p)
-asks_same x (Calls call.Phase) p ne = absurd (ne refl)
-asks_same x (Calls call.Read) p ne = refl
-asks_same x (Calls call.Write) p ne = refl
-asks_same x (Calls call.TryRead) p ne = refl
-asks_same x Turns p ne = refl
+-- what is asked is what is sought, of a cell that puts up with this
+pub record IsAsked (x : CellPlan) (w : Want) (ask : Ask) : Type 0 where
+  pub sought : seeks x.kind w ≡ Some ask.want
+  pub fast : ask.fast ≡ is_quick x w
+  pub tol : ask.tol ≡ tolerance_of x
 
--- only a call asks a run, and only a turn the finalizer
-pub run_calls : (x : CellPlan) (w : Want) (p : Phase) → seq_asks_run (ask_of x w) p ≡ true → is_turn w ≡ false
-run_calls x (Calls k) p e = refl
-run_calls x Turns p e = absurd (cc)
+pub is_asked : (x : CellPlan) (w : Want) (ask : Ask) → ask_of x w ≡ Some ask → IsAsked x w ask
+is_asked x w ask e = by (seeks x.kind w) refl e
+  where
+    by : (s : Option Sought) → seeks x.kind w ≡ s → asking s (is_quick x w) (tolerance_of x) ≡ Some ask → IsAsked x w ask
+    by None f e = absurd (cc)
+    by (Some s) f e =
+        let is : record { want = s; fast = is_quick x w; tol = tolerance_of x } ≡ ask = cc in
+        record { sought = f ∙ ap (λ (z : Ask). Some z.want) is; fast = sym (ap (λ (z : Ask). z.fast) is); tol = sym (ap (λ (z : Ask). z.tol) is) }
 
-pub final_turns : (w : Want) → finalizes (want_of w) ≡ true → w ≡ Turns
-final_turns (Calls call.Phase) e = absurd (cc)
-final_turns (Calls call.Read) e = absurd (cc)
-final_turns (Calls call.Write) e = absurd (cc)
-final_turns (Calls call.TryRead) e = absurd (cc)
-final_turns Turns e = refl
+-- nothing is sought by what asks nothing
+pub none_sought : (x : CellPlan) (w : Want) → ask_of x w ≡ None → seeks x.kind w ≡ None
+none_sought x w e = by (seeks x.kind w) e
+  where
+    by : (s : Option Sought) → asking s (is_quick x w) (tolerance_of x) ≡ None → s ≡ None
+    by None e = refl
+    by (Some s) e = absurd (cc)
 
--- what asks for a run or the finalizer has its section run as it seeks
-pub asked_as : (x : CellPlan) (w : Want) (p : Phase) → seq_asks_run (ask_of x w) p ≡ true → want_of w ≡ run_as w
-asked_as x (Calls call.Phase) p e = refl
-asked_as x (Calls call.Read) p e = refl
-asked_as x (Calls call.Write) p e = refl
-asked_as x (Calls call.TryRead) p e = absurd (cc)
-asked_as x Turns p e = refl
+module _ (x : CellPlan) (w : Want) (ask : Ask) (is : IsAsked x w ask) where
+  -- a run is asked where the rules ask it
+  pub asks_same : (p : Phase) → seq_asks_run ask p ≡ asks x.kind (tolerance_of x) w (number p)
+  asks_same p = ap (λ t. run_sought ask.want && shall_init t p) is.tol ∙ sym (ap (λ s. run_asked (asking s (is_fast w) (tolerance_of x)) (number p)) is.sought)
+
+  -- the lock that is wanted, and as what it is woken
+  pub wanted_same : (q : ℕ) → nature_of ask (phase_of q) ≡ lock_wanted x.kind (tolerance_of x) w q
+  wanted_same q = ap (λ t. nature_where ask.want (shall_init t (phase_of q)) (has q initialized)) is.tol ∙ sym (ap (λ s. lock_asked (asking s (is_fast w) (tolerance_of x)) q) is.sought)
+
+  pub wakes_same : wake_of ask.want ≡ wakes_as x.kind w
+  wakes_same = sym (ap woken_as is.sought)
+
+  -- it asks for its own run
+  pub own_same : (b : Bool) → (run_sought ask.want && b) ≡ (initializes x.kind w && b)
+  own_same b = ap (λ s. seeks_run s && b) (sym is.sought)
+
+  -- only a call asks a run
+  pub run_calls : (p : Phase) → seq_asks_run ask p ≡ true → is_turn w ≡ false
+  run_calls p e = by w is.sought
+    where
+      by : (v : Want) → seeks x.kind v ≡ Some ask.want → is_turn v ≡ false
+      by (Calls k) f = refl
+      by Turns f = absurd (let g : want.Finalize ≡ ask.want = cc in let h : false ≡ true = ap (λ s. run_sought s && shall_init ask.tol p) g ∙ e in cc)
+
+  -- what asks for a run has its section run as it seeks
+  pub asked_as : (p : Phase) → seq_asks_run ask p ≡ true → ask.want ≡ run_as x.kind w
+  asked_as p e = by w is.sought
+    where
+      runs : run_sought ask.want ≡ true
+      runs = first (run_sought ask.want) (shall_init ask.tol p) e
+        where
+          first : (a b : Bool) → (a && b) ≡ true → a ≡ true
+          first true b e = refl
+          first false b e = absurd (cc)
+
+      by : (v : Want) → seeks x.kind v ≡ Some ask.want → ask.want ≡ run_as x.kind v
+      by (Calls k) f = sym (ap (λ s. if seeks_run s then unwrap_or s want.Write else form_as (form_of x.kind k)) f ∙ ap (λ b. if b then ask.want else form_as (form_of x.kind k)) runs)
+      by Turns f = cc
 
 -- the flags that stay beside those of a section
 pub stays_same : (x : CellPlan) (w : Want) (m : Registry) (p : ℕ) → is_turn w ≡ false → stays_asked (registry_for x.kind m) (phase_of p) ≡ stays_in x w m.is_open p
@@ -74,9 +118,10 @@ refuses_same x m p = by (is_finalizable x.kind)
     by true = refl
     by false = refl
 
-pub declines_same : (x : CellPlan) (w : Want) (m : Registry) (p : ℕ) → w ≢ Calls call.Phase → declines (ask_of x w) (registry_for x.kind m) (phase_of p) ≡ declined x w m.is_open p
-declines_same x (Calls k) m p ne = λ i. asks_same x (Calls k) (phase_of p) ne i && refuses_same x m p i
-declines_same x Turns m p ne = refl
+pub declines_same : (x : CellPlan) (w : Want) (ask : Ask) → IsAsked x w ask → (m : Registry) (p : ℕ) → declines ask (registry_for x.kind m) (phase_of p) ≡ declined x w m.is_open p
+declines_same x (Calls k) ask is m p =
+    ap (λ (t : Tolerance). seq_asks_run ask (phase_of p) && is_refused t.leak (registry_for x.kind m) (phase_of p)) is.tol ∙ (λ i. asks_same x (Calls k) ask is (phase_of p) i && refuses_same x m p i)
+declines_same x Turns ask is m p = let sought = is.sought in let g : ask.want ≡ want.Finalize = cc in ap (λ s. (run_sought s && shall_init ask.tol (phase_of p)) && is_refused ask.tol.leak (registry_for x.kind m) (phase_of p)) g
 
 -- what it leaves
 pub asked_left : (x : CellPlan) (w : Want) (o : Bool) (y : Content) → effect x (changes_asked x w o y) y ≡ record { phase = if declined x w o y.phase then flags_refused else y.phase; value = y.value }
@@ -86,6 +131,14 @@ asked_left x (Calls k) o y = by (is_declined x.kind (tolerance_of x) k o y.phase
     by true e = ap (λ b. if b then record { phase = phase_reached x.kind o y.phase NoRun; value = y.value } else y) e
     by false e = refl
 asked_left x Turns o y = refl
+
+-- of a call, that is what it leaves as the rules say it
+pub call_left : (x : CellPlan) (k : Call) (o : Bool) (y : Content) → effect x (changes_asked x (Calls k) o y) y ≡ content_asked x.kind (tolerance_of x) o k y
+call_left x k o y = by (is_declined x.kind (tolerance_of x) k o y.phase) refl
+  where
+    by : (b : Bool) → is_declined x.kind (tolerance_of x) k o y.phase ≡ b → effect x (if b then Asked o k ∷ [] else []) y ≡ content_asked x.kind (tolerance_of x) o k y
+    by true e = refl
+    by false e = sym (ap (λ b. if b then record { phase = phase_reached x.kind o y.phase NoRun; value = y.value } else y) e)
 
 -- the phase that it tells
 pub told_same : (d : Bool) (p : ℕ) → phase_told d (phase_of p) ≡ phase_of (if d then flags_refused else p)

@@ -36,7 +36,7 @@ use Rattle.phase_seq.specs.Phases.{unregistered, refused, staying}
 use Rattle.phase_bits.specs.Flags.{has, initialized}
 use Rattle.phase_bits.specs.Number.{number}
 use Rattle.exit_registry.specs.Registry.{Registry}
-use Rattle.phase_seq.specs.Begins.{Begins, Resumes, TurnsBack, MakesAttempt, MakesAnother, TriesLock, is_cyclic, section_by, begun_by}
+use Rattle.phase_seq.specs.Begins.{Begins, Resumes, TurnsBack, MakesAttempt, MakesAnother, TriesLock, is_cyclic, section_by, begun_by, begun_tried}
 use Rattle.waiting_rows.specs.Given.{IsListed}
 use Rattle.waiting_rows.proofs.GivenOn.{listed_hand}
 use Rattle.phase_moves.specs.Calls.{Enters}
@@ -99,6 +99,17 @@ wrote d (begun.Write t q) = true
 wrote d (begun.Run o) = true
 wrote d (begun.Final o) = true
 
+-- it is turned away, and nothing changes: it is cyclic, or it is barred and does not wait
+abbrev pub is_away : Begun → Bool
+is_away (begun.Wait way) = false
+is_away begun.Missed = true
+is_away begun.Cyclic = true
+is_away (begun.Nothing q) = false
+is_away (begun.Read t q) = false
+is_away (begun.Write t q) = false
+is_away (begun.Run o) = false
+is_away (begun.Final o) = false
+
 -- what it tells
 abbrev pub Tells : Who → Ask → Option Registry → Phase → Begun → Type 0
 Tells who ask o p (begun.Wait way) = Unit {0}
@@ -110,7 +121,7 @@ Tells who ask o p (begun.Write t q) = q ≡ phase_told (declines ask o p) p
 Tells who ask o p (begun.Run s) = (s ≡ section_by who ask.want (stays_asked o p) write_ticket) × (asks_run ask p ≡ true)
 Tells who ask o p (begun.Final s) = (s ≡ section_by who ask.want p write_ticket) × (finalizes ask.want ≡ true)
 
--- what a call that was not turned back did
+-- what a call that was not turned away did
 pub record IsBegun (who : Who) (ask : Ask) (o : Option Registry) (h : Holders) (s : Parking) (b : Begun) (g : Given) (h' : Holders) (s' : Parking) : Type 0 where
   pub phase : h'.phase ≡ phase_left (declines ask o h.phase) b h.phase
   pub listed : IsListed who.cell (freed who.party s) g
@@ -120,7 +131,7 @@ pub record IsBegun (who : Who) (ask : Ask) (o : Option Registry) (h : Holders) (
 
 -- and one that was
 pub record IsTurned (h : Holders) (s : Parking) (b : Begun) (g : Given) (h' : Holders) (s' : Parking) : Type 0 where
-  pub cyclic : b ≡ begun.Cyclic
+  pub away : is_away b ≡ true
   pub given : g ≡ given.Nobody
   pub held : h' ≡ h
   pub rows : s' ≡ s
@@ -138,7 +149,7 @@ TellsFirst who ask p (begun.Write t q) = (q ≡ p) × (asks_run ask p ≡ false)
 TellsFirst who ask p (begun.Run s) = (s ≡ section_by who ask.want unregistered write_ticket) × (asks_run ask p ≡ true)
 TellsFirst who ask p (begun.Final s) = (s ≡ section_by who ask.want p write_ticket) × (finalizes ask.want ≡ true)
 
--- what a call that was not turned back entered
+-- what a call that was not turned away entered
 pub record IsEntered (who : Who) (ask : Ask) (h : Holders) (s : Parking) (b : Begun) (g : Given) (h' : Holders) (s' : Parking) : Type 0 where
   pub phase : h'.phase ≡ h.phase
   pub listed : IsListed who.cell (freed who.party s) g
@@ -174,7 +185,7 @@ pub record GotTo (who : Who) (ask : Ask) (p : Phase) (n : LockNature) (s : Parki
   pub told : TellsFirst who ask p b
 
 -- no run is asked by a call that wants no lock to write
-run_writes : (w : Want) (due there : Bool) → (initializes w && due) ≡ true → nature_where w due there ≡ nature.Write
+pub run_writes : (w : Want) (due there : Bool) → (initializes w && due) ≡ true → nature_where w due there ≡ nature.Write
 run_writes want.Init true there e = refl
 run_writes want.Init false there e = absurd (cc)
 run_writes want.Read true there e = refl
@@ -201,16 +212,17 @@ got_to who ask p nature.Read s e = record { rows = refl; wrote = λ k. absurd (o
 got_to who ask p nature.None s e = record { rows = refl; wrote = λ k. absurd (omega (arith, k)); told = (refl, no_run ask p nature.None e (λ q. cc)) }
 got_to who ask p nature.Write s e = got_write who ask p s (asks_run ask p) (finalizes ask.want) refl refl
 
+-- where the lock to write is not barred nothing is locked
+pub unlocked : (h : Holders) (n : LockNature) → n ≡ nature.Write → bars h n ≡ false → h.locked ≡ false
+unlocked h n e b = first h.locked (let f : bars_write h ≡ false = ap (bars h) (sym e) ∙ b in f)
+  where
+    first : (x : Bool) → (x || not (h.readers == 0)) ≡ false → x ≡ false
+    first true e = absurd (cc)
+    first false e = refl
+
 judged_to : (k : LockerKind) (fresh : Bool) (who : Who) (wake n : LockNature) (h : Holders) (s : Parking) (a : Attempt) (h' : Holders) (s' : Parking) (ask : Ask) → n ≡ nature_of ask h.phase → Judged k fresh who wake n h s a h' s' → JudgedTo who ask h s (begun_by who ask h.phase a) h' s'
 judged_to k fresh who wake n h s a h' s' ask ruled judged = by (bars h n) refl judged
   where
-    unlocked : (m : LockNature) → m ≡ nature.Write → bars h m ≡ false → h.locked ≡ false
-    unlocked m e b = first h.locked (let f : bars_write h ≡ false = ap (bars h) (sym e) ∙ b in f)
-      where
-        first : (x : Bool) → (x || not (h.readers == 0)) ≡ false → x ≡ false
-        first true e = absurd (cc)
-        first false e = refl
-
     by : (b : Bool) → bars h n ≡ b → MatchBool b (Waits k fresh who wake n h s a h' s') (Gets who n h s a h' s') → JudgedTo who ask h s (begun_by who ask h.phase a) h' s'
     by true e j =
         subst (λ x. JudgedTo who ask h s (begun_by who ask h.phase x) h' s') (sym j.answer)
@@ -218,7 +230,7 @@ judged_to k fresh who wake n h s a h' s' ask ruled judged = by (bars h n) refl j
     by false e j =
         let t = got_to who ask h.phase n s ruled in
         subst (λ x. JudgedTo who ask h s (begun_by who ask h.phase x) h' s') (sym j.answer)
-        (record { phase = ap (λ (x : Holders). x.phase) j.held ∙ admitted_phase n h; rows = j.rows ∙ t.rows; alone = λ z. unlocked n (t.wrote z) e; told = t.told })
+        (record { phase = ap (λ (x : Holders). x.phase) j.held ∙ admitted_phase n h; rows = j.rows ∙ t.rows; alone = λ z. unlocked h n (t.wrote z) e; told = t.told })
 
 -- ---- the calls
 
@@ -229,13 +241,37 @@ free_same p s e = ap (λ (r : Row). left r.waiting r.cell p s) e ∙ (λ i. reco
     same : set s.rows p free_row ≡ s.rows
     same = ap (λ r. set s.rows p r) (sym e) ∙ set-get_or s.rows p free_row
 
-module _ (k : LockerKind) (who : Who) (ask : Ask) (running : Option ℕ) (h : Holders) (s : Parking) (r : Begun × Given) (h' : Holders) (s' : Parking) (slow : ask.fast ≡ false) where
+module _ (k : LockerKind) (who : Who) (ask : Ask) (running : Option ℕ) (h : Holders) (s : Parking) (r : Begun × Given) (h' : Holders) (s' : Parking) where
   turned : TurnsBack h s r h' s' → IsTurned h s r.0 r.1 h' s'
-  turned t = record { cyclic = ap (λ (x : Begun × Given). x.0) t.answer; given = ap (λ (x : Begun × Given). x.1) t.answer; held = t.held; rows = t.rows }
+  turned t = record { away = ap (λ (x : Begun × Given). is_away x.0) t.answer; given = ap (λ (x : Begun × Given). x.1) t.answer; held = t.held; rows = t.rows }
 
   begins : row_of s who.party ≡ free_row → Begins k who ask running h s r h' s' → IsTurned h s r.0 r.1 h' s' ⊎ IsEntered who ask h s r.0 r.1 h' s'
-  begins free d = by (is_cyclic ask.want who.party running) ask.fast slow d
+  begins free d = by (is_cyclic ask.want who.party running) ask.fast d
     where
+      -- a call that does not wait
+      tried : TriesLock who ask h s r h' s' → IsTurned h s r.0 r.1 h' s' ⊎ IsEntered who ask h s r.0 r.1 h' s'
+      tried a = to (bars h a.tries.nature) refl
+        where
+          to : (c : Bool) → bars h a.tries.nature ≡ c → IsTurned h s r.0 r.1 h' s' ⊎ IsEntered who ask h s r.0 r.1 h' s'
+          to true e =
+              inl (record {
+                away = ap (λ (x : Begun × Given). is_away x.0) a.answer ∙ ap (λ x. is_away (begun_tried who ask h.phase x)) (a.tries.answer ∙ ap (λ c. if c then None else Some (got a.tries.nature h.phase)) e);
+                given = ap (λ (x : Begun × Given). x.1) a.answer;
+                held = a.tries.held ∙ ap (λ c. if c then h else admitted h a.tries.nature) e;
+                rows = a.rows;
+              })
+          to false e =
+              let t = got_to who ask h.phase a.tries.nature s a.tries.allowed in
+              let is : r ≡ (begun_by who ask h.phase (attempt.Got (got a.tries.nature h.phase)), given.Nobody) = a.answer ∙ ap (λ x. (begun_tried who ask h.phase x, given.Nobody)) (a.tries.answer ∙ ap (λ c. if c then None else Some (got a.tries.nature h.phase)) e) in
+              inr (subst (λ (x : Begun × Given). IsEntered who ask h s x.0 x.1 h' s') (sym is)
+              (record {
+                phase = ap (λ (x : Holders). x.phase) (a.tries.held ∙ ap (λ c. if c then h else admitted h a.tries.nature) e) ∙ admitted_phase a.tries.nature h;
+                listed = tt;
+                rows = a.rows ∙ t.rows ∙ ap (rows_begun (begun_by who ask h.phase (attempt.Got (got a.tries.nature h.phase))) who) (sym (free_same who.party s free));
+                alone = λ z o. (let l = unlocked h a.tries.nature (t.wrote z) e in let m = o.locked in cc);
+                told = t.told;
+              }))
+
       made : MakesAttempt k who ask h s r h' s' → IsEntered who ask h s r.0 r.1 h' s'
       made a =
           let j = judged_to k true who (wake_of ask.want) a.locks.nature h s a.attempt h' s' ask a.locks.allowed a.locks.judged in
@@ -249,10 +285,10 @@ module _ (k : LockerKind) (who : Who) (ask : Ask) (running : Option ℕ) (h : Ho
             told = j.told;
           }))
 
-      by : (c f : Bool) → f ≡ false → MatchBool c (TurnsBack h s r h' s') (MatchBool f (TriesLock who ask h s r h' s') (MakesAttempt k who ask h s r h' s')) → IsTurned h s r.0 r.1 h' s' ⊎ IsEntered who ask h s r.0 r.1 h' s'
-      by true f e d = inl (turned d)
-      by false true e d = absurd (cc)
-      by false false e d = inr (made d)
+      by : (c f : Bool) → MatchBool c (TurnsBack h s r h' s') (MatchBool f (TriesLock who ask h s r h' s') (MakesAttempt k who ask h s r h' s')) → IsTurned h s r.0 r.1 h' s' ⊎ IsEntered who ask h s r.0 r.1 h' s'
+      by true f d = inl (turned d)
+      by false true d = tried d
+      by false false d = inr (made d)
 
   resumes : (row_of s who.party).cell ≡ who.cell → who.party < length s.rows → Fits k h s who.cell → Resumes k who ask running h s r h' s' → IsTurned h s r.0 r.1 h' s' ⊎ IsEntered who ask h s r.0 r.1 h' s'
   resumes here inside fits d = by (is_cyclic ask.want who.party running) d

@@ -1,7 +1,7 @@
 -- A locker bars as the rules do, keeps what they keep, and a barred call waits in a way that is due.
 use Rattle.std.proofs.Common.{◌≡◌, ◌==◌, ◌<◌, ◌≤◌, ◌+◌, ◌∙◌, ℕ, List, [], ◌∷◌, ap, sym, refl, arith, Bool, true, false, None, Some, not, ◌||◌, ◌&&◌, inl, inr}
 use Rattle.std.proofs.lemmas.Bool.{cases_lt}
-use Rattle.std.specs.Prelude.{nat_lt}
+use Rattle.std.specs.Prelude.{nat_lt, if◌then◌else◌}
 use Rattle.std.specs.declared.option.Option.{Option}
 use Rattle.phase_bits.specs.declared.holders.Holders.{Holders}
 use Rattle.phase_bits.specs.Records.{most_readers}
@@ -15,17 +15,23 @@ use Rattle.phase_locker.specs.Rows.{Rows as Parking, claims, drains, drains_at, 
 use Rattle.phase_locker.specs.Fits.{Fits, IsWriteOpen, is_park, open_reads}
 use Rattle.phase_locker.specs.Attempts.{MayWait, keeps as row_keeps}
 use Rattle.phase_locker.proofs.Leaving.{write_has_no_reader}
+use Rattle.lazy_cells.specs.declared.kind.Kind.{Kind}
 use Rattle.schedule_rules.specs.declared.plan.Place.{Place}
 use Rattle.schedule_rules.specs.declared.plan.Place.TheVariants as place
 use Rattle.schedule_rules.specs.declared.step.Want.{Want}
-use Rattle.schedule_rules.specs.Answers.{drains_by, way_at, way_parked}
-use Rattle.schedule_rules.specs.Calls.{wakes_as, way_of_nature}
+use Rattle.schedule_rules.specs.declared.line.Answer.TheVariants as answer
+use Rattle.schedule_rules.specs.declared.plan.CellPlan.{CellPlan}
+use Rattle.schedule_rules.specs.Answers.{answer_barred, answer_barred_at, drains_by, way_parked}
+use Rattle.schedule_rules.specs.Calls.{is_fast, wakes_as, way_of_nature}
+use Rattle.schedule_rules.specs.Kinds.{is_owned}
 use Rattle.schedule_rules.specs.History.{count}
 use Rattle.schedule_rules.specs.Holds.{Holding, is_barred, is_barred_by_readers, keeps, keeps_way}
 use Rattle.schedule_rules.specs.Waits.{Wait, drains_on, is_drain, shares_read, shares_write, wait_of}
 use Rattle.waiting_rows.specs.Shown.{IsSingle, Shows, wait_row, waiting_of}
 use Rattle.waiting_rows.proofs.RowCounts.{claims_shown, count_rows, shares_shown}
+use Rattle.phase_moves.specs.Meets.{answer_missed}
 use Rattle.phase_moves.specs.Stands.{kind_at}
+use Rattle.phase_moves.specs.Tries.{is_quick}
 
 -- ---- tests of numbers
 
@@ -185,13 +191,15 @@ row_kept p n ws s h shows = rw (shows.row p) (call_kept (wait_of p ws) n h)
 
 -- ---- ways
 
-spin_way : (p : Place) (way : How) → is_park (kind_at p) ≡ false → how.Spin ≡ way_at p way
-spin_way place.Park way e = absurd (cc)
-spin_way place.Spin way e = refl
+spin_way : (p : Place) (way : How) → is_owned p ≡ false → is_park (kind_at p) ≡ false → answer.Waiting how.Spin ≡ answer_barred_at p way
+spin_way place.Park way f e = absurd (cc)
+spin_way place.Spin way f e = refl
+spin_way (place.Own q) way f e = absurd (cc)
 
-park_way : (p : Place) (way : How) → is_park (kind_at p) ≡ true → way ≡ way_at p way
+park_way : (p : Place) (way : How) → is_park (kind_at p) ≡ true → answer.Waiting way ≡ answer_barred_at p way
 park_way place.Park way e = refl
 park_way place.Spin way e = absurd (cc)
+park_way (place.Own q) way e = absurd (cc)
 
 -- readers alone bar a writer of an unlocked record
 alone : (w d l : Bool) → (w || d) ≡ false → (w || (d || l)) ≡ true → (l && (not w && not d)) ≡ true
@@ -206,8 +214,30 @@ by_readers nature.Read o e f b = absurd (cc)
 by_readers nature.Write o e f b = alone o.written o.drained (nat_lt 0 o.readers) f b
 
 -- the way that the locker chose is one that is due
-pub way_due : (p : Place) (w : Want) (n : LockNature) (o : Holding) (fresh : Bool) (h : Holders) → h.locked ≡ (o.written || o.drained) → is_barred n o ≡ true → (way : How) → MayWait (kind_at p) fresh (wakes_as w) n h way → way ≡ way_at p (way_parked w (drains_by n o (is_drain way)))
-way_due p w n o fresh h locks is how.Spin may = spin_way p (way_parked w false) may
-way_due p w n o fresh h locks is how.ParkedRead may = ap way_of_nature (sym may.1) ∙ park_way p (way_of_nature (wakes_as w)) may.0
-way_due p w n o fresh h locks is how.ParkedWrite may = ap way_of_nature (sym may.1) ∙ park_way p (way_of_nature (wakes_as w)) may.0
-way_due p w n o fresh h locks is how.Drain may = park_way p how.Drain may.0 ∙ ap (λ b. way_at p (way_parked w b)) (sym (by_readers n o may.2 (sym locks ∙ may.3) is))
+way_due : (p : Place) (q : Kind) (w : Want) (n : LockNature) (o : Holding) (fresh : Bool) (h : Holders) → is_owned p ≡ false → h.locked ≡ (o.written || o.drained) → is_barred n o ≡ true → (way : How) → MayWait (kind_at p) fresh (wakes_as q w) n h way → answer.Waiting way ≡ answer_barred_at p (way_parked q w (drains_by n o (is_drain way)))
+way_due p q w n o fresh h slow locks is how.Spin may = spin_way p (way_parked q w false) slow may
+way_due p q w n o fresh h slow locks is how.ParkedRead may = park_way p how.ParkedRead may.0 ∙ ap (λ x. answer_barred_at p (way_of_nature x)) (sym may.1)
+way_due p q w n o fresh h slow locks is how.ParkedWrite may = park_way p how.ParkedWrite may.0 ∙ ap (λ x. answer_barred_at p (way_of_nature x)) (sym may.1)
+way_due p q w n o fresh h slow locks is how.Drain may = park_way p how.Drain may.0 ∙ ap (λ b. answer_barred_at p (way_parked q w b)) (sym (by_readers n o may.2 (sym locks ∙ may.3) is))
+
+-- so is the answer of what waits
+pub waits_due : (x : CellPlan) (w : Want) (n : LockNature) (o : Holding) (fresh : Bool) (h : Holders) → is_quick x w ≡ false → h.locked ≡ (o.written || o.drained) → is_barred n o ≡ true → (way : How) → MayWait (kind_at x.place) fresh (wakes_as x.kind w) n h way
+    → answer.Waiting way ≡ answer_barred (is_fast w) x.place (way_parked x.kind w (drains_by n o (is_drain way)))
+waits_due x w n o fresh h slow locks is way may = way_due x.place x.kind w n o fresh h (neither (is_fast w) (is_owned x.place) slow).1 locks is way may ∙ sym (ap (λ f. answer_barred f x.place (way_parked x.kind w (drains_by n o (is_drain way)))) (neither (is_fast w) (is_owned x.place) slow).0)
+  where
+    neither : (a b : Bool) → (a || b) ≡ false → (a ≡ false) × (b ≡ false)
+    neither true b e = absurd (cc)
+    neither false b e = (refl, e)
+
+-- and of what does not wait
+pub misses_due : (x : CellPlan) (w : Want) (way : How) → is_quick x w ≡ true → answer_missed w ≡ answer_barred (is_fast w) x.place way
+misses_due x w way quick = by (is_fast w) quick
+  where
+    owned : (p : Place) → is_owned p ≡ true → answer.Borrowed ≡ answer_barred_at p way
+    owned place.Park e = absurd (cc)
+    owned place.Spin e = absurd (cc)
+    owned (place.Own q) e = refl
+
+    by : (f : Bool) → (f || is_owned x.place) ≡ true → (if f then answer.Missed else answer.Borrowed) ≡ answer_barred f x.place way
+    by true e = refl
+    by false e = owned x.place e

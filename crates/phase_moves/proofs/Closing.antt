@@ -183,8 +183,8 @@ module _ {L : Type 0} (held : L → Holders) (place : L → LockerKind) where
       open_at r e = let some : 0 < count (runs_in c) can.m.sections = runs_counted c can.m.sections r e in here.locked.write_is (omega (arith, some))
 
       runs_for : (r : Run) → run_in c can.m.sections ≡ Some r → (w : Want) → r.section.want ≡ w → RunsFor held place w (section_at can.m c r) row.seq v.parks
-      runs_for r e (Calls k) w = record { party = here.runner ∙ ap runner_of e ∙ (rw w refl); asked = asked_run r.section.want (rw w refl); known = stays_known (cell_at can.m.plans c) r.section.want r.section.is_open (can.m.content c).phase here.known; locked = open_at r e }
-      runs_for r e Turns w = record { asked = asked_final r.section.want (rw w refl); locked = open_at r e }
+      runs_for r e (Calls k) w = record { party = here.runner ∙ ap runner_of e ∙ (rw w refl); asked = asked_run (cell_at can.m.plans c).kind r.section.want (rw w refl); known = stays_known (cell_at can.m.plans c) r.section.want r.section.is_open (can.m.content c).phase here.known; locked = open_at r e }
+      runs_for r e Turns w = record { asked = asked_final (cell_at can.m.plans c).kind r.section.want (rw w refl); locked = open_at r e }
 
       by : (q : Option Run) → run_in c can.m.sections ≡ q → IsOpenRun held place c v.parks row.seq o.run.want o.section
       by None e = absurd (let clash : Some o ≡ None = sym taken ∙ here.runs ∙ ap (open_run (cell_at can.m.plans c) c (can.m.content c).phase) e in cc)

@@ -1,7 +1,8 @@
 -- A run ends, and its call goes on.
 use Rattle.std.proofs.Common.{◌≡◌, ◌==◌, ◌<◌, ◌≤◌, ◌+◌, ◌∙◌, ℕ, [], ◌∷◌, length, set, get_or, ap, sym, subst, refl, arith, Bool, true, false, None, Some}
 use Rattle.std.specs.declared.option.Option.{Option}
-use Rattle.std.specs.Option.{is_some}
+use Rattle.std.specs.Option.{is_some, unwrap_or}
+use Rattle.std.specs.Prelude.{if◌then◌else◌}
 use Rattle.phase_bits.specs.declared.phase.Phase.{Phase}
 use Rattle.phase_bits.specs.declared.holders.Holders.{Holders}
 use Rattle.phase_bits.specs.Number.{phase_of, IsKnown}
@@ -10,7 +11,7 @@ use Rattle.phase_locker.specs.declared.ways.Given.{Given}
 use Rattle.phase_locker.specs.declared.ways.Given.TheVariants as given
 use Rattle.phase_locker.specs.declared.ways.LockerKind.{LockerKind}
 use Rattle.phase_locker.specs.Rows.{Rows as Parking, HasFree}
-use Rattle.phase_locker.specs.Fits.{open_reads}
+use Rattle.phase_locker.specs.Fits.{IsWriteOpen, open_reads}
 use Rattle.phase_locker.specs.Gifts.{Hands, Downgrades}
 use Rattle.phase_locker.specs.Left.{Left}
 use Rattle.phase_locker.specs.declared.tickets.ReadTicket.{ReadTicket}
@@ -25,7 +26,11 @@ use Rattle.phase_seq.specs.Phases.{reached}
 use Rattle.phase_seq.specs.Finishes.{Finishes, GoesOn}
 use Rattle.phase_seq.specs.Stands.{FinishedStands, IsRunning, reads_finished}
 use Rattle.schedule_rules.specs.declared.plan.CellPlan.{CellPlan}
-use Rattle.schedule_rules.specs.declared.plan.Call.TheVariants as call
+use Rattle.lazy_cells.specs.declared.kind.Kind.{Kind}
+use Rattle.schedule_rules.specs.declared.form.Form.{Form}
+use Rattle.schedule_rules.specs.declared.form.Form.TheVariants.{Told, Shown, Held}
+use Rattle.schedule_rules.specs.Forms.{form_of}
+use Rattle.schedule_rules.specs.Calls.{seeks, seeks_run}
 use Rattle.schedule_rules.specs.declared.step.Want.{Want}
 use Rattle.schedule_rules.specs.declared.step.Want.TheVariants.{Calls, Turns}
 use Rattle.schedule_rules.specs.Kinds.{cell_at}
@@ -42,7 +47,7 @@ use Rattle.phase_moves.specs.declared.rows.OpenRun.{OpenRun}
 use Rattle.phase_moves.specs.declared.rows.PartyRow.{PartyRow}
 use Rattle.phase_moves.specs.declared.rows.Rows.{Rows}
 use Rattle.phase_moves.specs.Standing.{Standing, run_in, reads_in, writes_in, runner_of, run_closed, guarded, writer_of}
-use Rattle.phase_moves.specs.Stands.{Seen, seen_at, IsCell, IsLocked, Stands, run_as, section_of, stays_in, target_of, want_of}
+use Rattle.phase_moves.specs.Stands.{Seen, seen_at, IsCell, IsLocked, Stands, form_as, run_as, section_of, stays_in, target_of, want_of}
 use Rattle.phase_moves.specs.Ends.{IsEnding, EndsAs, GoesAs}
 use Rattle.phase_moves.proofs.Known.{change_known, stays_known}
 use Rattle.phase_locker.proofs.Leaving.{write_has_no_reader}
@@ -58,14 +63,14 @@ use Rattle.phase_moves.proofs.Moved.{HasParties, exit_kept, moved}
 -- ---- what the end of a run answers
 
 abbrev pub EndedAs : SeqSection → Bool → Holders → Parking → Finished → Given → Holders → Parking → Type 0
-EndedAs o made h s (finished.Phase q) g h' s' = (made ≡ true) × (o.want ≡ want.Init)
+EndedAs o made h s (finished.Phase q) g h' s' = (made ≡ true) × (o.want ≡ want.Init) × (q ≡ reached o.stays true) × Hands o.who.cell (leave_write (reached o.stays true) h) s g h' s'
 EndedAs o made h s (finished.Read t q) g h' s' = (made ≡ true) × (o.want ≡ want.Read) × (q ≡ reached o.stays true) × Downgrades o.who.cell (reached o.stays true) h s g h' s'
 EndedAs o made h s (finished.Write t q) g h' s' = (made ≡ true) × (o.want ≡ want.Write) × (q ≡ reached o.stays true) × (h' ≡ h) × (s' ≡ s) × (g ≡ given.Nobody)
 EndedAs o made h s (finished.Failed q) g h' s' = (made ≡ false) × (q ≡ reached o.stays false) × Hands o.who.cell (leave_write (reached o.stays false) h) s g h' s'
 
 module _ (o : SeqSection) (h : Holders) (s : Parking) (r : Finished × Given) (h' : Holders) (s' : Parking) where
   goes : (w : SeqWant) → o.want ≡ w → GoesOn w o.who.cell (reached o.stays true) h s r h' s' → EndedAs o true h s r.0 r.1 h' s'
-  goes want.Init e k = subst (λ f. EndedAs o true h s f r.1 h' s') (sym k.finished) (refl, e)
+  goes want.Init e k = subst (λ f. EndedAs o true h s f r.1 h' s') (sym k.finished) (refl, e, refl, k.hands)
   goes want.Read e k = subst (λ f. EndedAs o true h s f r.1 h' s') (sym k.finished) (refl, e, refl, k.downgrades)
   goes want.Write e k = subst (λ (f : Finished × Given). EndedAs o true h s f.0 f.1 h' s') (sym k.finished) (refl, e, refl, k.held, k.rows, refl)
   goes want.ReadOnly e k = absurd k
@@ -94,26 +99,24 @@ reached_as x (Calls k) is_open y None true e m = absurd (cc)
 reached_as x (Calls k) is_open y None false e m = refl
 reached_as x Turns is_open y made b e m = absurd (cc)
 
-pub asked_run : (w : Want) → is_turn w ≡ false → initializes (run_as w) ≡ true
-asked_run (Calls call.Phase) e = refl
-asked_run (Calls call.Read) e = refl
-asked_run (Calls call.Write) e = refl
-asked_run (Calls call.TryRead) e = refl
-asked_run Turns e = absurd (cc)
+-- a section that is not a finalizer's runs as something that asks for a run
+seeks_init : (o : Option SeqWant) → seeks_run o ≡ true → initializes (unwrap_or o want.Write) ≡ true
+seeks_init None e = absurd (cc)
+seeks_init (Some w) e = e
 
-pub never_init : (w : Want) → want_of w ≡ want.Init → ⊥
-never_init (Calls call.Phase) e = cc
-never_init (Calls call.Read) e = cc
-never_init (Calls call.Write) e = cc
-never_init (Calls call.TryRead) e = cc
-never_init Turns e = cc
+form_init : (f : Form) → initializes (form_as f) ≡ true
+form_init (Told tests) = refl
+form_init Shown = refl
+form_init (Held true falls_back) = refl
+form_init (Held false falls_back) = refl
 
-never_runs_init : (w : Want) → run_as w ≡ want.Init → ⊥
-never_runs_init (Calls call.Phase) e = cc
-never_runs_init (Calls call.Read) e = cc
-never_runs_init (Calls call.Write) e = cc
-never_runs_init (Calls call.TryRead) e = cc
-never_runs_init Turns e = cc
+either_init : (b : Bool) (x y : SeqWant) → (b ≡ true → initializes x ≡ true) → initializes y ≡ true → initializes (if b then x else y) ≡ true
+either_init true x y f g = f refl
+either_init false x y f g = g
+
+pub asked_run : (q : Kind) (w : Want) → is_turn w ≡ false → initializes (run_as q w) ≡ true
+asked_run q (Calls k) e = either_init (seeks_run (seeks q (Calls k))) (want_of q (Calls k)) (form_as (form_of q k)) (seeks_init (seeks q (Calls k))) (form_init (form_of q k))
+asked_run q Turns e = absurd (cc)
 
 module _ {L : Type 0} (held : L → Holders) (place : L → LockerKind) (m : Standing) (v : Rows L) (p c : ℕ) (made : Option ℕ) (s : Section) (is : IsEnding held place m v p c made s) (row : CellRow L) (row_is : row ≡ get_or v.cells.items c row) where
   abbrev n : ℕ
@@ -135,7 +138,7 @@ module _ {L : Type 0} (held : L → Holders) (place : L → LockerKind) (m : Sta
         subst (λ (x : OpenRun). IsRunning x.section row.seq.running (held row.seq.locker) v.parks) (sym same)
         (record {
           party = here.runner ∙ ap runner_of (runs_here held place m v p c s is.inner row row_is) ∙ (let t = is.calls in rw t refl);
-          asked = asked_run s.want is.calls;
+          asked = asked_run (cell_at m.plans c).kind s.want is.calls;
           known = stays_known (cell_at m.plans c) s.want s.is_open (m.content c).phase here.known;
           locked = write_open held place m v p c s is.inner row row_is;
         })
@@ -206,24 +209,56 @@ module _ {L : Type 0} (held : L → Holders) (place : L → LockerKind) (m : Sta
     seen_gone : seen_at c (run_closed s made given.Nobody m) ≡ record { plan = cell_at m.plans c; content = made_as; reads = 0; writes = 0; run = None }
     seen_gone = seen_closed held place m v p c s is.inner row row_is (Ran s.is_open made ∷ []) given.Nobody
 
+    -- as what the section runs, by its own cell
+    runs_as : (w : SeqWant) → its.want ≡ w → run_as (cell_at m.plans s.cell).kind s.want ≡ w
+    runs_as w e = ap (λ d. run_as (cell_at m.plans d).kind s.want) is.inner.at ∙ e
+
+    -- the phase that is told
+    abbrev told_of : Option ℕ → Phase
+    told_of x = phase_of (content_of_run (cell_at m.plans s.cell).kind s.is_open x (m.content s.cell)).phase
+
+    -- its lock is given back
+    module _ (d : Bool) (d_is : b ≡ d) (hands : Hands c (leave_write (reached its.stays d) (held row.seq.locker)) v.parks r.1 (held row'.seq.locker) v'.parks) (unread : open_reads (held row'.seq.locker) v'.parks c ≡ 0) (closed : IsWriteOpen (held row'.seq.locker) v'.parks c → ⊥) where
+      back_stands : row'.value ≡ made_as.value → Stands held place n (run_closed s made r.1 m) v'
+      back_stands value =
+          moved held place c n n m (run_closed s made r.1 m) v v' row' ok inside cells
+          (subst (λ (z : Seen). IsCell held place z v'.parks c row') (sym (seen_closed held place m v p c s is.inner row row_is (Ran s.is_open made ∷ []) r.1))
+          (cell_now made_as 0 0 value known_made (locked_write (place row.seq.locker) (place row'.seq.locker) (held row.seq.locker) (held row'.seq.locker) v.parks v'.parks c made_as.phase (reached its.stays d) r.1 hands unread closed left_here.fits (phase_is d d_is) here.locked.limit (parked_few held place n m v ok c inside))))
+          (closed_moved held place m v p c s is.inner row row_is (Ran s.is_open made ∷ []) r.1 m.turns v' left_here guards (exit_kept (length v.cells.items) m m v.exit v'.exit exit refl refl refl ok.exit) (hands_writers c _ v.parks r.1 _ v'.parks hands) (listed_hand c _ v.parks r.1 hands.may) hands.rows)
+          (parties_now (run_closed s made r.1 m) refl (λ x. target_given s.cell r.1 m.waits x))
+
+      back_gives : MayGive s.cell (run_closed s made given.Nobody m) r.1
+      back_gives =
+          subst (λ z. MayGive z (run_closed s made given.Nobody m) r.1) (sym is.inner.at)
+          (gives_closed held place m v p c s is.inner row row_is (run_closed s made given.Nobody m) refl refl (ap (λ (z : Seen). z.reads) seen_gone) (ap (λ (z : Seen). z.writes) seen_gone) (reached its.stays d) r.1 _ v'.parks hands)
+
     -- it failed
     pub ends_failed : (q : Phase) → r.0 ≡ finished.Failed q → row'.value ≡ row.value → EndsAs held place m v s made (Some (finished.Failed q, r.1)) v'
     ends_failed q e value =
         let d = how (finished.Failed q) e in
         record {
-          stands = moved held place c n n m (run_closed s made r.1 m) v v' row' ok inside cells
-              (subst (λ (z : Seen). IsCell held place z v'.parks c row') (sym (seen_closed held place m v p c s is.inner row row_is (Ran s.is_open made ∷ []) r.1))
-              (cell_now made_as 0 0 (value ∙ here.valued ∙ kept_value d.0) known_made (locked_write (place row.seq.locker) (place row'.seq.locker) (held row.seq.locker) (held row'.seq.locker) v.parks v'.parks c made_as.phase (reached its.stays false) r.1 d.2 (reads_here (finished.Failed q) e) (stands_here (finished.Failed q) e).0 left_here.fits (phase_is false d.0) here.locked.limit (parked_few held place n m v ok c inside))))
-              (closed_moved held place m v p c s is.inner row row_is (Ran s.is_open made ∷ []) r.1 m.turns v' left_here guards (exit_kept (length v.cells.items) m m v.exit v'.exit exit refl refl refl ok.exit) (hands_writers c _ v.parks r.1 _ v'.parks d.2) (listed_hand c _ v.parks r.1 d.2.may) d.2.rows)
-              (parties_now (run_closed s made r.1 m) refl (λ x. target_given s.cell r.1 m.waits x));
+          stands = back_stands false d.0 d.2 (reads_here (finished.Failed q) e) (stands_here (finished.Failed q) e).0 (value ∙ here.valued ∙ kept_value d.0);
           told = failing made (subst (IsMadeAs made) d.0 made_is) (told_as q (d.1 ∙ phase_is false d.0));
-          gave = subst (λ z. MayGive z (run_closed s made given.Nobody m) r.1) (sym is.inner.at)
-              (gives_closed held place m v p c s is.inner row row_is (run_closed s made given.Nobody m) refl refl (ap (λ (z : Seen). z.reads) seen_gone) (ap (λ (z : Seen). z.writes) seen_gone) (reached its.stays false) r.1 _ v'.parks d.2);
+          gave = back_gives false d.0 d.2 (reads_here (finished.Failed q) e) (stands_here (finished.Failed q) e).0;
         }
       where
-        failing : (x : Option ℕ) → IsMadeAs x false → q ≡ phase_of (content_of_run (cell_at m.plans s.cell).kind s.is_open x (m.content s.cell)).phase → GoesAs s.want x (phase_of (content_of_run (cell_at m.plans s.cell).kind s.is_open x (m.content s.cell)).phase) (finished.Failed q) r.1
+        failing : (x : Option ℕ) → IsMadeAs x false → q ≡ told_of x → GoesAs (run_as (cell_at m.plans s.cell).kind s.want) x (told_of x) (finished.Failed q) r.1
         failing None z f = f
         failing (Some x) z f = absurd (cc)
+
+    -- its call has what it wants
+    pub ends_phase : (q : Phase) → r.0 ≡ finished.Phase q → row'.value ≡ made → EndsAs held place m v s made (Some (finished.Phase q, r.1)) v'
+    ends_phase q e value =
+        let d = how (finished.Phase q) e in
+        record {
+          stands = back_stands true d.0 d.3 (reads_here (finished.Phase q) e) (stands_here (finished.Phase q) e).0 (value ∙ made_value d.0);
+          told = going made (subst (IsMadeAs made) d.0 made_is) (runs_as want.Init d.1, told_as q (d.2 ∙ phase_is true d.0));
+          gave = back_gives true d.0 d.3 (reads_here (finished.Phase q) e) (stands_here (finished.Phase q) e).0;
+        }
+      where
+        going : (x : Option ℕ) → IsMadeAs x true → (run_as (cell_at m.plans s.cell).kind s.want ≡ want.Init) × (q ≡ told_of x) → GoesAs (run_as (cell_at m.plans s.cell).kind s.want) x (told_of x) (finished.Phase q) r.1
+        going None z f = absurd (cc)
+        going (Some x) z f = f
 
     -- its call reads on
     pub ends_read : (l : ReadTicket) (q : Phase) → r.0 ≡ finished.Read l q → row'.value ≡ made → EndsAs held place m v s made (Some (finished.Read l q, r.1)) v'
@@ -234,10 +269,10 @@ module _ {L : Type 0} (held : L → Holders) (place : L → LockerKind) (m : Sta
               (subst (λ (z : Seen). IsCell held place z v'.parks c row') (sym seen)
               (cell_now made_as 1 0 (value ∙ made_value d.0) known_made (locked_down (place row'.seq.locker) (held row.seq.locker) (held row'.seq.locker) v.parks v'.parks c made_as.phase (reached its.stays true) r.1 d.3 (reads_here (finished.Read l q) e) (stands_here (finished.Read l q) e).0 left_here.fits (phase_is true d.0) (write_has_no_reader (place row.seq.locker) (held row.seq.locker) v.parks c here.locked.fits (write_open held place m v p c s is.inner row row_is)) (parked_fewer held place n m v ok c inside (end_room o taken b made_is d.0)))))
               (guard_opened held place c n n n m (run_closed s made r.1 m) v v' (reader n s.party s.cell)
-              (closed_moved held place m v p c s is.inner row row_is (Ran s.is_open made ∷ []) r.1 m.turns v' left_here guards (exit_kept (length v.cells.items) m m v.exit v'.exit exit refl refl refl ok.exit) (downgrades_writers c _ _ v.parks r.1 _ v'.parks d.3) (listed_share c v.parks r.1 d.3.may) d.3.rows)
+              (closed_moved held place m v p c s is.inner row row_is (Ran s.is_open made ∷ []) r.1 m.turns v' left_here guards (exit_kept (length v.cells.items) m m v.exit v'.exit exit refl refl refl ok.exit) (downgrades_writers c _ (held row.seq.locker) v.parks r.1 (held row'.seq.locker) v'.parks d.3) (listed_share c v.parks r.1 d.3.may) d.3.rows)
               refl is.inner.at (omega arith) is.inner.rests.empty is.inner.rests.empty inside)
               (parties_now (guarded (reader n s.party s.cell) (run_closed s made r.1 m)) refl (λ x. target_given s.cell r.1 m.waits x));
-          told = going made (subst (IsMadeAs made) d.0 made_is) (d.1, told_as q (d.2 ∙ phase_is true d.0));
+          told = going made (subst (IsMadeAs made) d.0 made_is) (runs_as want.Read d.1, told_as q (d.2 ∙ phase_is true d.0));
           gave = subst (λ z. MayGiveDown z m r.1) (sym is.inner.at) (gives_down held place m v p c s is.inner row row_is (reached its.stays true) r.1 _ v'.parks d.3);
         }
       where
@@ -247,7 +282,7 @@ module _ {L : Type 0} (held : L → Holders) (place : L → LockerKind) (m : Sta
             ∙ seen_reader n s.party c (run_closed s made r.1 m)
             ∙ ap (λ (w : Seen). record { plan = w.plan; content = w.content; reads = w.reads + 1; writes = w.writes; run = w.run }) (seen_closed held place m v p c s is.inner row row_is (Ran s.is_open made ∷ []) r.1)
 
-        going : (x : Option ℕ) → IsMadeAs x true → (run_as s.want ≡ want.Read) × (q ≡ phase_of (content_of_run (cell_at m.plans s.cell).kind s.is_open x (m.content s.cell)).phase) → GoesAs s.want x (phase_of (content_of_run (cell_at m.plans s.cell).kind s.is_open x (m.content s.cell)).phase) (finished.Read l q) r.1
+        going : (x : Option ℕ) → IsMadeAs x true → (run_as (cell_at m.plans s.cell).kind s.want ≡ want.Read) × (q ≡ told_of x) → GoesAs (run_as (cell_at m.plans s.cell).kind s.want) x (told_of x) (finished.Read l q) r.1
         going None z f = absurd (cc)
         going (Some x) z f = f
 
@@ -270,7 +305,7 @@ module _ {L : Type 0} (held : L → Holders) (place : L → LockerKind) (m : Sta
               })))
               (guard_opened held place c n n n m gone v v' (writer_of n s made) (without_moved held place m v p c s is.inner row row_is v' left_here guards exit d.4) refl is.inner.at (omega arith) is.inner.rests.empty is.inner.rests.empty inside)
               (parties_now (guarded (writer_of n s made) gone) refl (λ x. refl));
-          told = going made (subst (IsMadeAs made) d.0 made_is) (d.1, told_as q (d.2 ∙ phase_is true d.0), d.5);
+          told = going made (subst (IsMadeAs made) d.0 made_is) (runs_as want.Write d.1, told_as q (d.2 ∙ phase_is true d.0), d.5);
           gave = d.5;
         }
       where
@@ -283,10 +318,6 @@ module _ {L : Type 0} (held : L → Holders) (place : L → LockerKind) (m : Sta
             let more : count (writes_cell c) m.guards + 1 + count (runs_in c) (without_innermost s.party m.sections) ≡ writes_in c gone + 1 = omega arith in
             rw e ((λ i. record { plan = cell_at m.plans c; content = m.content c; reads = reads_in c m; writes = more i; run = run_in c (without_innermost s.party m.sections) }) ∙ ap (λ (w : Seen). record { plan = w.plan; content = w.content; reads = w.reads; writes = w.writes + 1; run = w.run }) (seen_without held place m v p c s is.inner row row_is))
 
-        going : (x : Option ℕ) → IsMadeAs x true → (run_as s.want ≡ want.Write) × (q ≡ phase_of (content_of_run (cell_at m.plans s.cell).kind s.is_open x (m.content s.cell)).phase) × (r.1 ≡ given.Nobody) → GoesAs s.want x (phase_of (content_of_run (cell_at m.plans s.cell).kind s.is_open x (m.content s.cell)).phase) (finished.Write l q) r.1
+        going : (x : Option ℕ) → IsMadeAs x true → (run_as (cell_at m.plans s.cell).kind s.want ≡ want.Write) × (q ≡ told_of x) × (r.1 ≡ given.Nobody) → GoesAs (run_as (cell_at m.plans s.cell).kind s.want) x (told_of x) (finished.Write l q) r.1
         going None z f = absurd (cc)
         going (Some x) z f = f
-
-    -- it never only ends
-    pub ends_phase : (q : Phase) → r.0 ≡ finished.Phase q → EndsAs held place m v s made (Some (finished.Phase q, r.1)) v'
-    ends_phase q e = absurd (never_runs_init s.want (how (finished.Phase q) e).1)

@@ -1,5 +1,6 @@
 -- A finalizer ends, and its turn with it.
 use Rattle.std.proofs.Common.{◌≡◌, ◌∙◌, ℕ, [], ◌∷◌, ◌++◌, length, set, get_or, ap, sym, subst, refl, Bool, true, None, Some}
+use Rattle.std.specs.declared.option.Option.{Option}
 use Rattle.phase_bits.specs.declared.phase.Phase.{Phase}
 use Rattle.phase_bits.specs.declared.holders.Holders.{Holders}
 use Rattle.phase_bits.specs.Number.{phase_of}
@@ -11,6 +12,7 @@ use Rattle.phase_locker.specs.Fits.{IsWriteOpen, open_reads}
 use Rattle.phase_locker.specs.Gifts.{Hands}
 use Rattle.phase_locker.specs.Left.{Left}
 use Rattle.phase_seq.specs.Asks.{finalizes}
+use Rattle.lazy_cells.specs.declared.kind.Kind.{Kind}
 use Rattle.phase_seq.specs.Finishes.{FinishesFinal}
 use Rattle.phase_seq.specs.Phases.{finalized as finalized_phase}
 use Rattle.phase_seq.specs.Stands.{IsFinalizing as IsFinalSection}
@@ -18,7 +20,7 @@ use Rattle.schedule_rules.specs.declared.step.Want.{Want}
 use Rattle.schedule_rules.specs.declared.step.Want.TheVariants.{Calls, Turns}
 use Rattle.schedule_rules.specs.Kinds.{cell_at}
 use Rattle.schedule_rules.specs.Changes.{Content, Ended, content_after}
-use Rattle.schedule_rules.specs.Phases.{phase_finalized}
+use Rattle.schedule_rules.specs.Phases.{phase_finalized, value_finalized}
 use Rattle.schedule_rules.specs.Sections.{Section, is_turn}
 use Rattle.waiting_rows.proofs.GivenOn.{listed_hand}
 use Rattle.phase_moves.specs.declared.rows.CellRow.{CellRow}
@@ -37,9 +39,9 @@ use Rattle.phase_moves.proofs.EndGives.{gives_closed}
 use Rattle.phase_moves.proofs.Innermost.{in_cells, cell_here, runs_here, o_is, its_row, write_open, seen_closed, closed_moved, cell_ended, parties_ended}
 use Rattle.phase_moves.proofs.Moved.{moved}
 
-pub asked_final : (w : Want) → is_turn w ≡ true → finalizes (run_as w) ≡ true
-asked_final (Calls k) e = absurd (cc)
-asked_final Turns e = refl
+pub asked_final : (q : Kind) (w : Want) → is_turn w ≡ true → finalizes (run_as q w) ≡ true
+asked_final q (Calls k) e = absurd (cc)
+asked_final q Turns e = refl
 
 module _ {L : Type 0} (held : L → Holders) (place : L → LockerKind) (m : Standing) (v : Rows L) (p c : ℕ) (s : Section) (is : IsFinalizing held place m v p c s) (row : CellRow L) (row_is : row ≡ get_or v.cells.items c row) where
   abbrev n : ℕ
@@ -56,11 +58,11 @@ module _ {L : Type 0} (held : L → Holders) (place : L → LockerKind) (m : Sta
     pub final_running : IsFinalSection o.section (held row.seq.locker) v.parks
     final_running =
         subst (λ (x : OpenRun). IsFinalSection x.section (held row.seq.locker) v.parks) (sym same)
-        (record { asked = asked_final s.want is.turn; locked = write_open held place m v p c s is.inner row row_is })
+        (record { asked = asked_final (cell_at m.plans c).kind s.want is.turn; locked = write_open held place m v p c s is.inner row row_is })
 
   -- the move
   module _ (v' : Rows L) (row' : CellRow L) (of of' : PartyRow) (of_is : of ≡ get_or v.parties.items p of) (o : OpenRun) (taken : row.run ≡ Some o) (cells : v'.cells.items ≡ set v.cells.items c row') (guards : v'.guards ≡ v.guards) (parties : v'.parties.items ≡ set v.parties.items p of')
-      (of'_is : of' ≡ record { waiting = of.waiting; innermost = o.run.outer }) (plan : row'.plan ≡ row.plan) (value : row'.value ≡ row.value) (run : row'.run ≡ None) (running : row'.seq.running ≡ row.seq.running) (fine : Bool) (r : Phase × Given)
+      (of'_is : of' ≡ record { waiting = of.waiting; innermost = o.run.outer }) (plan : row'.plan ≡ row.plan) (left : Option ℕ) (value : row'.value ≡ value_finalized row.plan.kind left row.value) (run : row'.run ≡ None) (running : row'.seq.running ≡ row.seq.running) (fine : Bool) (r : Phase × Given)
       (registry : v'.exit.registry ≡ v.exit.registry) (owner : v'.exit.owner ≡ v.exit.owner) (turns : v'.exit.turns.items ≡ v.exit.turns.items ++ record { cell = c; turn = turn_of fine } ∷ [])
       (finishes : FinishesFinal o.section fine (held row.seq.locker) v.parks r (held row'.seq.locker) v'.parks) (closed : IsWriteOpen (held row'.seq.locker) v'.parks o.section.who.cell → ⊥) (reads : open_reads (held row'.seq.locker) v'.parks o.section.who.cell ≡ 0) (k : Left held place o.section.who.cell row.seq.locker row'.seq.locker v.parks v'.parks) where
     at_c : o.section.who.cell ≡ c
@@ -70,7 +72,7 @@ module _ {L : Type 0} (held : L → Holders) (place : L → LockerKind) (m : Sta
     left_here = subst (λ d. Left held place d row.seq.locker row'.seq.locker v.parks v'.parks) at_c k
 
     abbrev y : Content
-    y = content_after (cell_at m.plans c) (Ended fine) (m.content c)
+    y = content_after (cell_at m.plans c) (Ended fine left) (m.content c)
 
     phase_is : finalized_phase (held row.seq.locker).phase fine ≡ phase_of y.phase
     phase_is = ap (λ (q : Phase). finalized_phase q fine) here.locked.phase_is
@@ -86,21 +88,21 @@ module _ {L : Type 0} (held : L → Holders) (place : L → LockerKind) (m : Sta
         }
 
     -- what is seen of the cell then, where nothing was given yet
-    seen_gone : seen_at c (finalized s fine given.Nobody m) ≡ record { plan = cell_at m.plans c; content = y; reads = 0; writes = 0; run = None }
-    seen_gone = seen_closed held place m v p c s is.inner row row_is (Ended fine ∷ []) given.Nobody
+    seen_gone : seen_at c (finalized s fine left given.Nobody m) ≡ record { plan = cell_at m.plans c; content = y; reads = 0; writes = 0; run = None }
+    seen_gone = seen_closed held place m v p c s is.inner row row_is (Ended fine left ∷ []) given.Nobody
 
-    pub finalizes_as : FinalizesAs held place m v s fine (Some r) v'
+    pub finalizes_as : FinalizesAs held place m v s fine left (Some r) v'
     finalizes_as =
         let ok = is.inner.rests.stands in
         let hands = subst (λ d. Hands d (leave_write (finalized_phase (held row.seq.locker).phase fine) (held row.seq.locker)) v.parks r.1 (held row'.seq.locker) v'.parks) at_c finishes.hands in
         record {
-          stands = moved held place c n n m (finalized s fine r.1 m) v v' row' ok (in_cells held place m v p c s is.inner row row_is) cells
-              (subst (λ (z : Seen). IsCell held place z v'.parks c row') (sym (seen_closed held place m v p c s is.inner row row_is (Ended fine ∷ []) r.1))
-              (cell_ended held place m v p c s is.inner row row_is v' row' y 0 0 plan run (running ∙ here.runner ∙ ap runner_of (runs_here held place m v p c s is.inner row row_is) ∙ (let t = is.turn in rw t refl)) left_here.place (value ∙ here.valued) (change_known (cell_at m.plans c) (Ended fine) (m.content c) here.known)
+          stands = moved held place c n n m (finalized s fine left r.1 m) v v' row' ok (in_cells held place m v p c s is.inner row row_is) cells
+              (subst (λ (z : Seen). IsCell held place z v'.parks c row') (sym (seen_closed held place m v p c s is.inner row row_is (Ended fine left ∷ []) r.1))
+              (cell_ended held place m v p c s is.inner row row_is v' row' y 0 0 plan run (running ∙ here.runner ∙ ap runner_of (runs_here held place m v p c s is.inner row row_is) ∙ (let t = is.turn in rw t refl)) left_here.place (value ∙ (λ i. value_finalized (here.planned i).kind left (here.valued i))) (change_known (cell_at m.plans c) (Ended fine left) (m.content c) here.known)
               (locked_write (place row.seq.locker) (place row'.seq.locker) (held row.seq.locker) (held row'.seq.locker) v.parks v'.parks c y.phase (finalized_phase (held row.seq.locker).phase fine) r.1 hands (subst (λ d. open_reads (held row'.seq.locker) v'.parks d ≡ 0) at_c reads) (subst (λ d. IsWriteOpen (held row'.seq.locker) v'.parks d → ⊥) at_c closed) left_here.fits phase_is here.locked.limit (parked_few held place n m v is.inner.rests.stands c (in_cells held place m v p c s is.inner row row_is)))))
-              (closed_moved held place m v p c s is.inner row row_is (Ended fine ∷ []) r.1 _ v' left_here guards exit_now (hands_writers c _ v.parks r.1 _ v'.parks hands) (listed_hand c _ v.parks r.1 hands.may) hands.rows)
-              (parties_ended held place m v p c s is.inner row row_is v' of of' of_is parties o taken of'_is (finalized s fine r.1 m) refl (λ x. target_given s.cell r.1 m.waits x));
+              (closed_moved held place m v p c s is.inner row row_is (Ended fine left ∷ []) r.1 _ v' left_here guards exit_now (hands_writers c _ v.parks r.1 _ v'.parks hands) (listed_hand c _ v.parks r.1 hands.may) hands.rows)
+              (parties_ended held place m v p c s is.inner row row_is v' of of' of_is parties o taken of'_is (finalized s fine left r.1 m) refl (λ x. target_given s.cell r.1 m.waits x));
           told = finishes.phase ∙ phase_is ∙ (λ i. phase_of (phase_finalized (m.content (sym is.inner.at i)).phase fine));
-          gave = subst (λ z. MayGive z (finalized s fine given.Nobody m) r.1) (sym is.inner.at)
-              (gives_closed held place m v p c s is.inner row row_is (finalized s fine given.Nobody m) refl refl (ap (λ (z : Seen). z.reads) seen_gone) (ap (λ (z : Seen). z.writes) seen_gone) (finalized_phase (held row.seq.locker).phase fine) r.1 _ v'.parks hands);
+          gave = subst (λ z. MayGive z (finalized s fine left given.Nobody m) r.1) (sym is.inner.at)
+              (gives_closed held place m v p c s is.inner row row_is (finalized s fine left given.Nobody m) refl refl (ap (λ (z : Seen). z.reads) seen_gone) (ap (λ (z : Seen). z.writes) seen_gone) (finalized_phase (held row.seq.locker).phase fine) r.1 _ v'.parks hands);
         }

@@ -1,5 +1,5 @@
 -- What is given as a guard is given back may be given.
-use Rattle.std.proofs.Common.{◌≡◌, ◌≢◌, ◌∙◌, ℕ, ap, sym, subst, refl, arith, true, false, Some}
+use Rattle.std.proofs.Common.{◌≡◌, ◌≢◌, ◌∙◌, ℕ, ap, sym, subst, refl, arith, Bool, true, false, Some}
 use Rattle.std.specs.Prelude.{slice_get}
 use Rattle.phase_bits.specs.declared.phase.Phase.{Phase}
 use Rattle.phase_bits.specs.declared.holders.Holders.{Holders}
@@ -28,12 +28,21 @@ use Rattle.phase_moves.proofs.Guards.{found_itself, count_same, count_less, read
 use Rattle.phase_moves.proofs.Lockers.{reading_alone}
 use Rattle.phase_moves.proofs.Leaving.{read_open, write_open, no_reads, no_writes}
 
+-- calls park where the locker has parked calls
+pub parks_as : (p : Place) → is_park (kind_at p) ≡ is_parking p
+parks_as place_of.Park = refl
+parks_as place_of.Spin = refl
+parks_as (place_of.Own q) = refl
+
 -- where parked calls are listed, calls park
 pub parking : (k : LockerKind) (h : Holders) (s : Parking) (c : ℕ) (p : Place) (g : Given) → Fits k h s c → k ≡ kind_at p → IsListed c s g → g ≢ given.Nobody → is_parking p ≡ true
-parking k h s c place_of.Park g fits e l ne = refl
-parking k h s c place_of.Spin given.Nobody fits e l ne = absurd (ne refl)
-parking k h s c place_of.Spin (given.Writer q) fits e l ne = absurd (listed_in q (writers_of s c) l (fits.still (ap is_park e)).0.1)
-parking k h s c place_of.Spin given.Readers fits e l ne = absurd (let a = (fits.still (ap is_park e)).0.0 in let b : false ≡ true = sym l ∙ a in cc)
+parking k h s c p g fits e l ne = by (is_parking p) refl g l ne
+  where
+    by : (b : Bool) → is_parking p ≡ b → (d : Given) → IsListed c s d → d ≢ given.Nobody → is_parking p ≡ true
+    by true q d at some = q
+    by false q given.Nobody at some = absurd (some refl)
+    by false q (given.Writer r) at some = absurd (listed_in r (writers_of s c) at (fits.still (ap is_park e ∙ parks_as p ∙ q)).0.1)
+    by false q given.Readers at some = absurd (let a = (fits.still (ap is_park e ∙ parks_as p ∙ q)).0.0 in let b : false ≡ true = sym at ∙ a in cc)
 
 pub idle_at : (c : ℕ) (h : Holders) (s : Parking) (g : Given) → MayHand c h s g → g ≢ given.Nobody → IsIdle h
 idle_at c h s given.Nobody may ne = absurd (ne refl)

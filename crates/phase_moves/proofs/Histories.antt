@@ -26,7 +26,7 @@ use Rattle.waiting_rows.specs.Given.{given_on}
 use Rattle.waiting_rows.proofs.Counted.{none_without}
 use Rattle.waiting_rows.proofs.GivenOn.{given_concerned}
 use Rattle.phase_moves.specs.Histories.{standing, event}
-use Rattle.phase_moves.specs.Standing.{left, downgraded, cloned, ended, finalized, turn_of}
+use Rattle.phase_moves.specs.Standing.{Standing, left, downgraded, cloned, ended, finalized, run_closed, turn_of, writer_of}
 use Rattle.phase_moves.proofs.Guards.{its_number}
 
 owned_by : (p : ℕ) (x : Guard) (o : Option Guard) → own p o ≡ Some x → (o ≡ Some x) × (x.party ≡ p)
@@ -36,6 +36,13 @@ owned_by p x (Some y) e = by (y.party == p) refl e
     by : (b : Bool) → (y.party == p) ≡ b → (if b then Some y else None) ≡ Some x → (Some y ≡ Some x) × (x.party ≡ p)
     by true q e = let same : y ≡ x = cc in (e, sym (ap (λ (z : Guard). z.party) same) ∙ grind (arith, q))
     by false q e = absurd (cc)
+
+-- the write guard that a run leaves is given back at once
+pub writer_left : (n : ℕ) (s : Section) (made : Option ℕ) (d : Given) (t : WriteTicket) (q : Phase) (m : Standing) → left (writer_of n s made) d (ended n s made given.Nobody (finished.Write t q) m) ≡ run_closed s made d m
+writer_left n s made d t q m =
+    let own : (n == n) ≡ true = grind arith in
+    let back : (if n == n then m.guards else writer_of n s made ∷ without_guard n m.guards) ≡ m.guards = rw own refl in
+    λ i. record (run_closed s made d m) { guards = back i }
 
 module _ (cells : List CellPlan) (h : List Event) (p : ℕ) where
   abbrev ws : List Wait
@@ -101,15 +108,26 @@ module _ (cells : List CellPlan) (h : List Event) (p : ℕ) where
           let guards_are = ap (λ o. writer_made (length h) p v o (guards h)) top ∙ ap (λ r. record { number = length h; party = r; cell = s.cell; writes = true; start = s.start; changes = Ran s.is_open (Some v) ∷ [] } ∷ guards h) (sym party) in
           λ i. record { plans = cells; waits = none_without p ws awake i; sections = without_innermost (sym party i) (sections h); guards = guards_are i; content = λ c. replay cells c h; registry = registry cells h; owner = owner h; turns = ended_turns h }
 
+      -- its section is given back at once: where the phase is told, and where the value is shown
+      pub made_told : (v : ℕ) (d : Given) (q : Phase) → standing cells (event p (act.Made v) (record { answer = answer.Phase q; given = d }) ∷ h) ≡ run_closed s (Some v) d (standing cells h)
+      made_told v d q =
+          let given = given_awake (act.Made v) d s.cell (ap cell_of_section top) in
+          λ i. record { plans = cells; waits = given i; sections = without_innermost (sym party i) (sections h); guards = guards h; content = λ c. content_after_back cells c (back_of_section (Makes (Some v)) (top i)) (replay cells c h); registry = registry cells h; owner = owner h; turns = ended_turns h }
+
+      pub made_shown : (v u : ℕ) (d : Given) → standing cells (event p (act.Made v) (record { answer = answer.Value u; given = d }) ∷ h) ≡ run_closed s (Some v) d (standing cells h)
+      made_shown v u d =
+          let given = given_awake (act.Made v) d s.cell (ap cell_of_section top) in
+          λ i. record { plans = cells; waits = given i; sections = without_innermost (sym party i) (sections h); guards = guards h; content = λ c. content_after_back cells c (back_of_section (Makes (Some v)) (top i)) (replay cells c h); registry = registry cells h; owner = owner h; turns = ended_turns h }
+
       pub made_failed : (d : Given) (q : Phase) → standing cells (event p act.MadeFailed (record { answer = answer.Failed; given = d }) ∷ h) ≡ ended (length h) s None d (finished.Failed q) (standing cells h)
       made_failed d q =
           let given = given_awake act.MadeFailed d s.cell (ap cell_of_section top) in
           λ i. record { plans = cells; waits = given i; sections = without_innermost (sym party i) (sections h); guards = guards h; content = λ c. content_after_back cells c (back_of_section (Makes None) (top i)) (replay cells c h); registry = registry cells h; owner = owner h; turns = ended_turns h }
 
-      pub final_ended : (fine : Bool) (d : Given) (q : Phase) → standing cells (event p (finishing fine) (record { answer = answer.Phase q; given = d }) ∷ h) ≡ finalized s fine d (standing cells h)
-      final_ended true d q =
-          let given = given_awake act.Finished d s.cell (ap cell_of_section top) in
-          λ i. record { plans = cells; waits = given i; sections = without_innermost (sym party i) (sections h); guards = guards h; content = λ c. content_after_back cells c (back_of_section (Finishes true) (top i)) (replay cells c h); registry = registry cells h; owner = owner h; turns = turn_of_section (turn_of true) (top i) (ended_turns h) }
-      final_ended false d q =
-          let given = given_awake act.FinishFailed d s.cell (ap cell_of_section top) in
-          λ i. record { plans = cells; waits = given i; sections = without_innermost (sym party i) (sections h); guards = guards h; content = λ c. content_after_back cells c (back_of_section (Finishes false) (top i)) (replay cells c h); registry = registry cells h; owner = owner h; turns = turn_of_section (turn_of false) (top i) (ended_turns h) }
+      pub final_ended : (fine : Bool) (left : Option ℕ) (d : Given) (q : Phase) → standing cells (event p (finishing fine left) (record { answer = answer.Phase q; given = d }) ∷ h) ≡ finalized s fine left d (standing cells h)
+      final_ended true left d q =
+          let given = given_awake (act.Finished left) d s.cell (ap cell_of_section top) in
+          λ i. record { plans = cells; waits = given i; sections = without_innermost (sym party i) (sections h); guards = guards h; content = λ c. content_after_back cells c (back_of_section (Finishes true left) (top i)) (replay cells c h); registry = registry cells h; owner = owner h; turns = turn_of_section (turn_of true) (top i) (ended_turns h) }
+      final_ended false left d q =
+          let given = given_awake (act.FinishFailed left) d s.cell (ap cell_of_section top) in
+          λ i. record { plans = cells; waits = given i; sections = without_innermost (sym party i) (sections h); guards = guards h; content = λ c. content_after_back cells c (back_of_section (Finishes false left) (top i)) (replay cells c h); registry = registry cells h; owner = owner h; turns = turn_of_section (turn_of false) (top i) (ended_turns h) }

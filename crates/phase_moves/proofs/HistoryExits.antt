@@ -3,12 +3,10 @@
 use Rattle.std.proofs.Common.{◌≡◌, ◌==◌, ℕ, List, ◌∷◌, length, ap, refl, arith, Bool, true, false, None, Some}
 use Rattle.std.specs.Prelude.{not}
 use Rattle.std.specs.declared.option.Option.{Option}
-use Rattle.phase_bits.specs.declared.phase.Phase.{Phase}
 use Rattle.exit_registry.specs.declared.registry.Look.{Look}
 use Rattle.exit_registry.specs.declared.registry.Look.TheVariants as look
 use Rattle.phase_locker.specs.declared.ways.Given.TheVariants as given
 use Rattle.schedule_rules.specs.declared.line.Answer.TheVariants as answer
-use Rattle.schedule_rules.specs.declared.plan.Call.{Call}
 use Rattle.schedule_rules.specs.declared.plan.CellPlan.{CellPlan}
 use Rattle.schedule_rules.specs.declared.step.Act.TheVariants as act
 use Rattle.schedule_rules.specs.Due.{answer_of_look}
@@ -37,10 +35,6 @@ module _ (cells : List CellPlan) (h : List Event) (p : ℕ) where
     -- a clone that is barred
     pub clone_barred : (g : ℕ) → standing cells (event p (act.Clone g) (record { answer = answer.Borrowed; given = given.Nobody }) ∷ h) ≡ standing cells h
     clone_barred g = λ i. record (standing cells h) { waits = none_without p ws awake i; owner = owner h }
-
-    -- a call for the phase
-    pub phase_told : (c : ℕ) (k : Call) (q : Phase) → standing cells (event p (act.Call c k) (record { answer = answer.Phase q; given = given.Nobody }) ∷ h) ≡ standing cells h
-    phase_told c k q = λ i. record (standing cells h) { waits = none_without p ws awake i; owner = owner h }
 
     -- a value that is set
     pub set_puts : (g v : ℕ) → standing cells (event p (act.Set g v) (record { answer = answer.Done; given = given.Nobody }) ∷ h) ≡ put g v (standing cells h)

@@ -1,6 +1,7 @@
 -- The phases that a cell can have are known: they have no bit above the eight flags.
 use Rattle.std.proofs.Common.{ℕ, ◌<◌, List, [], ◌∷◌, arith, Bool, true, false, None, Some}
-use Rattle.schedule_rules.specs.Kinds.{is_finalizable, tolerance_of}
+use Rattle.lazy_cells.specs.Kinds.{is_finalizable}
+use Rattle.schedule_rules.specs.Kinds.{tolerance_of}
 use Rattle.std.proofs.lemmas.Nat.{and_le_l, or_of_8}
 use Rattle.std.specs.Prelude.{◌==◌, ◌^◌, ◌-◌, if◌then◌else◌}
 use Rattle.phase_bits.specs.Flags.{without_flags}
@@ -62,7 +63,7 @@ change_known x (Asked is_open c) y k = by (is_declined x.kind (tolerance_of x) c
     by true = record { below = omega arith }
     by false = k
 change_known x (Put v) y k = k
-change_known x (Ended fine) y k = record { below = finalized_known y.phase fine k.below }
+change_known x (Ended fine left) y k = record { below = finalized_known y.phase fine k.below }
 
 -- so do changes one after another
 pub effect_known : (x : CellPlan) (chs : List Change) (y : Content) → IsKnown (phase_of y.phase) → IsKnown (phase_of (effect x chs y).phase)

@@ -277,7 +277,7 @@ module _ {L : Type 0} (held : L → Holders) (place : L → LockerKind) (hand : 
         moved held place x.cell hand n m (downgraded n x g m) v v' row' t (inside held place hand m v x t found) k.cells
         (down_back held place hand m v x t found row k.row_at w n g row' v'.parks q k.plan phase value k.run k.running down reads closed k.left free)
         (guard_opened held place x.cell hand hand n m (left x g m) v v' (reader n x.party x.cell)
-        (gone_back (downgrades_writers x.cell q _ v.parks g _ v'.parks down) (listed_share x.cell v.parks g down.may) down.rows)
+        (gone_back (downgrades_writers x.cell q (held row.seq.locker) v.parks g (held row'.seq.locker) v'.parks down) (listed_share x.cell v.parks g down.may) down.rows)
         refl refl room fresh (ap (λ i. numbered i (without_guard x.number m.guards)) (sym (its_number hand m.guards x found)) ∙ gone x.number m.guards x (found_itself hand m.guards x found) (t.guards.once x.number)) (inside held place hand m v x t found))
         (parties_same held place hand m (downgraded n x g m) v v' t k.parties (λ p. ap (λ w. record { waiting = w; innermost = (party_row m p).innermost }) (target_given x.cell g m.waits p)))
 

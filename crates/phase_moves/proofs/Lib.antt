@@ -24,6 +24,7 @@ pub mod Attempts
 pub mod Answered
 pub mod Parking
 pub mod Asked
+pub mod Seeking
 pub mod OpeningRuns
 pub mod Took
 pub mod Arms
@@ -43,4 +44,6 @@ pub mod Settling
 pub mod Barring
 pub mod Admitting
 pub mod GivenUp
+pub mod Sharing
 pub mod Meeting
+pub mod Looked

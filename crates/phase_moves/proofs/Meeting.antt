@@ -1,72 +1,80 @@
 -- What an attempt took is the answer that is due of what it met, and what it gave it may give.
-use Rattle.std.proofs.Common.{◌≡◌, ◌≢◌, ◌<◌, ◌+◌, ◌^◌, ◌∙◌, ℕ, List, length, ap, sym, subst, refl, arith, Bool, true, false, None, Some, inl, inr, ◌&&◌, ◌||◌}
+use Rattle.std.proofs.Common.{◌≡◌, ◌≢◌, ◌<◌, ◌^◌, ◌∙◌, ℕ, List, length, ap, sym, subst, refl, arith, Bool, true, false, None, Some, inl, inr, ◌&&◌, ◌||◌}
 use Rattle.std.proofs.lemmas.Bool.{cases_lt}
 use Rattle.std.specs.Prelude.{◌⊎◌, MatchBool, if◌then◌else◌, nat_lt}
 use Rattle.std.specs.List.{find}
 use Rattle.std.specs.declared.option.Option.{Option}
 use Rattle.phase_bits.specs.declared.holders.Holders.{Holders}
+use Rattle.phase_bits.specs.Flags.{has, initialized}
+use Rattle.phase_bits.specs.Number.{number}
 use Rattle.exit_registry.specs.Registry.{Registry}
 use Rattle.phase_locker.specs.declared.ways.Given.{Given}
 use Rattle.phase_locker.specs.declared.ways.Given.TheVariants as given
-use Rattle.phase_locker.specs.declared.ways.Row.{Row}
+use Rattle.phase_locker.specs.declared.ways.How.{How}
 use Rattle.phase_locker.specs.declared.ways.Who.{Who}
 use Rattle.phase_locker.specs.declared.ways.LockerKind.{LockerKind}
 use Rattle.phase_locker.specs.declared.tickets.LockNature.{LockNature}
 use Rattle.phase_locker.specs.Natures.{bars, got}
-use Rattle.phase_locker.specs.Rows.{Rows as Parking, row_of, freed, left}
-use Rattle.phase_locker.specs.Fits.{IsIdle, NobodyParked, is_park, open_reads}
-use Rattle.phase_locker.specs.Gifts.{MayHand, rows_handed}
+use Rattle.phase_locker.specs.Rows.{Rows as Parking, row_of, freed}
+use Rattle.phase_locker.specs.Gifts.{MayHand, MayShare, rows_handed}
 use Rattle.phase_locker.specs.Attempts.{MayWait, given_up, keeps as row_keeps}
-use Rattle.phase_locker.proofs.Holding.{Holds}
-use Rattle.phase_locker.proofs.Keeping.{gives_up_freed}
-use Rattle.phase_locker.proofs.Standing.{given_up_reads, left_writes}
 use Rattle.phase_seq.specs.declared.ask.Ask.{Ask}
+use Rattle.phase_seq.specs.declared.ask.Want.{Want as Sought}
 use Rattle.phase_seq.specs.declared.ask.Want.TheVariants as want
 use Rattle.phase_seq.specs.declared.section.Begun.{Begun}
 use Rattle.phase_seq.specs.declared.section.Begun.TheVariants as begun
-use Rattle.phase_seq.specs.Asks.{asks_run, nature_of, wake_of}
+use Rattle.phase_seq.specs.Asks.{asks_run, initializes as run_sought, nature_of, shall_init, wake_of}
 use Rattle.phase_seq.specs.Begins.{begun_of, is_cyclic, section_by}
 use Rattle.phase_seq.specs.Exactly.{is_run}
+use Rattle.phase_seq.specs.Phases.{flags_refused}
 use Rattle.phase_seq.specs.Registers.{is_refused}
 use Rattle.schedule_rules.specs.declared.line.Answer.TheVariants as answer
-use Rattle.schedule_rules.specs.declared.plan.Call.TheVariants as call
 use Rattle.schedule_rules.specs.declared.plan.CellPlan.{CellPlan}
-use Rattle.schedule_rules.specs.declared.plan.Place.{Place}
-use Rattle.schedule_rules.specs.declared.plan.Place.TheVariants as place_of
 use Rattle.schedule_rules.specs.declared.step.Want.{Want}
 use Rattle.schedule_rules.specs.declared.step.Want.TheVariants.{Calls, Turns}
-use Rattle.schedule_rules.specs.Answers.{answer_admitted, answer_barred, answer_of_attempt, drains_by, way_at, way_parked}
-use Rattle.schedule_rules.specs.Calls.{initializes, lock_wanted, wakes_as}
+use Rattle.schedule_rules.specs.Answers.{answer_admitted, answer_barred, answer_of_attempt, drains_by, way_parked}
+use Rattle.schedule_rules.specs.Phases.{is_accessible}
+use Rattle.schedule_rules.specs.Kinds.{is_owned}
+use Rattle.schedule_rules.specs.Calls.{initializes, is_fast, seeks, wakes_as}
 use Rattle.schedule_rules.specs.Changes.{Content}
+use Rattle.schedule_rules.specs.Forms.{form_of, is_to_read}
 use Rattle.schedule_rules.specs.History.{count}
-use Rattle.schedule_rules.specs.Holds.{has_own, is_barred, keeps}
-use Rattle.schedule_rules.specs.Kinds.{cell_at, is_parking, tolerance_of}
+use Rattle.schedule_rules.specs.Holds.{has_own, is_barred, keeps, wants_to_write}
+use Rattle.schedule_rules.specs.Kinds.{cell_at, tolerance_of}
 use Rattle.schedule_rules.specs.Legal.{First, Last}
 use Rattle.schedule_rules.specs.Sections.{generates_for, runs_in}
 use Rattle.schedule_rules.specs.Waits.{Wait, drains_on, is_drain, wait_of, without_wait}
 use Rattle.waiting_rows.specs.Given.{IsListed, given_on}
-use Rattle.waiting_rows.specs.Shown.{wait_row, waiting_of}
-use Rattle.waiting_rows.proofs.GivenOn.{listed_hand, listed_share, reaches_given}
+use Rattle.waiting_rows.proofs.GivenOn.{listed_hand, listed_share}
 use Rattle.waiting_rows.proofs.RowCounts.{claims_shown, shares_shown}
-use Rattle.phase_moves.specs.declared.rows.Taken.TheVariants as taken
 use Rattle.phase_moves.specs.declared.rows.Target.{Target}
 use Rattle.phase_moves.specs.Calls.{registry_for}
-use Rattle.phase_moves.specs.Meets.{IsOf, is_read, GivesFirst, GivesLast, IsMet, IsReaching, answer_taken, declines_in, holding_in, keeps_in, meets, readers_in, writers_in}
-use Rattle.phase_moves.specs.Standing.{Standing, reads_in, run_in, runner_of, writes_in}
-use Rattle.phase_moves.specs.Stands.{AreShown, IsLocked, kind_at, want_of}
-use Rattle.phase_moves.specs.Tries.{ask_of, taken_of}
-use Rattle.phase_moves.proofs.Asked.{declined, declines_same}
-use Rattle.phase_moves.proofs.Attempts.{stays_asked}
-use Rattle.phase_moves.proofs.Barring.{barred_same, locked_same, readers_same, row_kept, way_due}
-use Rattle.phase_moves.proofs.Giving.{idle_at}
-use Rattle.phase_moves.proofs.Judged.{IsJudged, IsKept, IsWaiting}
-use Rattle.phase_moves.proofs.Parking.{shown_called}
-use Rattle.phase_moves.proofs.Settling.{IsDeclined, IsSettled, begun_declined, begun_settled}
-use Rattle.phase_moves.proofs.Admitting.{admitted_due, admitted_of, judged_no, own_same, runs_same, turned_no, turned_so, wakes_same, wanted_same}
-use Rattle.phase_moves.proofs.GivenUp.{nobody_left, not_listed, own_or_not, ran_asked, waits_by}
+use Rattle.phase_moves.specs.Gifts.{IsGift, MayGive, stand_on}
+use Rattle.phase_moves.specs.Meets.{GivesDown, GivesFirst, GivesLast, IsCallOf, IsMet, IsOf, IsReaching, IsUnlocked, answer_taken, holding_in, keeps_in, meets, takes_write, wanted_in, writers_in}
+use Rattle.phase_moves.specs.Standing.{Standing, answered, changes_at, content_tried, reads_in, run_in, runner_of, writes_in}
+use Rattle.phase_moves.specs.Stands.{AreShown, IsLocked, kind_at}
+use Rattle.phase_moves.specs.Tries.{is_quick, taken_of}
+use Rattle.phase_moves.proofs.Asked.{IsAsked, asked_left, declines_same, own_same, wakes_same, wanted_same}
+use Rattle.phase_moves.proofs.Attempts.{run_writes, stays_asked, writes_begun}
+use Rattle.phase_moves.proofs.Barring.{barred_same, locked_same, misses_due, readers_same, row_kept, waits_due}
+use Rattle.phase_moves.proofs.Judged.{IsBarred, IsClear, IsJudged, IsKept, IsWaiting}
+use Rattle.phase_moves.proofs.Sharing.{gives_none, clear_none as clear_none_of, gives_first as gives_first_of, reaching as reaching_of, shown_given as shown_given_of}
+use Rattle.phase_moves.proofs.Settling.{IsDeclined, IsSettled, MayDecline, begun_declined, begun_settled}
+use Rattle.phase_moves.proofs.Admitting.{FitsSought, admitted_due, begun_met, judged_no, met_fits, runs_same, turned_no}
+use Rattle.phase_moves.proofs.Seeking.{form_none, form_read, form_write, gets_read, gets_write, seeks_as, sought_as, write_wanted}
+use Rattle.phase_moves.proofs.GivenUp.{ran_asked, waits_by}
+
+-- it waits, or it is barred and does not wait
+record Waits (e : Begun) : Type 0 where
+  way : How
+  begins : e ≡ begun.Wait way
+
+record Misses (ask : Ask) (e : Begun) : Type 0 where
+  quick : ask.fast ≡ true
+  begins : e ≡ begun.Missed
 
 module _ (n : ℕ) (k : LockerKind) (h : Holders) (s : Parking) (m : Standing) (p : ℕ) (t : Target) (locked : IsLocked k h s t.cell (reads_in t.cell m) (writes_in t.cell m) (m.content t.cell).phase) (placed : k ≡ kind_at (cell_at m.plans t.cell).place) (shown : AreShown n m.waits s) (sizes : length s.writers ≡ length s.readers) (few : length s.rows < 2 ^ 20)
-    (cell_in : t.cell < length s.readers) (party_in : p < length s.rows) (asks : t.want ≢ Calls call.Phase) (waited : (w : Wait) → wait_of p m.waits ≡ Some w → w.cell ≡ t.cell) where
+    (cell_in : t.cell < length s.readers) (party_in : p < length s.rows) (ask : Ask) (asked : IsAsked (cell_at m.plans t.cell) t.want ask) (waited : (w : Wait) → wait_of p m.waits ≡ Some w → w.cell ≡ t.cell) (awake : is_quick (cell_at m.plans t.cell) t.want ≡ true → wait_of p m.waits ≡ None) (shared_turn : t.want ≡ Turns → is_owned (cell_at m.plans t.cell).place ≡ false) where
   abbrev who : Who
   who = record { cell = t.cell; party = p }
 
@@ -76,11 +84,8 @@ module _ (n : ℕ) (k : LockerKind) (h : Holders) (s : Parking) (m : Standing) (
   abbrev y : Content
   y = m.content t.cell
 
-  abbrev ask : Ask
-  ask = ask_of x t.want
-
   abbrev wanted : LockNature
-  wanted = lock_wanted (tolerance_of x) t.want y.phase
+  wanted = wanted_in t.cell t.want m
 
   abbrev others : List Wait
   others = without_wait p m.waits
@@ -89,7 +94,7 @@ module _ (n : ℕ) (k : LockerKind) (h : Holders) (s : Parking) (m : Standing) (
   freed_p = freed p s
 
   wanted_is : nature_of ask h.phase ≡ wanted
-  wanted_is = ap (nature_of ask) locked.phase_is ∙ wanted_same x t.want y.phase asks
+  wanted_is = ap (nature_of ask) locked.phase_is ∙ wanted_same x t.want ask asked y.phase
 
   kept_is : row_keeps (row_of s p).waiting (nature_of ask h.phase) h ≡ keeps_in p t.cell t.want m
   kept_is =
@@ -97,84 +102,22 @@ module _ (n : ℕ) (k : LockerKind) (h : Holders) (s : Parking) (m : Standing) (
       ∙ row_kept p wanted m.waits s h shown.shows
       ∙ ap (keeps (wait_of p m.waits) wanted) (readers_same k h s t.cell (reads_in t.cell m) (writes_in t.cell m) m.waits locked.fits locked.reads_are locked.write_is locked.write_was shown.single shown.shows)
 
+  -- ---- what is given
+
   shown_given : (g : Given) → IsListed t.cell freed_p g → AreShown n (given_on t.cell g others) (rows_handed t.cell g freed_p)
-  shown_given g listed = shown_called n who m.waits s g shown sizes few cell_in party_in listed
+  shown_given = shown_given_of n k h s m p t locked placed shown sizes few cell_in party_in waited
 
   shown_freed : AreShown n others freed_p
   shown_freed = shown_given given.Nobody tt
 
-  -- ---- what is given
-
-  nobody_freed : NobodyParked s t.cell → NobodyParked freed_p t.cell
-  nobody_freed e = by (wait_of p m.waits) refl (shown.shows.row p)
-    where
-      by : (o : Option Wait) → wait_of p m.waits ≡ o → row_of s p ≡ wait_row o → NobodyParked freed_p t.cell
-      by None f r = subst (λ (z : Row). NobodyParked (left z.waiting z.cell p s) t.cell) (sym r) e
-      by (Some w) f r = subst (λ (z : Row). NobodyParked (left z.waiting z.cell p s) t.cell) (sym r) (subst (λ d. NobodyParked (left (waiting_of w.way w.woken) d p s) t.cell) (sym (waited w f)) (nobody_left (waiting_of w.way w.woken) t.cell p s cell_in sizes e))
-
-  parks : (g : Given) → IsListed t.cell freed_p g → g ≢ given.Nobody → is_parking x.place ≡ true
-  parks g listed ne = by x.place placed
-    where
-      by : (z : Place) → k ≡ kind_at z → is_parking z ≡ true
-      by place_of.Park e = refl
-      by place_of.Spin e = absurd (not_listed t.cell freed_p g (nobody_freed (locked.fits.still (ap is_park e)).0) listed ne)
-
   reaching : (g : Given) → IsListed t.cell freed_p g → g ≢ given.Nobody → IsReaching p t.cell g m
-  reaching g listed ne = record { parks = parks g listed ne; reach = reaches_given t.cell g others freed_p shown_freed.shows listed }
+  reaching = reaching_of n k h s m p t locked placed shown sizes few cell_in party_in waited
 
-  -- the share or the drain that is taken away was given on
   gives_first : (g : Given) → keeps_in p t.cell t.want m ≡ false → g ≢ given.Nobody → MayHand t.cell (given_up (row_of s p).waiting h) freed_p g → GivesFirst p t g m
-  gives_first g dropped ne may = by (wait_of p m.waits) refl (shown.shows.row p)
-    where
-      listed : IsListed t.cell freed_p g
-      listed = listed_hand t.cell (given_up (row_of s p).waiting h) freed_p g may
+  gives_first = gives_first_of n k h s m p t locked placed shown sizes few cell_in party_in waited
 
-      idle : IsIdle (given_up (row_of s p).waiting h)
-      idle = idle_at t.cell (given_up (row_of s p).waiting h) freed_p g may ne
-
-      not_idle : given_up (row_of s p).waiting h ≡ h → ⊥
-      not_idle e =
-          let none : IsIdle h = subst (λ (z : Holders). IsIdle z) e idle in
-          not_listed t.cell freed_p g (nobody_freed (locked.fits.idle none.locked none.readers)) listed ne
-
-      by : (o : Option Wait) → wait_of p m.waits ≡ o → row_of s p ≡ wait_row o → GivesFirst p t g m
-      by None f r = absurd (not_idle (ap (λ (z : Row). given_up z.waiting h) r))
-      by (Some w) f r =
-          record {
-            reaching = reaching g listed ne;
-            own = ap has_own f ∙ elim (own_or_not w.way w.woken h) [ inl e ↦ e | inr e ↦ absurd (not_idle (ap (λ (z : Row). given_up z.waiting h) r ∙ e)) ];
-            dropped = dropped;
-            free = free;
-          }
-        where
-          here : (row_of s p).cell ≡ t.cell
-          here = ap (λ (z : Row). z.cell) r ∙ waited w f
-
-          held_freed : Holds k (given_up (row_of s p).waiting h) freed_p t.cell
-          held_freed = gives_up_freed k h s t.cell p cell_in sizes party_in here locked.fits
-
-          row : row_of s p ≡ record { waiting = (row_of s p).waiting; cell = t.cell }
-          row = λ i. record { waiting = (row_of s p).waiting; cell = here i }
-
-          there : left (row_of s p).waiting t.cell p s ≡ freed_p
-          there = ap (λ d. left (row_of s p).waiting d p s) (sym here)
-
-          free : readers_in t.cell others m + writers_in t.cell others m + count (drains_on t.cell) others ≡ 0
-          free =
-              let none = idle.readers in
-              let shares = held_freed.shared in
-              let claims = held_freed.locked idle.locked in
-              let shares_are = shares_shown t.cell others freed_p shown_freed.single shown_freed.shows in
-              let claims_are = claims_shown t.cell others freed_p shown_freed.single shown_freed.shows in
-              let reads = subst (λ z. open_reads (given_up (row_of s p).waiting h) z t.cell ≡ open_reads h s t.cell) there (given_up_reads (row_of s p).waiting h s t.cell p party_in row) ∙ locked.reads_are in
-              let writes = closed in
-              omega (arith, none, shares, claims, shares_are, claims_are, reads, writes)
-            where
-              closed : writes_in t.cell m ≡ 0
-              closed = elim (cases_lt 0 (writes_in t.cell m)) [
-                | inr le ↦ omega (arith, le)
-                | inl lt ↦ (let open_freed = (left_writes (row_of s p).waiting k h s t.cell p party_in row locked.fits (locked.write_is lt)).locked in let unlocked = idle.locked in absurd (cc))
-              ]
+  clear_none : (g : Given) → IsListed t.cell freed_p g → IsClear k who ask h s g → g ≡ given.Nobody
+  clear_none = clear_none_of n k h s m p t locked placed shown sizes few cell_in party_in waited ask
 
   -- ---- what is answered
 
@@ -183,28 +126,23 @@ module _ (n : ℕ) (k : LockerKind) (h : Holders) (s : Parking) (m : Standing) (
 
   -- what was judged is the answer that is due, where these calls of others wait
   abbrev IsDue : Begun → List Wait → Bool → Type 0
-  IsDue b ws chosen = answer_taken x.kind t (taken_of b) ≡ answer_of_attempt x t.want (meets p t.cell t.want ws m) chosen
+  IsDue b ws chosen = answer_taken x.kind t (content_tried t.cell t.want m) (taken_of b) ≡ answer_of_attempt x t.want (meets p t.cell t.want ws m) chosen
 
   -- it is admitted
-  admitted_is : (e : Begun) → e ≡ begun_of who ask h.phase (got (nature_of ask h.phase) h.phase) → answer_taken x.kind t (taken_of (begun_settled ask o h.phase e)) ≡ answer_admitted x.kind (tolerance_of x) t.cell m.registry.is_open t.want y
+  admitted_is : (e : Begun) → e ≡ begun_of who ask h.phase (got (nature_of ask h.phase) h.phase) → answer_taken x.kind t (content_tried t.cell t.want m) (taken_of (begun_settled ask o h.phase e)) ≡ answer_admitted x.kind (tolerance_of x) t.cell m.registry.is_open t.want y
   admitted_is e is =
-      ap (λ z. answer_taken x.kind t (taken_of (begun_settled ask o h.phase z))) is
-      ∙ (λ i. answer_taken x.kind t (taken_of (begun_settled ask o (locked.phase_is i) (begun_of who ask (locked.phase_is i) (got (nature_of ask (locked.phase_is i)) (locked.phase_is i))))))
-      ∙ admitted_due x t.cell p m.registry y t.want asks
+      ap (λ z. answer_taken x.kind t (content_tried t.cell t.want m) (taken_of (begun_settled ask o h.phase z))) is
+      ∙ ap (λ q. answer_taken x.kind t (content_tried t.cell t.want m) (taken_of (begun_met who o q ask))) locked.phase_is
+      ∙ admitted_due x t.cell p m.registry y t.want ask asked
 
-  of_admitted : (e : Begun) (g : Given) → e ≡ begun_of who ask h.phase (got (nature_of ask h.phase) h.phase) → IsOf t.want g (taken_of (begun_settled ask o h.phase e))
-  of_admitted e g is =
-      subst (λ z. IsOf t.want g (taken_of (begun_settled ask o h.phase z))) (sym is)
-      (subst (λ z. IsOf t.want g (taken_of (begun_settled ask o z (begun_of who ask z (got (nature_of ask z) z))))) (sym locked.phase_is) (admitted_of x t.cell p m.registry y t.want asks g))
-
-  module _ (calm : is_cyclic (want_of t.want) p (runner_of (run_in t.cell m.sections)) ≡ false) where
-    own_no : (initializes t.want && generates_for p (find (runs_in t.cell) m.sections)) ≡ false
-    own_no = sym (own_same t.want (generates_for p (find (runs_in t.cell) m.sections)) (runner_of (run_in t.cell m.sections)) p asks (runs_same p t.cell m.sections)) ∙ calm
+  module _ (calm : is_cyclic ask.want p (runner_of (run_in t.cell m.sections)) ≡ false) where
+    own_no : (initializes x.kind t.want && generates_for p (find (runs_in t.cell) m.sections)) ≡ false
+    own_no = sym (own_same x t.want ask asked (generates_for p (find (runs_in t.cell) m.sections))) ∙ ap (λ b. run_sought ask.want && b) (sym (runs_same p t.cell m.sections)) ∙ calm
 
     kept_due : (e : Begun) (g : Given) (ws : List Wait) → IsKept k who ask h s e g → IsDue (begun_settled ask o h.phase e) ws false
     kept_due e g ws kept =
         admitted_is e kept.begins
-        ∙ sym (turned_no (initializes t.want && generates_for p (find (runs_in t.cell) m.sections)) (keeps_in p t.cell t.want m) (is_barred wanted (holding_in t.cell ws m)) answer.Cyclic (answer_barred x.place (way_parked t.want (drains_by wanted (holding_in t.cell ws m) false))) (answer_admitted x.kind (tolerance_of x) t.cell m.registry.is_open t.want y) own_no (sym kept_is ∙ kept.kept))
+        ∙ sym (turned_no (initializes x.kind t.want && generates_for p (find (runs_in t.cell) m.sections)) (keeps_in p t.cell t.want m) (is_barred wanted (holding_in t.cell ws m)) answer.Cyclic (answer_barred (is_fast t.want) x.place (way_parked x.kind t.want (drains_by wanted (holding_in t.cell ws m) false))) (answer_admitted x.kind (tolerance_of x) t.cell m.registry.is_open t.want y) own_no (sym kept_is ∙ kept.kept))
 
     judged_due : (e : Begun) (g : Given) → (j : IsJudged k who ask h s e g) → IsDue (begun_settled ask o h.phase e) (given_on t.cell g others) (waits_by e)
     judged_due e g j = by (bars j.mid (nature_of ask h.phase)) refl j.judged
@@ -222,68 +160,193 @@ module _ (n : ℕ) (k : LockerKind) (h : Holders) (s : Parking) (m : Standing) (
         locks = locked_same k j.mid j.rows t.cell (reads_in t.cell m) (writes_in t.cell m) (given_on t.cell g others) j.fits (j.reads ∙ locked.reads_are) (λ lt. j.writes (locked.write_is lt)) (λ w. locked.write_was (j.only w)) shown_mid.single shown_mid.shows
 
         due_by : (chosen b : Bool) → is_barred wanted (holding_in t.cell (given_on t.cell g others) m) ≡ b
-            → answer_of_attempt x t.want (meets p t.cell t.want (given_on t.cell g others) m) chosen ≡ (if b then answer_barred x.place (way_parked t.want (drains_by wanted (holding_in t.cell (given_on t.cell g others) m) chosen)) else answer_admitted x.kind (tolerance_of x) t.cell m.registry.is_open t.want y)
+            → answer_of_attempt x t.want (meets p t.cell t.want (given_on t.cell g others) m) chosen ≡ (if b then answer_barred (is_fast t.want) x.place (way_parked x.kind t.want (drains_by wanted (holding_in t.cell (given_on t.cell g others) m) chosen)) else answer_admitted x.kind (tolerance_of x) t.cell m.registry.is_open t.want y)
         due_by chosen b f =
-            judged_no (initializes t.want && generates_for p (find (runs_in t.cell) m.sections)) (keeps_in p t.cell t.want m) (is_barred wanted (holding_in t.cell (given_on t.cell g others) m)) b answer.Cyclic (answer_barred x.place (way_parked t.want (drains_by wanted (holding_in t.cell (given_on t.cell g others) m) chosen))) (answer_admitted x.kind (tolerance_of x) t.cell m.registry.is_open t.want y) own_no (sym kept_is ∙ j.dropped) f
+            judged_no (initializes x.kind t.want && generates_for p (find (runs_in t.cell) m.sections)) (keeps_in p t.cell t.want m) (is_barred wanted (holding_in t.cell (given_on t.cell g others) m)) b answer.Cyclic (answer_barred (is_fast t.want) x.place (way_parked x.kind t.want (drains_by wanted (holding_in t.cell (given_on t.cell g others) m) chosen))) (answer_admitted x.kind (tolerance_of x) t.cell m.registry.is_open t.want y) own_no (sym kept_is ∙ j.dropped) f
 
-        by : (b : Bool) → bars j.mid (nature_of ask h.phase) ≡ b → MatchBool b (IsWaiting k who ask h s j.fresh j.mid e) (e ≡ begun_of who ask h.phase (got (nature_of ask h.phase) h.phase)) → IsDue (begun_settled ask o h.phase e) (given_on t.cell g others) (waits_by e)
-        by true f w = subst (λ z. IsDue (begun_settled ask o h.phase z) (given_on t.cell g others) (waits_by z)) (sym w.begins) (ap answer.Waiting way ∙ sym (due_by (is_drain w.way) true (sym barred_is ∙ f)))
+        -- it is barred
+        barred : (f : Bool) → ask.fast ≡ f → is_barred wanted (holding_in t.cell (given_on t.cell g others) m) ≡ true → MatchBool f (e ≡ begun.Missed) (IsWaiting k who ask h s j.fresh j.mid e) → IsDue (begun_settled ask o h.phase e) (given_on t.cell g others) (waits_by e)
+        barred true f is w =
+            subst (λ z. IsDue (begun_settled ask o h.phase z) (given_on t.cell g others) (waits_by z)) (sym w)
+            (misses_due x t.want (way_parked x.kind t.want (drains_by wanted (holding_in t.cell (given_on t.cell g others) m) false)) (sym asked.fast ∙ f) ∙ sym (due_by false true is))
+        barred false f is w = subst (λ z. IsDue (begun_settled ask o h.phase z) (given_on t.cell g others) (waits_by z)) (sym w.begins) (way ∙ sym (due_by (is_drain w.way) true is))
           where
-            may : MayWait (kind_at x.place) j.fresh (wakes_as t.want) wanted j.mid w.way
-            may = subst (λ z. MayWait (kind_at x.place) j.fresh z wanted j.mid w.way) (wakes_same x t.want asks) (subst (λ z. MayWait (kind_at x.place) j.fresh (wake_of ask.want) z j.mid w.way) wanted_is (subst (λ z. MayWait z j.fresh (wake_of ask.want) (nature_of ask h.phase) j.mid w.way) placed w.may))
+            may : MayWait (kind_at x.place) j.fresh (wakes_as x.kind t.want) wanted j.mid w.way
+            may = subst (λ z. MayWait (kind_at x.place) j.fresh z wanted j.mid w.way) (wakes_same x t.want ask asked) (subst (λ z. MayWait (kind_at x.place) j.fresh (wake_of ask.want) z j.mid w.way) wanted_is (subst (λ z. MayWait z j.fresh (wake_of ask.want) (nature_of ask h.phase) j.mid w.way) placed w.may))
 
-            way : w.way ≡ way_at x.place (way_parked t.want (drains_by wanted (holding_in t.cell (given_on t.cell g others) m) (is_drain w.way)))
-            way = way_due x.place t.want wanted (holding_in t.cell (given_on t.cell g others) m) j.fresh j.mid locks (sym barred_is ∙ f) w.way may
+            way : answer.Waiting w.way ≡ answer_barred (is_fast t.want) x.place (way_parked x.kind t.want (drains_by wanted (holding_in t.cell (given_on t.cell g others) m) (is_drain w.way)))
+            way = waits_due x t.want wanted (holding_in t.cell (given_on t.cell g others) m) j.fresh j.mid (sym asked.fast ∙ f) locks is w.way may
+
+        by : (b : Bool) → bars j.mid (nature_of ask h.phase) ≡ b → MatchBool b (IsBarred k who ask h s j.fresh j.mid e) (e ≡ begun_of who ask h.phase (got (nature_of ask h.phase) h.phase)) → IsDue (begun_settled ask o h.phase e) (given_on t.cell g others) (waits_by e)
+        by true f w = barred ask.fast refl (sym barred_is ∙ f) w
         by false f w = admitted_is e w ∙ sym (due_by (waits_by e) false (sym barred_is ∙ f))
 
+    -- it waits, is missed or is admitted
+    abbrev Sorted : Begun → Type 0
+    Sorted e = (Waits e ⊎ Misses ask e) ⊎ (e ≡ begun_of who ask h.phase (got (nature_of ask h.phase) h.phase))
+
+    sort : (e : Begun) (first : Given) → IsKept k who ask h s e first ⊎ IsJudged k who ask h s e first → Sorted e
+    sort e first (inl kept) = inr kept.begins
+    sort e first (inr j) = by (bars j.mid (nature_of ask h.phase)) j.judged
+      where
+        by : (b : Bool) → MatchBool b (IsBarred k who ask h s j.fresh j.mid e) (e ≡ begun_of who ask h.phase (got (nature_of ask h.phase) h.phase)) → Sorted e
+        by true w = barred ask.fast refl w
+          where
+            barred : (f : Bool) → ask.fast ≡ f → MatchBool f (e ≡ begun.Missed) (IsWaiting k who ask h s j.fresh j.mid e) → Sorted e
+            barred true f w = inl (inr (record { quick = f; begins = w }))
+            barred false f w = inl (inl (record { way = w.way; begins = w.begins }))
+        by false w = inr w
+
+    -- what a call may give that does not wait
+    quiet_missed : (first : Given) (e : Begun) → ask.fast ≡ true → IsKept k who ask h s e first ⊎ IsJudged k who ask h s e first → first ≡ given.Nobody
+    quiet_missed first e fast (inl kept) = kept.quiet
+    quiet_missed first e fast (inr j) = by first refl
+      where
+        some : first ≢ given.Nobody → ⊥
+        some ne =
+            let gift = gives_first first (sym kept_is ∙ j.dropped) ne j.may in
+            let own = gift.own in
+            let none : false ≡ true = sym (ap has_own (awake (sym asked.fast ∙ fast))) ∙ own in
+            cc
+
+        by : (z : Given) → first ≡ z → first ≡ given.Nobody
+        by given.Nobody f = f
+        by (given.Writer q) f = absurd (some (λ z. (let a : given.Writer q ≡ given.Nobody = sym f ∙ z in cc)))
+        by given.Readers f = absurd (some (λ z. (let a : given.Readers ≡ given.Nobody = sym f ∙ z in cc)))
+
     -- what is got is of the kind that is wanted
-    of_entered : (e : Begun) (first g : Given) → IsKept k who ask h s e first ⊎ IsJudged k who ask h s e first → IsOf t.want g (taken_of (begun_settled ask o h.phase e))
-    of_entered e first g (inl kept) = of_admitted e g kept.begins
-    of_entered e first g (inr j) = by (bars j.mid (nature_of ask h.phase)) j.judged
+    of_fits : (z : Begun) (g : Given) → FitsSought ask.want z → (writes_begun z ≡ 1 → g ≡ given.Nobody) → IsOf p t g m (taken_of z)
+    of_fits (begun.Wait way) g fits none = absurd fits
+    of_fits begun.Missed g fits none = absurd fits
+    of_fits begun.Cyclic g fits none = absurd fits
+    of_fits (begun.Nothing q) g fits none = by t.want asked.sought
       where
-        by : (b : Bool) → MatchBool b (IsWaiting k who ask h s j.fresh j.mid e) (e ≡ begun_of who ask h.phase (got (nature_of ask h.phase) h.phase)) → IsOf t.want g (taken_of (begun_settled ask o h.phase e))
-        by true w = subst (λ z. IsOf t.want g (taken_of (begun_settled ask o h.phase z))) (sym w.begins) tt
-        by false w = of_admitted e g w
+        by : (w : Want) → seeks x.kind w ≡ Some ask.want → IsUnlocked x.kind w
+        by (Calls j) e = form_none (form_of x.kind j) ask.want fits (ap (seeks_as (form_of x.kind j)) (sym e) ∙ sought_as x.kind j)
+        by Turns e = tt
+    of_fits (begun.Read l q) g fits none = by t.want asked.sought
+      where
+        by : (w : Want) → seeks x.kind w ≡ Some ask.want → IsCallOf x.kind w is_to_read
+        by (Calls j) e = form_read (form_of x.kind j) ask.want fits (ap (seeks_as (form_of x.kind j)) (sym e) ∙ sought_as x.kind j)
+        by Turns e = let f : ask.want ≡ want.Finalize = cc in let a : false ≡ true = ap gets_read (sym f) ∙ fits in absurd (cc)
+    of_fits (begun.Write l q) g fits none =
+        (by t.want asked.sought, ap wants_to_write (sym wanted_is ∙ write_wanted ask.want (shall_init ask.tol h.phase) (has (number h.phase) initialized) fits), none refl)
+      where
+        by : (w : Want) → seeks x.kind w ≡ Some ask.want → IsCallOf x.kind w takes_write
+        by (Calls j) e = form_write (form_of x.kind j) ask.want fits (ap (seeks_as (form_of x.kind j)) (sym e) ∙ sought_as x.kind j)
+        by Turns e = let f : ask.want ≡ want.Finalize = cc in let a : false ≡ true = ap gets_write (sym f) ∙ fits in absurd (cc)
+    of_fits (begun.Run z) g fits none = tt
+    of_fits (begun.Final z) g fits none = tt
 
-    -- what gives then is a read that is declined
+    -- a turn may wait
+    slow_turn : t.want ≡ Turns → is_quick x t.want ≡ true → ⊥
+    slow_turn turns quick = let f : false ≡ true = sym (shared_turn turns) ∙ sym (ap (λ w. is_fast w || is_owned x.place) turns) ∙ quick in cc
+
+    of_settled : (b : Begun) (g : Given) (h' : Holders) → IsSettled k who ask o h s b g h' → IsOf p t g m (taken_of b)
+    of_settled b g h' st = subst (λ z. IsOf p t g m (taken_of z)) (sym st.begins) (by (sort st.entered st.first st.how))
+      where
+        -- what is not declined gave as it entered
+        entered_gave : is_run st.entered ≡ false → g ≡ st.first
+        entered_gave e = elim st.gave [
+          | inl f ↦ f
+          | inr d ↦ (let f : false ≡ true = sym e ∙ d.ran in absurd (cc))
+        ]
+
+        listed : IsListed t.cell freed_p g
+        listed = by st.how st.gave
+          where
+            first_listed : IsKept k who ask h s st.entered st.first ⊎ IsJudged k who ask h s st.entered st.first → IsListed t.cell freed_p st.first
+            first_listed (inl kept) = subst (λ z. IsListed t.cell freed_p z) (sym kept.quiet) tt
+            first_listed (inr j) = listed_hand t.cell (given_up (row_of s p).waiting h) freed_p st.first j.may
+
+            by : IsKept k who ask h s st.entered st.first ⊎ IsJudged k who ask h s st.entered st.first → (g ≡ st.first) ⊎ IsDeclined k who ask o h s st.entered st.first g → IsListed t.cell freed_p g
+            by how (inl e) = subst (λ z. IsListed t.cell freed_p z) (sym e) (first_listed how)
+            by how (inr d) = declined_listed ask.want d.may
+              where
+                declined_listed : (w : Sought) → MayDecline k who ask o h s w g → IsListed t.cell freed_p g
+                declined_listed want.Init may = may
+                declined_listed want.Read may = listed_share t.cell freed_p g may
+                declined_listed want.Write may = absurd may
+                declined_listed want.ReadOnly may = absurd may
+                declined_listed want.WriteOnly may = absurd may
+                declined_listed want.Finalize may = absurd may
+
+        by : Sorted st.entered → IsOf p t g m (taken_of (begun_settled ask o h.phase st.entered))
+        by (inl (inl w)) = subst (λ z. IsOf p t g m (taken_of (begun_settled ask o h.phase z))) (sym w.begins) tt
+        by (inl (inr w)) =
+            subst (λ z. IsOf p t g m (taken_of (begun_settled ask o h.phase z))) (sym w.begins)
+            (entered_gave (ap is_run w.begins) ∙ quiet_missed st.first st.entered w.quick st.how, awake (sym asked.fast ∙ w.quick), λ turns. slow_turn turns (sym asked.fast ∙ w.quick))
+        by (inr e) = of_fits (begun_settled ask o h.phase st.entered) g (subst (λ z. FitsSought ask.want (begun_settled ask o h.phase z)) (sym e) (met_fits who o h.phase ask)) (λ f. clear_none g listed (st.alone (ap writes_begun st.begins ∙ f)))
+
+    -- what gives then is a call that is declined
     gives_last : (e : Begun) (first g : Given) → IsKept k who ask h s e first ⊎ IsJudged k who ask h s e first → IsDeclined k who ask o h s e first g → GivesLast p t (taken_of (begun_settled ask o h.phase e)) g m
-    gives_last e first given.Nobody j d = tt
-    gives_last e first (given.Writer q) j d = absurd d.may
-    gives_last e first given.Readers j d = record { reaching = reaching given.Readers (listed_share t.cell freed_p given.Readers d.may) (λ z. (let f : given.Readers ≡ given.Nobody = z in cc)); declined = is_declined_then; reads = is_read_lock e d.ran }
+    gives_last e first g j d = subst (λ z. GivesLast p t (taken_of z) g m) (sym (declined_then e d.ran)) (subst (λ w. GivesLast p t (taken_of (begun_declined w)) g m) refl (by ask.want refl d.may))
       where
-        admitted : IsKept k who ask h s e first ⊎ IsJudged k who ask h s e first → e ≡ begun_of who ask h.phase (got (nature_of ask h.phase) h.phase)
-        admitted (inl kept) = kept.begins
-        admitted (inr j) = by (bars j.mid (nature_of ask h.phase)) j.judged
+        declined_then : (z : Begun) → is_run z ≡ true → begun_settled ask o h.phase z ≡ begun_declined ask.want
+        declined_then (begun.Run z) f = ap (λ c. if c then begun_declined ask.want else begun.Run (section_by z.who z.want (stays_asked o h.phase) z.ticket)) d.refuses
+        declined_then (begun.Wait way) f = absurd (cc)
+        declined_then begun.Missed f = absurd (cc)
+        declined_then begun.Cyclic f = absurd (cc)
+        declined_then (begun.Nothing z) f = absurd (cc)
+        declined_then (begun.Read l z) f = absurd (cc)
+        declined_then (begun.Write l z) f = absurd (cc)
+        declined_then (begun.Final z) f = absurd (cc)
+
+        admitted : Sorted e → e ≡ begun_of who ask h.phase (got (nature_of ask h.phase) h.phase)
+        admitted (inl (inl w)) = absurd (let f : false ≡ true = sym (ap is_run w.begins) ∙ d.ran in cc)
+        admitted (inl (inr w)) = absurd (let f : false ≡ true = sym (ap is_run w.begins) ∙ d.ran in cc)
+        admitted (inr f) = f
+
+        run_asked : asks_run ask h.phase ≡ true
+        run_asked = ran_asked who ask h.phase (nature_of ask h.phase) (ap is_run (sym (admitted (sort e first j))) ∙ d.ran)
+
+        wrote : wants_to_write wanted ≡ true
+        wrote = ap wants_to_write (sym wanted_is ∙ run_writes ask.want (shall_init ask.tol h.phase) (has (number h.phase) initialized) run_asked)
+
+        -- it is declined
+        lacks : is_accessible x.kind (content_tried t.cell t.want m).phase ≡ false
+        lacks =
+            ap (λ (z : Content). is_accessible x.kind z.phase) (asked_left x t.want m.registry.is_open y)
+            ∙ ap (λ b. is_accessible x.kind (if b then flags_refused else y.phase)) (sym (declines_same x t.want ask asked m.registry y.phase) ∙ (λ i. asks_run ask (sym locked.phase_is i) && is_refused ask.tol.leak o (sym locked.phase_is i)) ∙ (λ i. run_asked i && d.refuses i))
+
+        -- nothing stands beside its lock
+        free : stand_on t.cell (answered p t.cell given.Nobody (changes_at t.cell t.want m) m) ≡ 0
+        free =
+            let shares_are = shares_shown t.cell others freed_p shown_freed.single shown_freed.shows in
+            let claims_are = claims_shown t.cell others freed_p shown_freed.single shown_freed.shows in
+            let no_shares = d.clear.shares_none in
+            let no_claims = d.clear.claims_none in
+            let reads = locked.reads_are in
+            let no_reads = d.clear.reads_none in
+            let writes = unwritten in
+            omega (arith, shares_are, claims_are, no_shares, no_claims, reads, no_reads, writes)
           where
-            by : (b : Bool) → MatchBool b (IsWaiting k who ask h s j.fresh j.mid e) (e ≡ begun_of who ask h.phase (got (nature_of ask h.phase) h.phase)) → e ≡ begun_of who ask h.phase (got (nature_of ask h.phase) h.phase)
-            by true w = absurd (let f : false ≡ true = sym (ap is_run w.begins) ∙ d.ran in cc)
-            by false w = w
+            unwritten : writes_in t.cell m ≡ 0
+            unwritten = elim (cases_lt 0 (writes_in t.cell m)) [
+              | inr le ↦ omega (arith, le)
+              | inl lt ↦ absurd (d.clear.closed (locked.write_is lt))
+            ]
 
-        is_read_lock : (z : Begun) → is_run z ≡ true → is_read (taken_of (begun_settled ask o h.phase z)) ≡ true
-        is_read_lock (begun.Run z) f = ap (λ c. is_read (taken_of (if c then begun_declined ask.want else begun.Run (section_by z.who z.want (stays_asked o h.phase) z.ticket)))) d.refuses ∙ ap (λ c. is_read (taken_of (begun_declined c))) d.reads
-        is_read_lock (begun.Wait way) f = absurd (cc)
-        is_read_lock begun.Missed f = absurd (cc)
-        is_read_lock begun.Cyclic f = absurd (cc)
-        is_read_lock (begun.Nothing z) f = absurd (cc)
-        is_read_lock (begun.Read l z) f = absurd (cc)
-        is_read_lock (begun.Write l z) f = absurd (cc)
-        is_read_lock (begun.Final z) f = absurd (cc)
+        gift : (z : Given) → IsListed t.cell freed_p z → z ≢ given.Nobody → IsGift t.cell (answered p t.cell given.Nobody (changes_at t.cell t.want m) m) z
+        gift z listed ne = record { parks = (reaching z listed ne).parks; reach = (reaching z listed ne).reach; free = free }
 
-        asked : asks_run ask h.phase ≡ true
-        asked = ran_asked who ask h.phase (nature_of ask h.phase) (ap is_run (sym (admitted j)) ∙ d.ran)
+        given_back : (z : Given) → IsListed t.cell freed_p z → MayGive t.cell (answered p t.cell given.Nobody (changes_at t.cell t.want m) m) z
+        given_back given.Nobody listed = tt
+        given_back (given.Writer q) listed = gift (given.Writer q) listed (λ z. (let f : given.Writer q ≡ given.Nobody = z in cc))
+        given_back given.Readers listed = gift given.Readers listed (λ z. (let f : given.Readers ≡ given.Nobody = z in cc))
 
-        both : declined x t.want m.registry.is_open y.phase ≡ true
-        both = sym (declines_same x t.want m.registry y.phase asks) ∙ (λ i. asks_run ask (sym locked.phase_is i) && is_refused ask.tol.leak o (sym locked.phase_is i)) ∙ (λ i. asked i && d.refuses i)
+        given_down : (z : Given) → MayShare t.cell freed_p z → GivesDown p t z m
+        given_down given.Nobody may = tt
+        given_down (given.Writer q) may = absurd may
+        given_down given.Readers may = record { reaching = reaching given.Readers (listed_share t.cell freed_p given.Readers may) (λ z. (let f : given.Readers ≡ given.Nobody = z in cc)); wrote = wrote; lacks = lacks }
 
-        is_declined_then : declines_in t.cell t.want m ≡ true
-        is_declined_then = by t.want d.reads both
-          where
-            by : (w : Want) → want_of w ≡ want.Read → declined x w m.registry.is_open y.phase ≡ true → declines_in t.cell w m ≡ true
-            by (Calls call.Read) e f = f
-            by (Calls call.Phase) e f = absurd (cc)
-            by (Calls call.Write) e f = absurd (cc)
-            by (Calls call.TryRead) e f = absurd (cc)
-            by Turns e f = absurd (cc)
+        by : (w : Sought) → ask.want ≡ w → MayDecline k who ask o h s w g → GivesLast p t (taken_of (begun_declined w)) g m
+        by want.Init f may = given_back g may
+        by want.Read f may = given_down g may
+        by want.Write f may = absurd may
+        by want.ReadOnly f may = absurd may
+        by want.WriteOnly f may = absurd may
+        by want.Finalize f may = absurd may
 
     -- the answer is due, and the gift allowed
     pub met : (b : Begun) (g : Given) (h' : Holders) → IsSettled k who ask o h s b g h' → IsMet p t (taken_of b) g m
@@ -295,8 +358,8 @@ module _ (n : ℕ) (k : LockerKind) (h : Holders) (s : Parking) (m : Standing) (
         gives_then : IsKept k who ask h s st.entered st.first ⊎ IsJudged k who ask h s st.entered st.first → IsDeclined k who ask o h s st.entered st.first g → GivesLast p t (taken_of b) g m
         gives_then j d = subst (λ z. GivesLast p t (taken_of z) g m) (sym st.begins) (gives_last st.entered st.first g j d)
 
-        wanted_of : IsOf t.want g (taken_of b)
-        wanted_of = subst (λ z. IsOf t.want g (taken_of z)) (sym st.begins) (of_entered st.entered st.first g st.how)
+        wanted_of : IsOf p t g m (taken_of b)
+        wanted_of = of_settled b g h' st
 
         by : IsKept k who ask h s st.entered st.first ⊎ IsJudged k who ask h s st.entered st.first → (g ≡ st.first) ⊎ IsDeclined k who ask o h s st.entered st.first g → IsMet p t (taken_of b) g m
         by (inl kept) (inl e) =
@@ -304,7 +367,7 @@ module _ (n : ℕ) (k : LockerKind) (h : Holders) (s : Parking) (m : Standing) (
               moment = Last;
               chosen = false;
               answered = subst (λ z. IsDue z others false) (sym st.begins) (kept_due st.entered st.first others kept);
-              gives = subst (λ z. GivesLast p t (taken_of b) z m) (sym (e ∙ kept.quiet)) tt;
+              gives = subst (λ z. GivesLast p t (taken_of b) z m) (sym (e ∙ kept.quiet)) (gives_none p t m (taken_of b));
               wanted = wanted_of;
             }
         by (inl kept) (inr d) =
@@ -329,17 +392,6 @@ module _ (n : ℕ) (k : LockerKind) (h : Holders) (s : Parking) (m : Standing) (
                 }
 
             at : (z : Given) → g ≡ z → IsMet p t (taken_of b) g m
-            at given.Nobody f = record { moment = Last; chosen = waits_by st.entered; answered = quiet_judged st.first (sym e ∙ f) j; gives = subst (λ z. GivesLast p t (taken_of b) z m) (sym f) tt; wanted = wanted_of }
+            at given.Nobody f = record { moment = Last; chosen = waits_by st.entered; answered = quiet_judged st.first (sym e ∙ f) j; gives = subst (λ z. GivesLast p t (taken_of b) z m) (sym f) (gives_none p t m (taken_of b)); wanted = wanted_of }
             at (given.Writer q) f = first (λ z. (let a : given.Writer q ≡ given.Nobody = sym f ∙ z in cc))
             at given.Readers f = first (λ z. (let a : given.Readers ≡ given.Nobody = sym f ∙ z in cc))
-
--- one that was turned back
-pub met_turned : (m : Standing) (p : ℕ) (t : Target) → t.want ≢ Calls call.Phase → is_cyclic (want_of t.want) p (runner_of (run_in t.cell m.sections)) ≡ true → IsMet p t taken.Cyclic given.Nobody m
-met_turned m p t asks turned =
-    record {
-      moment = Last;
-      chosen = false;
-      answered = sym (turned_so (initializes t.want && generates_for p (find (runs_in t.cell) m.sections)) answer.Cyclic _ (sym (own_same t.want (generates_for p (find (runs_in t.cell) m.sections)) (runner_of (run_in t.cell m.sections)) p asks (runs_same p t.cell m.sections)) ∙ turned));
-      gives = tt;
-      wanted = refl;
-    }

@@ -10,7 +10,7 @@ use Rattle.phase_locker.specs.Rows.{Rows as Parking}
 use Rattle.phase_locker.specs.Fits.{IsWriteOpen}
 use Rattle.phase_seq.specs.declared.section.Begun.{Begun}
 use Rattle.phase_seq.specs.declared.section.Begun.TheVariants as begun
-use Rattle.phase_seq.specs.Stands.{BegunStands, opens_write}
+use Rattle.phase_seq.specs.Stands.{BegunStands, begins_write}
 use Rattle.schedule_rules.specs.Sections.{Section}
 use Rattle.phase_moves.specs.declared.rows.Rows.{Rows}
 use Rattle.phase_moves.specs.Standing.{Standing, opened}
@@ -23,7 +23,7 @@ pub no_more : (j : ℕ) → (0 < j → ⊥) → j ≡ 0
 no_more j f = elim (cases_lt 0 j) [ inl lt ↦ absurd (f lt) | inr le ↦ omega (arith, le) ]
 
 -- what opens a write hold leaves it open
-pub opens : (who : Who) (b : Begun) (running : Option ℕ) (h : Holders) (s : Parking) → opens_write b ≡ true → BegunStands who b running h s → IsWriteOpen h s who.cell
+pub opens : (who : Who) (b : Begun) (running : Option ℕ) (h : Holders) (s : Parking) → begins_write b ≡ true → BegunStands who b running h s → IsWriteOpen h s who.cell
 opens who (begun.Wait way) running h s e k = absurd (cc)
 opens who begun.Missed running h s e k = absurd (cc)
 opens who begun.Cyclic running h s e k = absurd (cc)
@@ -34,7 +34,7 @@ opens who (begun.Run o) running h s e k = subst (λ (w : Who). IsWriteOpen h s w
 opens who (begun.Final o) running h s e k = subst (λ (w : Who). IsWriteOpen h s w.cell) k.1 k.2.locked
 
 -- as many are opened as this says
-pub as_many : (b : Begun) (o : Bool) → opens_write b ≡ o → writes_begun b ≡ (if o then 1 else 0)
+pub as_many : (b : Begun) (o : Bool) → begins_write b ≡ o → writes_begun b ≡ (if o then 1 else 0)
 as_many (begun.Wait way) o e = ap (λ x. if x then 1 else 0) e
 as_many begun.Missed o e = ap (λ x. if x then 1 else 0) e
 as_many begun.Cyclic o e = ap (λ x. if x then 1 else 0) e
@@ -44,7 +44,7 @@ as_many (begun.Write t q) o e = ap (λ x. if x then 1 else 0) e
 as_many (begun.Run x) o e = ap (λ x. if x then 1 else 0) e
 as_many (begun.Final x) o e = ap (λ x. if x then 1 else 0) e
 
-pub wrote_all : (d : Bool) (b : Begun) → opens_write b ≡ true → wrote d b ≡ true
+pub wrote_all : (d : Bool) (b : Begun) → begins_write b ≡ true → wrote d b ≡ true
 wrote_all d (begun.Wait way) e = e
 wrote_all d begun.Missed e = e
 wrote_all d begun.Cyclic e = e

@@ -1,6 +1,6 @@
 -- The rows stand for what is open after an attempt.
 use Rattle.std.proofs.Common.{◌≡◌, ◌≢◌, ◌==◌, ◌<◌, ◌≤◌, ◌+◌, ◌∙◌, ℕ, List, ◌∷◌, length, set, get_or, ap, sym, subst, refl, arith, Bool, true, false, None, Some, inl, inr}
-use Rattle.std.specs.Prelude.{if◌then◌else◌}
+use Rattle.std.specs.Prelude.{if◌then◌else◌, ◌&&◌}
 use Rattle.std.proofs.lemmas.Bool.{cases_eq}
 use Rattle.std.specs.declared.option.Option.{Option}
 use Rattle.phase_bits.specs.declared.phase.Phase.{Phase}
@@ -24,11 +24,12 @@ use Rattle.phase_seq.specs.declared.ask.Ask.{Ask}
 use Rattle.phase_seq.specs.declared.section.Section.{Section as SeqSection}
 use Rattle.phase_seq.specs.declared.section.Begun.{Begun}
 use Rattle.phase_seq.specs.declared.section.Begun.TheVariants as begun
-use Rattle.phase_seq.specs.Begins.{is_cyclic, section_by, running_after}
+use Rattle.phase_seq.specs.Begins.{is_cyclic, runs as seq_runs, section_by, running_after}
 use Rattle.phase_seq.specs.Exactly.{is_turned_back, is_run}
 use Rattle.phase_seq.specs.Phases.{flags_refused}
-use Rattle.phase_seq.specs.Stands.{BegunStands, opens_write, reads_begun}
+use Rattle.phase_seq.specs.Stands.{BegunStands, begins_write, reads_begun}
 use Rattle.schedule_rules.specs.declared.plan.CellPlan.{CellPlan}
+use Rattle.schedule_rules.specs.Calls.{initializes}
 use Rattle.schedule_rules.specs.Kinds.{cell_at}
 use Rattle.schedule_rules.specs.Changes.{Content, Change, effect}
 use Rattle.schedule_rules.specs.History.{count}
@@ -47,11 +48,11 @@ use Rattle.phase_moves.specs.declared.rows.Rows.{Rows}
 use Rattle.phase_moves.specs.declared.rows.Taken.TheVariants as taken
 use Rattle.phase_moves.specs.Calls.{registry_for, registry_begun}
 use Rattle.phase_moves.specs.Standing.{Standing, Run, run_in, runner_of, reads_in, writes_in, changes_at, called, answered, waiting, guarded, opened, section_asked, writer_asked, registry_asked}
-use Rattle.phase_moves.specs.Stands.{Seen, seen_at, IsCell, IsExit, IsLocked, AreShown, party_row, open_run, run_as, stays_in, target_of, want_of}
+use Rattle.phase_moves.specs.Stands.{Seen, seen_at, IsCell, IsExit, IsLocked, AreShown, party_row, open_run, run_as, stays_in, target_of}
 use Rattle.phase_moves.specs.Tries.{IsAttempting, IsTook, ask_of, phase_asked, taken_of}
 use Rattle.phase_moves.specs.declared.rows.Taken.{Taken}
 use Rattle.phase_moves.specs.Meets.{IsMet}
-use Rattle.phase_moves.proofs.Asked.{declined, declines_same, asked_left, told_same, registry_still}
+use Rattle.phase_moves.proofs.Asked.{IsAsked, declined, declines_same, asked_left, is_asked, own_same, told_same, registry_still}
 use Rattle.phase_moves.proofs.Attempts.{IsBegun, Tells, declines, phase_left, phase_told, rows_begun, writes_begun, wrote}
 use Rattle.phase_moves.proofs.Calling.{answered_moved}
 use Rattle.phase_moves.proofs.Guards.{target_given, writes_here}
@@ -60,7 +61,7 @@ use Rattle.phase_moves.proofs.Lockers.{handed_writers}
 use Rattle.phase_moves.proofs.Moved.{IsMoved, HasParties, parties_set, moved}
 use Rattle.phase_moves.proofs.Opening.{guard_opened, seen_reader, seen_writer}
 use Rattle.phase_moves.proofs.Parking.{shown_called, shown_waiting, freed_writers, waiting_writers}
-use Rattle.phase_moves.proofs.Places.{read_at}
+use Rattle.phase_moves.proofs.Places.{itself_eq, read_at}
 use Rattle.phase_moves.proofs.Runs.{none_runs}
 use Rattle.phase_moves.proofs.OpeningRuns.{as_many, no_more, opens, section_opened, wrote_all}
 
@@ -68,7 +69,7 @@ module _ {L : Type 0} (held : L → Holders) (place : L → LockerKind) where
   module _ (m : Standing) (v v' : Rows L) (p : ℕ) (t : Target) (waits : Bool) (is : IsAttempting held place m v p t waits) (row row' : CellRow L) (row_is : row ≡ get_or v.cells.items t.cell row) (of of' : PartyRow) (of_is : of ≡ get_or v.parties.items p of)
       (cells : v'.cells.items ≡ set v.cells.items t.cell row') (guards : v'.guards ≡ v.guards) (parties : v'.parties.items ≡ set v.parties.items p of') (plan : row'.plan ≡ row.plan) (value : row'.value ≡ row.value) (owner : v'.exit.owner ≡ v.exit.owner) (turns : v'.exit.turns ≡ v.exit.turns)
       (b : Begun) (g : Given) (registry : v'.exit.registry ≡ registry_begun row.plan.kind t.cell (held row.seq.locker).phase b v.exit.registry) (running : row'.seq.running ≡ running_after b row.seq.running) (stands : BegunStands (record { cell = t.cell; party = p }) b row'.seq.running (held row'.seq.locker) v'.parks)
-      (op : Opens t.cell (reads_begun b) (opens_write b) (held row.seq.locker) v.parks (held row'.seq.locker) v'.parks) (k : Left held place t.cell row.seq.locker row'.seq.locker v.parks v'.parks) (cyc : is_turned_back b ≡ is_cyclic (want_of t.want) p row.seq.running) where
+      (op : Opens t.cell (reads_begun b) (begins_write b) (held row.seq.locker) v.parks (held row'.seq.locker) v'.parks) (k : Left held place t.cell row.seq.locker row'.seq.locker v.parks v'.parks) (ask : Ask) (ask_is : ask_of row.plan t.want ≡ Some ask) (cyc : is_turned_back b ≡ is_cyclic ask.want p row.seq.running) where
     abbrev pub who : Who
     who = record { cell = t.cell; party = p }
 
@@ -84,17 +85,18 @@ module _ {L : Type 0} (held : L → Holders) (place : L → LockerKind) where
     abbrev pub chs : List Change
     chs = changes_at t.cell t.want m
 
-    abbrev pub ask : Ask
-    ask = ask_of row.plan t.want
-
     abbrev pub reg : Option Registry
     reg = registry_for row.plan.kind v.exit.registry
 
     pub cell_here : IsCell held place (seen_at t.cell m) v.parks t.cell row
     cell_here = is.rests.stands.cell t.cell row (read_at v.cells.items t.cell row is.cell row_is)
 
-    pub cyclic_as : (b₁ : Begun) → b ≡ b₁ → is_turned_back b₁ ≡ is_cyclic (want_of t.want) p (runner_of (run_in t.cell m.sections))
-    cyclic_as b₁ e = ap is_turned_back (sym e) ∙ cyc ∙ ap (is_cyclic (want_of t.want) p) cell_here.runner
+    -- what is asked
+    pub asked_here : IsAsked x t.want ask
+    asked_here = is_asked x t.want ask (ap (λ (z : CellPlan). ask_of z t.want) (sym cell_here.planned) ∙ ask_is)
+
+    pub cyclic_as : (b₁ : Begun) → b ≡ b₁ → is_turned_back b₁ ≡ (initializes x.kind t.want && seq_runs p (runner_of (run_in t.cell m.sections)))
+    cyclic_as b₁ e = ap is_turned_back (sym e) ∙ cyc ∙ ap (is_cyclic ask.want p) cell_here.runner ∙ own_same x t.want ask asked_here (seq_runs p (runner_of (run_in t.cell m.sections)))
 
     pub of_here : of ≡ party_row m p
     of_here = let e : Some of ≡ Some (party_row m p) = sym (read_at v.parties.items p of is.party of_is) ∙ is.rests.stands.party p is.party in cc
@@ -111,8 +113,8 @@ module _ {L : Type 0} (held : L → Holders) (place : L → LockerKind) where
     -- it is declined where the rules say so
     d_is : declines ask reg (held row.seq.locker).phase ≡ declined x t.want m.registry.is_open y.phase
     d_is =
-        (λ i. declines (ask_of (cell_here.planned i) t.want) (registry_for (cell_here.planned i).kind (is.rests.stands.exit.registry_is i)) (cell_here.locked.phase_is i))
-        ∙ declines_same x t.want m.registry y.phase is.asks
+        (λ i. declines ask (registry_for (cell_here.planned i).kind (is.rests.stands.exit.registry_is i)) (cell_here.locked.phase_is i))
+        ∙ declines_same x t.want ask asked_here m.registry y.phase
 
     left_is : effect x chs y ≡ record { phase = if declined x t.want m.registry.is_open y.phase then flags_refused else y.phase; value = y.value }
     left_is = asked_left x t.want m.registry.is_open y
@@ -135,8 +137,6 @@ module _ {L : Type 0} (held : L → Holders) (place : L → LockerKind) where
       pub was_none : wrote (declines ask reg (held row.seq.locker).phase) b ≡ true → writes_in t.cell m ≡ 0
       was_none e = no_more (writes_in t.cell m) (λ lt. d.alone e (cell_here.locked.write_is lt))
 
-      -- ---- what is told
-
       abbrev d_of : Bool
       d_of = declines ask reg (held row.seq.locker).phase
 
@@ -152,9 +152,9 @@ module _ {L : Type 0} (held : L → Holders) (place : L → LockerKind) where
       -- what holds of the number of readers, and what it met
       module _ (few : (held row'.seq.locker).readers ≤ most_readers) (tell : (z : Taken) → taken_of b ≡ z → IsMet p t z g m) where
         locked_called : (q : ℕ) → (held row'.seq.locker).phase ≡ phase_of q → IsLocked (place row'.seq.locker) (held row'.seq.locker) v'.parks t.cell (reads_in t.cell m + reads_begun b) (writes_in t.cell m + writes_begun b) q
-        locked_called q phase = by (opens_write b) refl
+        locked_called q phase = by (begins_write b) refl
           where
-            by : (o : Bool) → opens_write b ≡ o → IsLocked (place row'.seq.locker) (held row'.seq.locker) v'.parks t.cell (reads_in t.cell m + reads_begun b) (writes_in t.cell m + writes_begun b) q
+            by : (o : Bool) → begins_write b ≡ o → IsLocked (place row'.seq.locker) (held row'.seq.locker) v'.parks t.cell (reads_in t.cell m + reads_begun b) (writes_in t.cell m + writes_begun b) q
             by false e =
                 let l = cell_here.locked in
                 let z : writes_begun b ≡ 0 = as_many b false e in
@@ -213,7 +213,7 @@ module _ {L : Type 0} (held : L → Holders) (place : L → LockerKind) where
         now = (answered p t.cell g chs m).content
 
         now_here : now t.cell ≡ effect x chs y
-        now_here = let e : (t.cell == t.cell) ≡ true = grind arith in rw e refl
+        now_here = let e = itself_eq t.cell in rw e refl
 
         now_beside : (c : ℕ) → c ≢ t.cell → now c ≡ m.content c
         now_beside c ne = let e : (t.cell == c) ≡ false = grind (arith, ne) in rw e refl
@@ -356,7 +356,7 @@ module _ {L : Type 0} (held : L → Holders) (place : L → LockerKind) where
             }
           where
             itself : wait_of p (waiting_m way).waits ≡ Some (record { party = p; cell = t.cell; want = t.want; way = way; woken = false })
-            itself = let q : (p == p) ≡ true = grind arith in rw q refl
+            itself = let q = itself_eq p in rw q refl
 
             beside : (q : ℕ) → q ≢ p → wait_of q (waiting_m way).waits ≡ wait_of q (called p t.cell g m).waits
             beside q ne = let f : (p == q) ≡ false = grind (arith, ne) in rw f refl
@@ -369,7 +369,7 @@ module _ {L : Type 0} (held : L → Holders) (place : L → LockerKind) where
         run_r = record { section = section_asked n p t.cell t.want m; outer = cell_of_section (innermost p m.sections) }
 
         pub took_run : (s : SeqSection) → reads_begun b ≡ 0 → writes_begun b ≡ 1 → (held row'.seq.locker).phase ≡ (held row.seq.locker).phase → v'.parks ≡ rows_handed t.cell g (freed p v.parks) → IsExit (length v.cells.items) (record m { registry = registry_asked t.cell t.want m }) v'.exit → row'.seq.running ≡ runner_of (Some run_r)
-            → s ≡ section_by who (run_as t.want) (stays_in x t.want m.registry.is_open y.phase) write_ticket → false ≡ is_cyclic (want_of t.want) p (runner_of (run_in t.cell m.sections)) → IsMet p t taken.Runs g m → of' ≡ record { waiting = None; innermost = Some t.cell } → row'.run ≡ Some (record { run = record { party = p; want = t.want; outer = of.innermost }; section = s }) → IsTook held place m v p t taken.Runs g v'
+            → s ≡ section_by who (run_as x.kind t.want) (stays_in x t.want m.registry.is_open y.phase) write_ticket → false ≡ (initializes x.kind t.want && seq_runs p (runner_of (run_in t.cell m.sections))) → IsMet p t taken.Runs g m → of' ≡ record { waiting = None; innermost = Some t.cell } → row'.run ≡ Some (record { run = record { party = p; want = t.want; outer = of.innermost }; section = s }) → IsTook held place m v p t taken.Runs g v'
         took_run s none one phase rows exit runner section turned told o run =
             record {
               stands = moved held place t.cell n n m run_m v v' row' is.rests.stands is.cell cells
@@ -387,13 +387,13 @@ module _ {L : Type 0} (held : L → Holders) (place : L → LockerKind) where
 
             seen : seen_at t.cell (opened (section_asked n p t.cell t.want m) (registry_asked t.cell t.want m) (called p t.cell g m)) ≡ seen_as y 0 1 (Some run_r)
             seen =
-                let q : (t.cell == t.cell) ≡ true = grind arith in
+                let q = itself_eq t.cell in
                 let r : reads_in t.cell m ≡ reads_in t.cell m + 0 = omega arith in
                 let w : count (writes_cell t.cell) m.guards + (count (runs_in t.cell) m.sections + 1) ≡ writes_in t.cell m + 1 = omega arith in
                 rw q (λ i. record { plan = x; content = y; reads = r i; writes = w i; run = Some run_r })
 
             itself : innermost p (sec ∷ m.sections) ≡ Some sec
-            itself = let q : (p == p) ≡ true = grind arith in rw q refl
+            itself = let q = itself_eq p in rw q refl
 
             beside : (q : ℕ) → q ≢ p → innermost q (sec ∷ m.sections) ≡ innermost q m.sections
             beside q ne = let f : (p == q) ≡ false = grind (arith, ne) in rw f refl

@@ -11,9 +11,11 @@ use Rattle.phase_locker.specs.declared.ways.Waiting.TheVariants as waiting_as
 use Rattle.phase_locker.specs.Rows.{row_of}
 use Rattle.phase_locker.specs.Fits.{Fits, IsWriteOpen}
 use Rattle.phase_locker.specs.Stands.{MayCall, MayCallAgain}
+use Rattle.phase_seq.specs.declared.ask.Ask.{Ask}
 use Rattle.phase_seq.specs.Registers.{MayRegister}
 use Rattle.schedule_rules.specs.declared.plan.CellPlan.{CellPlan}
-use Rattle.schedule_rules.specs.Kinds.{cell_at, is_finalizable}
+use Rattle.lazy_cells.specs.Kinds.{is_finalizable}
+use Rattle.schedule_rules.specs.Kinds.{cell_at}
 use Rattle.schedule_rules.specs.Waits.{Wait, wait_of}
 use Rattle.waiting_rows.specs.Shown.{wait_row}
 use Rattle.waiting_rows.proofs.RowCounts.{never_free}
@@ -23,7 +25,8 @@ use Rattle.phase_moves.specs.declared.rows.Rows.{Rows}
 use Rattle.phase_moves.specs.Calls.{Calling}
 use Rattle.phase_moves.specs.Standing.{Standing, writes_in}
 use Rattle.phase_moves.specs.Stands.{seen_at, IsCell}
-use Rattle.phase_moves.specs.Tries.{IsAttempting, WaitsAt}
+use Rattle.phase_moves.specs.Tries.{IsAttempting, WaitsAt, ask_of, has_want, is_quick}
+use Rattle.phase_moves.proofs.Asked.{is_asked}
 use Rattle.phase_moves.proofs.Places.{read_at}
 
 module _ {L : Type 0} (held : L → Holders) (place : L → LockerKind) (m : Standing) (v : Rows L) (p : ℕ) (t : Target) (waits : Bool) (is : IsAttempting held place m v p t waits) (row : CellRow L) (row_is : row ≡ get_or v.cells.items t.cell row) where
@@ -32,6 +35,14 @@ module _ {L : Type 0} (held : L → Holders) (place : L → LockerKind) (m : Sta
 
   pub call_fits : Fits (place row.seq.locker) (held row.seq.locker) v.parks t.cell
   call_fits = here.locked.fits
+
+  -- the cell has what is attempted
+  pub may_ask : has_want row.plan.kind t.want ≡ true
+  may_ask = ap (λ (x : CellPlan). has_want x.kind t.want) here.planned ∙ is.had
+
+  -- what waits is slow
+  pub may_wait : (ask : Ask) → ask_of row.plan t.want ≡ Some ask → waits ≡ true → ask.fast ≡ false
+  may_wait ask e w = (is_asked row.plan t.want ask e).fast ∙ ap (λ (x : CellPlan). is_quick x t.want) here.planned ∙ (is.waits_so w).slow
 
   pub may_call : Calling waits (record { cell = t.cell; party = p }) v.parks
   may_call = by waits is.waited

@@ -13,8 +13,8 @@ use Rattle.phase_seq.specs.declared.section.Begun.{Begun}
 use Rattle.phase_seq.specs.Begins.{Begins, Resumes}
 use Rattle.phase_seq.specs.Exactly.{is_run}
 use Rattle.phase_seq.specs.Registers.{On, after_asking}
-use Rattle.schedule_rules.specs.declared.plan.Kind.{Kind}
-use Rattle.schedule_rules.specs.Kinds.{is_finalizable}
+use Rattle.lazy_cells.specs.declared.kind.Kind.{Kind}
+use Rattle.lazy_cells.specs.Kinds.{is_finalizable}
 
 -- the party's call waits at the cell, or it does not wait
 abbrev pub Calling : Bool → Who → Rows → Type 0

@@ -8,10 +8,10 @@ use Rattle.phase_bits.specs.Number.{phase_of}
 use Rattle.phase_locker.specs.declared.ways.LockerKind.{LockerKind}
 use Rattle.phase_locker.specs.declared.ways.Given.{Given}
 use Rattle.phase_locker.specs.declared.ways.Given.TheVariants as given
+use Rattle.phase_seq.specs.declared.ask.Want.{Want as SeqWant}
 use Rattle.phase_seq.specs.declared.ask.Want.TheVariants as want
 use Rattle.phase_seq.specs.declared.section.Finished.{Finished}
 use Rattle.phase_seq.specs.declared.section.Finished.TheVariants as finished
-use Rattle.schedule_rules.specs.declared.step.Want.{Want}
 use Rattle.schedule_rules.specs.Changes.{content_of_run}
 use Rattle.schedule_rules.specs.Kinds.{cell_at}
 use Rattle.schedule_rules.specs.Phases.{phase_finalized}
@@ -23,22 +23,22 @@ use Rattle.phase_moves.specs.Standing.{Standing, run_closed, ended, finalized}
 use Rattle.phase_moves.specs.Gifts.{MayGive, MayGiveDown}
 use Rattle.phase_moves.specs.Stands.{Stands, run_as}
 
--- a run that made a value for this want goes on so, and one that failed fails; the phase is told, and a write keeps its
+-- a run as this, which made a value, goes on so, and one that failed fails; the phase is told, and a write keeps its
 -- lock, so that it gives nothing
-abbrev pub GoesAs : Want → Option ℕ → Phase → Finished → Given → Type 0
+abbrev pub GoesAs : SeqWant → Option ℕ → Phase → Finished → Given → Type 0
 GoesAs w None p (finished.Failed q) g = q ≡ p
 GoesAs w None p (finished.Phase q) g = ⊥
 GoesAs w None p (finished.Read t q) g = ⊥
 GoesAs w None p (finished.Write t q) g = ⊥
 GoesAs w (Some v) p (finished.Failed q) g = ⊥
-GoesAs w (Some v) p (finished.Phase q) g = ⊥
-GoesAs w (Some v) p (finished.Read t q) g = (run_as w ≡ want.Read) × (q ≡ p)
-GoesAs w (Some v) p (finished.Write t q) g = (run_as w ≡ want.Write) × (q ≡ p) × (g ≡ given.Nobody)
+GoesAs w (Some v) p (finished.Phase q) g = (w ≡ want.Init) × (q ≡ p)
+GoesAs w (Some v) p (finished.Read t q) g = (w ≡ want.Read) × (q ≡ p)
+GoesAs w (Some v) p (finished.Write t q) g = (w ≡ want.Write) × (q ≡ p) × (g ≡ given.Nobody)
 
 -- what may be given as the run of this section goes on so: a write keeps its lock, and a read keeps a reader
 abbrev pub GivesAs : Standing → Section → Option ℕ → Finished → Given → Type 0
 GivesAs m s made (finished.Failed q) g = MayGive s.cell (run_closed s made given.Nobody m) g
-GivesAs m s made (finished.Phase q) g = ⊥
+GivesAs m s made (finished.Phase q) g = MayGive s.cell (run_closed s made given.Nobody m) g
 GivesAs m s made (finished.Read t q) g = MayGiveDown s.cell m g
 GivesAs m s made (finished.Write t q) g = g ≡ given.Nobody
 
@@ -65,7 +65,7 @@ module _ {L : Type 0} (held : L → Holders) (place : L → LockerKind) where
 
   pub record IsEnded (m : Standing) (v : Rows L) (s : Section) (made : Option ℕ) (f : Finished) (g : Given) (new : Rows L) : Type 0 where
     pub stands : Stands held place (length v.guards.items) (ended (length v.guards.items) s made g f m) new
-    pub told : GoesAs s.want made (phase_of (content_of_run (cell_at m.plans s.cell).kind s.is_open made (m.content s.cell)).phase) f g
+    pub told : GoesAs (run_as (cell_at m.plans s.cell).kind s.want) made (phase_of (content_of_run (cell_at m.plans s.cell).kind s.is_open made (m.content s.cell)).phase) f g
     pub gave : GivesAs m s made f g
 
   -- there is a run to end
@@ -89,15 +89,15 @@ module _ {L : Type 0} (held : L → Holders) (place : L → LockerKind) where
     pub is : IsFinalizing m v p c s
     pub room : length v.exit.turns.items < vec_capacity v.exit.turns
 
-  pub record IsFinalized (m : Standing) (v : Rows L) (s : Section) (fine : Bool) (q : Phase) (g : Given) (new : Rows L) : Type 0 where
-    pub stands : Stands held place (length v.guards.items) (finalized s fine g m) new
+  pub record IsFinalized (m : Standing) (v : Rows L) (s : Section) (fine : Bool) (left : Option ℕ) (q : Phase) (g : Given) (new : Rows L) : Type 0 where
+    pub stands : Stands held place (length v.guards.items) (finalized s fine left g m) new
     pub told : q ≡ phase_of (phase_finalized (m.content s.cell).phase fine)
-    pub gave : MayGive s.cell (finalized s fine given.Nobody m) g
+    pub gave : MayGive s.cell (finalized s fine left given.Nobody m) g
 
   -- there is a finalizer to end
-  abbrev pub FinalizesAs : Standing → Rows L → Section → Bool → Option (Phase × Given) → Rows L → Type 0
-  FinalizesAs m v s fine None new = ⊥
-  FinalizesAs m v s fine (Some r) new = IsFinalized m v s fine r.0 r.1 new
+  abbrev pub FinalizesAs : Standing → Rows L → Section → Bool → Option ℕ → Option (Phase × Given) → Rows L → Type 0
+  FinalizesAs m v s fine left None new = ⊥
+  FinalizesAs m v s fine left (Some r) new = IsFinalized m v s fine left r.0 r.1 new
 
-  abbrev pub Finalizes : Rows L → ℕ → ℕ → Bool → Option (Phase × Given) → Rows L → Type 0
-  Finalizes old p c fine r new = (m : Standing) (s : Section) → IsFinalizing m old p c s → FinalizesAs m old s fine r new
+  abbrev pub Finalizes : Rows L → ℕ → ℕ → Bool → Option ℕ → Option (Phase × Given) → Rows L → Type 0
+  Finalizes old p c fine left r new = (m : Standing) (s : Section) → IsFinalizing m old p c s → FinalizesAs m old s fine left r new

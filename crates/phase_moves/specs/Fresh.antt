@@ -7,6 +7,7 @@ use Rattle.phase_bits.specs.Records.{unheld}
 use Rattle.phase_locker.specs.declared.ways.LockerKind.{LockerKind}
 use Rattle.schedule_rules.specs.declared.plan.CellPlan.{CellPlan}
 use Rattle.schedule_rules.specs.declared.plan.Plan.{Plan}
+use Rattle.schedule_rules.specs.Changes.{opening_content}
 use Rattle.schedule_rules.specs.Kinds.{cell_at}
 use Rattle.phase_moves.specs.declared.rows.CellRow.{CellRow}
 use Rattle.phase_moves.specs.declared.rows.PartyRow.{PartyRow}
@@ -27,7 +28,7 @@ module _ {L : Type 0} (held : L → Holders) (place : L → LockerKind) where
   -- the row of a cell with this plan before its first section: its locker is nobody's
   pub record IsFreshCell (x : CellPlan) (row : CellRow L) : Type 0 where
     pub planned : row.plan ≡ x
-    pub valued : row.value ≡ None
+    pub valued : row.value ≡ (opening_content x).value
     pub runs : row.run ≡ None
     pub runner : row.seq.running ≡ None
     pub free : held row.seq.locker ≡ unheld (phase_of 0)

@@ -79,6 +79,10 @@ changes_asked x Turns is_open y = []
 abbrev pub changes_at : ℕ → Want → Standing → List Change
 changes_at c w m = changes_asked (cell_at m.plans c) w m.registry.is_open (m.content c)
 
+-- what the cell holds once the attempt had its section
+abbrev pub content_tried : ℕ → Want → Standing → Content
+content_tried c w m = effect (cell_at m.plans c) (changes_at c w m) (m.content c)
+
 -- a call registers its cell where it begins a run there, a turn none
 abbrev pub registry_asked : ℕ → Want → Standing → Registry
 registry_asked c (Calls k) m = registry_of_run m.plans c (m.content c).phase m.registry
@@ -121,6 +125,7 @@ writer_asked n p c chs = record { number = n; party = p; cell = c; writes = true
 -- step n, an attempt of party p, which wants this of cell c, gave g and was answered
 abbrev pub took : ℕ → ℕ → ℕ → Want → Given → Taken → Standing → Standing
 took n p c w g (taken.Wait how) m = waiting p c w how (called p c g m)
+took n p c w g taken.Missed m = m
 took n p c w g taken.Cyclic m = m
 took n p c w g (taken.Nothing q) m = answered p c g (changes_at c w m) m
 took n p c w g (taken.Read t q) m = guarded (reader n p c) (answered p c g (changes_at c w m) m)
@@ -180,9 +185,9 @@ turn_ended c t m = record m { turns = m.turns ++ record { cell = c; turn = t } �
 abbrev pub turn_of : Bool → Turn
 turn_of fine = if fine then turn.Done else turn.Failed
 
--- the innermost section of a party, a finalizer's, ends so, and its turn with it
-abbrev pub finalized : Section → Bool → Given → Standing → Standing
-finalized s fine g m = turn_ended s.cell (turn_of fine) (closed s (back_of_section (Finishes fine) (Some s)) g m)
+-- the innermost section of a party, a finalizer's, ends so and leaves this, and its turn ends with it
+abbrev pub finalized : Section → Bool → Option ℕ → Given → Standing → Standing
+finalized s fine left g m = turn_ended s.cell (turn_of fine) (closed s (back_of_section (Finishes fine left) (Some s)) g m)
 
 -- ---- the moves of the exit
 

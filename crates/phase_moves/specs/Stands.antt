@@ -1,5 +1,5 @@
 -- When rows stand for what is open.
-use Rattle.std.specs.Prelude.{ℕ, Bool, List, [], ◌∷◌, ◌≡◌, ◌≢◌, ◌≤◌, ◌<◌, ◌^◌, ◌==◌, length, slice_get, ◌||◌, if◌then◌else◌}
+use Rattle.std.specs.Prelude.{ℕ, Bool, List, [], ◌∷◌, ◌≡◌, ◌≢◌, ◌≤◌, ◌<◌, ◌^◌, ◌==◌, length, slice_get, if◌then◌else◌}
 use Rattle.std.specs.Option.{unwrap_or}
 use Rattle.std.specs.declared.option.Option.{Option}
 use Rattle.std.specs.declared.option.Option.TheVariants.{None, Some}
@@ -17,6 +17,11 @@ use Rattle.phase_seq.specs.declared.ask.Want.{Want as SeqWant}
 use Rattle.phase_seq.specs.declared.ask.Want.TheVariants as want
 use Rattle.phase_seq.specs.declared.section.Section.{Section as SeqSection}
 use Rattle.schedule_rules.specs.Calls.{initializes, seeks}
+use Rattle.lazy_cells.specs.declared.call.Call.{Call}
+use Rattle.lazy_cells.specs.declared.kind.Kind.{Kind}
+use Rattle.schedule_rules.specs.declared.form.Form.{Form}
+use Rattle.schedule_rules.specs.declared.form.Form.TheVariants.{Told, Shown, Held}
+use Rattle.schedule_rules.specs.Forms.{form_of}
 use Rattle.schedule_rules.specs.declared.plan.CellPlan.{CellPlan}
 use Rattle.schedule_rules.specs.declared.plan.Place.{Place}
 use Rattle.schedule_rules.specs.declared.plan.Place.TheVariants as place_of
@@ -26,7 +31,7 @@ use Rattle.schedule_rules.specs.Kinds.{cell_at}
 use Rattle.schedule_rules.specs.Phases.{flags_kept}
 use Rattle.schedule_rules.specs.Changes.{Content}
 use Rattle.schedule_rules.specs.History.{count}
-use Rattle.schedule_rules.specs.Sections.{Section, innermost, is_turn}
+use Rattle.schedule_rules.specs.Sections.{Section, innermost}
 use Rattle.schedule_rules.specs.Guards.{Guard, numbered}
 use Rattle.schedule_rules.specs.Waits.{Wait, wait_of, cell_of_section}
 use Rattle.waiting_rows.specs.Shown.{Shows, IsSingle, AreWithin}
@@ -43,12 +48,24 @@ use Rattle.phase_moves.specs.Standing.{Standing, Run, run_in, runner_of, reads_i
 -- ---- each row is a function of what stands open
 
 -- what opens a section seeks of its cell, by the call table. Write for what seeks nothing does not occur: it opens none
-abbrev pub want_of : Want → SeqWant
-want_of w = unwrap_or (seeks w) want.Write
+abbrev pub want_of : Kind → Want → SeqWant
+want_of q w = unwrap_or (seeks q w) want.Write
 
--- as what its section runs. Write for a call that asks for no run does not occur: it opens none
-abbrev pub run_as : Want → SeqWant
-run_as w = if is_turn w || initializes w then want_of w else want.Write
+-- as what a section runs whose call answers in this form
+abbrev pub form_as : Form → SeqWant
+form_as (Told tests) = want.Init
+form_as Shown = want.Init
+form_as (Held writes falls_back) = if writes then want.Write else want.Read
+
+-- as what the section of a call runs: as it seeks. That it goes by its form, where it asks for no run, does not occur: it
+-- opens none
+abbrev pub call_as : Kind → Call → SeqWant
+call_as q k = if initializes q (Calls k) then want_of q (Calls k) else form_as (form_of q k)
+
+-- as what its section runs
+abbrev pub run_as : Kind → Want → SeqWant
+run_as q (Calls k) = call_as q k
+run_as q Turns = want.Finalize
 
 -- the flags that stay beside those of a section that runs
 abbrev pub stays_in : CellPlan → Want → Bool → ℕ → Phase
@@ -58,7 +75,7 @@ stays_in x Turns is_open p = phase_of p
 -- the section of the cell's sequentializer
 abbrev pub section_of : CellPlan → ℕ → ℕ → Section → SeqSection
 section_of x c phase s =
-    record { who = record { cell = c; party = s.party }; want = run_as s.want; stays = stays_in x s.want s.is_open phase; ticket = write_ticket }
+    record { who = record { cell = c; party = s.party }; want = run_as x.kind s.want; stays = stays_in x s.want s.is_open phase; ticket = write_ticket }
 
 -- the row of a section that runs in the cell
 abbrev pub open_run : CellPlan → ℕ → ℕ → Option Run → Option OpenRun
@@ -91,6 +108,7 @@ party_row m p = record { waiting = target_of (wait_of p m.waits); innermost = ce
 abbrev pub kind_at : Place → LockerKind
 kind_at place_of.Park = kind.Park
 kind_at place_of.Spin = kind.Spin
+kind_at (place_of.Own p) = kind.Own
 
 -- ---- the locker of a cell
 

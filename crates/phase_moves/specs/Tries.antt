@@ -1,5 +1,5 @@
 -- What an attempt requires and does.
-use Rattle.std.specs.Prelude.{ℕ, Bool, true, false, ◌≡◌, ◌≢◌, ◌<◌, length, MatchBool}
+use Rattle.std.specs.Prelude.{ℕ, Bool, true, false, ◌≡◌, ◌<◌, ◌&&◌, ◌||◌, is_some, length, MatchBool}
 use Rattle.std.specs.declared.option.Option.{Option}
 use Rattle.std.specs.declared.option.Option.TheVariants.{None, Some}
 use Rattle.phase_bits.specs.declared.phase.Phase.{Phase}
@@ -12,13 +12,16 @@ use Rattle.phase_seq.specs.declared.ask.Ask.{Ask}
 use Rattle.phase_seq.specs.declared.section.Begun.{Begun}
 use Rattle.phase_seq.specs.declared.section.Begun.TheVariants as begun
 use Rattle.phase_seq.specs.declared.section.Section.{Section as SeqSection}
-use Rattle.phase_seq.specs.Begins.{is_cyclic}
-use Rattle.schedule_rules.specs.declared.plan.Call.TheVariants as call
+use Rattle.phase_seq.specs.Begins.{runs}
+use Rattle.lazy_cells.specs.declared.kind.Kind.{Kind}
+use Rattle.lazy_cells.specs.Calls.{asking, has_call}
+use Rattle.lazy_cells.specs.Kinds.{is_finalizable}
 use Rattle.schedule_rules.specs.declared.plan.CellPlan.{CellPlan}
 use Rattle.schedule_rules.specs.declared.step.Want.{Want}
-use Rattle.schedule_rules.specs.declared.step.Want.TheVariants.{Calls}
-use Rattle.schedule_rules.specs.Changes.{effect}
-use Rattle.schedule_rules.specs.Kinds.{cell_at, is_finalizable, tolerance_of}
+use Rattle.schedule_rules.specs.declared.step.Want.TheVariants.{Calls, Turns}
+use Rattle.schedule_rules.specs.Calls.{initializes, is_fast, seeks}
+use Rattle.schedule_rules.specs.Kinds.{is_owned}
+use Rattle.schedule_rules.specs.Kinds.{cell_at, tolerance_of}
 use Rattle.schedule_rules.specs.Waits.{Wait, wait_of}
 use Rattle.phase_moves.specs.declared.rows.OpenRun.{OpenRun}
 use Rattle.phase_moves.specs.declared.rows.PartyRow.{PartyRow}
@@ -28,19 +31,23 @@ use Rattle.phase_moves.specs.declared.rows.Taken.TheVariants as taken
 use Rattle.phase_moves.specs.declared.rows.Target.{Target}
 use Rattle.phase_moves.specs.Meets.{IsMet}
 use Rattle.phase_moves.specs.Moves.{Rests}
-use Rattle.phase_moves.specs.Standing.{Standing, changes_at, run_in, runner_of, took, writes_in}
-use Rattle.phase_moves.specs.Stands.{Stands, want_of}
+use Rattle.phase_moves.specs.Standing.{Standing, content_tried, run_in, runner_of, took, writes_in}
+use Rattle.phase_moves.specs.Stands.{Stands}
 
--- what an attempt asks of its cell
-abbrev pub ask_of : CellPlan → Want → Ask
-ask_of x w = record { want = want_of w; fast = false; tol = tolerance_of x }
+-- what is attempted does not wait: a fast call, or any at a cell of its party's own
+abbrev pub is_quick : CellPlan → Want → Bool
+is_quick x w = is_fast w || is_owned x.place
+
+-- what an attempt asks of its cell: nothing, where it looks at the cell as it is
+abbrev pub ask_of : CellPlan → Want → Option Ask
+ask_of x w = asking (seeks x.kind w) (is_quick x w) (tolerance_of x)
 
 -- ---- what is taken of what was begun
 
 -- what was begun, as an attempt answers it
 abbrev pub taken_of : Begun → Taken
 taken_of (begun.Wait way) = taken.Wait way
-taken_of begun.Missed = taken.Cyclic
+taken_of begun.Missed = taken.Missed
 taken_of begun.Cyclic = taken.Cyclic
 taken_of (begun.Nothing q) = taken.Nothing q
 taken_of (begun.Read t q) = taken.Read t q
@@ -91,6 +98,16 @@ run_after p t of (begun.Final o) run = Some (run_of p t of o)
 
 -- ---- what an attempt requires and tells
 
+-- cells of this kind have what is attempted
+abbrev pub has_want : Kind → Want → Bool
+has_want q (Calls k) = has_call q k
+has_want q Turns = true
+
+-- what waits asks for a lock, and may wait for it
+pub record MayWait (x : CellPlan) (w : Want) : Type 0 where
+  pub sought : is_some (seeks x.kind w) ≡ true
+  pub slow : is_quick x w ≡ false
+
 -- the call waits at this cell
 abbrev pub WaitsAt : ℕ → Option Wait → Type 0
 WaitsAt c None = ⊥
@@ -99,6 +116,7 @@ WaitsAt c (Some w) = w.cell ≡ c
 -- the attempt is turned back
 abbrev pub is_turned : Taken → Bool
 is_turned (taken.Wait how) = false
+is_turned taken.Missed = false
 is_turned taken.Cyclic = true
 is_turned (taken.Nothing q) = false
 is_turned (taken.Read t q) = false
@@ -108,6 +126,7 @@ is_turned taken.Runs = false
 -- an answer tells the phase that the attempt leaves
 abbrev pub TellsPhase : Phase → Taken → Type 0
 TellsPhase p (taken.Wait how) = Unit {0}
+TellsPhase p taken.Missed = Unit {0}
 TellsPhase p taken.Cyclic = Unit {0}
 TellsPhase p (taken.Nothing q) = q ≡ p
 TellsPhase p (taken.Read t q) = q ≡ p
@@ -116,21 +135,23 @@ TellsPhase p taken.Runs = Unit {0}
 
 -- the phase that an attempt leaves which has no section to run: where it is declined, that says so
 abbrev pub phase_asked : ℕ → Want → Standing → Phase
-phase_asked c w m = phase_of (effect (cell_at m.plans c) (changes_at c w m) (m.content c)).phase
+phase_asked c w m = phase_of (content_tried c w m).phase
 
 -- a cell that is to be registered is not known to the registry yet
 abbrev pub IsUnknown : ℕ → Standing → Type 0
 IsUnknown c m = is_finalizable (cell_at m.plans c).kind ≡ true → (m.content c).phase ≡ 0 → writes_in c m ≡ 0 → is_known m.registry c ≡ false
 
 module _ {L : Type 0} (held : L → Holders) (place : L → LockerKind) where
-  -- the party attempts this: its call or turn waits at the cell, or it does not wait
+  -- the party attempts this: its call or turn waits at the cell, or it does not wait. A cell that has a turn is no party's own
   pub record IsAttempting (m : Standing) (v : Rows L) (p : ℕ) (t : Target) (waits : Bool) : Type 0 where
     pub rests : Rests held place m v
     pub party : p < length v.parties.items
     pub cell : t.cell < length v.cells.items
-    pub asks : t.want ≢ Calls call.Phase
+    pub had : has_want (cell_at m.plans t.cell).kind t.want ≡ true
     pub waited : MatchBool waits (WaitsAt t.cell (wait_of p m.waits)) (wait_of p m.waits ≡ None)
+    pub waits_so : waits ≡ true → MayWait (cell_at m.plans t.cell) t.want
     pub unknown : IsUnknown t.cell m
+    pub shared : t.want ≡ Turns → is_owned (cell_at m.plans t.cell).place ≡ false
 
   pub record MayAttempt (v : Rows L) (p : ℕ) (t : Target) (waits : Bool) : Type 0 where
     pub m : Standing
@@ -141,7 +162,7 @@ module _ {L : Type 0} (held : L → Holders) (place : L → LockerKind) where
   pub record IsTook (m : Standing) (v : Rows L) (p : ℕ) (t : Target) (b : Taken) (g : Given) (new : Rows L) : Type 0 where
     pub stands : Stands held place (length v.guards.items) (took (length v.guards.items) p t.cell t.want g b m) new
     pub told : TellsPhase (phase_asked t.cell t.want m) b
-    pub cyclic : is_turned b ≡ is_cyclic (want_of t.want) p (runner_of (run_in t.cell m.sections))
+    pub cyclic : is_turned b ≡ (initializes (cell_at m.plans t.cell).kind t.want && runs p (runner_of (run_in t.cell m.sections)))
     pub met : IsMet p t b g m
 
   abbrev pub Attempts : Rows L → ℕ → Target → Bool → Taken × Given → Rows L → Type 0

@@ -1,35 +1,50 @@
 //! An attempt of a call or a turn.
 
 ghost use Rattle.std.specs.Prelude.{◌≡◌, true, None, Some};
+ghost use Rattle.schedule_rules.specs.Kinds.{is_owned};
 ghost use Rattle.phase_moves.specs.declared.rows.Taken.TheVariants.{Runs};
 ghost use Rattle.phase_moves.specs.Moves.{KeptGuards};
-ghost use Rattle.phase_moves.specs.Tries.{MayAttempt, Attempts, ask_of, opens_section, party_after, party_running, run_after, run_of, taken_of};
+ghost use Rattle.phase_moves.specs.Tries.{MayAttempt, Attempts, ask_of, has_want, opens_section, party_after, party_running, run_after, run_of, taken_of};
 
 use crate::calls::{call, finish_final};
 use crate::rows::{CellRow, OpenRun, PartyRow, Rows, RunRow, Taken, Target};
 use phase_locker::{Given, Parks, PhaseLocker, Who};
 use phase_seq::{Ask, Begun, Section, Tolerance};
-use schedule_rules::{Call, CellPlan, Want};
+use schedule_rules::{CellPlan, Place, Want};
 
-/// What is asked of a cell.
-fn ask_of(plan: CellPlan, want: Want) -> Ask
+/// Whether the cell belongs to a party.
+fn is_owned(place: Place) -> bool
+    ensures { result ≡ is_owned place }
+{
+    match place {
+        Place::Park | Place::Spin => false,
+        Place::Own(_) => true,
+    }
+}
+
+/// What is asked of a cell: nothing, where the call looks at the cell as it is. At a cell of its party's own nothing
+/// waits, so that the rows of who is parked say of no party that it waits there.
+fn ask_of(plan: CellPlan, want: Want) -> Option<Ask>
+    requires { has_want plan.kind want ≡ true }
     ensures { result ≡ ask_of plan want }
 {
-    let want = match want {
-        Want::Calls(Call::Read) => phase_seq::Want::Read,
-        Want::Calls(Call::Write | Call::Phase) => phase_seq::Want::Write,
-        Want::Calls(Call::TryRead) => phase_seq::Want::ReadOnly,
-        Want::Turns => phase_seq::Want::Finalize,
-    };
     let tol = Tolerance {
         retry: plan.retry,
         leak: plan.leak,
     };
-    Ask {
-        want,
-        fast: false,
+    let ask = match want {
+        Want::Calls(call) => lazy_cells::ask_of(plan.kind, call, tol)?,
+        Want::Turns => Ask {
+            want: phase_seq::Want::Finalize,
+            fast: false,
+            tol,
+        },
+    };
+    Some(Ask {
+        want: ask.want,
+        fast: ask.fast || is_owned(plan.place),
         tol,
-    }
+    })
 }
 
 impl<L: PhaseLocker> CellRow<L> {
@@ -95,7 +110,7 @@ impl<L: PhaseLocker> CellRow<L> {
                 Taken::Wait(how)
             }
             Begun::Cyclic => Taken::Cyclic,
-            Begun::Missed => Taken::Cyclic,
+            Begun::Missed => Taken::Missed,
             Begun::Nothing(phase) => {
                 of.waiting = None;
                 Taken::Nothing(phase)
@@ -128,7 +143,9 @@ impl<L: PhaseLocker> Rows<L> {
             party,
         };
         let row = &mut self.cells[target.cell as usize];
-        let ask = ask_of(row.plan, target.want);
+        let Some(ask) = ask_of(row.plan, target.want) else {
+            return (Taken::Nothing(row.seq.locker().phase()), Given::Nobody);
+        };
         let (begun, given) = call(
             &mut row.seq,
             &mut self.parks,

@@ -12,15 +12,15 @@ ghost use Rattle.phase_seq.specs.Begins.{is_cyclic, running_after};
 ghost use Rattle.phase_seq.specs.Exactly.{is_turned_back};
 ghost use Rattle.phase_seq.specs.Finishes.{Finishes, FinishesFinal};
 ghost use Rattle.phase_seq.specs.Registers.{MayRegister};
-ghost use Rattle.phase_seq.specs.Stands.{BegunStands, FinishedStands, IsFinalizing, IsRunning, opens_write, reads_begun, reads_finished};
-ghost use Rattle.schedule_rules.specs.Kinds.{is_finalizable};
+ghost use Rattle.phase_seq.specs.Stands.{BegunStands, FinishedStands, IsFinalizing, IsRunning, begins_write, reads_begun, reads_finished};
+ghost use Rattle.lazy_cells.specs.Kinds.{is_finalizable};
 ghost use Rattle.phase_moves.specs.Calls.{Calling, Calls, registry_for, registry_begun};
 
 use exit_registry::ExitRegistry;
+use lazy_cells::{Kind, finalizable};
 use phase_bits::Phase;
 use phase_locker::{Given, Parks, PhaseLocker, ReadTicket, Who, WriteTicket};
 use phase_seq::{Ask, Begun, Finished, LazySequentializer, Section, Want};
-use schedule_rules::Kind;
 
 /// Gives a read lock back.
 pub fn release_read<L: PhaseLocker>(
@@ -111,7 +111,7 @@ pub fn call<L: PhaseLocker>(
     waits: bool,
 ) -> (Begun, Given)
     requires calls { Calling waits who parks.old }
-    requires slow { ask.fast ≡ false }
+    requires slow { waits ≡ true → ask.fast ≡ false }
     requires fits { Fits (L.place cell.old.locker) (L.held cell.old.locker) parks.old who.cell }
     requires registry { is_finalizable kind ≡ true → MayRegister who.cell (L.held cell.old.locker) parks.old registry.old }
     ensures calls { Calls waits (registry_for kind registry.old) (L.place cell.old.locker) who ask cell.old.running (L.held cell.old.locker) parks.old result (L.held cell.new.locker) parks.new }
@@ -119,24 +119,19 @@ pub fn call<L: PhaseLocker>(
     ensures registry { registry.new ≡ registry_begun kind who.cell (L.held cell.old.locker).phase result.0 registry.old }
     ensures running { cell.new.running ≡ running_after result.0 cell.old.running }
     ensures stands { BegunStands who result.0 cell.new.running (L.held cell.new.locker) parks.new }
-    ensures opens { Opens who.cell (reads_begun result.0) (opens_write result.0) (L.held cell.old.locker) parks.old (L.held cell.new.locker) parks.new }
+    ensures opens { Opens who.cell (reads_begun result.0) (begins_write result.0) (L.held cell.old.locker) parks.old (L.held cell.new.locker) parks.new }
     ensures left { Left L.held L.place who.cell cell.old.locker cell.new.locker parks.old parks.new }
 {
-    match kind {
-        Kind::LockedLazy => {
-            if waits {
-                cell.again(parks, who, ask, None)
-            } else {
-                cell.begin(parks, who, ask, None)
-            }
+    if finalizable(kind) {
+        if waits {
+            cell.again(parks, who, ask, Some(registry))
+        } else {
+            cell.begin(parks, who, ask, Some(registry))
         }
-        Kind::LockedLazyFinalize => {
-            if waits {
-                cell.again(parks, who, ask, Some(registry))
-            } else {
-                cell.begin(parks, who, ask, Some(registry))
-            }
-        }
+    } else if waits {
+        cell.again(parks, who, ask, None)
+    } else {
+        cell.begin(parks, who, ask, None)
     }
 }
 

@@ -1,6 +1,7 @@
 //! The ends of sections.
 
 ghost use Rattle.std.specs.Prelude.{◌≡◌, None};
+ghost use Rattle.schedule_rules.specs.Phases.{value_finalized};
 ghost use Rattle.phase_moves.specs.Ends.{MayEnd, Ends, MayFinalize, Finalizes};
 ghost use Rattle.phase_moves.specs.Moves.{KeptGuards};
 ghost use Rattle.phase_moves.specs.Standing.{turn_of};
@@ -10,13 +11,20 @@ use crate::rows::{CellRow, OpenRun, Rows};
 use phase_bits::Phase;
 use phase_locker::{Given, PhaseLocker};
 use phase_seq::Finished;
-use schedule_rules::{Turn, Turned};
+use schedule_rules::{Kind, Turn, Turned};
 
 /// How the turn ends whose finalizer succeeded, or failed.
 fn turn_of(fine: bool) -> Turn
     ensures { result ≡ turn_of fine }
 {
     if fine { Turn::Done } else { Turn::Failed }
+}
+
+/// The value of a cell of this kind once its finalizer left this: a hard kind keeps no other.
+fn value_finalized(kind: Kind, left: Option<u64>, value: Option<u64>) -> Option<u64>
+    ensures { result ≡ value_finalized kind left value }
+{
+    if kind.is_hard() { left } else { value }
 }
 
 impl<L> CellRow<L> {
@@ -58,10 +66,17 @@ impl<L: PhaseLocker> Rows<L> {
         }
     }
 
-    /// The finalizer that the party runs in this cell ends, and its turn with it. `None` where nothing runs there.
-    pub fn finalize(&mut self, party: u32, cell: u32, fine: bool) -> Option<(Phase, Given)>
+    /// The finalizer that the party runs in this cell ends and leaves this, and its turn ends with it. `None` where
+    /// nothing runs there.
+    pub fn finalize(
+        &mut self,
+        party: u32,
+        cell: u32,
+        fine: bool,
+        left: Option<u64>,
+    ) -> Option<(Phase, Given)>
         requires { MayFinalize L.held L.place self.old party cell }
-        ensures finalizes { Finalizes L.held L.place self.old party cell fine result self.new }
+        ensures finalizes { Finalizes L.held L.place self.old party cell fine left result self.new }
         ensures kept { KeptGuards self.old self.new }
     {
         let row = &mut self.cells[cell as usize];
@@ -70,6 +85,7 @@ impl<L: PhaseLocker> Rows<L> {
         };
         let OpenRun { run, section } = open;
         let (phase, given) = finish_final(&mut row.seq, &mut self.parks, section, fine);
+        row.value = value_finalized(row.plan.kind, left, row.value);
         self.parties[party as usize].innermost = run.outer;
         let turn = turn_of(fine);
         self.exit.turns.push_reserved(Turned { cell, turn });

@@ -1,11 +1,13 @@
 //! The rows before the first step.
 
 ghost use Rattle.std.specs.Prelude.{◌≡◌, ◌<◌, ◌^◌, true, IfOk, length, replicate};
+ghost use Rattle.schedule_rules.specs.Changes.{opening_content};
 ghost use Rattle.phase_moves.specs.Fresh.{TakesPlaces, AreFresh, AreFreshCells, IsFreshCell, idle_party};
 ghost use Rattle.phase_moves.specs.Stands.{kind_at};
 
 use crate::rows::{CellRow, Exit, OpenRun, PartyRow, Rows, Target};
 use exit_registry::ExitRegistry;
+use lazy_cells::primed;
 use phase_bits::Phase;
 use phase_locker::{LockerKind, Parks, PhaseLocker};
 use phase_seq::LazySequentializer;
@@ -19,6 +21,18 @@ fn kind_of(place: Place) -> LockerKind
     match place {
         Place::Park => LockerKind::Park,
         Place::Spin => LockerKind::Spin,
+        Place::Own(_) => LockerKind::Own,
+    }
+}
+
+/// The value that a cell has before its first section: the prime value of a primed kind.
+fn opening_value(plan: CellPlan) -> Option<u64>
+    ensures { result ≡ (opening_content plan).value }
+{
+    if primed(plan.kind) {
+        Some(plan.prime)
+    } else {
+        None
     }
 }
 
@@ -30,7 +44,7 @@ fn fresh_cell<L: PhaseLocker>(plan: CellPlan) -> CellRow<L>
     let run: Option<OpenRun> = None;
     CellRow {
         plan,
-        value: None,
+        value: opening_value(plan),
         run,
         seq: LazySequentializer::new(L::new(kind_of(plan.place), Phase::empty())),
     }

@@ -14,5 +14,5 @@ mod look_up;
 mod moves;
 mod rows;
 
-pub use look_up::Held;
+pub use look_up::{Held, Running};
 pub use rows::{CellRow, Exit, GuardRow, OpenRun, PartyRow, Rows, RunRow, Taken, Target};

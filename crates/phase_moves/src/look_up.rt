@@ -5,6 +5,18 @@ ghost use Rattle.phase_moves.specs.Reading.{AwaitsBy, HoldsBy, RunsBy, run_kept,
 
 use crate::rows::{GuardRow, Rows, Target};
 use phase_locker::PhaseLocker;
+use schedule_rules::{Kind, Want};
+
+/// A section that runs.
+#[derive(Clone, Copy, PartialEq, Eq, Debug)]
+pub struct Running {
+    /// The cell.
+    pub cell: u32,
+    /// What the cell is.
+    pub kind: Kind,
+    /// What opened the section.
+    pub want: Want,
+}
 
 /// What the holder of a guard sees.
 #[derive(Clone, Copy, PartialEq, Eq, Debug)]
@@ -39,23 +51,24 @@ impl<L: PhaseLocker> Rows<L> {
     }
 
     /// What runs in a cell.
-    fn run(&self, cell: u32) -> Option<Target>
+    fn run(&self, cell: u32) -> Option<Running>
         ensures { result ≡ run_kept cell (slice_get self.now.cells.items cell) }
     {
         match self.cells.get(cell as usize) {
             None => None,
             Some(row) => match &row.run {
                 None => None,
-                Some(open) => Some(Target {
+                Some(open) => Some(Running {
                     cell,
+                    kind: row.plan.kind,
                     want: open.run.want,
                 }),
             },
         }
     }
 
-    /// The innermost section that the party runs: its cell, and what opened it. `None` where it runs none.
-    pub fn innermost(&self, party: u32) -> Option<Target>
+    /// The innermost section that the party runs. `None` where it runs none.
+    pub fn innermost(&self, party: u32) -> Option<Running>
         ensures { RunsBy L.held L.place self.now party result }
     {
         match self.parties.get(party as usize) {

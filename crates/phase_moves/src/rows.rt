@@ -84,6 +84,8 @@ pub struct Exit {
 pub enum Taken {
     /// It waits so.
     Wait(How),
+    /// It is barred, and does not wait.
+    Missed,
     /// It asks for a run of the generator that its own party is running.
     Cyclic,
     /// No lock is left, and nothing runs: the phase of the cell.

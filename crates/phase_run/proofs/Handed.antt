@@ -16,9 +16,9 @@ use Rattle.phase_run.specs.declared.failed.Failed.{Failed}
 use Rattle.phase_run.specs.Telling.{IsToldOf, TellsRun}
 use Rattle.phase_run.specs.Words.{IsScheduleCall}
 use Rattle.schedule_text.specs.ScheduleText.{most_bytes}
-use Rattle.phase_run.specs.Runs.{Accepted, IsInvalid, IsRefused, Due, IsWritten, IsWrittenInPart}
+use Rattle.phase_run.specs.Runs.{Accepted, IsInvalid, IsNoText, IsRefused, Due, IsWritten, IsWrittenInPart}
 use Rattle.phase_run.specs.Steps.{IsWhole, IsBegun, IsReady}
-use Rattle.phase_run.specs.Stops.{StopsBeforeWriting}
+use Rattle.phase_run.specs.Stops.{StopsAnswer, StopsBeforeWriting}
 
 -- the run of the schedule that all spells which the source had can be told
 pub is_ready : (input rest : Option (List ℕ)) (text page : List ℕ) (run : Run) → length text ≤ most_bytes → IsWhole input rest text → IsBegun text run → page ≡ [] → IsReady input rest run page
@@ -75,3 +75,13 @@ answered_in_part words input rest before after page run old new told x call r te
       count = part.0;
       written = part.1;
     }
+
+-- why a text is not answered is why there is no answer to the source that had it
+pub stops_before : (input rest : Option (List ℕ)) (old new : ℕ) (text : List ℕ) (s : Stop) → IsWhole input rest text → StopsAnswer text s → StopsBeforeWriting input old new s
+stops_before input rest old new text stop.Fault w a = absurd a
+stops_before input rest old new text stop.TooLong w a = absurd a
+stops_before None rest old new text stop.BadLine w a = tt
+stops_before (Some bytes) rest old new text stop.BadLine w a = subst IsNoText (sym w.all) a
+stops_before None rest old new text stop.Refused w a = tt
+stops_before (Some bytes) rest old new text stop.Refused w a = subst IsInvalid (sym w.all) a
+stops_before input rest old new text stop.Memory w a = tt

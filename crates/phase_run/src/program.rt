@@ -33,6 +33,7 @@ fn is_schedule_call(words: &[String]) -> bool
 
 /// Reads the source to its end, and begins the run of its schedule, with a page for its transcript. All memory is taken
 /// here.
+#[tactic(auto, using(crate::proofs::Handed::stops_before))]
 fn prepare<S: Source>(alloc: Global, src: &mut S) -> Result<(Run, Page), Stop>
     ensures ready { IfOk result (λ r. IsReady (S.remaining src.old) (S.remaining src.new) r.0 r.1) }
     ensures stops { IfErr result (StopsBeforeWriting (S.remaining src.old) (S.faults src.old) (S.faults src.new)) }

@@ -11,19 +11,24 @@ use Rattle.schedule_rules.specs.declared.line.Line.{Line}
 use Rattle.phase_locker.specs.declared.tickets.LockNature.{LockNature}
 use Rattle.phase_locker.specs.declared.tickets.LockNature.TheVariants as nature
 use Rattle.phase_seq.specs.declared.tolerance.Tolerance.{Tolerance}
-use Rattle.schedule_rules.specs.declared.plan.Call.{Call}
-use Rattle.schedule_rules.specs.declared.plan.Kind.{Kind}
+use Rattle.phase_locker.specs.declared.ways.How.{How}
+use Rattle.lazy_cells.specs.declared.call.Call.{Call}
+use Rattle.lazy_cells.specs.declared.kind.Kind.{Kind}
+use Rattle.schedule_rules.specs.declared.form.Form.{Form}
+use Rattle.schedule_rules.specs.declared.form.Form.TheVariants.{Told, Shown, Held}
+use Rattle.schedule_rules.specs.declared.plan.Place.{Place}
+use Rattle.schedule_rules.specs.declared.plan.Place.TheVariants as place
+use Rattle.schedule_rules.specs.Forms.{form_of}
 use Rattle.schedule_rules.specs.declared.plan.CellPlan.{CellPlan}
 use Rattle.schedule_rules.specs.declared.step.Act.{Act}
 use Rattle.schedule_rules.specs.declared.step.Act.TheVariants as act
 use Rattle.schedule_rules.specs.declared.step.Step.{Step}
 use Rattle.schedule_rules.specs.declared.step.Want.{Want}
 use Rattle.schedule_rules.specs.declared.step.Want.TheVariants.{Calls, Turns}
-use Rattle.schedule_rules.specs.Answers.{Meeting, answer_admitted, answer_barred, answer_declined, answer_denied, answer_locked, answer_of_attempt, answer_of_made, answer_of_run, answer_opened, call_answer_admitted, drains_by, turn_answer_admitted, way_parked}
-use Rattle.schedule_rules.specs.Calls.{asks, initializes, lock_wanted}
-use Rattle.schedule_rules.specs.Changes.{Content, Ended, effect}
-use Rattle.schedule_rules.specs.Due.{answer_of_look, due_answer, due_clone, due_finished, due_look, due_made, due_tried, meeting}
-use Rattle.schedule_rules.specs.declared.plan.Call.TheVariants as call
+use Rattle.schedule_rules.specs.Answers.{Meeting, answer_admitted, answer_at, answer_barred, answer_made, answer_of_attempt, answer_of_made, begins_run, call_answer_admitted, drains_by, turn_answer_admitted, way_parked}
+use Rattle.schedule_rules.specs.Calls.{initializes, is_fast, lock_wanted}
+use Rattle.schedule_rules.specs.Changes.{Content, Ran, Ended, content_asked, is_declined, effect}
+use Rattle.schedule_rules.specs.Due.{answer_of_look, due_answer, due_clone, due_finished, due_look, due_made, due_tried, meeting, phase_made}
 use Rattle.schedule_rules.specs.Exits.{registry}
 use Rattle.schedule_rules.specs.Guards.{Guard, guards, numbered}
 use Rattle.schedule_rules.specs.History.{Event}
@@ -31,7 +36,7 @@ use Rattle.schedule_rules.specs.Holds.{holding_with, is_barred}
 use Rattle.schedule_rules.specs.Kinds.{cell_at, tolerance_of}
 use Rattle.schedule_rules.specs.Legal.{First, IsLegalLine, Last, Moment, answer_of, due_at}
 use Rattle.schedule_rules.specs.declared.line.Refusal.{Refusal}
-use Rattle.schedule_rules.specs.Phases.{is_accessible, phase_reached, runs_generator, NoRun}
+use Rattle.schedule_rules.specs.Phases.{is_accessible, phase_reached, NoRun}
 use Rattle.schedule_rules.specs.Refusals.{refusal}
 use Rattle.schedule_rules.specs.Replay.{Back, back_of_step, content_after_back, replay}
 use Rattle.schedule_rules.specs.Sections.{Section, innermost, sections}
@@ -55,34 +60,28 @@ module _ (cells : List CellPlan) where
 
   -- ---- what is told
 
-  locked_known : (q : Kind) (k : Call) (y : Content) → IsKnown (phase_of y.phase) → TellsKnown (answer_locked q k y)
-  locked_known q k y known = by (is_accessible q y.phase)
-    where
-      opened : (c : Call) → TellsKnown (answer_opened c)
-      opened call.Phase = tt
-      opened call.Read = tt
-      opened call.Write = tt
-      opened call.TryRead = tt
+  -- the phase that is told is that of the content
+  at_known : (f : Form) (accessible : Bool) (y : Content) → IsKnown (phase_of y.phase) → TellsKnown (answer_at f accessible y)
+  at_known (Told tests) true y known = known
+  at_known (Told true) false y known = known
+  at_known (Told false) false y known = known
+  at_known Shown true y known = tt
+  at_known Shown false y known = known
+  at_known (Held true falls_back) true y known = tt
+  at_known (Held false falls_back) true y known = tt
+  at_known (Held writes true) false y known = tt
+  at_known (Held writes false) false y known = known
 
-      by : (b : Bool) → TellsKnown (if b then answer_opened k else answer_denied k y.phase)
-      by true = opened k
-      by false = known
-
-  run_known : (q : Kind) (t : Tolerance) (is_open : Bool) (k : Call) (y : Content) → TellsKnown (answer_of_run q t is_open k y)
-  run_known q t is_open k y = by (runs_generator q t is_open y.phase)
+  call_known : (q : Kind) (t : Tolerance) (is_open : Bool) (k : Call) (y : Content) → IsKnown (phase_of y.phase) → TellsKnown (call_answer_admitted q t is_open k y)
+  call_known q t is_open k y known = by (begins_run q t is_open k y.phase)
     where
-      by : (b : Bool) → TellsKnown (if b then answer.Running else answer_declined k (phase_reached q is_open y.phase NoRun))
+      left : (declined : Bool) → IsKnown (phase_of (if declined then record { phase = phase_reached q is_open y.phase NoRun; value = y.value } else y).phase)
+      left true = record { below = omega arith }
+      left false = known
+
+      by : (b : Bool) → TellsKnown (if b then answer.Running else answer_at (form_of q k) (is_accessible q (content_asked q t is_open k y).phase) (content_asked q t is_open k y))
       by true = tt
-      by false = record { below = omega arith }
-
-  by_lock : (n : LockNature) (q : Kind) (t : Tolerance) (is_open : Bool) (k : Call) (y : Content) → IsKnown (phase_of y.phase) → TellsKnown (call_answer_admitted n q t is_open k y)
-  by_lock nature.None q t is_open k y known = known
-  by_lock nature.Read q t is_open k y known = locked_known q k y known
-  by_lock nature.Write q t is_open k y known = by (asks t (Calls k) y.phase)
-    where
-      by : (b : Bool) → TellsKnown (if b then answer_of_run q t is_open k y else answer_locked q k y)
-      by true = run_known q t is_open k y
-      by false = locked_known q k y known
+      by false = at_known (form_of q k) (is_accessible q (content_asked q t is_open k y).phase) (content_asked q t is_open k y) (left (is_declined q t k is_open y.phase))
 
   turn_known : (n : LockNature) (c : ℕ) → TellsKnown (turn_answer_admitted n c)
   turn_known nature.None c = tt
@@ -90,15 +89,24 @@ module _ (cells : List CellPlan) where
   turn_known nature.Write c = tt
 
   admitted_known : (q : Kind) (t : Tolerance) (c : ℕ) (is_open : Bool) (w : Want) (y : Content) → IsKnown (phase_of y.phase) → TellsKnown (answer_admitted q t c is_open w y)
-  admitted_known q t c is_open (Calls k) y known = by_lock (lock_wanted t (Calls k) y.phase) q t is_open k y known
-  admitted_known q t c is_open Turns y known = turn_known (lock_wanted t Turns y.phase) c
+  admitted_known q t c is_open (Calls k) y known = call_known q t is_open k y known
+  admitted_known q t c is_open Turns y known = turn_known (lock_wanted q t Turns y.phase) c
+
+  barred_known : (fast : Bool) (x : Place) (way : How) → TellsKnown (answer_barred fast x way)
+  barred_known true x way = tt
+  barred_known false place.Park way = tt
+  barred_known false place.Spin way = tt
+  barred_known false (place.Own p) way = tt
 
   attempt_known : (x : CellPlan) (w : Want) (m : Meeting) (chosen : Bool) → IsKnown (phase_of m.content.phase) → TellsKnown (answer_of_attempt x w m chosen)
-  attempt_known x w m chosen known = by (initializes w && m.own_run) (not m.kept && is_barred (lock_wanted (tolerance_of x) w m.content.phase) m.holding)
+  attempt_known x w m chosen known = by (initializes x.kind w && m.own_run) (not m.kept && is_barred (lock_wanted x.kind (tolerance_of x) w m.content.phase) m.holding)
     where
-      by : (a b : Bool) → TellsKnown (if a then answer.Cyclic else if b then answer_barred x.place (way_parked w (drains_by (lock_wanted (tolerance_of x) w m.content.phase) m.holding chosen)) else answer_admitted x.kind (tolerance_of x) m.cell m.is_open w m.content)
+      way : How
+      way = way_parked x.kind w (drains_by (lock_wanted x.kind (tolerance_of x) w m.content.phase) m.holding chosen)
+
+      by : (a b : Bool) → TellsKnown (if a then answer.Cyclic else if b then answer_barred (is_fast w) x.place way else answer_admitted x.kind (tolerance_of x) m.cell m.is_open w m.content)
       by true b = tt
-      by false true = tt
+      by false true = barred_known (is_fast w) x.place way
       by false false = admitted_known x.kind (tolerance_of x) m.cell m.is_open w m.content known
 
   look_known : (l : Look) → TellsKnown (answer_of_look l)
@@ -109,20 +117,25 @@ module _ (cells : List CellPlan) where
   tried_known h p None ws chosen = look_known (look_at (registry cells h).pending)
   tried_known h p (Some a) ws chosen = attempt_known (cell_at cells a.cell) a.want (meeting cells h p a ws) chosen (published_known a.cell h)
 
-  made_known : (w : Want) → TellsKnown (answer_of_made w)
-  made_known (Calls call.Read) = tt
-  made_known (Calls call.Write) = tt
-  made_known (Calls call.TryRead) = tt
-  made_known (Calls call.Phase) = tt
-  made_known Turns = tt
+  form_known : (f : Form) (v p : ℕ) → IsKnown (phase_of p) → TellsKnown (answer_made f v p)
+  form_known (Told tests) v p known = known
+  form_known Shown v p known = tt
+  form_known (Held true falls_back) v p known = tt
+  form_known (Held false falls_back) v p known = tt
+
+  made_known : (q : Kind) (w : Want) (v p : ℕ) → IsKnown (phase_of p) → TellsKnown (answer_of_made q w v p)
+  made_known q (Calls k) v p known = form_known (form_of q k) v p known
+  made_known q Turns v p known = tt
 
   section_known : (h : List Event) (v : ℕ) (s : Option Section) → TellsKnown (due_made cells h v s)
   section_known h v None = tt
-  section_known h v (Some s) = made_known s.want
+  section_known h v (Some s) =
+      made_known (cell_at cells s.cell).kind s.want v (phase_made cells h s)
+      (change_known (cell_at cells s.cell) (Ran s.is_open (Some v)) (replay cells s.cell h) (published_known s.cell h))
 
   finished_known : (h : List Event) (fine : Bool) (s : Option Section) → TellsKnown (due_finished cells h fine s)
   finished_known h fine None = tt
-  finished_known h fine (Some s) = change_known (cell_at cells s.cell) (Ended fine) (replay cells s.cell h) (published_known s.cell h)
+  finished_known h fine (Some s) = change_known (cell_at cells s.cell) (Ended fine None) (replay cells s.cell h) (published_known s.cell h)
 
   seen_known : (h : List Event) (x : Option Guard) → TellsKnown (due_look cells h x)
   seen_known h None = tt
@@ -141,8 +154,8 @@ module _ (cells : List CellPlan) where
   due_known h p act.Again ws chosen = tried_known h p (attempt cells h (record { party = p; act = act.Again })) ws chosen
   due_known h p (act.Made v) ws chosen = section_known h v (innermost p (sections h))
   due_known h p act.MadeFailed ws chosen = tt
-  due_known h p act.Finished ws chosen = finished_known h true (innermost p (sections h))
-  due_known h p act.FinishFailed ws chosen = finished_known h false (innermost p (sections h))
+  due_known h p (act.Finished left) ws chosen = finished_known h true (innermost p (sections h))
+  due_known h p (act.FinishFailed left) ws chosen = finished_known h false (innermost p (sections h))
   due_known h p act.Exit ws chosen = tried_known h p (attempt cells h (record { party = p; act = act.Exit })) ws chosen
   due_known h p (act.Look g) ws chosen = seen_known h (numbered g (guards h))
   due_known h p (act.Set g v) ws chosen = tt

@@ -1,13 +1,22 @@
 -- A schedule without a cause can be run.
-use Rattle.std.proofs.Common.{◌≡◌, ℕ, ◌+◌, ◌<◌, ◌^◌, List, [], ◌∷◌, length, refl, arith, Bool, true, false, None, Some}
-use Rattle.std.specs.Prelude.{All, nat_lt, if◌then◌else◌}
+use Rattle.std.proofs.Common.{◌≡◌, ℕ, ◌+◌, ◌<◌, ◌^◌, List, [], ◌∷◌, length, refl, ap, arith, Bool, true, false, None, Some}
+use Rattle.std.specs.Prelude.{All, IsTrue, nat_lt, if◌then◌else◌}
 use Rattle.std.proofs.lemmas.List.Elements.{All-nil, All-cons, All-head, All-tail}
 use Rattle.std.specs.declared.option.Option.{Option}
+use Rattle.schedule_rules.specs.declared.plan.CellPlan.{CellPlan}
 use Rattle.schedule_rules.specs.declared.step.Step.{Step}
+use Rattle.std.proofs.lemmas.List.{get_or_past}
+use Rattle.lazy_cells.specs.declared.kind.Kind.{Kind}
+use Rattle.lazy_cells.specs.declared.kind.Kind.TheVariants as kind
+use Rattle.lazy_cells.specs.Kinds.{is_finalizable}
+use Rattle.schedule_rules.specs.declared.plan.Place.{Place}
+use Rattle.schedule_rules.specs.declared.plan.Place.TheVariants as place
+use Rattle.schedule_rules.specs.Kinds.{cell_at, is_owned, is_placed, no_cell}
+use Rattle.phase_schedule.specs.Progress.{AreShared}
 use Rattle.schedule_rules.specs.Transcripts.{NamesKnown, IsValid, Schedule, most_parties, names_known_cell}
 use Rattle.phase_schedule.specs.declared.error.RunError.{RunError}
 use Rattle.phase_schedule.specs.declared.error.RunError.TheVariants as error
-use Rattle.phase_schedule.specs.Errors.{cause_of, cause_of_plan, first_cause, first_unknown, unknown_of}
+use Rattle.phase_schedule.specs.Errors.{cause_of, cause_of_plan, crowd_of, first_cause, first_found, misplaced_of, unknown_of}
 
 neither : (a b : Option RunError) → first_cause a b ≡ None → (a ≡ None) × (b ≡ None)
 neither None b e = (refl, e)
@@ -22,22 +31,57 @@ known_step parties cells n s e = by (nat_lt s.party parties) (names_known_cell c
     by false true p a q = absurd (cc)
     by false false p a q = absurd (cc)
 
-known_steps : (parties cells n : ℕ) (ss : List Step) → first_unknown parties cells n ss ≡ None → All (NamesKnown parties cells) ss
-known_steps parties cells n [] e = All-nil (NamesKnown parties cells)
-known_steps parties cells n (s ∷ ss) e =
-    let f : (unknown_of parties cells n s ≡ None) × (first_unknown parties cells (n + 1) ss ≡ None) = neither _ _ e in
-    All-cons (NamesKnown parties cells) s ss (known_step parties cells n s f.0) (known_steps parties cells (n + 1) ss f.1)
+none_found : {X : Type 0} (look : ℕ → X → Option RunError) (P : X → Type 0) → ((n : ℕ) (x : X) → look n x ≡ None → P x) → (n : ℕ) (xs : List X) → first_found look n xs ≡ None → All P xs
+none_found look P each n [] e = All-nil P
+none_found look P each n (x ∷ xs) e =
+    let f : (look n x ≡ None) × (first_found look (n + 1) xs ≡ None) = neither _ _ e in
+    All-cons P x xs (each n x f.0) (none_found look P each (n + 1) xs f.1)
 
-few : (parties : ℕ) → cause_of_plan parties ≡ None → parties < most_parties
+placed : (parties c : ℕ) (x : CellPlan) → misplaced_of parties c x ≡ None → IsTrue (is_placed parties x.kind x.place)
+placed parties c x e = by (is_placed parties x.kind x.place) e
+  where
+    by : (b : Bool) → (if b then None else Some (error.BadPlan c)) ≡ None → IsTrue b
+    by true e = grind arith
+    by false e = absurd (cc)
+
+shared_cell : (parties : ℕ) (q : Kind) (p : Place) → IsTrue (is_placed parties q p) → is_finalizable q ≡ true → is_owned p ≡ false
+shared_cell parties q place.Park t e = refl
+shared_cell parties q place.Spin t e = refl
+shared_cell parties kind.Lazy (place.Own p) t e = absurd cc
+shared_cell parties kind.LockedLazy (place.Own p) t e = absurd cc
+shared_cell parties kind.LazyFinalize (place.Own p) t e = absurd (grind arith)
+shared_cell parties kind.LockedLazyFinalize (place.Own p) t e = absurd (grind arith)
+shared_cell parties kind.LockedLazyDroped (place.Own p) t e = absurd (grind arith)
+shared_cell parties kind.PrimedLockedLazy (place.Own p) t e = absurd (grind arith)
+shared_cell parties kind.PrimedLockedLazyDroped (place.Own p) t e = absurd (grind arith)
+
+-- no cell of a plan without a cause is finalized and belongs to a party, and none that no plan has
+pub shared : (parties : ℕ) (cells : List CellPlan) → cause_of_plan parties cells ≡ None → AreShared cells
+shared parties cells none c = by (nat_lt c (length cells)) refl
+  where
+    all : All (λ x. IsTrue (is_placed parties x.kind x.place)) cells
+    all = let f : (crowd_of parties ≡ None) × (first_found (misplaced_of parties) 0 cells ≡ None) = neither _ _ none in none_found _ (λ x. IsTrue (is_placed parties x.kind x.place)) (placed parties) 0 cells f.1
+
+    by : (b : Bool) → nat_lt c (length cells) ≡ b → is_finalizable (cell_at cells c).kind ≡ true → is_owned (cell_at cells c).place ≡ false
+    by true lt = shared_cell parties (cell_at cells c).kind (cell_at cells c).place (all c no_cell (grind arith))
+    by false past = λ e. ap (λ x. is_owned x.place) (get_or_past cells c no_cell (grind arith))
+
+-- the same of a schedule
+pub shared_cells : (x : Schedule) → cause_of x ≡ None → AreShared x.cells
+shared_cells x e = let f : (cause_of_plan x.parties x.cells ≡ None) × (first_found (unknown_of x.parties (length x.cells)) 0 x.steps ≡ None) = neither _ _ e in shared x.parties x.cells f.0
+
+few : (parties : ℕ) → crowd_of parties ≡ None → parties < most_parties
 few parties e = grind arith
 
 -- within the limits of lengths
 pub valid : (x : Schedule) → length x.cells < 2 ^ 32 → length x.steps < 2 ^ 32 → cause_of x ≡ None → IsValid x
 valid x cells steps e =
-    let f : (cause_of_plan x.parties ≡ None) × (first_unknown x.parties (length x.cells) 0 x.steps ≡ None) = neither _ _ e in
+    let f : (cause_of_plan x.parties x.cells ≡ None) × (first_found (unknown_of x.parties (length x.cells)) 0 x.steps ≡ None) = neither _ _ e in
+    let g : (crowd_of x.parties ≡ None) × (first_found (misplaced_of x.parties) 0 x.cells ≡ None) = neither _ _ f.0 in
     record {
-      parties = few x.parties f.0;
-      known = known_steps x.parties (length x.cells) 0 x.steps f.1;
+      parties = few x.parties g.0;
+      known = none_found _ (NamesKnown x.parties (length x.cells)) (known_step x.parties (length x.cells)) 0 x.steps f.1;
+      placed = none_found _ (λ c. IsTrue (is_placed x.parties c.kind c.place)) (placed x.parties) 0 x.cells g.1;
       cells_count = cells;
       steps_count = steps;
     }
@@ -53,13 +97,22 @@ no_unknown_step parties cells n s k = rw (party, cell) refl
     cell : names_known_cell cells s.act ≡ true
     cell = let known : _ = k.cell in grind arith
 
-no_unknown_steps : (parties cells n : ℕ) (ss : List Step) → All (NamesKnown parties cells) ss → first_unknown parties cells n ss ≡ None
-no_unknown_steps parties cells n [] k = refl
-no_unknown_steps parties cells n (s ∷ ss) k =
-    rw (no_unknown_step parties cells n s (All-head (NamesKnown parties cells) s ss k)) (no_unknown_steps parties cells (n + 1) ss (All-tail (NamesKnown parties cells) s ss k))
+not_found : {X : Type 0} (look : ℕ → X → Option RunError) (P : X → Type 0) → ((n : ℕ) (x : X) → P x → look n x ≡ None) → (n : ℕ) (xs : List X) → All P xs → first_found look n xs ≡ None
+not_found look P each n [] k = refl
+not_found look P each n (x ∷ xs) k = rw (each n x (All-head P x xs k)) (not_found look P each (n + 1) xs (All-tail P x xs k))
 
-not_many : (parties : ℕ) → parties < most_parties → cause_of_plan parties ≡ None
+not_misplaced : (parties c : ℕ) (x : CellPlan) → IsTrue (is_placed parties x.kind x.place) → misplaced_of parties c x ≡ None
+not_misplaced parties c x t = by (is_placed parties x.kind x.place) t
+  where
+    by : (b : Bool) → IsTrue b → (if b then None else Some (error.BadPlan c)) ≡ None
+    by true t = refl
+    by false t = absurd (grind arith)
+
+not_many : (parties : ℕ) → parties < most_parties → crowd_of parties ≡ None
 not_many parties lt = grind arith
 
 pub no_cause : (x : Schedule) → IsValid x → cause_of x ≡ None
-no_cause x v = rw (not_many x.parties v.parties) (no_unknown_steps x.parties (length x.cells) 0 x.steps v.known)
+no_cause x v =
+    let plan : cause_of_plan x.parties x.cells ≡ None =
+    rw (not_many x.parties v.parties) (not_found (misplaced_of x.parties) _ (not_misplaced x.parties) 0 x.cells v.placed) in
+    rw plan (not_found (unknown_of x.parties (length x.cells)) _ (no_unknown_step x.parties (length x.cells)) 0 x.steps v.known)

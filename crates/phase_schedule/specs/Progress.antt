@@ -1,11 +1,13 @@
 -- What a run has made of the steps so far.
-use Rattle.std.specs.Prelude.{ℕ, List, [], ◌∷◌, ◌≡◌, ◌≤◌, ◌<◌, ◌^◌, length, vec_capacity}
+use Rattle.std.specs.Prelude.{ℕ, true, false, List, [], ◌∷◌, ◌≡◌, ◌≤◌, ◌<◌, ◌^◌, length, vec_capacity}
 use Rattle.phase_bits.specs.declared.holders.Holders.{Holders}
 use Rattle.phase_locker.specs.declared.ways.LockerKind.{LockerKind}
 use Rattle.schedule_rules.specs.declared.plan.CellPlan.{CellPlan}
 use Rattle.schedule_rules.specs.declared.plan.Plan.{Plan}
 use Rattle.schedule_rules.specs.declared.step.Step.{Step}
 use Rattle.schedule_rules.specs.declared.line.Line.{Line}
+use Rattle.lazy_cells.specs.Kinds.{is_finalizable}
+use Rattle.schedule_rules.specs.Kinds.{cell_at, is_owned}
 use Rattle.schedule_rules.specs.Exits.{ended_turns}
 use Rattle.schedule_rules.specs.History.{Event}
 use Rattle.schedule_rules.specs.Transcripts.{AreFinals, NamesKnown}
@@ -30,6 +32,10 @@ pub record Ends (cells : List CellPlan) (h : List Event) (e : Ending) : Type 0 w
   pub finals : AreFinals e.finals.items cells h
   pub exits : e.exits.items ≡ ended_turns h
   pub known : AreKnown e.finals.items
+
+-- no cell that is finalized belongs to a party
+abbrev pub AreShared : List CellPlan → Type 0
+AreShared cells = (c : ℕ) → is_finalizable (cell_at cells c).kind ≡ true → is_owned (cell_at cells c).place ≡ false
 
 module _ {L : Type 0} (held : L → Holders) (place : L → LockerKind) where
   -- the run has made this history, and has all its memory

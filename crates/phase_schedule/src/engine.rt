@@ -50,7 +50,8 @@ impl<L: PhaseLocker> Engine<L> {
     ///
     /// # Errors
     ///
-    /// `TooManyParties` for 2^20 parties or more, which is asked before memory is taken, and `Memory` where that ran out.
+    /// `TooManyParties` for 2^20 parties or more, else `BadPlan` at the first cell that can't belong to its party, both asked
+    /// before memory is taken; `Memory` where that ran out.
     pub fn new(alloc: Global, plan: &Plan, count: u32) -> Result<Engine<L>, RunError>
         requires cells { length plan.now.cells.items < 2 ^ 32 }
         requires places { TakesPlaces L.takes plan.now.cells.items }
@@ -59,8 +60,8 @@ impl<L: PhaseLocker> Engine<L> {
         ensures count { IfOk result (λ e. e.count ≡ count) }
         ensures steps { IfOk result (λ e. e.steps ≡ []) }
         ensures lines { IfOk result (λ e. e.lines ≡ []) }
-        ensures known { IfOk result (λ _. cause_of_plan plan.now.parties ≡ None) }
-        ensures cause { IfErr result (IsCause (cause_of_plan plan.now.parties)) }
+        ensures known { IfOk result (λ _. cause_of_plan plan.now.parties plan.now.cells.items ≡ None) }
+        ensures cause { IfErr result (IsCause (cause_of_plan plan.now.parties plan.now.cells.items)) }
     {
         if let Some(error) = plan_cause(plan) {
             return Err(error);

@@ -12,6 +12,10 @@ pub enum RunError {
     /// There are 2^20 parties or more. This is asked first.
     #[error("too many parties")]
     TooManyParties,
+    /// The cell with this number is the first that belongs to a party and is not of the kind `Lazy` or `LockedLazy`, or
+    /// whose party is none of the plan. This is asked next.
+    #[error("bad plan at cell {cell}")]
+    BadPlan { cell: u32 },
     /// The step with this number is the first that names an unknown party or cell, and its party is unknown.
     #[error("unknown party at step {step}")]
     UnknownParty { step: u32 },

@@ -16,6 +16,7 @@ fn finalized_cell(leak: bool, place: Place) -> CellPlan {
         retry: true,
         leak,
         place,
+        prime: 0,
     }
 }
 

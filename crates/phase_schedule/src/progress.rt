@@ -2,7 +2,7 @@
 
 ghost use Rattle.std.specs.Prelude.{◌≡◌, ◌<◌, ◌≤◌, ◌^◌, [], IfOk, length, map, vec_capacity};
 ghost use Rattle.phase_schedule.specs.Finals.{final_of_row};
-ghost use Rattle.phase_schedule.specs.Progress.{EndsSo, HasMade, MayEnd, MayStep, Steps, TakesPlaces, frame_of_plan};
+ghost use Rattle.phase_schedule.specs.Progress.{AreShared, EndsSo, HasMade, MayEnd, MayStep, Steps, TakesPlaces, frame_of_plan};
 
 use crate::ending::Ending;
 use phase_acts::Machine;
@@ -29,6 +29,7 @@ impl<L: PhaseLocker> Progress<L> {
         requires parties { plan.now.parties < 2 ^ 20 }
         requires cells { length plan.now.cells.items < 2 ^ 32 }
         requires places { TakesPlaces L.takes plan.now.cells.items }
+        requires shared { AreShared plan.now.cells.items }
         ensures { IfOk result (HasMade L.held L.place (frame_of_plan plan.now count) []) }
     {
         let finals = Vec::with_capacity(alloc, plan.cells.len())?;

@@ -19,8 +19,8 @@ use std::alloc::{AllocError, Global};
 ///
 /// # Errors
 ///
-/// `TooManyParties` for 2^20 parties or more, else `UnknownParty` or `UnknownCell` at the first step that names one, the
-/// party first; `Memory` where memory ran out.
+/// `TooManyParties` for 2^20 parties or more, else `BadPlan` at the first cell that can't belong to its party, else
+/// `UnknownParty` or `UnknownCell` at the first step that names one, the party first; `Memory` where memory ran out.
 pub fn run_schedule(alloc: Global, plan: &Plan, steps: &[Step]) -> Result<Transcript, RunError>
     requires cells { length plan.now.cells.items < 2 ^ 32 }
     requires steps { length steps.now < 2 ^ 32 }

@@ -28,8 +28,8 @@ impl Run {
     ///
     /// # Errors
     ///
-    /// `TooManyParties` for 2^20 parties or more, else `UnknownParty` or `UnknownCell` at the first step that names one,
-    /// the party first; `Memory` where memory ran out.
+    /// `TooManyParties` for 2^20 parties or more, else `BadPlan` at the first cell that can't belong to its party, else
+    /// `UnknownParty` or `UnknownCell` at the first step that names one, the party first; `Memory` where memory ran out.
     pub fn new(alloc: Global, plan: &Plan, steps: Vec<Step>) -> Result<Run, RunError>
         requires cells { length plan.now.cells.items < 2 ^ 32 }
         requires steps { length steps.items < 2 ^ 32 }

@@ -98,12 +98,12 @@ pub fn exit(party: u32) -> Step {
 }
 
 pub fn finished(party: u32) -> Step {
-    let act = Act::Finished;
+    let act = Act::Finished { left: None };
     Step { party, act }
 }
 
 pub fn finish_failed(party: u32) -> Step {
-    let act = Act::FinishFailed;
+    let act = Act::FinishFailed { left: None };
     Step { party, act }
 }
 
@@ -130,6 +130,7 @@ pub fn plan(alloc: Global, parties: u32, cells: usize, place: Place) -> Result<P
         retry: true,
         leak: false,
         place,
+        prime: 0,
     };
     plan_of(alloc, parties, cells, cell)
 }

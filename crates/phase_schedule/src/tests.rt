@@ -73,6 +73,7 @@ fn a_generator_runs_once(rt: HostRuntime) -> Result<(), Fail> {
         retry: false,
         leak: false,
         place: Place::Spin,
+        prime: 0,
     };
     let plan = plan_of(rt.alloc(), 1, 1, once)?;
     expect_rows(&rt, rt.alloc(), &plan, &rows, &[empty(skipped)], &[])

@@ -27,7 +27,7 @@ use Rattle.phase_seq.specs.declared.section.Begun.TheVariants as begun
 use Rattle.phase_seq.specs.Asks.{initializes, finalizes, asks_run}
 use Rattle.phase_seq.specs.Phases.{unregistered}
 use Rattle.phase_seq.specs.Begins.{section_by, begun_of, begun_by, begun_tried, running_after}
-use Rattle.phase_seq.specs.Stands.{BegunStands, IsFree, reads_begun, opens_write}
+use Rattle.phase_seq.specs.Stands.{BegunStands, IsFree, reads_begun, begins_write}
 
 both_left : (a b : Bool) → (a && b) ≡ true → a ≡ true
 both_left true b e = refl
@@ -60,12 +60,12 @@ begun_of_reads who ask p (got.None q) = refl
 begun_of_reads who ask p (got.Read t) = refl
 begun_of_reads who ask p (got.Write t) = write_reads (asks_run ask p) (finalizes ask.want) who ask.want t p
 
-write_writes : (run final : Bool) (who : Who) (want : Want) (t : WriteTicket) (p : Phase) → opens_write (written run final who want t p) ≡ true
+write_writes : (run final : Bool) (who : Who) (want : Want) (t : WriteTicket) (p : Phase) → begins_write (written run final who want t p) ≡ true
 write_writes true final who want t p = refl
 write_writes false true who want t p = refl
 write_writes false false who want t p = refl
 
-pub begun_of_writes : (who : Who) (ask : Ask) (p : Phase) (g : LockResult ReadTicket WriteTicket) → opens_write (begun_of who ask p g) ≡ is_write g
+pub begun_of_writes : (who : Who) (ask : Ask) (p : Phase) (g : LockResult ReadTicket WriteTicket) → begins_write (begun_of who ask p g) ≡ is_write g
 begun_of_writes who ask p (got.None q) = refl
 begun_of_writes who ask p (got.Read t) = refl
 begun_of_writes who ask p (got.Write t) = write_writes (asks_run ask p) (finalizes ask.want) who ask.want t p
@@ -80,11 +80,11 @@ begun_by_reads : (who : Who) (ask : Ask) (p : Phase) (a : Attempt) → reads_beg
 begun_by_reads who ask p (attempt.Wait how) = refl
 begun_by_reads who ask p (attempt.Got g) = begun_of_reads who ask p g
 
-begun_by_writes : (who : Who) (ask : Ask) (p : Phase) (a : Attempt) → opens_write (begun_by who ask p a) ≡ attempt_writes a
+begun_by_writes : (who : Who) (ask : Ask) (p : Phase) (a : Attempt) → begins_write (begun_by who ask p a) ≡ attempt_writes a
 begun_by_writes who ask p (attempt.Wait how) = refl
 begun_by_writes who ask p (attempt.Got g) = begun_of_writes who ask p g
 
-pub begun_by_opens : (who : Who) (ask : Ask) (p : Phase) (a : Attempt) (h : Holders) (s : Rows) (h' : Holders) (s' : Rows) → Opens who.cell (reads_opened a) (attempt_writes a) h s h' s' → Opens who.cell (reads_begun (begun_by who ask p a)) (opens_write (begun_by who ask p a)) h s h' s'
+pub begun_by_opens : (who : Who) (ask : Ask) (p : Phase) (a : Attempt) (h : Holders) (s : Rows) (h' : Holders) (s' : Rows) → Opens who.cell (reads_opened a) (attempt_writes a) h s h' s' → Opens who.cell (reads_begun (begun_by who ask p a)) (begins_write (begun_by who ask p a)) h s h' s'
 begun_by_opens who ask p a h s h' s' opens = rw (begun_by_reads who ask p a, begun_by_writes who ask p a) opens
 
 -- ---- a call that does not wait
@@ -104,7 +104,7 @@ pub tried_stands : (k : LockerKind) (who : Who) (ask : Ask) (running : Option �
 tried_stands k who ask running post h s g h' fits free tries = rw (tries.answer, tries.held) (tried_at (bars h tries.nature) tries.nature k who ask running h s refl fits tries.known free)
 
 opens_at : (barred : Bool) (n : LockNature) (k : LockerKind) (who : Who) (ask : Ask) (h : Holders) (s : Rows) → bars h n ≡ barred → Fits k h s who.cell →
-    Opens who.cell (reads_begun (begun_tried who ask h.phase (if barred then None else Some (got_by n h.phase)))) (opens_write (begun_tried who ask h.phase (if barred then None else Some (got_by n h.phase)))) h s (if barred then h else admitted h n) s
+    Opens who.cell (reads_begun (begun_tried who ask h.phase (if barred then None else Some (got_by n h.phase)))) (begins_write (begun_tried who ask h.phase (if barred then None else Some (got_by n h.phase)))) h s (if barred then h else admitted h n) s
 opens_at true n k who ask h s e fits = record { reads = omega arith; writes = λ held. held; only = λ none held. held }
 opens_at false n k who ask h s e fits = record {
   reads = admitted_reads n k who.cell h s fits ∙ ap (λ m. open_reads h s who.cell + m) (sym (begun_of_reads who ask h.phase (got_by n h.phase)));
@@ -113,5 +113,5 @@ opens_at false n k who ask h s e fits = record {
 }
 
 pub tried_opens : (k : LockerKind) (who : Who) (ask : Ask) (post : Phase → LockNature → Type 0) (h : Holders) (s : Rows) (g : Option (LockResult ReadTicket WriteTicket)) (h' : Holders) → Fits k h s who.cell → Tries post h g h' →
-    Opens who.cell (reads_begun (begun_tried who ask h.phase g)) (opens_write (begun_tried who ask h.phase g)) h s h' s
+    Opens who.cell (reads_begun (begun_tried who ask h.phase g)) (begins_write (begun_tried who ask h.phase g)) h s h' s
 tried_opens k who ask post h s g h' fits tries = rw (tries.answer, tries.held) (opens_at (bars h tries.nature) tries.nature k who ask h s refl fits)

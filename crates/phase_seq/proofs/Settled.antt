@@ -29,7 +29,7 @@ use Rattle.phase_seq.specs.Begins.{begun_by}
 use Rattle.phase_seq.specs.Exactly.{is_run}
 use Rattle.phase_seq.specs.Registers.{begun_at_once}
 use Rattle.phase_seq.specs.declared.section.Begun.{Begun}
-use Rattle.phase_seq.specs.Stands.{FinishedStands, reads_begun, reads_finished, opens_write}
+use Rattle.phase_seq.specs.Stands.{FinishedStands, reads_begun, reads_finished, begins_write}
 use Rattle.phase_seq.proofs.Exactness.{run_of}
 
 -- ---- a section at once
@@ -40,16 +40,16 @@ at_once_reads (finished.Read t p) = refl
 at_once_reads (finished.Write t p) = refl
 at_once_reads (finished.Failed p) = refl
 
-pub at_once_closed : (f : Finished) (c : ℕ) (h : Holders) (s : Rows) → FinishedStands c f h s → opens_write (begun_at_once f) ≡ false → ¬ IsWriteOpen h s c
+pub at_once_closed : (f : Finished) (c : ℕ) (h : Holders) (s : Rows) → FinishedStands c f h s → begins_write (begun_at_once f) ≡ false → ¬ IsWriteOpen h s c
 at_once_closed (finished.Phase p) c h s stands none = stands.0
 at_once_closed (finished.Read t p) c h s stands none = stands.0
 at_once_closed (finished.Write t p) c h s stands none = cc
 at_once_closed (finished.Failed p) c h s stands none = stands.0
 
 -- what is open after an answer has become another one
-pub settled_opens : (run : Bool) (b b' : Begun) (c : ℕ) (h : Holders) (s : Rows) (h₁ : Holders) (s₁ : Rows) (h₂ : Holders) (s₂ : Rows) → is_run b ≡ run → Opens c (reads_begun b) (opens_write b) h s h₁ s₁ → (IsWriteOpen h s c → is_run b ≡ false) →
-    (is_run b ≡ false → (b' ≡ b) × (h₂ ≡ h₁) × (s₂ ≡ s₁)) → open_reads h₂ s₂ c + reads_begun b ≡ open_reads h₁ s₁ c + reads_begun b' → (is_run b ≡ true → opens_write b' ≡ false → ¬ IsWriteOpen h₂ s₂ c) →
-    Opens c (reads_begun b') (opens_write b') h s h₂ s₂
+pub settled_opens : (run : Bool) (b b' : Begun) (c : ℕ) (h : Holders) (s : Rows) (h₁ : Holders) (s₁ : Rows) (h₂ : Holders) (s₂ : Rows) → is_run b ≡ run → Opens c (reads_begun b) (begins_write b) h s h₁ s₁ → (IsWriteOpen h s c → is_run b ≡ false) →
+    (is_run b ≡ false → (b' ≡ b) × (h₂ ≡ h₁) × (s₂ ≡ s₁)) → open_reads h₂ s₂ c + reads_begun b ≡ open_reads h₁ s₁ c + reads_begun b' → (is_run b ≡ true → begins_write b' ≡ false → ¬ IsWriteOpen h₂ s₂ c) →
+    Opens c (reads_begun b') (begins_write b') h s h₂ s₂
 settled_opens false b b' c h s h₁ s₁ h₂ s₂ e opens fresh still reads closes =
     let same = still e in
     rw (same.0, same.1, same.2) opens

@@ -1,12 +1,11 @@
 -- Calls on the cell of one party that run its generator or finalizer at once.
-use Rattle.std.specs.Prelude.{◌≡◌, ℕ, ◌<◌, Bool, true, false, ◌&&◌, not, if◌then◌else◌, MatchBool, Option, Some, None, Result, Ok, Err, ◌⊎◌}
-use Rattle.std.proofs.Common.{inl, inr}
+use Rattle.std.specs.Prelude.{◌≡◌, ℕ, ◌<◌, Bool, true, false, ◌&&◌, not, if◌then◌else◌, MatchBool, Option, Some, None, Result, Ok, Err}
 use Rattle.std.specs.Borrow.{MutBor}
 use Rattle.phase_bits.specs.declared.phase.Phase.{Phase}
 use Rattle.phase_bits.specs.declared.holders.Holders.{Holders}
 use Rattle.phase_bits.specs.Flags.{has, initialized}
 use Rattle.phase_bits.specs.Number.{number}
-use Rattle.phase_bits.specs.Records.{admit_write, leave_write, downgrade}
+use Rattle.phase_bits.specs.Records.{admit_write}
 use Rattle.exit_registry.specs.Registry.{Registry, cells_of, is_known}
 use Rattle.exit_registry.specs.declared.turns.Turn.{Turn}
 use Rattle.exit_registry.specs.declared.turns.Turn.TheVariants as turn
@@ -21,10 +20,13 @@ use Rattle.phase_seq.specs.declared.init_error.InitError.{InitError}
 use Rattle.phase_seq.specs.declared.init_error.InitError.TheVariants.{Access, Failed, Cyclic, Borrowed}
 use Rattle.phase_seq.specs.declared.tolerance.Tolerance.{Tolerance}
 use Rattle.phase_seq.specs.declared.ask.Want.{Want}
-use Rattle.phase_seq.specs.declared.ask.Want.TheVariants.{Init, Read, Write, ReadOnly, WriteOnly, Finalize}
+use Rattle.phase_seq.specs.declared.ask.Want.TheVariants.{Init, Finalize}
 use Rattle.phase_seq.specs.declared.ask.Ask.{Ask}
+use Rattle.phase_seq.specs.declared.section.Finished.{Finished}
+use Rattle.phase_seq.specs.declared.section.Finished.TheVariants as finished
 use Rattle.phase_seq.specs.Asks.{asks_run, nature_of}
 use Rattle.phase_seq.specs.Phases.{unregistered, staying, refused, reached, finalized}
+use Rattle.phase_seq.specs.Finishes.{left_on, left_with, ended_with}
 use Rattle.phase_seq.specs.Registers.{after_asking, is_refused}
 
 -- ---- the registry
@@ -46,10 +48,9 @@ registry_after due p None = None
 registry_after due p (Some e) = Some (after_asking due e.0 p e.1.now)
 
 -- the registry that a call was given, as it was left
-abbrev pub registry_left : Unit {0} ⊎ (((ℕ × (MutBor Registry × Unit {0})) × Unit {0}) ⊎ ⊥) → Option Registry
-registry_left (inl u) = None
-registry_left (inr (inl e)) = Some e.0.1.0.now
-registry_left (inr (inr e)) = absurd e
+abbrev pub registry_left : Option (ℕ × (MutBor Registry × Unit {0})) → Option Registry
+registry_left None = None
+registry_left (Some e) = Some e.1.0.now
 
 -- ---- a run
 
@@ -90,30 +91,28 @@ tolerance retry leak = record { retry = retry; leak = leak }
 abbrev pub asking : Want → Tolerance → Ask
 asking w t = record { want = w; fast = true; tol = t }
 
--- the record after a call that has the lock to write, and reached this phase, goes on as it wants
-abbrev pub held_on : Want → Phase → Holders → Holders
-held_on Init p h = leave_write p h
-held_on Read p h = downgrade p h
-held_on Write p h = h
-held_on ReadOnly p h = h
-held_on WriteOnly p h = h
-held_on Finalize p h = h
-
--- the record after a section: where the run failed, the lock is given back
+-- the record after a section: as at the end of any run, with nobody to whom the lock is handed on
 abbrev pub held_by : {V : Type 0} → Want → Phase → Result (Option V) InitFault → Holders → Holders
-held_by w p (Ok v) h = held_on w p h
-held_by w p (Err e) h = leave_write p h
+held_by w p (Ok v) h = left_with w true p h
+held_by w p (Err e) h = left_with w false p h
 
--- the answer after a section, of a call that says so where it goes on
-abbrev pub answer_by : {V A : Type 0} → (Phase → Option V → A) → Phase → Result (Option V) InitFault → Result A InitError
-answer_by say p (Ok v) = Ok (say p v)
-answer_by say p (Err e) = Err Failed
+-- what is told at the end of a run, with the value made, where a call says so
+abbrev pub said : {V A : Type 0} → (Phase → Option V → A) → Finished → Option V → Result A InitError
+said say (finished.Phase p) v = Ok (say p v)
+said say (finished.Read t p) v = Ok (say p v)
+said say (finished.Write t p) v = Ok (say p v)
+said say (finished.Failed p) v = Err Failed
+
+-- the answer after a section: as at the end of any run, with the value made
+abbrev pub answer_by : {V A : Type 0} → (Phase → Option V → A) → Want → Phase → Result (Option V) InitFault → Result A InitError
+answer_by say w p (Ok v) = said say (ended_with w true p) v
+answer_by say w p (Err e) = said say (ended_with w false p) None
 
 -- a section in which a run is due
 pub record HasRun {V G A : Type 0} (attempts : G → Result V InitFault → G → Type 0) (say : Phase → Option V → A) (w : Want) (stays : Option Phase) (h : Holders) (g : G) (r : Result A InitError) (h' : Holders) (left : G) : Type 0 where
   pub ran : Result (Option V) InitFault
   pub came : Came attempts stays g ran left
-  pub answer : r ≡ answer_by say (reached_by stays ran) ran
+  pub answer : r ≡ answer_by say w (reached_by stays ran) ran
   pub held : h' ≡ held_by w (reached_by stays ran) ran (admit_write h)
 
 -- no run is due: this is the answer, and the record
@@ -189,7 +188,7 @@ pub record CallsUnique {V F : Type 0} (post : F → Result V InitFault → Type 
 
 -- the record after a finalizer that succeeded or failed
 abbrev pub held_final : Bool → Holders → Holders
-held_final fine h = leave_write (finalized h.phase fine) (admit_write h)
+held_final fine h = left_on Finalize (finalized h.phase fine) (admit_write h)
 
 -- the finalizer ran, and the turn says what it gave
 abbrev pub HasFinalized : {F : Type 0} → (F → Result (Unit {0}) FinalFault → Type 0) → Holders → F → Turn → Holders → Type 0

@@ -1,29 +1,14 @@
 -- The phases that runs and finalizers reach.
 use Rattle.std.specs.Prelude.{ℕ, ◌==◌, Bool, ◌||◌, if◌then◌else◌}
 use Rattle.std.specs.Int.RustNames.{bit_or}
+pub use Rattle.phase_bits.specs.Flags.{registered, registration_refused, finalized_flag, finalization_panicked}
 use Rattle.phase_bits.specs.Flags.{has, without_flags, initialized, initialization_panicked, initialization_skiped}
 use Rattle.phase_bits.specs.Number.{number, phase_of}
 use Rattle.phase_bits.specs.declared.phase.Phase.{Phase}
 
--- the cell is registered for the exit
-abbrev pub registered : ℕ
-registered = 8
-
--- the cell asked to be registered when the registry was closed
-abbrev pub registration_refused : ℕ
-registration_refused = 32
-
 -- the flags that a run may set
 abbrev pub initialization_flags : ℕ
 initialization_flags = bit_or initialized (bit_or initialization_panicked initialization_skiped)
-
--- a finalizer succeeded
-abbrev pub finalized_flag : ℕ
-finalized_flag = 64
-
--- a finalizer failed
-abbrev pub finalization_panicked : ℕ
-finalization_panicked = 128
 
 -- the flags that a run sets
 abbrev pub outcome : Bool → ℕ

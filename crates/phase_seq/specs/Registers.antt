@@ -1,7 +1,6 @@
 -- What a call does beside its attempt on a cell that has a registry, in which it is registered for the exit.
 use Rattle.std.specs.Prelude.{◌≡◌, ◌⊎◌, ℕ, ◌<◌, ◌==◌, Bool, true, false, length, ◌&&◌, not, if◌then◌else◌, MatchBool, Option, Some, None}
 use Rattle.std.proofs.Common.{inl, inr}
-use Rattle.std.specs.Borrow.{MutBor}
 use Rattle.phase_bits.specs.declared.phase.Phase.{Phase}
 use Rattle.phase_bits.specs.declared.holders.Holders.{Holders}
 use Rattle.phase_bits.specs.Number.{number, IsKnown}
@@ -46,10 +45,15 @@ pub record IsEntered (who : Who) (before : Option ℕ) (b : Begun) (g : Given) (
   pub fits : Fits k h s who.cell
   pub quiet : is_run b ≡ true → g ≡ Nobody
 
--- the registry that was given, as it was left
-abbrev pub left_behind : {A : Type 0} → Unit {0} ⊎ ((MutBor A × Unit {0}) ⊎ ⊥) → Option A
+-- a run is begun only where no lock to write is open, and nothing is handed on beside it
+pub record RunsAlone (c : ℕ) (h : Holders) (s : Rows) (b : Begun) (g : Given) : Type 0 where
+  pub fresh : IsWriteOpen h s c → is_run b ≡ false
+  pub quiet : is_run b ≡ true → g ≡ Nobody
+
+-- an optional argument as it was at the end of the call, which a contract sees as a sum
+abbrev pub left_behind : {A : Type 0} → Unit {0} ⊎ ((A × Unit {0}) ⊎ ⊥) → Option A
 left_behind (inl u) = None
-left_behind (inr (inl f)) = Some f.0.now
+left_behind (inr (inl f)) = Some f.0
 left_behind (inr (inr e)) = absurd e
 
 -- the registry after a call: where a run is asked and admitted, registration is tried if the phase is empty

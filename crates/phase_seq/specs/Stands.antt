@@ -1,5 +1,5 @@
 -- How a party stands after its call, and which locks are open then.
-use Rattle.std.specs.Prelude.{◌≡◌, ℕ, ◌<◌, Bool, true, false, length, Option, Some}
+use Rattle.std.specs.Prelude.{◌≡◌, ℕ, ◌<◌, Bool, true, false, Option, Some}
 use Rattle.phase_bits.specs.declared.holders.Holders.{Holders}
 use Rattle.phase_bits.specs.Number.{IsKnown}
 use Rattle.phase_locker.specs.declared.ways.Who.{Who}
@@ -55,15 +55,15 @@ reads_begun (begun.Run section) = 0
 reads_begun (begun.Final section) = 0
 
 -- an answer opens a write lock
-abbrev pub opens_write : Begun → Bool
-opens_write (begun.Wait how) = false
-opens_write begun.Missed = false
-opens_write begun.Cyclic = false
-opens_write (begun.Nothing p) = false
-opens_write (begun.Read t p) = false
-opens_write (begun.Write t p) = true
-opens_write (begun.Run section) = true
-opens_write (begun.Final section) = true
+abbrev pub begins_write : Begun → Bool
+begins_write (begun.Wait how) = false
+begins_write begun.Missed = false
+begins_write begun.Cyclic = false
+begins_write (begun.Nothing p) = false
+begins_write (begun.Read t p) = false
+begins_write (begun.Write t p) = true
+begins_write (begun.Run section) = true
+begins_write (begun.Final section) = true
 
 -- who runs after a call: the party of a run that it began, and else the party that ran; a section that was open still is
 pub record RunsAfter (c : ℕ) (b : Begun) (was : Option ℕ) (h : Holders) (s : Rows) (now : Option ℕ) (h' : Holders) (s' : Rows) : Type 0 where

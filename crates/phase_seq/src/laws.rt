@@ -12,10 +12,7 @@ pub fn promised_values_come<T, G: Generator<T>>(g: &mut G) -> T
     ensures attempts { G.attempts g.old (Ok result) g.new }
     ensures again { G.may_call g.new }
 {
-    match g.attempt() {
-        Ok(value) => value,
-        Err(_) => unreachable!(),
-    }
+    g.attempt().unwrap()
 }
 
 /// A generator that promises to fail never makes a value.
@@ -25,10 +22,7 @@ pub fn promised_faults_come<T: Drop, G: Generator<T>>(g: &mut G) -> InitFault
     ensures attempts { G.attempts g.old (Err result) g.new }
     ensures again { G.may_call g.new }
 {
-    match g.attempt() {
-        Ok(_) => unreachable!(),
-        Err(fault) => fault,
-    }
+    g.attempt().unwrap_err()
 }
 
 /// A shared generator that promises a value never fails.
@@ -37,10 +31,7 @@ pub fn promised_values_are_generated<T, G: Generator<T>>(g: &G) -> T
     requires promised { (r : Result T InitFault) → G.generates g.now r → IsOk r }
     ensures generates { G.generates g.now (Ok result) }
 {
-    match g.generate() {
-        Ok(value) => value,
-        Err(_) => unreachable!(),
-    }
+    g.generate().unwrap()
 }
 
 /// A shared generator that promises to fail never makes a value.
@@ -49,8 +40,5 @@ pub fn promised_faults_are_generated<T: Drop, G: Generator<T>>(g: &G) -> InitFau
     requires promised { (r : Result T InitFault) → G.generates g.now r → IsErr r }
     ensures generates { G.generates g.now (Err result) }
 {
-    match g.generate() {
-        Ok(_) => unreachable!(),
-        Err(fault) => fault,
-    }
+    g.generate().unwrap_err()
 }

@@ -13,7 +13,7 @@ ghost use Rattle.phase_seq.specs.Asks.{asks_run};
 ghost use Rattle.phase_seq.specs.Begins.{Begins, Resumes};
 ghost use Rattle.phase_seq.specs.Registers.{MayRegister, On, left_behind, after_asking, is_refused};
 ghost use Rattle.phase_seq.specs.Finishes.{Finishes, FinishesFinal};
-ghost use Rattle.phase_seq.specs.Stands.{BegunStands, FinishedStands, IsRunning, IsFinalizing, RunsAfter, reads_begun, reads_finished, opens_write};
+ghost use Rattle.phase_seq.specs.Stands.{BegunStands, FinishedStands, IsRunning, IsFinalizing, RunsAfter, reads_begun, reads_finished, begins_write};
 ghost use Rattle.phase_seq.specs.Exactly.{BeginsExactly, ResumesExactly, is_admitted, shall_run};
 ghost use Rattle.phase_seq.specs.Lending.{lends_locker};
 
@@ -96,12 +96,12 @@ impl<L: PhaseLocker, G> LazySequentializer<L, G> {
         requires fits { Fits (L.place self.old.locker) (L.held self.old.locker) parks.old who.cell }
         requires registry { ForSome reg (λ m. MayRegister who.cell (L.held self.old.locker) parks.old m.now) }
         ensures begins { On (option_copied_mut reg.entry) (Begins (L.place self.old.locker) who ask self.old.running (L.held self.old.locker) parks.old) (L.place self.old.locker) who.cell parks.old ask.tol.leak (L.held self.old.locker).phase result (L.held self.new.locker) parks.new }
-        ensures registry { left_behind reg.exit ≡ option_map (after_asking (shall_run who ask self.old.running (L.held self.old.locker)) who.cell (L.held self.old.locker).phase) (option_copied_mut reg.entry) }
+        ensures registry { option_copied_mut (left_behind reg.exit) ≡ option_map (after_asking (shall_run who ask self.old.running (L.held self.old.locker)) who.cell (L.held self.old.locker).phase) (option_copied_mut reg.entry) }
         ensures exactly { BeginsExactly who ask self.old.running (L.held self.old.locker) (is_refused ask.tol.leak (option_copied_mut reg.entry) (L.held self.old.locker).phase) result.0 }
         ensures running { RunsAfter who.cell result.0 self.old.running (L.held self.old.locker) parks.old self.new.running (L.held self.new.locker) parks.new }
         ensures rows { RowsStayBeside who.party who.cell parks.old parks.new }
         ensures stands { BegunStands who result.0 self.new.running (L.held self.new.locker) parks.new }
-        ensures opens { Opens who.cell (reads_begun result.0) (opens_write result.0) (L.held self.old.locker) parks.old (L.held self.new.locker) parks.new }
+        ensures opens { Opens who.cell (reads_begun result.0) (begins_write result.0) (L.held self.old.locker) parks.old (L.held self.new.locker) parks.new }
         ensures left { Left L.held L.place who.cell self.old.locker self.new.locker parks.old parks.new }
     {
         let phase = self.locker.phase();
@@ -131,12 +131,12 @@ impl<L: PhaseLocker, G> LazySequentializer<L, G> {
         requires fits { Fits (L.place self.old.locker) (L.held self.old.locker) parks.old who.cell }
         requires registry { ForSome reg (λ m. MayRegister who.cell (L.held self.old.locker) parks.old m.now) }
         ensures resumes { On (option_copied_mut reg.entry) (Resumes (L.place self.old.locker) who ask self.old.running (L.held self.old.locker) parks.old) (L.place self.old.locker) who.cell parks.old ask.tol.leak (L.held self.old.locker).phase result (L.held self.new.locker) parks.new }
-        ensures registry { left_behind reg.exit ≡ option_map (after_asking (is_admitted result.0 && asks_run ask (L.held self.old.locker).phase) who.cell (L.held self.old.locker).phase) (option_copied_mut reg.entry) }
+        ensures registry { option_copied_mut (left_behind reg.exit) ≡ option_map (after_asking (is_admitted result.0 && asks_run ask (L.held self.old.locker).phase) who.cell (L.held self.old.locker).phase) (option_copied_mut reg.entry) }
         ensures exactly { ResumesExactly who ask self.old.running (L.held self.old.locker) parks.old (is_refused ask.tol.leak (option_copied_mut reg.entry) (L.held self.old.locker).phase) result.0 }
         ensures running { RunsAfter who.cell result.0 self.old.running (L.held self.old.locker) parks.old self.new.running (L.held self.new.locker) parks.new }
         ensures rows { RowsStayBeside who.party who.cell parks.old parks.new }
         ensures stands { BegunStands who result.0 self.new.running (L.held self.new.locker) parks.new }
-        ensures opens { Opens who.cell (reads_begun result.0) (opens_write result.0) (L.held self.old.locker) parks.old (L.held self.new.locker) parks.new }
+        ensures opens { Opens who.cell (reads_begun result.0) (begins_write result.0) (L.held self.old.locker) parks.old (L.held self.new.locker) parks.new }
         ensures left { Left L.held L.place who.cell self.old.locker self.new.locker parks.old parks.new }
     {
         let phase = self.locker.phase();

@@ -3,7 +3,8 @@ use Rattle.std.specs.Prelude.{List, [], ◌∷◌}
 use Rattle.exit_registry.specs.declared.turns.Turned.{Turned}
 use Rattle.schedule_rules.specs.Transcripts.{Schedule, Account}
 use Rattle.schedule_rules.specs.declared.transcript.Final.{Final}
-use Rattle.schedule_examples.specs.Words.{exit_cell, parking_exit_cell, leaking_cell, parking_once_leaking_cell, phase, read, write, made, release, exit, finished, finish_failed, registered_phase, finalized_phase, finalizer_failed_phase, read_guard, write_guard, running, done, declined_access, finalizing, skipped, round, closed, no_outcome, exit_begun, inside, registered_with, leaked_with, left_declined, finalized_with, finalizer_failed_with, was_done, was_failed, was_skipped}
+use Rattle.schedule_examples.specs.Cells.{exit_cell, parking_exit_cell, leaking_cell, parking_once_leaking_cell, registered_with, leaked_with, left_declined, finalized_with, finalizer_failed_with, was_done, was_failed, was_skipped}
+use Rattle.schedule_examples.specs.Words.{phase, read, write, made, release, exit, finished, finish_failed, registered_phase, finalized_phase, finalizer_failed_phase, read_guard, write_guard, running, done, declined_access, finalizing, skipped, round, closed, no_outcome, exit_begun, inside}
 use Rattle.schedule_examples.specs.Examples.{Row, row, steps_of, lines_of}
 
 -- a turn that comes before the value of its cell is published

@@ -2,7 +2,8 @@
 use Rattle.std.specs.Prelude.{List, [], ◌∷◌}
 use Rattle.schedule_rules.specs.Transcripts.{Schedule, Account}
 use Rattle.schedule_rules.specs.declared.transcript.Final.{Final}
-use Rattle.schedule_examples.specs.Words.{cell, once_cell, phase, read, write, made, made_failed, look, put, release, failed_phase, failed_access, value, read_guard, write_guard, running, done, failed, initialized_with, left_failed}
+use Rattle.schedule_examples.specs.Cells.{cell, once_cell, initialized_with, left_failed}
+use Rattle.schedule_examples.specs.Words.{phase, read, write, made, made_failed, look, put, release, failed_phase, failed_access, value, read_guard, write_guard, running, done, failed}
 use Rattle.schedule_examples.specs.Examples.{Row, row, steps_of, lines_of}
 
 -- a schedule without parties, cells and steps

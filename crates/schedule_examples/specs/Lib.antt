@@ -1,5 +1,9 @@
+pub mod Cells
 pub mod Words
 pub mod Examples
 pub mod Openings
 pub mod FirstSteps
 pub mod ExitSteps
+pub mod KindSteps
+pub mod CallTable
+pub mod FollowsTable

@@ -1,16 +1,12 @@
--- Short words for cells, steps, lines, and what cells and the exit are left with.
-use Rattle.std.specs.Prelude.{ℕ, true, false}
+-- Short words for steps and lines.
+use Rattle.std.specs.Prelude.{ℕ}
 use Rattle.std.specs.declared.option.Option.TheVariants.{None, Some}
 use Rattle.phase_bits.specs.Number.{phase_of}
-use Rattle.schedule_rules.specs.declared.plan.Kind.TheVariants as kind
-use Rattle.schedule_rules.specs.declared.plan.Place.TheVariants as place
-use Rattle.schedule_rules.specs.declared.plan.Call.TheVariants as call
-use Rattle.schedule_rules.specs.declared.plan.CellPlan.{CellPlan}
+use Rattle.lazy_cells.specs.declared.call.Call.{Call}
+use Rattle.lazy_cells.specs.declared.call.Call.TheVariants as call
 use Rattle.schedule_rules.specs.declared.step.Act.{Act}
 use Rattle.schedule_rules.specs.declared.step.Act.TheVariants as act
 use Rattle.schedule_rules.specs.declared.step.Step.{Step}
-use Rattle.exit_registry.specs.declared.turns.Turn.TheVariants as turn
-use Rattle.exit_registry.specs.declared.turns.Turned.{Turned}
 use Rattle.phase_locker.specs.declared.ways.Given.{Given}
 use Rattle.phase_locker.specs.declared.ways.Given.TheVariants as given
 use Rattle.phase_locker.specs.declared.ways.How.TheVariants as how
@@ -19,56 +15,63 @@ use Rattle.schedule_rules.specs.declared.line.Refusal.TheVariants as refused
 use Rattle.schedule_rules.specs.declared.line.Answer.{Answer}
 use Rattle.schedule_rules.specs.declared.line.Answer.TheVariants as answer
 use Rattle.schedule_rules.specs.declared.line.Line.{Line}
-use Rattle.schedule_rules.specs.declared.transcript.Final.{Final}
 
--- a cell whose calls spin
-abbrev pub cell : CellPlan
-cell = record { kind = kind.LockedLazy; retry = true; leak = false; place = place.Spin }
+-- ---- steps, with their party first
 
--- a cell whose calls park
-abbrev pub parking_cell : CellPlan
-parking_cell = record { kind = kind.LockedLazy; retry = true; leak = false; place = place.Park }
-
--- the same without retry
-abbrev pub once_cell : CellPlan
-once_cell = record { kind = kind.LockedLazy; retry = false; leak = false; place = place.Spin }
-
-abbrev pub parking_once_cell : CellPlan
-parking_once_cell = record { kind = kind.LockedLazy; retry = false; leak = false; place = place.Park }
-
--- a cell that is registered for the exit, which finalizes it
-abbrev pub exit_cell : CellPlan
-exit_cell = record { kind = kind.LockedLazyFinalize; retry = true; leak = false; place = place.Spin }
-
-abbrev pub parking_exit_cell : CellPlan
-parking_exit_cell = record { kind = kind.LockedLazyFinalize; retry = true; leak = false; place = place.Park }
-
--- the same without retry
-abbrev pub once_exit_cell : CellPlan
-once_exit_cell = record { kind = kind.LockedLazyFinalize; retry = false; leak = false; place = place.Spin }
-
--- the same, that puts up with not being registered
-abbrev pub leaking_cell : CellPlan
-leaking_cell = record { kind = kind.LockedLazyFinalize; retry = true; leak = true; place = place.Spin }
-
-abbrev pub parking_once_leaking_cell : CellPlan
-parking_once_leaking_cell = record { kind = kind.LockedLazyFinalize; retry = false; leak = true; place = place.Park }
-
--- the steps, with their party first
 abbrev pub step : ℕ → Act → Step
 step p a = record { party = p; act = a }
 
+-- the party calls the cell so
+abbrev pub calls : Call → ℕ → ℕ → Step
+calls k p c = step p (act.Call c k)
+
 abbrev pub phase : ℕ → ℕ → Step
-phase p c = step p (act.Call c call.Phase)
+phase = calls call.Phase
+
+abbrev pub try_get : ℕ → ℕ → Step
+try_get = calls call.TryGet
+
+abbrev pub get : ℕ → ℕ → Step
+get = calls call.Get
+
+abbrev pub init : ℕ → ℕ → Step
+init = calls call.Init
 
 abbrev pub read : ℕ → ℕ → Step
-read p c = step p (act.Call c call.Read)
+read = calls call.Read
 
 abbrev pub write : ℕ → ℕ → Step
-write p c = step p (act.Call c call.Write)
+write = calls call.Write
+
+abbrev pub fast_read : ℕ → ℕ → Step
+fast_read = calls call.FastRead
+
+abbrev pub fast_write : ℕ → ℕ → Step
+fast_write = calls call.FastWrite
 
 abbrev pub try_read : ℕ → ℕ → Step
-try_read p c = step p (act.Call c call.TryRead)
+try_read = calls call.TryRead
+
+abbrev pub try_write : ℕ → ℕ → Step
+try_write = calls call.TryWrite
+
+abbrev pub fast_try_read : ℕ → ℕ → Step
+fast_try_read = calls call.FastTryRead
+
+abbrev pub fast_try_write : ℕ → ℕ → Step
+fast_try_write = calls call.FastTryWrite
+
+abbrev pub primed_read : ℕ → ℕ → Step
+primed_read = calls call.PrimedRead
+
+abbrev pub primed_write : ℕ → ℕ → Step
+primed_write = calls call.PrimedWrite
+
+abbrev pub primed_read_non_initializing : ℕ → ℕ → Step
+primed_read_non_initializing = calls call.PrimedReadNonInitializing
+
+abbrev pub primed_write_non_initializing : ℕ → ℕ → Step
+primed_write_non_initializing = calls call.PrimedWriteNonInitializing
 
 abbrev pub again : ℕ → Step
 again p = step p act.Again
@@ -98,12 +101,20 @@ abbrev pub exit : ℕ → Step
 exit p = step p act.Exit
 
 abbrev pub finished : ℕ → Step
-finished p = step p act.Finished
+finished p = step p (act.Finished None)
 
 abbrev pub finish_failed : ℕ → Step
-finish_failed p = step p act.FinishFailed
+finish_failed p = step p (act.FinishFailed None)
 
--- what lines give
+-- a finalizer that leaves this value
+abbrev pub finished_with : ℕ → ℕ → Step
+finished_with p v = step p (act.Finished (Some v))
+
+abbrev pub finish_failed_with : ℕ → ℕ → Step
+finish_failed_with p v = step p (act.FinishFailed (Some v))
+
+-- ---- what lines give
+
 abbrev pub readers : Given
 readers = given.Readers
 
@@ -114,25 +125,27 @@ writer p = given.Writer p
 abbrev pub giving : Given → Line → Line
 giving g l = record { answer = l.answer; given = g }
 
--- the lines, each of which gives nothing
+-- ---- lines, each of which gives nothing
+
 abbrev pub line : Answer → Line
 line a = record { answer = a; given = given.Nobody }
 
 abbrev pub refusal : Refusal → Line
 refusal r = line (answer.Refused r)
 
-abbrev pub empty_phase : Line
-empty_phase = line (answer.Phase (phase_of 0))
-
-abbrev pub initialized_phase : Line
-initialized_phase = line (answer.Phase (phase_of 1))
-
-abbrev pub failed_phase : Line
-failed_phase = line (answer.Phase (phase_of 6))
-
--- the phase with this number, of a cell that is registered for the exit, or was refused there
+-- the phase with this number
 abbrev pub shown_phase : ℕ → Line
 shown_phase p = line (answer.Phase (phase_of p))
+
+abbrev pub empty_phase : Line
+empty_phase = shown_phase 0
+
+abbrev pub initialized_phase : Line
+initialized_phase = shown_phase 1
+
+-- Initialization panicked, Initialization skiped
+abbrev pub failed_phase : Line
+failed_phase = shown_phase 6
 
 -- Initialized, Registered
 abbrev pub registered_phase : Line
@@ -168,6 +181,9 @@ value v = line (answer.Value v)
 abbrev pub read_guard : Line
 read_guard = line answer.ReadGuard
 
+abbrev pub err_guard : Line
+err_guard = line answer.ErrGuard
+
 abbrev pub write_guard : Line
 write_guard = line answer.WriteGuard
 
@@ -177,19 +193,24 @@ running = line answer.Running
 abbrev pub done : Line
 done = line answer.Done
 
+-- the value may not be accessed at the phase with this number
+abbrev pub denied_at : ℕ → Line
+denied_at p = line (answer.Access (phase_of p))
+
 abbrev pub empty_access : Line
-empty_access = line (answer.Access (phase_of 0))
+empty_access = denied_at 0
 
 abbrev pub failed_access : Line
-failed_access = line (answer.Access (phase_of 6))
+failed_access = denied_at 6
 
--- Initialization panicked, Initialization skiped, Registered
 abbrev pub registered_failed_access : Line
-registered_failed_access = line (answer.Access (phase_of 14))
+registered_failed_access = denied_at 14
 
--- Initialization skiped, Registration refused
 abbrev pub declined_access : Line
-declined_access = line (answer.Access (phase_of 36))
+declined_access = denied_at 36
+
+abbrev pub finalized_access : Line
+finalized_access = denied_at 73
 
 abbrev pub failed : Line
 failed = line answer.Failed
@@ -199,6 +220,10 @@ cyclic = line answer.Cyclic
 
 abbrev pub borrowed : Line
 borrowed = line answer.Borrowed
+
+-- a fast call that is barred
+abbrev pub missed : Line
+missed = line answer.Missed
 
 abbrev pub waiting : Line
 waiting = line (answer.Waiting how.Spin)
@@ -230,6 +255,12 @@ waits = refusal refused.Waits
 abbrev pub not_waiting : Line
 not_waiting = refusal refused.NotWaiting
 
+abbrev pub not_owner : Line
+not_owner = refusal refused.NotOwner
+
+abbrev pub no_such_call : Line
+no_such_call = refusal refused.NoSuchCall
+
 abbrev pub no_guard : Line
 no_guard = refusal refused.NoGuard
 
@@ -247,42 +278,3 @@ exit_begun = refusal refused.ExitBegun
 
 abbrev pub inside : Line
 inside = refusal refused.Inside
-
--- what cells are left with
-abbrev pub untouched : Final
-untouched = record { phase = phase_of 0; value = None }
-
-abbrev pub initialized_with : ℕ → Final
-initialized_with v = record { phase = phase_of 1; value = Some v }
-
-abbrev pub left_failed : Final
-left_failed = record { phase = phase_of 6; value = None }
-
--- what cells are left with that are registered for the exit, or were refused there. The flags are those of the phases
-abbrev pub registered_with : ℕ → Final
-registered_with v = record { phase = phase_of 9; value = Some v }
-
-abbrev pub leaked_with : ℕ → Final
-leaked_with v = record { phase = phase_of 33; value = Some v }
-
-abbrev pub left_declined : Final
-left_declined = record { phase = phase_of 36; value = None }
-
-abbrev pub left_registered_failed : Final
-left_registered_failed = record { phase = phase_of 14; value = None }
-
-abbrev pub finalized_with : ℕ → Final
-finalized_with v = record { phase = phase_of 73; value = Some v }
-
-abbrev pub finalizer_failed_with : ℕ → Final
-finalizer_failed_with v = record { phase = phase_of 137; value = Some v }
-
--- the turns of the exit that ended
-abbrev pub was_done : ℕ → Turned
-was_done c = record { cell = c; turn = turn.Done }
-
-abbrev pub was_failed : ℕ → Turned
-was_failed c = record { cell = c; turn = turn.Failed }
-
-abbrev pub was_skipped : ℕ → Turned
-was_skipped c = record { cell = c; turn = turn.Skipped }

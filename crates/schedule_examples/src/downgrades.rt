@@ -3,7 +3,8 @@
 ghost use Rattle.std.specs.Prelude.{[], ◌∷◌, ◌++◌};
 ghost use Rattle.schedule_examples.specs.Examples.{Goes, row, draining};
 ghost use Rattle.schedule_examples.specs.Openings.{writes_first, reads_first};
-ghost use Rattle.schedule_examples.specs.Words.{cell, parking_cell, phase, read, write, again, made, look, put, release, downgrade, clone, readers, giving, empty_phase, initialized_phase, value, read_guard, write_guard, running, done, waiting_read, waiting_drain, waits, no_guard, not_writer, initialized_with};
+ghost use Rattle.schedule_examples.specs.Cells.{cell, parking_cell, initialized_with};
+ghost use Rattle.schedule_examples.specs.Words.{phase, read, write, again, made, look, put, release, downgrade, clone, readers, giving, empty_phase, initialized_phase, value, read_guard, write_guard, running, done, waiting_read, waiting_drain, waits, no_guard, not_writer};
 
 /// A downgrade hands read locks to the parked readers, and its holder reads on. A read guard is cloned.
 pub fn a_downgrade_gives_readers()

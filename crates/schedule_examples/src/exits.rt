@@ -3,7 +3,8 @@
 ghost use Rattle.std.specs.Prelude.{[], ◌∷◌, ◌++◌};
 ghost use Rattle.schedule_examples.specs.Examples.{Goes, GoesWith, row};
 ghost use Rattle.schedule_examples.specs.Openings.{writes_first, fills, two_filled, finalizes_first};
-ghost use Rattle.schedule_examples.specs.Words.{exit_cell, parking_exit_cell, phase, read, write, made, made_failed, look, put, release, exit, finished, finish_failed, empty_phase, registered_phase, finalized_phase, finalizer_failed_phase, value, read_guard, write_guard, running, done, finalizing, skipped, round, closed, no_outcome, exit_begun, inside, untouched, registered_with, finalized_with, finalizer_failed_with, was_done, was_failed, was_skipped};
+ghost use Rattle.schedule_examples.specs.Cells.{exit_cell, parking_exit_cell, untouched, registered_with, finalized_with, finalizer_failed_with, was_done, was_failed, was_skipped};
+ghost use Rattle.schedule_examples.specs.Words.{phase, read, write, made, made_failed, look, put, release, exit, finished, finish_failed, empty_phase, registered_phase, finalized_phase, finalizer_failed_phase, value, read_guard, write_guard, running, done, finalizing, skipped, round, closed, no_outcome, exit_begun, inside};
 
 /// Without a registered cell the first look closes the registry, and the exit is over.
 pub fn an_exit_without_cells_closes()

@@ -3,7 +3,8 @@
 ghost use Rattle.std.specs.Prelude.{[], ◌∷◌, ◌++◌};
 ghost use Rattle.schedule_examples.specs.Examples.{Goes, row};
 ghost use Rattle.schedule_examples.specs.Openings.{writes_first, reads_first, fails_first};
-ghost use Rattle.schedule_examples.specs.Words.{cell, phase, read, write, again, made, made_failed, look, release, initialized_phase, failed_phase, value, read_guard, running, done, failed, waiting, initialized_with, left_failed};
+ghost use Rattle.schedule_examples.specs.Cells.{cell, initialized_with, left_failed};
+ghost use Rattle.schedule_examples.specs.Words.{phase, read, write, again, made, made_failed, look, release, initialized_phase, failed_phase, value, read_guard, running, done, failed, waiting};
 
 /// A generator that failed runs again, and what it makes then is read.
 pub fn a_failed_run_is_tried_again()

@@ -3,7 +3,8 @@
 ghost use Rattle.std.specs.Prelude.{[], ◌∷◌, ◌++◌};
 ghost use Rattle.schedule_examples.specs.Examples.{Goes, row};
 ghost use Rattle.schedule_examples.specs.Openings.{writes_first, reads_first};
-ghost use Rattle.schedule_examples.specs.Words.{cell, phase, read, write, made, look, put, release, empty_phase, initialized_phase, value, read_guard, write_guard, running, done, cyclic, initialized_with};
+ghost use Rattle.schedule_examples.specs.Cells.{cell, initialized_with};
+ghost use Rattle.schedule_examples.specs.Words.{phase, read, write, made, look, put, release, empty_phase, initialized_phase, value, read_guard, write_guard, running, done, cyclic};
 
 /// Without cells and steps there is nothing to answer.
 pub fn nothing()

@@ -3,7 +3,8 @@
 ghost use Rattle.std.specs.Prelude.{[], ◌∷◌, ◌++◌};
 ghost use Rattle.schedule_examples.specs.Examples.{Goes, row};
 ghost use Rattle.schedule_examples.specs.Openings.{writes_first, reads_first};
-ghost use Rattle.schedule_examples.specs.Words.{cell, phase, read, write, made, look, put, release, empty_phase, initialized_phase, value, read_guard, write_guard, running, done, waiting, no_guard, initialized_with};
+ghost use Rattle.schedule_examples.specs.Cells.{cell, initialized_with};
+ghost use Rattle.schedule_examples.specs.Words.{phase, read, write, made, look, put, release, empty_phase, initialized_phase, value, read_guard, write_guard, running, done, waiting, no_guard};
 
 /// The guard of another party is none, to whatever act.
 pub fn a_guard_is_its_party_s_own()

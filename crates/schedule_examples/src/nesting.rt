@@ -3,7 +3,8 @@
 ghost use Rattle.std.specs.Prelude.{[], ◌∷◌, ◌++◌};
 ghost use Rattle.schedule_examples.specs.Examples.{Goes, row};
 ghost use Rattle.schedule_examples.specs.Openings.{reads_first};
-ghost use Rattle.schedule_examples.specs.Words.{cell, phase, read, write, made, made_failed, look, empty_phase, failed_phase, value, read_guard, write_guard, running, failed, cyclic, waiting, untouched, initialized_with};
+ghost use Rattle.schedule_examples.specs.Cells.{cell, untouched, initialized_with};
+ghost use Rattle.schedule_examples.specs.Words.{phase, read, write, made, made_failed, look, empty_phase, failed_phase, value, read_guard, write_guard, running, failed, cyclic, waiting};
 
 /// Of three generators within each other the middle one fails, and is run again before the outer one
 /// ends.

@@ -3,7 +3,8 @@
 ghost use Rattle.std.specs.Prelude.{[], ◌∷◌, ◌++◌};
 ghost use Rattle.schedule_examples.specs.Examples.{Goes, GoesOnlySo, row};
 ghost use Rattle.schedule_examples.specs.Openings.{writes_first, fails_first};
-ghost use Rattle.schedule_examples.specs.Words.{cell, once_cell, parking_once_cell, phase, read, write, try_read, again, made, made_failed, look, put, release, readers, writer, giving, initialized_phase, failed_phase, value, read_guard, write_guard, running, done, empty_access, failed_access, failed, waiting_read, waiting_write, initialized_with, left_failed};
+ghost use Rattle.schedule_examples.specs.Cells.{cell, once_cell, parking_once_cell, initialized_with, left_failed};
+ghost use Rattle.schedule_examples.specs.Words.{phase, read, write, try_read, again, made, made_failed, look, put, release, readers, writer, giving, initialized_phase, failed_phase, value, read_guard, write_guard, running, done, empty_access, failed_access, failed, waiting_read, waiting_write};
 
 /// After the only run failed, a read and a write are told that the value may not be accessed, and leave the phase.
 pub fn a_failed_run_is_not_tried_again()

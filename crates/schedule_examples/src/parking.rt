@@ -6,7 +6,8 @@ ghost use Rattle.schedule_rules.specs.Holds.{is_barred_by_readers};
 ghost use Rattle.schedule_rules.specs.Waits.{parked_readers, parked_writers, waits as waits_of};
 ghost use Rattle.schedule_examples.specs.Examples.{Goes, row, draining, early, history_of};
 ghost use Rattle.schedule_examples.specs.Openings.{writes_first, reads_first};
-ghost use Rattle.schedule_examples.specs.Words.{parking_cell, read, write, again, made, made_failed, look, put, release, readers, writer, giving, value, read_guard, write_guard, running, done, failed, waiting_read, waiting_write, waiting_drain, initialized_with};
+ghost use Rattle.schedule_examples.specs.Cells.{parking_cell, initialized_with};
+ghost use Rattle.schedule_examples.specs.Words.{read, write, again, made, made_failed, look, put, release, readers, writer, giving, value, read_guard, write_guard, running, done, failed, waiting_read, waiting_write, waiting_drain};
 
 /// What a writer gives back goes to the reader that parks behind another writer, and what that gives back to the writer.
 pub fn a_write_hands_over_to_a_reader_and_then_to_a_writer()

@@ -2,7 +2,8 @@
 
 ghost use Rattle.std.specs.Prelude.{[], ◌∷◌};
 ghost use Rattle.schedule_examples.specs.Examples.{Goes, row};
-ghost use Rattle.schedule_examples.specs.Words.{cell, phase, read, write, again, made, made_failed, look, put, release, empty_phase, value, read_guard, write_guard, running, done, waiting, waits, not_waiting, no_guard, not_writer, no_section, untouched, initialized_with};
+ghost use Rattle.schedule_examples.specs.Cells.{cell, untouched, initialized_with};
+ghost use Rattle.schedule_examples.specs.Words.{phase, read, write, again, made, made_failed, look, put, release, empty_phase, value, read_guard, write_guard, running, done, waiting, waits, not_waiting, no_guard, not_writer, no_section};
 
 /// While a party waits, each of its acts but another attempt is refused for that reason, before any
 /// other is asked. A refused step changes nothing, and once the call is through there is nothing to

@@ -6,7 +6,8 @@ ghost use Rattle.schedule_rules.specs.declared.line.Answer.TheVariants.{Access};
 ghost use Rattle.schedule_rules.specs.Gifts.{downgrades};
 ghost use Rattle.schedule_examples.specs.Examples.{Goes, GoesWith, history_of, row};
 ghost use Rattle.schedule_examples.specs.Openings.{writes_first, reads_first, fails_first};
-ghost use Rattle.schedule_examples.specs.Words.{cell, exit_cell, parking_exit_cell, once_exit_cell, leaking_cell, phase, read, write, made, made_failed, release, exit, registered_phase, registered_failed_phase, leaked_phase, leaked_failed_phase, declined_phase, read_guard, write_guard, running, done, registered_failed_access, declined_access, failed, skipped, round, closed, no_section, exit_begun, initialized_with, registered_with, leaked_with, left_declined, left_registered_failed, was_skipped};
+ghost use Rattle.schedule_examples.specs.Cells.{cell, exit_cell, parking_exit_cell, once_exit_cell, leaking_cell, initialized_with, registered_with, leaked_with, left_declined, left_registered_failed, was_skipped};
+ghost use Rattle.schedule_examples.specs.Words.{phase, read, write, made, made_failed, release, exit, registered_phase, registered_failed_phase, leaked_phase, leaked_failed_phase, declined_phase, read_guard, write_guard, running, done, registered_failed_access, declined_access, failed, skipped, round, closed, no_section, exit_begun};
 
 /// A look that finds no cell closes registration. A cell that asks to be registered then is declined: no generator runs, the
 /// phase says so, and nothing is left open.

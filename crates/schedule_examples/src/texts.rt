@@ -4,9 +4,10 @@ ghost use Rattle.std.specs.Prelude.{[], ◌∷◌, ◌≡◌, ◌++◌, codes};
 ghost use Rattle.schedule_text.specs.ScheduleText.{schedule_text};
 ghost use Rattle.schedule_text.specs.TranscriptText.{transcript_text};
 ghost use Rattle.schedule_examples.specs.Examples.{Goes, GoesWith};
-ghost use Rattle.schedule_examples.specs.Words.{cell, once_cell, exit_cell, parking_exit_cell, leaking_cell, parking_once_leaking_cell};
+ghost use Rattle.schedule_examples.specs.Cells.{own_cell, own_lazy_cell, parking_primed_dropped_cell, cell, once_cell, exit_cell, parking_exit_cell, leaking_cell, parking_once_leaking_cell};
 ghost use Rattle.schedule_examples.specs.FirstSteps.{empty_schedule, empty_account, first_rows, first_finals, first_schedule, first_account, once_rows, once_finals, once_schedule, once_account};
 ghost use Rattle.schedule_examples.specs.ExitSteps.{skipping_rows, skipping_finals, skipping_turns, skipping_schedule, skipping_account, finalizing_rows, finalizing_finals, finalizing_turns, finalizing_schedule, finalizing_account, closing_rows, closing_finals, closing_turns, closing_schedule, closing_account};
+ghost use Rattle.schedule_examples.specs.KindSteps.{primed_rows, primed_finals, primed_turns, primed_schedule, primed_account, own_rows, own_finals, own_schedule, own_account, worded_schedule};
 
 /// The texts of a schedule without parties, cells and steps.
 pub fn the_empty_schedule_is_spelled()
@@ -85,4 +86,42 @@ pub fn the_schedule_of_an_exit_without_cells_is_spelled()
         ++ codes "2 running\n3 read-guard\n4 refused 10 ExitBegun\n"
         ++ codes "cell 0 Phase (Initialization skiped | Registration refused) none\n"
         ++ codes "cell 1 Phase (Initialized | Registration refused) 9\nend\n" }
+{}
+
+/// The texts of a cell with a value from the start, from that to what its finalizer leaves.
+pub fn the_schedule_of_a_primed_cell_is_spelled()
+    ensures goes { GoesWith (parking_primed_dropped_cell 42 ∷ []) primed_rows primed_finals primed_turns }
+    ensures schedule { schedule_text primed_schedule
+        ≡ codes "schedule 1\nparties 1\ncell PrimedLockedLazyDroped park prime 42\nsteps\n"
+        ++ codes "0 primed_read_non_initializing 0\n0 look 0\n0 release 0\n0 read 0\n0 made 22\n0 release 4\n"
+        ++ codes "0 exit\n0 exit\n0 finished 0\n0 primed_write 0\n0 look 9\n0 read 0\nend\n" }
+    ensures transcript { transcript_text primed_account
+        ≡ codes "transcript 1\n0 err-guard\n1 value 42\n2 done\n3 running\n4 read-guard\n5 done\n"
+        ++ codes "6 round 1\n7 finalizing 0\n8 phase Phase (Initialized | Registered | Finalized)\n"
+        ++ codes "9 err-guard\n10 value 0\n11 access Phase (Initialized | Registered | Finalized)\n"
+        ++ codes "cell 0 Phase (Initialized | Registered | Finalized) 0\nexit 0 done\nend\n" }
+{}
+
+/// The texts of two cells that are one party's own.
+pub fn the_schedule_of_own_cells_is_spelled()
+    ensures goes { Goes (own_cell 0 ∷ own_lazy_cell 0 ∷ []) own_rows own_finals }
+    ensures schedule { schedule_text own_schedule
+        ≡ codes "schedule 1\nparties 2\ncell LockedLazy own 0\ncell Lazy own 0\nsteps\n"
+        ++ codes "0 write 0\n0 made 3\n0 read 0\n0 fast_read 0\n1 read 0\n0 get 1\n0 get 1\n0 made 6\nend\n" }
+    ensures transcript { transcript_text own_account
+        ≡ codes "transcript 1\n0 running\n1 write-guard\n2 borrowed\n3 none\n4 refused 3 NotOwner\n"
+        ++ codes "5 running\n6 cyclic\n7 value 6\n"
+        ++ codes "cell 0 Phase (not initialized) none\ncell 1 Phase (Initialized) 6\nend\n" }
+{}
+
+/// The words of each kind, place and option, of each call, and of each end of a finalizer.
+pub fn the_words_of_a_schedule_are_spelled()
+    ensures { schedule_text worded_schedule
+        ≡ codes "schedule 1\nparties 3\ncell Lazy spin\ncell LazyFinalize park once\ncell LockedLazy own 2\n"
+        ++ codes "cell LockedLazyFinalize spin leak\ncell LockedLazyDroped park once leak\n"
+        ++ codes "cell PrimedLockedLazy spin prime 7\ncell PrimedLockedLazyDroped park once leak prime 10\nsteps\n"
+        ++ codes "0 phase 0\n0 try_get 0\n1 get 1\n0 init 2\n0 read 3\n0 write 3\n0 fast_read 4\n0 fast_write 4\n"
+        ++ codes "0 try_read 5\n0 try_write 5\n0 fast_try_read 6\n0 fast_try_write 6\n0 primed_read 5\n0 primed_write 5\n"
+        ++ codes "0 primed_read_non_initializing 6\n0 primed_write_non_initializing 6\n"
+        ++ codes "2 finished\n2 finished 0\n2 finish_failed\n2 finish_failed 10\nend\n" }
 {}

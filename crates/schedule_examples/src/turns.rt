@@ -3,7 +3,8 @@
 ghost use Rattle.std.specs.Prelude.{[], ◌∷◌, ◌++◌};
 ghost use Rattle.schedule_examples.specs.Examples.{Goes, GoesWith, row, draining};
 ghost use Rattle.schedule_examples.specs.Openings.{writes_first, reads_first, fills, finalizes_first};
-ghost use Rattle.schedule_examples.specs.Words.{exit_cell, parking_exit_cell, leaking_cell, read, write, again, made, made_failed, release, exit, finished, finish_failed, readers, writer, giving, finalized_phase, finalizer_failed_phase, read_guard, write_guard, running, done, failed, waiting, waiting_read, waiting_write, waiting_drain, finalizing, skipped, round, closed, waits, no_section, no_outcome, exit_begun, inside, untouched, registered_with, leaked_with, finalized_with, finalizer_failed_with, was_done, was_failed, was_skipped};
+ghost use Rattle.schedule_examples.specs.Cells.{exit_cell, parking_exit_cell, leaking_cell, untouched, registered_with, leaked_with, finalized_with, finalizer_failed_with, was_done, was_failed, was_skipped};
+ghost use Rattle.schedule_examples.specs.Words.{read, write, again, made, made_failed, release, exit, finished, finish_failed, readers, writer, giving, finalized_phase, finalizer_failed_phase, read_guard, write_guard, running, done, failed, waiting, waiting_read, waiting_write, waiting_drain, finalizing, skipped, round, closed, waits, no_section, no_outcome, exit_begun, inside};
 
 /// The party that runs a section does not exit, and a generator is not ended as a finalizer. A turn that is barred waits, and
 /// another attempt goes on with it.

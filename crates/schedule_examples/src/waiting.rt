@@ -5,7 +5,8 @@ ghost use Rattle.phase_locker.specs.declared.tickets.LockNature.TheVariants as n
 ghost use Rattle.schedule_rules.specs.Holds.{is_barred};
 ghost use Rattle.schedule_examples.specs.Examples.{Goes, row};
 ghost use Rattle.schedule_examples.specs.Openings.{writes_first, reads_first};
-ghost use Rattle.schedule_examples.specs.Words.{cell, phase, read, write, again, made, made_failed, look, put, release, readers, empty_phase, value, read_guard, write_guard, running, done, waiting, waits, no_section, untouched, initialized_with};
+ghost use Rattle.schedule_examples.specs.Cells.{cell, untouched, initialized_with};
+ghost use Rattle.schedule_examples.specs.Words.{phase, read, write, again, made, made_failed, look, put, release, readers, empty_phase, value, read_guard, write_guard, running, done, waiting, waits, no_section};
 
 /// A write waits while another is held, however often it tries, and sees then what was set.
 pub fn a_write_waits_for_a_write()

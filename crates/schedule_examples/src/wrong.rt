@@ -3,7 +3,8 @@
 ghost use Rattle.std.specs.Prelude.{[], ◌∷◌, ◌++◌};
 ghost use Rattle.schedule_examples.specs.Examples.{GoesOnlySo, row, draining};
 ghost use Rattle.schedule_examples.specs.Openings.{writes_first, reads_first, fills};
-ghost use Rattle.schedule_examples.specs.Words.{cell, parking_cell, read, write, again, made, made_failed, release, downgrade, clone, readers, writer, giving, read_guard, write_guard, running, done, failed, borrowed, waiting_read, waiting_write, waiting_drain, waits, not_waiting};
+ghost use Rattle.schedule_examples.specs.Cells.{cell, parking_cell};
+ghost use Rattle.schedule_examples.specs.Words.{read, write, again, made, made_failed, release, downgrade, clone, readers, writer, giving, read_guard, write_guard, running, done, failed, borrowed, waiting_read, waiting_write, waiting_drain, waits, not_waiting};
 
 /// A share for a party that does not park.
 pub fn nothing_is_given_to_a_party_that_is_not_parked()

@@ -3,7 +3,8 @@
 ghost use Rattle.std.specs.Prelude.{[], ◌∷◌, ◌++◌};
 ghost use Rattle.schedule_examples.specs.Examples.{GoesOnlySo, EndsOnlySo, row, early};
 ghost use Rattle.schedule_examples.specs.Openings.{writes_first, reads_first, fills, two_filled, finalizes_first};
-ghost use Rattle.schedule_examples.specs.Words.{cell, exit_cell, parking_exit_cell, leaking_cell, phase, read, write, again, made, made_failed, release, exit, finished, finish_failed, readers, giving, registered_phase, finalized_phase, finalizer_failed_phase, read_guard, write_guard, running, done, failed, waiting, waiting_read, waiting_write, finalizing, skipped, round, closed, waits, no_section, no_outcome, exit_begun, inside, untouched, registered_with, finalized_with, finalizer_failed_with, was_done, was_failed, was_skipped};
+ghost use Rattle.schedule_examples.specs.Cells.{cell, exit_cell, parking_exit_cell, leaking_cell, untouched, registered_with, finalized_with, finalizer_failed_with, was_done, was_failed, was_skipped};
+ghost use Rattle.schedule_examples.specs.Words.{phase, read, write, again, made, made_failed, release, exit, finished, finish_failed, readers, giving, registered_phase, finalized_phase, finalizer_failed_phase, read_guard, write_guard, running, done, failed, waiting, waiting_read, waiting_write, finalizing, skipped, round, closed, waits, no_section, no_outcome, exit_begun, inside};
 
 /// A turn of the cell registered first, one of a cell of the next round, and a look while cells are left.
 pub fn an_exit_does_not_take_the_oldest_first()

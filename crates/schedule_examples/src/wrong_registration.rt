@@ -3,7 +3,8 @@
 ghost use Rattle.std.specs.Prelude.{[], ◌∷◌};
 ghost use Rattle.schedule_examples.specs.Examples.{GoesOnlySo, row};
 ghost use Rattle.schedule_examples.specs.Openings.{reads_first};
-ghost use Rattle.schedule_examples.specs.Words.{exit_cell, parking_exit_cell, leaking_cell, phase, read, write, made_failed, exit, readers, writer, giving, empty_phase, initialized_phase, failed_phase, registered_phase, registered_failed_phase, leaked_phase, declined_phase, read_guard, write_guard, running, empty_access, failed_access, declined_access, failed, skipped, round, closed};
+ghost use Rattle.schedule_examples.specs.Cells.{exit_cell, parking_exit_cell, leaking_cell};
+ghost use Rattle.schedule_examples.specs.Words.{phase, read, write, made_failed, exit, readers, writer, giving, empty_phase, initialized_phase, failed_phase, registered_phase, registered_failed_phase, leaked_phase, declined_phase, read_guard, write_guard, running, empty_access, failed_access, declined_access, failed, skipped, round, closed};
 
 /// A run, or a guard, of a cell that the closed registry declines, and the phase of a registered cell where one puts up with it.
 pub fn nothing_is_registered_after_the_exit()

@@ -11,7 +11,7 @@ use Rattle.phase_bits.specs.Flags.{has, initialized}
 use Rattle.phase_locker.specs.declared.ways.Given.{Given}
 use Rattle.phase_seq.specs.Asks.{shall_init}
 use Rattle.phase_seq.specs.declared.tolerance.Tolerance.{Tolerance}
-use Rattle.schedule_rules.specs.declared.plan.Call.{Call}
+use Rattle.lazy_cells.specs.declared.call.Call.{Call}
 use Rattle.schedule_rules.specs.declared.plan.CellPlan.{CellPlan}
 use Rattle.schedule_rules.specs.declared.step.Act.{Act}
 use Rattle.schedule_rules.specs.declared.step.Act.TheVariants as act
@@ -21,10 +21,10 @@ use Rattle.schedule_rules.specs.declared.step.Want.TheVariants.{Calls, Turns}
 use Rattle.schedule_rules.specs.declared.line.Line.{Line}
 use Rattle.schedule_rules.specs.declared.line.Answer.{Answer}
 use Rattle.schedule_rules.specs.declared.line.Answer.TheVariants as answer
-use Rattle.schedule_rules.specs.Kinds.{cell_at, tolerance_of, tolerance_at}
+use Rattle.schedule_rules.specs.Kinds.{cell_at, tolerance_at}
 use Rattle.schedule_rules.specs.Phases.{runs_generator}
-use Rattle.schedule_rules.specs.Changes.{Content, Asked, is_declined, content_asked, effect}
-use Rattle.schedule_rules.specs.Deeds.{deed_accessed}
+use Rattle.schedule_rules.specs.Changes.{Asked, is_declined, content_asked, effect}
+use Rattle.schedule_rules.specs.Deeds.{deed_visited}
 use Rattle.schedule_rules.specs.History.{Event, act_of, accepts}
 use Rattle.schedule_rules.specs.Sections.{Section, runs_in, generates_for, runs, sections_by, sections}
 use Rattle.schedule_rules.specs.Guards.{guards_by, guards}
@@ -33,13 +33,11 @@ use Rattle.schedule_rules.specs.Replay.{Back, back_by, back_of_step, replay, pha
 use Rattle.schedule_rules.specs.Waits.{attempt, cell_of_attempt, attempt_of_turn, cell_concerned}
 use Rattle.schedule_rules.specs.Legal.{IsLegal, IsLegalLine}
 use Rattle.schedule_rules.specs.Laws.{IsTurnedAway, KeepsValues}
-use Rattle.schedule_rules.proofs.Found.{found_passes}
-use Rattle.schedule_rules.proofs.Each.{each_found}
-use Rattle.schedule_rules.proofs.Backs.{back_here, back_elsewhere}
-use Rattle.schedule_rules.proofs.Cases.{IsTrying, Calling, Asking, Resting, calling-tries}
+use Rattle.schedule_rules.proofs.Found.{found_passes, each_found}
+use Rattle.schedule_rules.proofs.Leaves.{back_here, back_elsewhere, asked_value}
+use Rattle.schedule_rules.proofs.Cases.{IsTrying, Calling, Asking, Resting, Reach, calling-tries}
 use Rattle.schedule_rules.proofs.Means.{Began, Away, Means, means}
-use Rattle.schedule_rules.proofs.Grows.{Needs, IsStanding}
-use Rattle.schedule_rules.proofs.Initialized.{sound}
+use Rattle.schedule_rules.proofs.Grows.{Needs, IsStanding, sound}
 use Rattle.schedule_rules.proofs.Facts.{apart, same_number}
 
 -- on the empty phase alone a run is wanted without retry
@@ -62,12 +60,13 @@ once-where-unwanted t p e lacks = by t.retry e
     by true f = absurd (none (has p initialized) f lacks)
     by false f = refl
 
--- and its phase is not empty
-ended-where-unwanted : (t : Tolerance) (p : ℕ) → shall_init t (phase_of p) ≡ false → has p initialized ≡ false → p ≢ 0
-ended-where-unwanted t p e lacks z = by (subst (λ b. (if b then not (has p initialized) else (p == 0)) ≡ false) (once-where-unwanted t p e lacks) e)
+-- and where no run is wanted, the phase is not empty
+ended-where-unwanted : (t : Tolerance) (p : ℕ) → shall_init t (phase_of p) ≡ false → p ≢ 0
+ended-where-unwanted t p e z = by t.retry (subst (λ n. (if t.retry then not (has n initialized) else (n == 0)) ≡ false) z e)
   where
-    by : (p == 0) ≡ false → ⊥
-    by f = grind arith
+    by : (b : Bool) → (if b then not (has 0 initialized) else (0 == 0)) ≡ false → ⊥
+    by true f = cc
+    by false f = cc
 
 module _ (cells : List CellPlan) where
   module _ (h : List Event) (p : ℕ) where
@@ -101,7 +100,7 @@ module _ (cells : List CellPlan) where
       module _ (a : Act) (c : ℕ) (j : Call) (q : Phase) (t : Calling cells h p a c j) where
         -- it is given back at its cell alone
         back : back_of_step h (record { party = p; act = a }) (answer.Access q) ≡ Some (asked c j)
-        back = ap (λ b. back_by p (deed_accessed (accepts h) b) (sections h) (guards h)) t.does
+        back = ap (λ b. back_by p (deed_visited (accepts h) false b) (sections h) (guards h)) t.does
 
         others : (d : ℕ) → c ≢ d → replay cells d (event a (answer.Access q) ∷ h) ≡ replay cells d h
         others d ne = back_elsewhere cells d (back_of_step h (record { party = p; act = a }) (answer.Access q)) (asked c j) (replay cells d h) back (other ne)
@@ -117,8 +116,8 @@ module _ (cells : List CellPlan) where
             → replay cells c (event a (answer.Access q) ∷ h) ≡ (if b then record { phase = 36; value = (replay cells c h).value } else replay cells c h)
         chosen b e = here ∙ ap (λ (d : Bool). if d then record { phase = 36; value = (replay cells c h).value } else replay cells c h) e
 
-        pub denies : Resting cells h p c j false → q ≡ record { bits = phase_at cells c h } → IsTurnedAway cells h (event a (answer.Access q)) c q
-        denies r e = record {
+        pub denies : Resting cells h p c j → Reach cells h p c false → q ≡ record { bits = phase_at cells c h } → IsTurnedAway cells h (event a (answer.Access q)) c q
+        denies r lacks e = record {
           shown = e ∙ ap (λ y. record { bits = y.phase }) (sym stays);
           others_stay = others;
           reason = inl (
@@ -127,9 +126,9 @@ module _ (cells : List CellPlan) where
               call = j;
               tried = t.tried;
               shown = e;
-              lacks = r.accessed;
-              once = λ u. once-where-unwanted (tolerance_at cells c) (phase_at cells c h) (r.unwanted u) r.accessed;
-              ended = λ u. ended-where-unwanted (tolerance_at cells c) (phase_at cells c h) (r.unwanted u) r.accessed;
+              lacks = lacks;
+              once = λ u none. once-where-unwanted (tolerance_at cells c) (phase_at cells c h) (r.unwanted u) none;
+              ended = λ u. ended-where-unwanted (tolerance_at cells c) (phase_at cells c h) (r.unwanted u);
             },
           );
         }
@@ -160,10 +159,10 @@ module _ (cells : List CellPlan) where
           subst (λ r. IsTurnedAway cells h (record { step = s; line = record { answer = r; given = l.given } }) c q) (sym e)
           (subst (λ z. IsTurnedAway cells h (record { step = s; line = record { answer = answer.Access q; given = l.given } }) z q) (called_at h s.party s.act m.cell c m.asked m.calls n) (reasoned m.reason))
         where
-          reasoned : (Asking cells h s.party m.cell m.asked false × (q ≡ phase_of flags_refused)) ⊎ (Resting cells h s.party m.cell m.asked false × (q ≡ phase_of (phase_at cells m.cell h)))
+          reasoned : (Asking cells h s.party m.cell m.asked false × (q ≡ phase_of flags_refused)) ⊎ (Resting cells h s.party m.cell m.asked × (Reach cells h s.party m.cell false × (q ≡ phase_of (phase_at cells m.cell h))))
               → IsTurnedAway cells h (record { step = s; line = record { answer = answer.Access q; given = l.given } }) m.cell q
           reasoned (inl r) = declines h s.party l.given s.act m.cell m.asked q m.calls r.0 r.1
-          reasoned (inr r) = denies h s.party l.given s.act m.cell m.asked q m.calls r.0 r.1
+          reasoned (inr r) = denies h s.party l.given s.act m.cell m.asked q m.calls r.0 r.1.0 r.1.1
 
   -- without retry a run begins on the empty phase
   pub begins_on_empty : (h : List Event) (s : Step) (l : Line) (c : ℕ) → IsLegalLine cells h s l → l.answer ≡ answer.Running → cell_concerned cells h s ≡ Some c
@@ -200,25 +199,18 @@ module _ (cells : List CellPlan) where
 pub keeps_values : (cells : List CellPlan) (h : List Event) (s : Step) (p : Phase) (g : Given) → KeepsValues cells h (record { step = s; line = record { answer = answer.Access p; given = g } })
 keeps_values cells h s p g = record { sections_stay = same_sections (act_of h s); guards_stay = same_guards (act_of h s); values_stay = λ c. by c (act_of h s) }
   where
-    same_sections : (a : Act) → sections_by h s.party (deed_accessed (accepts h) a) (sections h) ≡ sections h
+    same_sections : (a : Act) → sections_by h s.party (deed_visited (accepts h) false a) (sections h) ≡ sections h
     same_sections (act.Call d j) = refl
     same_sections _ = refl
 
-    same_guards : (a : Act) → guards_by (length h) s.party (deed_accessed (accepts h) a) (sections h) (guards h) ≡ guards h
+    same_guards : (a : Act) → guards_by (length h) s.party (deed_visited (accepts h) false a) (sections h) (guards h) ≡ guards h
     same_guards (act.Call d j) = refl
     same_guards _ = refl
 
-    asked : (x : CellPlan) (b : Bool) (j : Call) (y : Content) → (content_asked x.kind (tolerance_of x) b j y).value ≡ y.value
-    asked x b j y = one (is_declined x.kind (tolerance_of x) j b y.phase)
-      where
-        one : (d : Bool) → (if d then record { phase = 36; value = y.value } else y).value ≡ y.value
-        one true = refl
-        one false = refl
-
-    by : (c : ℕ) (a : Act) → (content_after_back cells c (back_by s.party (deed_accessed (accepts h) a) (sections h) (guards h)) (replay cells c h)).value ≡ (replay cells c h).value
+    by : (c : ℕ) (a : Act) → (content_after_back cells c (back_by s.party (deed_visited (accepts h) false a) (sections h) (guards h)) (replay cells c h)).value ≡ (replay cells c h).value
     by c (act.Call d j) = here (d == c)
       where
         here : (b : Bool) → (if b then effect (cell_at cells c) (Asked (accepts h) j ∷ []) (replay cells c h) else replay cells c h).value ≡ (replay cells c h).value
-        here true = asked (cell_at cells c) (accepts h) j (replay cells c h)
+        here true = asked_value (cell_at cells c) (accepts h) j (replay cells c h)
         here false = refl
     by c _ = refl

@@ -3,31 +3,45 @@ use Rattle.std.proofs.Common.{◌≡◌, ℕ, List, Bool, true, false, ◌&&◌,
 use Rattle.std.specs.Prelude.{if◌then◌else◌, is_none}
 use Rattle.std.specs.declared.option.Option.{Option}
 use Rattle.phase_bits.specs.declared.phase.Phase.{Phase}
+use Rattle.phase_locker.specs.declared.ways.Given.{Given}
+use Rattle.phase_locker.specs.declared.ways.How.{How}
+use Rattle.phase_locker.specs.declared.ways.How.TheVariants as how
 use Rattle.phase_locker.specs.declared.tickets.LockNature.TheVariants as nature
-use Rattle.schedule_rules.specs.declared.plan.Call.{Call}
-use Rattle.schedule_rules.specs.declared.plan.Call.TheVariants as call
-use Rattle.schedule_rules.specs.declared.plan.Kind.{Kind}
+use Rattle.phase_seq.specs.declared.tolerance.Tolerance.{Tolerance}
+use Rattle.lazy_cells.specs.declared.call.Call.{Call}
+use Rattle.lazy_cells.specs.declared.kind.Kind.{Kind}
+use Rattle.schedule_rules.specs.declared.form.Form.{Form}
+use Rattle.schedule_rules.specs.declared.form.Form.TheVariants.{Told, Shown, Held}
 use Rattle.schedule_rules.specs.declared.plan.CellPlan.{CellPlan}
+use Rattle.schedule_rules.specs.declared.plan.Place.{Place}
+use Rattle.schedule_rules.specs.declared.plan.Place.TheVariants as place
 use Rattle.schedule_rules.specs.declared.step.Step.{Step}
+use Rattle.schedule_rules.specs.declared.step.Want.TheVariants.{Calls, Turns}
+use Rattle.schedule_rules.specs.declared.step.Want.{Want}
 use Rattle.schedule_rules.specs.declared.line.Line.{Line}
 use Rattle.schedule_rules.specs.declared.line.Refusal.{Refusal}
 use Rattle.schedule_rules.specs.declared.line.Answer.{Answer}
 use Rattle.schedule_rules.specs.declared.line.Answer.TheVariants as answer
+use Rattle.schedule_rules.specs.Forms.{form_of}
 use Rattle.schedule_rules.specs.Phases.{is_accessible}
-use Rattle.schedule_rules.specs.declared.step.Want.{Want}
-use Rattle.schedule_rules.specs.declared.step.Want.TheVariants.{Calls, Turns}
-use Rattle.schedule_rules.specs.Changes.{Content}
+use Rattle.schedule_rules.specs.Changes.{Content, content_asked}
 use Rattle.schedule_rules.specs.History.{Event}
 use Rattle.schedule_rules.specs.Sections.{Section}
 use Rattle.schedule_rules.specs.Guards.{Guard}
 use Rattle.schedule_rules.specs.Waits.{Wait}
 use Rattle.schedule_rules.specs.Holds.{is_barred, holding_with}
 use Rattle.schedule_rules.specs.Refusals.{refusal}
-use Rattle.schedule_rules.specs.Answers.{answer_opened, answer_denied, answer_locked, answer_of_made}
-use Rattle.schedule_rules.specs.Due.{due_finished, due_made, due_look, due_clone, due_answer}
-use Rattle.schedule_rules.specs.Legal.{IsLegalLine, answer_of}
+use Rattle.schedule_rules.specs.Answers.{answer_opened, answer_denied, answer_made, answer_of_made, answer_barred, begins_run, call_answer_admitted}
+use Rattle.schedule_rules.specs.Kinds.{cell_at, is_owned}
+use Rattle.schedule_rules.specs.Due.{phase_made, due_finished, due_made, due_look, due_clone, due_answer}
+use Rattle.schedule_rules.specs.Legal.{Moment, First, Last, IsLegalLine, answer_of, due_at}
 use Rattle.schedule_rules.specs.Causes.{waits_judged}
-use Rattle.schedule_rules.proofs.Judged.{due_at-judged}
+
+-- the answer that is due, where these calls of others wait
+pub due_at-judged : (cells : List CellPlan) (m : Moment) (h : List Event) (s : Step) (g : Given) (chosen : Bool)
+    → due_at cells m h s g chosen ≡ due_answer cells h s (waits_judged cells m h s g) chosen
+due_at-judged cells First h s g chosen = refl
+due_at-judged cells Last h s g chosen = refl
 
 module _ (P : Answer → Type 0) where
   -- one of two answers
@@ -35,32 +49,74 @@ module _ (P : Answer → Type 0) where
   either true x y p q = p
   either false x y p q = q
 
-  -- that of a call that gets its lock, where the value may be accessed or not
-  pub accessed : (q : Kind) (k : Call) (y : Content) → P (answer_opened k) → P (answer_denied k y.phase) → P (answer_locked q k y)
-  accessed q k y o d = either (is_accessible q y.phase) (answer_opened k) (answer_denied k y.phase) o d
+  -- it holds of what shows a cell: a phase, a value or a guard
+  pub record IsShown : Type 0 where
+    pub phase : (p : Phase) → P (answer.Phase p)
+    pub value : (v : ℕ) → P (answer.Value v)
+    pub read_guard : P answer.ReadGuard
+    pub write_guard : P answer.WriteGuard
+
+  -- and of what tells that the value may not be accessed
+  pub record IsTold : Type 0 where
+    pub shown : IsShown
+    pub access : (p : Phase) → P (answer.Access p)
+    pub err_guard : P answer.ErrGuard
+
+  -- so of a call that may access the value
+  pub opened : IsShown → (f : Form) (y : Content) → P (answer_opened f y)
+  opened k (Told tests) y = k.phase _
+  opened k Shown y = k.value _
+  opened k (Held true falls_back) y = k.write_guard
+  opened k (Held false falls_back) y = k.read_guard
+
+  -- of one that may not
+  pub denied : IsTold → (f : Form) (p : ℕ) → P (answer_denied f p)
+  denied k (Told true) p = k.access _
+  denied k (Told false) p = k.shown.phase _
+  denied k Shown p = k.access _
+  denied k (Held writes true) p = k.err_guard
+  denied k (Held writes false) p = k.access _
+
+  -- of one that is admitted
+  pub admitted : IsTold → P answer.Running → (q : Kind) (t : Tolerance) (o : Bool) (k : Call) (y : Content) → P (call_answer_admitted q t o k y)
+  admitted k r q t o c y =
+      either (begins_run q t o c y.phase) answer.Running _ r
+      (either (is_accessible q (content_asked q t o c y).phase) _ _ (opened k.shown (form_of q c) (content_asked q t o c y)) (denied k (form_of q c) (content_asked q t o c y).phase))
+
+  -- of one that is barred
+  pub barred : (fast : Bool) (x : Place) (way : How) → (fast ≡ true → P answer.Missed) → ((w : How) → P (answer.Waiting w)) → (is_owned x ≡ true → P answer.Borrowed)
+      → P (answer_barred fast x way)
+  barred true x way m w b = m refl
+  barred false place.Park way m w b = w way
+  barred false place.Spin way m w b = w how.Spin
+  barred false (place.Own p) way m w b = b refl
+
+  -- of a run that made a value
+  pub made_so : IsShown → (f : Form) (v p : ℕ) → P (answer_made f v p)
+  made_so k (Told tests) v p = k.phase _
+  made_so k Shown v p = k.value v
+  made_so k (Held true falls_back) v p = k.write_guard
+  made_so k (Held false falls_back) v p = k.read_guard
 
   module _ (cells : List CellPlan) (h : List Event) where
     -- that of a value made
-    pub made : (v : ℕ) (o : Option Section) → P answer.Done → P answer.ReadGuard → P answer.WriteGuard → P (due_made cells h v o)
-    made v None d r w = d
-    made v (Some s) d r w = by s.want
+    pub made : IsShown → (v : ℕ) (o : Option Section) → P answer.Done → P answer.Failed → P (due_made cells h v o)
+    made k v None d f = d
+    made k v (Some s) d f = by s.want
       where
-        by : (u : Want) → P (answer_of_made u)
-        by (Calls call.Phase) = w
-        by (Calls call.Read) = r
-        by (Calls call.Write) = w
-        by (Calls call.TryRead) = w
-        by Turns = w
+        by : (u : Want) → P (answer_of_made (cell_at cells s.cell).kind u v (phase_made cells h s))
+        by (Calls j) = made_so k (form_of (cell_at cells s.cell).kind j) v (phase_made cells h s)
+        by Turns = f
 
     -- that of a finalizer that ends
-    pub finished : (fine : Bool) (o : Option Section) → P answer.Done → ((p : Phase) → P (answer.Phase p)) → P (due_finished cells h fine o)
-    finished fine None d p = d
-    finished fine (Some s) d p = p _
+    pub finished : IsShown → (fine : Bool) (o : Option Section) → P answer.Done → P (due_finished cells h fine o)
+    finished k fine None d = d
+    finished k fine (Some s) d = k.phase _
 
     -- that of a look
-    pub looked : (o : Option Guard) → P answer.Done → ((v : ℕ) → P (answer.Value v)) → P (due_look cells h o)
-    looked None d v = d
-    looked (Some x) d v = v _
+    pub looked : IsShown → (o : Option Guard) → P answer.Done → P (due_look cells h o)
+    looked k None d = d
+    looked k (Some x) d = k.value _
 
     -- that of a clone
     pub cloned : (ws : List Wait) (o : Option Guard) → P answer.Done → P answer.Borrowed → P answer.ReadGuard → P (due_clone cells h ws o)

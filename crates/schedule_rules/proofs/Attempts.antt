@@ -7,15 +7,17 @@ use Rattle.phase_bits.specs.Number.{phase_of}
 use Rattle.phase_bits.specs.Flags.{has, initialized}
 use Rattle.phase_locker.specs.declared.ways.How.{How}
 use Rattle.phase_locker.specs.declared.ways.How.TheVariants as how
-use Rattle.phase_seq.specs.Phases.{flags_refused}
-use Rattle.phase_locker.specs.declared.tickets.LockNature.TheVariants as nature
-use Rattle.phase_seq.specs.Asks.{shall_init}
-use Rattle.phase_seq.specs.declared.tolerance.Tolerance.{Tolerance}
 use Rattle.phase_locker.specs.declared.tickets.LockNature.{LockNature}
-use Rattle.schedule_rules.specs.declared.plan.Call.{Call}
-use Rattle.schedule_rules.specs.declared.plan.Call.TheVariants as call
+use Rattle.phase_locker.specs.declared.tickets.LockNature.TheVariants as nature
+use Rattle.phase_seq.specs.Phases.{flags_refused}
+use Rattle.phase_seq.specs.Asks.{shall_init, nature_where, initializes as run_sought}
+use Rattle.phase_seq.specs.declared.ask.Want.{Want as Sought}
+use Rattle.phase_seq.specs.declared.ask.Want.TheVariants as sought
+use Rattle.phase_seq.specs.declared.tolerance.Tolerance.{Tolerance}
+use Rattle.lazy_cells.specs.Calls.{asking}
+use Rattle.lazy_cells.specs.declared.call.Call.{Call}
+use Rattle.lazy_cells.specs.declared.kind.Kind.{Kind}
 use Rattle.schedule_rules.specs.declared.plan.CellPlan.{CellPlan}
-use Rattle.schedule_rules.specs.declared.plan.Kind.{Kind}
 use Rattle.schedule_rules.specs.declared.step.Act.{Act}
 use Rattle.schedule_rules.specs.declared.step.Act.TheVariants as act
 use Rattle.schedule_rules.specs.declared.step.Want.{Want}
@@ -23,8 +25,9 @@ use Rattle.schedule_rules.specs.declared.step.Want.TheVariants.{Calls, Turns}
 use Rattle.schedule_rules.specs.declared.line.Answer.{Answer}
 use Rattle.schedule_rules.specs.declared.line.Answer.TheVariants as answer
 use Rattle.schedule_rules.specs.Kinds.{cell_at, tolerance_at}
-use Rattle.schedule_rules.specs.Phases.{runs_generator}
-use Rattle.schedule_rules.specs.Calls.{lock_wanted, asks, initializes}
+use Rattle.schedule_rules.specs.Forms.{form_of}
+use Rattle.schedule_rules.specs.Phases.{is_accessible, runs_generator}
+use Rattle.schedule_rules.specs.Calls.{lock_wanted, lock_asked, run_asked, seeks, seeks_run, asks, initializes, is_fast}
 use Rattle.schedule_rules.specs.Changes.{Content}
 use Rattle.schedule_rules.specs.History.{Event, accepts, latest_act, count}
 use Rattle.schedule_rules.specs.Sections.{runs}
@@ -33,13 +36,14 @@ use Rattle.schedule_rules.specs.Exits.{registry}
 use Rattle.schedule_rules.specs.Waits.{act_for, Wait, wait_of, waits, attempt_of_wait, attempt_of_turn, shares_write, drains_on}
 use Rattle.schedule_rules.specs.Holds.{is_barred, holding_with, keeps, read_guards, write_holds, readers, readers_with, writers_with, drains_with}
 use Rattle.schedule_rules.specs.Refusals.{refusal, refusal_by, refusal_free, refusal_waiting}
-use Rattle.schedule_rules.specs.Answers.{answer_of_run, answer_opened, answer_denied, answer_declined, answer_locked, call_answer_admitted, turn_answer_admitted, answer_admitted}
+use Rattle.schedule_rules.specs.Answers.{answer_opened, answer_denied, answer_at, answer_barred, call_answer_admitted, turn_answer_admitted, answer_admitted}
 use Rattle.schedule_rules.specs.Due.{answer_of_look, due_attempt, due_tried}
 use Rattle.schedule_rules.specs.Legal.{IsExclusive}
 use Rattle.schedule_rules.proofs.Found.{found_counts}
 use Rattle.schedule_rules.proofs.GoesOn.{Matches, wait-matches}
-use Rattle.schedule_rules.proofs.Cases.{step, Tries, Cases, Calling, Turning}
-use Rattle.schedule_rules.proofs.Facts.{apart, same_number}
+use Rattle.schedule_rules.proofs.Answered.{barred}
+use Rattle.schedule_rules.proofs.Cases.{step, Tries, Cases, Calling, Turning, Asking, Resting}
+use Rattle.schedule_rules.proofs.Facts.{apart, second, same_number}
 
 -- nothing is written where something drains
 no_writers : (w d : ℕ) → (0 < w → d ≡ 0) → 0 < d → w ≡ 0
@@ -62,41 +66,62 @@ waits_or : (Q : Answer → Type 0) (barred : Bool) (w r : Answer) → Q w → (b
 waits_or Q true w r y z = y
 waits_or Q false w r y z = z refl
 
-module _ (Q : Answer → Type 0) (q : Kind) (t : Tolerance) (c : ℕ) (o : Bool) (y : Content) where
-  -- a run that is asked
-  asked_run : (k : Call) → (runs_generator q t o y.phase ≡ true → Q answer.Running) → (runs_generator q t o y.phase ≡ false → Q (answer_declined k flags_refused))
-      → Q (answer_of_run q t o k y)
-  asked_run k f g = by (runs_generator q t o y.phase) refl
-    where
-      by : (b : Bool) → runs_generator q t o y.phase ≡ b → Q (if b then answer.Running else answer_declined k flags_refused)
-      by true e = f e
-      by false e = g e
+-- where a run is asked, the lock to write is wanted
+pub asks_writes : (q : Kind) (t : Tolerance) (k : Call) (p : ℕ) → asks q t (Calls k) p ≡ true → lock_wanted q t (Calls k) p ≡ nature.Write
+asks_writes q t k p e = by (seeks q (Calls k)) (shall_init t (phase_of p)) refl e
+  where
+    by : (o : Option Sought) (b : Bool) → shall_init t (phase_of p) ≡ b → run_asked (asking o (is_fast (Calls k)) t) p ≡ true → lock_asked (asking o (is_fast (Calls k)) t) p ≡ nature.Write
+    by None b d e = absurd (apart (sym e))
+    by (Some sought.Init) true d e = ap (λ x. nature_where sought.Init x (has p initialized)) d
+    by (Some sought.Init) false d e = absurd (apart (sym e ∙ d))
+    by (Some sought.Read) true d e = ap (λ x. nature_where sought.Read x (has p initialized)) d
+    by (Some sought.Read) false d e = absurd (apart (sym e ∙ d))
+    by (Some sought.Write) b d e = refl
+    by (Some sought.ReadOnly) b d e = absurd (apart (sym e))
+    by (Some sought.WriteOnly) b d e = refl
+    by (Some sought.Finalize) b d e = absurd (apart (sym e))
 
-  -- a call that gets its lock
-  where_accessible : (k : Call) → (has y.phase initialized ≡ true → Q (answer_opened k)) → (has y.phase initialized ≡ false → Q (answer_denied k y.phase)) → Q (answer_locked q k y)
-  where_accessible k f g = by (has y.phase initialized) refl
-    where
-      by : (b : Bool) → has y.phase initialized ≡ b → Q (if b then answer_opened k else answer_denied k y.phase)
-      by true e = f e
-      by false e = g e
+-- and a run is due
+pub asks_due : (q : Kind) (t : Tolerance) (k : Call) (p : ℕ) → asks q t (Calls k) p ≡ true → shall_init t (phase_of p) ≡ true
+asks_due q t k p e = by (seeks q (Calls k)) e
+  where
+    by : (o : Option Sought) → run_asked (asking o (is_fast (Calls k)) t) p ≡ true → shall_init t (phase_of p) ≡ true
+    by None e = absurd (apart (sym e))
+    by (Some s) e = second (run_sought s) _ e
 
-  -- a call to read that is admitted
-  read_admitted : (shall_init t (phase_of y.phase) ≡ true → Q (answer_of_run q t o call.Read y)) → (shall_init t (phase_of y.phase) ≡ false → Q (answer_locked q call.Read y))
-      → Q (answer_admitted q t c o (Calls call.Read) y)
-  read_admitted f g = by (shall_init t (phase_of y.phase)) refl
-    where
-      by : (b : Bool) → shall_init t (phase_of y.phase) ≡ b → Q (call_answer_admitted (if b then nature.Write else nature.Read) q t o call.Read y)
-      by true e = subst (λ d. Q (if d then answer_of_run q t o call.Read y else answer_locked q call.Read y)) (sym e) (f e)
-      by false e = g e
+-- and where none is asked by a call for runs, none is
+pub asks_none : (q : Kind) (t : Tolerance) (k : Call) (p : ℕ) → asks q t (Calls k) p ≡ false → initializes q (Calls k) ≡ true → shall_init t (phase_of p) ≡ false
+asks_none q t k p e i = by (seeks q (Calls k)) e i
+  where
+    rest : (x y : Bool) → (x && y) ≡ false → x ≡ true → y ≡ false
+    rest true y e i = e
+    rest false y e i = absurd (apart (sym i))
 
-  -- a call to write that is admitted
-  write_admitted : (shall_init t (phase_of y.phase) ≡ true → Q (answer_of_run q t o call.Write y)) → (shall_init t (phase_of y.phase) ≡ false → Q (answer_locked q call.Write y))
-      → Q (answer_admitted q t c o (Calls call.Write) y)
-  write_admitted f g = by (shall_init t (phase_of y.phase)) refl
-    where
-      by : (b : Bool) → shall_init t (phase_of y.phase) ≡ b → Q (if b then answer_of_run q t o call.Write y else answer_locked q call.Write y)
-      by true e = f e
-      by false e = g e
+    by : (o : Option Sought) → run_asked (asking o (is_fast (Calls k)) t) p ≡ false → seeks_run o ≡ true → shall_init t (phase_of p) ≡ false
+    by None e i = absurd (apart (sym i))
+    by (Some s) e i = rest (run_sought s) _ e i
+
+-- a call that is admitted: it runs the generator, is declined, or is answered by what the cell holds
+pub call_admitted : (Q : Answer → Type 0) (q : Kind) (t : Tolerance) (o : Bool) (k : Call) (y : Content)
+    → (asks q t (Calls k) y.phase ≡ true → runs_generator q t o y.phase ≡ true → Q answer.Running)
+    → (asks q t (Calls k) y.phase ≡ true → runs_generator q t o y.phase ≡ false → Q (answer_denied (form_of q k) flags_refused))
+    → (asks q t (Calls k) y.phase ≡ false → is_accessible q y.phase ≡ true → Q (answer_opened (form_of q k) y))
+    → (asks q t (Calls k) y.phase ≡ false → is_accessible q y.phase ≡ false → Q (answer_denied (form_of q k) y.phase))
+    → Q (call_answer_admitted q t o k y)
+call_admitted Q q t o k y running declined opened denied = by (asks q t (Calls k) y.phase) (runs_generator q t o y.phase) refl refl
+  where
+    content : Bool → Bool → Content
+    content b g = if b && not g then record { phase = flags_refused; value = y.value } else y
+
+    rested : asks q t (Calls k) y.phase ≡ false → (b : Bool) → is_accessible q y.phase ≡ b → Q (answer_at (form_of q k) b y)
+    rested e true f = opened e f
+    rested e false f = denied e f
+
+    by : (b g : Bool) → asks q t (Calls k) y.phase ≡ b → runs_generator q t o y.phase ≡ g
+        → Q (if b && g then answer.Running else answer_at (form_of q k) (is_accessible q (content b g).phase) (content b g))
+    by true true e f = running e f
+    by true false e f = declined e f
+    by false g e f = rested e (is_accessible q y.phase) refl
 
 module _ (cells : List CellPlan) (h : List Event) (p : ℕ) where
   -- what gets the lock to write finds no hold to write
@@ -194,34 +219,34 @@ module _ (cells : List CellPlan) (h : List Event) (p : ℕ) where
       none x = cc
 
   module _ (P : Act → Answer → Type 0) (k : Cases cells h p P) where
-    asking : (a : Act) (c : ℕ) (j : Call) (ws : List Wait) → Calling cells h p a c j → IsMine c → asks (tolerance_at cells c) (Calls j) (phase_at cells c h) ≡ true
-        → shall_init (tolerance_at cells c) (phase_of (phase_at cells c h)) ≡ true → IsFree c ws nature.Write → P a (answer_of_run (cell_at cells c).kind (tolerance_at cells c) (accepts h) j (replay cells c h))
-    asking a c j ws t mine asked wanted free =
-        asked_run (P a) (cell_at cells c).kind (tolerance_at cells c) c (accepts h) (replay cells c h) j
-        (λ g. k.running a c j t (record { asked = asked; wanted = wanted; generates = g; unheld = λ alone. unheld c alone (readers cells c h) ws mine free; unread = λ alone. unread c alone ws mine free }))
-        (λ g. k.declined a c j t (record { asked = asked; wanted = wanted; generates = g; unheld = λ alone. unheld c alone (readers cells c h) ws mine free; unread = λ alone. unread c alone ws mine free }))
-
-    called : (a : Act) (c : ℕ) (j : Call) (ws : List Wait) → Calling cells h p a c j → IsMine c → IsFree c ws (lock_wanted (tolerance_at cells c) (Calls j) (phase_at cells c h))
+    called : (a : Act) (c : ℕ) (j : Call) (ws : List Wait) → Calling cells h p a c j → IsMine c → IsFree c ws (lock_wanted (cell_at cells c).kind (tolerance_at cells c) (Calls j) (phase_at cells c h))
         → P a (answer_admitted (cell_at cells c).kind (tolerance_at cells c) c (accepts h) (Calls j) (replay cells c h))
-    called a c call.Phase ws t mine free = k.phased a c t
-    called a c call.Read ws t mine free =
-        read_admitted (P a) (cell_at cells c).kind (tolerance_at cells c) c (accepts h) (replay cells c h)
-        (λ e. asking a c call.Read ws t mine e e (subst (IsFree c ws) (ap (λ b. if b then nature.Write else nature.Read) e) free))
-        (λ e. where_accessible (P a) (cell_at cells c).kind (tolerance_at cells c) c (accepts h) (replay cells c h) call.Read
-        (λ f. k.reading a c t (record { unasked = e; unwanted = λ u. e; accessed = f }))
-        (λ f. k.denied a c call.Read t (record { unasked = e; unwanted = λ u. e; accessed = f })))
-    called a c call.Write ws t mine free =
-        write_admitted (P a) (cell_at cells c).kind (tolerance_at cells c) c (accepts h) (replay cells c h)
-        (λ e. asking a c call.Write ws t mine e e free)
-        (λ e. where_accessible (P a) (cell_at cells c).kind (tolerance_at cells c) c (accepts h) (replay cells c h) call.Write
-        (λ f. k.writing a c t (record { unasked = e; unwanted = λ u. e; accessed = f }))
-        (λ f. k.denied a c call.Write t (record { unasked = e; unwanted = λ u. e; accessed = f })))
-    called a c call.TryRead ws t mine free =
-        where_accessible (P a) (cell_at cells c).kind (tolerance_at cells c) c (accepts h) (replay cells c h) call.TryRead
-        (λ f. k.peeking a c t (record { unasked = refl; unwanted = λ u. absurd (apart (sym u)); accessed = f }))
-        (λ f. k.denied a c call.TryRead t (record { unasked = refl; unwanted = λ u. absurd (apart (sym u)); accessed = f }))
+    called a c j ws t mine free =
+        call_admitted (P a) q u (accepts h) j (replay cells c h)
+        (λ e g. k.running a c j t (asking true e g)) (λ e g. k.declined a c j t (asking false e g))
+        (λ e f. k.opened a c j t (resting e) f) (λ e f. k.denied a c j t (resting e) f)
+      where
+        q : Kind
+        q = (cell_at cells c).kind
 
-    turned : (a : Act) (c : ℕ) (ws : List Wait) → Turning cells h p a c → IsMine c → IsFree c ws (lock_wanted (tolerance_at cells c) Turns (phase_at cells c h))
+        u : Tolerance
+        u = tolerance_at cells c
+
+        asking : (b : Bool) → asks q u (Calls j) (phase_at cells c h) ≡ true → runs_generator q u (accepts h) (phase_at cells c h) ≡ b → Asking cells h p c j b
+        asking b e g =
+            let written : IsFree c ws nature.Write = subst (IsFree c ws) (asks_writes q u j (phase_at cells c h) e) free in
+            record {
+              asked = e;
+              wanted = asks_due q u j (phase_at cells c h) e;
+              generates = g;
+              unheld = λ alone. unheld c alone (readers cells c h) ws mine written;
+              unread = λ alone. unread c alone ws mine written;
+            }
+
+        resting : asks q u (Calls j) (phase_at cells c h) ≡ false → Resting cells h p c j
+        resting e = record { unasked = e; unwanted = asks_none q u j (phase_at cells c h) e }
+
+    turned : (a : Act) (c : ℕ) (ws : List Wait) → Turning cells h p a c → IsMine c → IsFree c ws (lock_wanted (cell_at cells c).kind (tolerance_at cells c) Turns (phase_at cells c h))
         → P a (answer_admitted (cell_at cells c).kind (tolerance_at cells c) c (accepts h) Turns (replay cells c h))
     turned a c ws t mine free = by (has (phase_at cells c h) initialized) refl free
       where
@@ -230,13 +255,17 @@ module _ (cells : List CellPlan) (h : List Event) (p : ℕ) where
         by true e f = k.finalizing a c t e (λ alone. unheld c alone (readers cells c h) ws mine f)
         by false e f = k.skipped a c t e
 
+    -- what is barred
+    barring : (a : Act) (c : ℕ) (w : Want) (way : How) → Tries cells h p a c w → P a (answer_barred (is_fast w) (cell_at cells c).place way)
+    barring a c w way t = barred (P a) (is_fast w) (cell_at cells c).place way (λ e. k.missed a c w e t) (λ v. k.waiting a c w v t) (λ o. k.owned a c w o t)
+
     pub attempted : (a : Act) (c : ℕ) (w : Want) (ws : List Wait) (chosen : Bool) → Tries cells h p a c w → IsMine c
         → P a (due_attempt cells h p (record { cell = c; want = w }) ws chosen)
     attempted a c (Calls j) ws chosen t mine =
-        in_turn (P a) (initializes (Calls j) && runs p c h) _ _ _ (k.cyclic a c j t) (k.waiting a c (Calls j) _ t)
+        in_turn (P a) (initializes (cell_at cells c).kind (Calls j) && runs p c h) _ _ _ (k.cyclic a c j t) (barring a c (Calls j) _ t)
         (λ free. called a c j ws t mine free)
     attempted a c Turns ws chosen t mine =
-        waits_or (P a) _ _ _ (k.waiting a c Turns _ t) (λ free. turned a c ws t mine free)
+        waits_or (P a) _ _ _ (barring a c Turns _ t) (λ free. turned a c ws t mine free)
 
     -- the call or turn that waits
     pub again : (o : Option Wait) → wait_of p (waits cells h) ≡ o → refusal_by cells (is_some o) h p act.Again ≡ None → (ws : List Wait) (chosen : Bool)

@@ -1,13 +1,14 @@
 -- What a legal step may be, case by case.
 use Rattle.std.proofs.Common.{◌≡◌, ℕ, List, [], ◌∷◌, Bool, true, false, Some}
-use Rattle.std.specs.Prelude.{length}
+use Rattle.std.specs.Prelude.{length, if◌then◌else◌}
+use Rattle.std.specs.declared.option.Option.{Option}
 use Rattle.phase_bits.specs.Number.{phase_of}
 use Rattle.phase_bits.specs.Flags.{has, initialized}
 use Rattle.phase_locker.specs.declared.ways.How.{How}
 use Rattle.phase_seq.specs.Phases.{flags_refused}
 use Rattle.phase_seq.specs.Asks.{shall_init}
-use Rattle.schedule_rules.specs.declared.plan.Call.{Call}
-use Rattle.schedule_rules.specs.declared.plan.Call.TheVariants as call
+use Rattle.lazy_cells.specs.declared.call.Call.{Call}
+use Rattle.schedule_rules.specs.declared.form.Form.{Form}
 use Rattle.schedule_rules.specs.declared.plan.CellPlan.{CellPlan}
 use Rattle.schedule_rules.specs.declared.step.Act.{Act}
 use Rattle.schedule_rules.specs.declared.step.Act.TheVariants as act
@@ -16,16 +17,19 @@ use Rattle.schedule_rules.specs.declared.step.Want.{Want}
 use Rattle.schedule_rules.specs.declared.step.Want.TheVariants.{Calls, Turns}
 use Rattle.schedule_rules.specs.declared.line.Answer.{Answer}
 use Rattle.schedule_rules.specs.declared.line.Answer.TheVariants as answer
-use Rattle.schedule_rules.specs.Kinds.{cell_at, tolerance_at}
-use Rattle.schedule_rules.specs.Phases.{runs_generator, phase_finalized}
-use Rattle.schedule_rules.specs.Calls.{asks, initializes}
+use Rattle.schedule_rules.specs.Kinds.{cell_at, tolerance_at, is_owned}
+use Rattle.schedule_rules.specs.Forms.{form_of}
+use Rattle.schedule_rules.specs.Phases.{is_accessible, runs_generator, phase_finalized, finishes_so}
+use Rattle.schedule_rules.specs.Calls.{asks, initializes, is_fast}
 use Rattle.schedule_rules.specs.History.{Event, act_of, accepts}
 use Rattle.schedule_rules.specs.Sections.{Section, innermost, is_turn, sections}
 use Rattle.schedule_rules.specs.Guards.{Guard, numbered, guards}
-use Rattle.schedule_rules.specs.Replay.{phase_at}
-use Rattle.schedule_rules.specs.Exits.{registry}
+use Rattle.schedule_rules.specs.Replay.{replay, phase_at, inside}
+use Rattle.schedule_rules.specs.Exits.{registry, finishing}
 use Rattle.schedule_rules.specs.Waits.{attempt}
 use Rattle.schedule_rules.specs.Holds.{read_guards, write_holds}
+use Rattle.schedule_rules.specs.Answers.{answer_of_value, answer_opened, answer_denied, answer_made}
+use Rattle.schedule_rules.specs.Due.{phase_made}
 use Rattle.schedule_rules.specs.Legal.{IsExclusive}
 
 -- the act is a call, or goes on with one
@@ -86,42 +90,55 @@ module _ (cells : List CellPlan) (h : List Event) (p : ℕ) where
   -- a generator is asked at the cell, and runs there or not, and no guard and no section of the cell is open where holds
   -- exclude each other
   pub record Asking (c : ℕ) (k : Call) (runs : Bool) : Type 0 where
-    pub asked : asks (tolerance_at cells c) (Calls k) (phase_at cells c h) ≡ true
+    pub asked : asks (cell_at cells c).kind (tolerance_at cells c) (Calls k) (phase_at cells c h) ≡ true
     pub wanted : shall_init (tolerance_at cells c) (phase_of (phase_at cells c h)) ≡ true
     pub generates : runs_generator (cell_at cells c).kind (tolerance_at cells c) (accepts h) (phase_at cells c h) ≡ runs
     pub unheld : IsExclusive cells h c → write_holds c h ≡ 0
     pub unread : IsExclusive cells h c → read_guards c h ≡ 0
 
-  -- no generator is asked at the cell, and its value may be accessed or not
-  pub record Resting (c : ℕ) (k : Call) (accessible : Bool) : Type 0 where
-    pub unasked : asks (tolerance_at cells c) (Calls k) (phase_at cells c h) ≡ false
-    pub unwanted : initializes (Calls k) ≡ true → shall_init (tolerance_at cells c) (phase_of (phase_at cells c h)) ≡ false
-    pub accessed : has (phase_at cells c h) initialized ≡ accessible
+  -- no generator is asked at the cell
+  pub record Resting (c : ℕ) (k : Call) : Type 0 where
+    pub unasked : asks (cell_at cells c).kind (tolerance_at cells c) (Calls k) (phase_at cells c h) ≡ false
+    pub unwanted : initializes (cell_at cells c).kind (Calls k) ≡ true → shall_init (tolerance_at cells c) (phase_of (phase_at cells c h)) ≡ false
+
+  -- the value of the cell may be accessed, or not
+  abbrev pub Reach : ℕ → Bool → Type 0
+  Reach c accessible = is_accessible (cell_at cells c).kind (phase_at cells c h) ≡ accessible
+
+  -- the form of a call of the cell
+  abbrev pub form_at : ℕ → Call → Form
+  form_at c k = form_of (cell_at cells c).kind k
+
+  -- the party's innermost section is that of this call, or of a finalizer that may end so
+  pub record Generating (t : Section) (k : Call) : Type 0 where
+    pub found : innermost p (sections h) ≡ Some t
+    pub kind : t.want ≡ Calls k
+
+  pub record Finalizing (t : Section) (fine : Bool) (left : Option ℕ) : Type 0 where
+    pub found : innermost p (sections h) ≡ Some t
+    pub kind : is_turn t.want ≡ true
+    pub so : finishes_so (cell_at cells t.cell).kind fine left ≡ true
 
   -- what holds of the act and the answer of each legal step that is not refused
   pub record Cases (P : Act → Answer → Type 0) : Type 0 where
     pub cyclic : (a : Act) (c : ℕ) (k : Call) → Calling a c k → P a answer.Cyclic
     pub waiting : (a : Act) (c : ℕ) (w : Want) (way : How) → Tries a c w → P a (answer.Waiting way)
-    pub phased : (a : Act) (c : ℕ) → Calling a c call.Phase → P a (answer.Phase (phase_of (phase_at cells c h)))
-    pub reading : (a : Act) (c : ℕ) → Calling a c call.Read → Resting c call.Read true → P a answer.ReadGuard
-    pub writing : (a : Act) (c : ℕ) → Calling a c call.Write → Resting c call.Write true → P a answer.WriteGuard
-    pub peeking : (a : Act) (c : ℕ) → Calling a c call.TryRead → Resting c call.TryRead true → P a answer.ReadGuard
+    pub missed : (a : Act) (c : ℕ) (w : Want) → is_fast w ≡ true → Tries a c w → P a answer.Missed
+    pub owned : (a : Act) (c : ℕ) (w : Want) → is_owned (cell_at cells c).place ≡ true → Tries a c w → P a answer.Borrowed
+    pub opened : (a : Act) (c : ℕ) (k : Call) → Calling a c k → Resting c k → Reach c true → P a (answer_opened (form_at c k) (replay cells c h))
+    pub denied : (a : Act) (c : ℕ) (k : Call) → Calling a c k → Resting c k → Reach c false → P a (answer_denied (form_at c k) (phase_at cells c h))
     pub running : (a : Act) (c : ℕ) (k : Call) → Calling a c k → Asking c k true → P a answer.Running
-    pub declined : (a : Act) (c : ℕ) (k : Call) → Calling a c k → Asking c k false → P a (answer.Access (phase_of flags_refused))
-    pub denied : (a : Act) (c : ℕ) (k : Call) → Calling a c k → Resting c k false → P a (answer.Access (phase_of (phase_at cells c h)))
+    pub declined : (a : Act) (c : ℕ) (k : Call) → Calling a c k → Asking c k false → P a (answer_denied (form_at c k) flags_refused)
     pub skipped : (a : Act) (c : ℕ) → Turning a c → has (phase_at cells c h) initialized ≡ false → P a (answer.Skipped c)
     pub finalizing : (a : Act) (c : ℕ) → Turning a c → has (phase_at cells c h) initialized ≡ true → (IsExclusive cells h c → write_holds c h ≡ 0)
         → P a (answer.Finalizing c)
     pub round : (c : ℕ) (cs : List ℕ) → (registry cells h).pending ≡ c ∷ cs → (registry cells h).left ≡ [] → P act.Exit (answer.Round (length (c ∷ cs)))
     pub closed : (registry cells h).pending ≡ [] → (registry cells h).left ≡ [] → P act.Exit answer.Closed
-    pub made_read : (v : ℕ) (t : Section) → innermost p (sections h) ≡ Some t → t.want ≡ Calls call.Read → P (act.Made v) answer.ReadGuard
-    pub made_write : (v : ℕ) (t : Section) → innermost p (sections h) ≡ Some t → is_turn t.want ≡ false → P (act.Made v) answer.WriteGuard
-    pub failed : (t : Section) → innermost p (sections h) ≡ Some t → is_turn t.want ≡ false → P act.MadeFailed answer.Failed
-    pub finished : (t : Section) → innermost p (sections h) ≡ Some t → is_turn t.want ≡ true
-        → P act.Finished (answer.Phase (phase_of (phase_finalized (phase_at cells t.cell h) true)))
-    pub finish_failed : (t : Section) → innermost p (sections h) ≡ Some t → is_turn t.want ≡ true
-        → P act.FinishFailed (answer.Phase (phase_of (phase_finalized (phase_at cells t.cell h) false)))
-    pub looked : (g v : ℕ) (x : Guard) → numbered g (guards h) ≡ Some x → P (act.Look g) (answer.Value v)
+    pub made : (v : ℕ) (t : Section) (k : Call) → Generating t k → P (act.Made v) (answer_made (form_at t.cell k) v (phase_made cells h t))
+    pub failed : (t : Section) (k : Call) → Generating t k → P act.MadeFailed answer.Failed
+    pub finished : (fine : Bool) (left : Option ℕ) (t : Section) → Finalizing t fine left
+        → P (finishing fine left) (answer.Phase (phase_of (phase_finalized (phase_at cells t.cell h) fine)))
+    pub looked : (g : ℕ) (x : Guard) → numbered g (guards h) ≡ Some x → P (act.Look g) (answer_of_value (if x.writes then inside cells h x else replay cells x.cell h))
     pub set : (g v : ℕ) (x : Guard) → numbered g (guards h) ≡ Some x → x.writes ≡ true → P (act.Set g v) answer.Done
     pub released : (g : ℕ) (x : Guard) → numbered g (guards h) ≡ Some x → P (act.Release g) answer.Done
     pub downgraded : (g : ℕ) (x : Guard) → numbered g (guards h) ≡ Some x → x.writes ≡ true → P (act.Downgrade g) answer.ReadGuard

@@ -2,7 +2,7 @@
 use Rattle.std.proofs.Common.{◌≡◌, ◌≤◌, ◌+◌, ◌++◌, ℕ, List, [], ◌∷◌, refl, sym, ap, subst, arith, Bool, true, false, not, cond, None, Some}
 use Rattle.std.specs.Prelude.{◌==◌, map, if◌then◌else◌}
 use Rattle.std.specs.declared.option.Option.{Option}
-use Rattle.exit_registry.specs.Registry.{occurs}
+use Rattle.exit_registry.specs.Registry.{occurs, first_of, rest_of}
 use Rattle.exit_registry.specs.Exits.{cells_of_turns}
 use Rattle.exit_registry.specs.declared.turns.Turn.{Turn}
 use Rattle.exit_registry.specs.declared.turns.Turned.{Turned}
@@ -13,7 +13,9 @@ use Rattle.schedule_rules.specs.declared.step.Step.{Step}
 use Rattle.schedule_rules.specs.declared.line.Answer.{Answer}
 use Rattle.schedule_rules.specs.declared.line.Answer.TheVariants as answer
 use Rattle.schedule_rules.specs.History.{Event, count}
-use Rattle.schedule_rules.specs.Waits.{Attempt, Wait, wait_of, without_wait, wait_woken, wake_writer, wake_reader, wake_readers, with_wait, attempt_with, cell_concerned_with, waits_given_with, waits_answered, waits}
+use Rattle.schedule_rules.specs.Waits.{Attempt, Wait, wait_of, without_wait, wait_woken, wake_writer, wake_reader, wake_readers, with_wait, attempt_with, cell_concerned_with, waits_given_with, waits_answered, waits, attempt_of_wait, attempt_of_turn}
+use Rattle.schedule_rules.specs.declared.step.Want.{Want}
+use Rattle.schedule_rules.specs.declared.step.Want.TheVariants.{Turns}
 
 -- 1 where the test holds
 abbrev pub one_if : Bool → ℕ
@@ -155,3 +157,27 @@ module _ (cells : List CellPlan) (p : ℕ) where
   pub one-wait : (h : List Event) → count (λ w. w.party == p) (waits cells h) ≤ 1
   one-wait [] = omega arith
   one-wait (e ∷ h) = one_answered h e.step e.line.given (waits cells h) (one-wait h) e.line.answer
+
+-- what has a first begins with it
+pub begins : (cs : List ℕ) (d : ℕ) → first_of cs ≡ Some d → cs ≡ d ∷ rest_of cs
+begins [] d e = absurd (cc)
+begins (b ∷ cs) d e = ap (λ x. x ∷ cs) (same e)
+  where
+    same : Some b ≡ Some d → b ≡ d
+    same x = cc
+
+-- a call or turn that is attempted again, waits
+same_attempt : (a b : Attempt) → Some a ≡ Some b → a ≡ b
+same_attempt a b e = cc
+
+pub waits_so : (o : Option Wait) (d : ℕ) (v : Want) → attempt_of_wait o ≡ Some (record { cell = d; want = v }) → (w : Wait) × (o ≡ Some w) × (w.cell ≡ d) × (w.want ≡ v)
+waits_so None d v e = absurd (cc)
+waits_so (Some w) d v e =
+    let same : _ = same_attempt (record { cell = w.cell; want = w.want }) (record { cell = d; want = v }) e in
+    (w, refl, ap (λ a. a.cell) same, ap (λ a. a.want) same)
+
+-- a turn that is attempted is the first left
+pub first_so : (o : Option ℕ) (d : ℕ) → attempt_of_turn o ≡ Some (record { cell = d; want = Turns }) → o ≡ Some d
+first_so None d e = absurd (cc)
+first_so (Some b) d e =
+    let same : _ = same_attempt (record { cell = b; want = Turns }) (record { cell = d; want = Turns }) e in ap (λ (a : Attempt). Some a.cell) same

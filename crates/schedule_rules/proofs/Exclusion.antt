@@ -1,15 +1,25 @@
--- What else holds a cell to write, beside a section or a guard: nothing.
-use Rattle.std.proofs.Common.{◌≡◌, ◌<◌, ◌+◌, ℕ, List, refl, ◌∙◌, ap, arith, true, cond, Some}
-use Rattle.std.specs.Prelude.{◌==◌}
+-- The holds of a cell exclude each other: what holds it to write, is all that does.
+use Rattle.std.proofs.Common.{ℕ, List, [], ◌∷◌, refl, arith, ◌≡◌, ◌<◌, ◌+◌, ◌∙◌, ap, true, cond, Some}
 use Rattle.schedule_rules.specs.declared.plan.CellPlan.{CellPlan}
 use Rattle.schedule_rules.specs.History.{Event, count}
+use Rattle.schedule_rules.specs.Legal.{IsLegal, IsExclusive}
+use Rattle.std.specs.Prelude.{◌==◌}
 use Rattle.schedule_rules.specs.Sections.{Section, innermost, without_innermost, runs_in, sections}
 use Rattle.schedule_rules.specs.Guards.{Guard, numbered, without_guard, guards}
 use Rattle.schedule_rules.specs.Holds.{writes_cell}
-use Rattle.schedule_rules.specs.Legal.{IsExclusive}
 use Rattle.schedule_rules.proofs.Found.{found_counts}
 use Rattle.schedule_rules.proofs.Opened.{count_ended, count_removed}
 use Rattle.schedule_rules.proofs.Facts.{same_number}
+
+-- at the beginning nothing holds a cell
+alone_at_first : (cells : List CellPlan) (c : ℕ) → IsExclusive cells [] c
+alone_at_first cells c = record { one_writer = omega arith; no_reader = λ w. refl; no_drain = λ w. refl; limit = omega arith }
+
+module _ (cells : List CellPlan) where
+  -- at each moment of a legal history the holds of a cell exclude each other
+  pub alone : (h : List Event) → IsLegal cells h → (c : ℕ) → IsExclusive cells h c
+  alone [] k = alone_at_first cells
+  alone (e ∷ h) k = k.1
 
 module _ (cells : List CellPlan) (h : List Event) (alone : (c : ℕ) → IsExclusive cells h c) where
   -- where a section of the cell runs, no guard writes it

@@ -23,9 +23,6 @@ same_number m n e = grind arith
 pub other_number : (m n k : ℕ) → m ≡ n → n ≢ k → (m == k) ≡ false
 other_number m n k e ne = grind arith
 
-pub turned_number : (m n : ℕ) → (m == n) ≡ false → (n == m) ≡ false
-turned_number m n e = grind arith
-
 -- one more or the same
 pub at_least : (b : Bool) (n : ℕ) → n ≤ cond b (n + 1) n
 at_least true n = omega arith

@@ -1,5 +1,5 @@
 -- What a generator's failure leaves.
-use Rattle.std.proofs.Common.{ap, ◌≡◌, ℕ, List, [], ◌∷◌, true, false, ◌&&◌, refl, sym, ◌∙◌}
+use Rattle.std.proofs.Common.{ap, Bool, ◌≡◌, ℕ, List, [], ◌∷◌, true, false, ◌&&◌, refl, sym, ◌∙◌}
 use Rattle.std.specs.Prelude.{is_none}
 use Rattle.std.specs.declared.option.Option.{Option}
 use Rattle.std.specs.declared.option.Option.TheVariants.{None, Some}
@@ -10,24 +10,25 @@ use Rattle.schedule_rules.specs.declared.step.Act.TheVariants as act
 use Rattle.schedule_rules.specs.declared.step.Step.{Step}
 use Rattle.schedule_rules.specs.declared.line.Line.{Line}
 use Rattle.schedule_rules.specs.declared.line.Answer.TheVariants as answer
-use Rattle.schedule_rules.specs.Changes.{Ran}
+use Rattle.schedule_rules.specs.Changes.{Ran, effect}
 use Rattle.schedule_rules.specs.History.{Event}
 use Rattle.schedule_rules.specs.Sections.{Section, innermost, sections}
 use Rattle.schedule_rules.specs.Kinds.{cell_at}
-use Rattle.schedule_rules.specs.Changes.{effect}
 use Rattle.schedule_rules.specs.Deeds.{Makes}
-use Rattle.schedule_rules.specs.Replay.{Back, back_of_section, back_of_step, replay, content_after_back}
-use Rattle.schedule_rules.proofs.Backs.{back_here, back_elsewhere}
+use Rattle.schedule_rules.specs.Replay.{Back, back_of_section, back_of_step, replay, phase_at, content_after_back}
+use Rattle.schedule_rules.proofs.Leaves.{back_here, back_elsewhere}
 use Rattle.schedule_rules.specs.Waits.{Wait, cell_of_section, cell_concerned}
+use Rattle.phase_seq.specs.Phases.{flags_refused}
+use Rattle.schedule_rules.specs.Exits.{finishing}
 use Rattle.schedule_rules.specs.Refusals.{refusal}
-use Rattle.schedule_rules.specs.Due.{due_answer}
+use Rattle.schedule_rules.specs.Due.{phase_made, due_answer}
 use Rattle.schedule_rules.specs.Legal.{IsLegalLine}
 use Rattle.schedule_rules.specs.Causes.{is_failed, is_failure, waits_judged}
 use Rattle.schedule_rules.specs.Laws.{IsFailedRun}
-use Rattle.schedule_rules.proofs.Cases.{IsTrying, trying, Cases, calling-tries, turning-tries}
+use Rattle.schedule_rules.proofs.Cases.{IsTrying, trying, form_at, Cases, calling-tries, turning-tries}
 use Rattle.schedule_rules.proofs.Steps.{allowed}
 use Rattle.schedule_rules.specs.declared.line.Refusal.{Refusal}
-use Rattle.schedule_rules.proofs.Answered.{legal_by}
+use Rattle.schedule_rules.proofs.Answered.{IsShown, IsTold, opened, denied, made_so, legal_by}
 use Rattle.schedule_rules.proofs.Facts.{second, same_number, other_number}
 
 -- what attempts something ends no generator
@@ -43,29 +44,36 @@ module _ (cells : List CellPlan) (h : List Event) where
   fails p = record {
     cyclic = λ a c j t. no_failure a (calling-tries a t.acts);
     waiting = λ a c w way t. no_failure a (trying cells h p a c w t);
-    phased = λ a c t. no_failure a (calling-tries a t.acts);
-    reading = λ a c t q. no_failure a (calling-tries a t.acts);
-    writing = λ a c t q. no_failure a (calling-tries a t.acts);
-    peeking = λ a c t q. no_failure a (calling-tries a t.acts);
+    missed = λ a c w f t. no_failure a (trying cells h p a c w t);
+    owned = λ a c w o t. no_failure a (trying cells h p a c w t);
+    opened = λ a c j t q e. opened _ shown (form_at cells h p c j) (replay cells c h) ∙ no_failure a (calling-tries a t.acts);
+    denied = λ a c j t q e. denied _ told (form_at cells h p c j) (phase_at cells c h) ∙ no_failure a (calling-tries a t.acts);
     running = λ a c j t q. no_failure a (calling-tries a t.acts);
-    declined = λ a c j t q. no_failure a (calling-tries a t.acts);
-    denied = λ a c j t q. no_failure a (calling-tries a t.acts);
+    declined = λ a c j t q. denied _ told (form_at cells h p c j) flags_refused ∙ no_failure a (calling-tries a t.acts);
     skipped = λ a c t q. no_failure a (turning-tries a t.acts);
     finalizing = λ a c t q u. no_failure a (turning-tries a t.acts);
     round = λ c cs e n. refl;
     closed = λ e n. refl;
-    made_read = λ v t f d. refl;
-    made_write = λ v t f d. refl;
-    failed = λ t f d. refl;
-    finished = λ t f d. refl;
-    finish_failed = λ t f d. refl;
-    looked = λ g v x f. refl;
+    made = λ v t j g. made_so _ shown (form_at cells h p t.cell j) v (phase_made cells h t);
+    failed = λ t j g. refl;
+    finished = λ fine left t g. finished fine left;
+    looked = λ g x f. refl;
     set = λ g v x f w. refl;
     released = λ g x f. refl;
     downgraded = λ g x f w. refl;
     borrowed = λ g x f w. refl;
     cloned = λ g x f w. refl;
   }
+    where
+      shown : IsShown (λ r. is_failed r ≡ false)
+      shown = record { phase = λ q. refl; value = λ v. refl; read_guard = refl; write_guard = refl }
+
+      told : IsTold (λ r. is_failed r ≡ false)
+      told = record { shown = shown; access = λ q. refl; err_guard = refl }
+
+      finished : (fine : Bool) (left : Option ℕ) → false ≡ is_failure (finishing fine left)
+      finished true left = refl
+      finished false left = refl
 
   -- a legal line says Failed exactly where a failure is not refused
   pub fails_where_ended : (s : Step) (l : Line) → IsLegalLine cells h s l → is_failed l.answer ≡ (is_none (refusal cells h s) && is_failure s.act)

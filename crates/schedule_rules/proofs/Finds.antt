@@ -1,11 +1,12 @@
 -- What a legal step finds, deed by deed.
-use Rattle.std.proofs.Common.{◌≡◌, ℕ, List, [], ◌∷◌, Bool, true, false, Some, refl, sym, subst, ◌⊎◌, inl, inr}
+use Rattle.std.proofs.Common.{◌≡◌, ℕ, List, [], ◌∷◌, Bool, true, false, Some, refl, sym, ap, subst, ◌⊎◌, inl, inr}
+use Rattle.std.specs.declared.option.Option.{Option}
 use Rattle.phase_bits.specs.declared.phase.Phase.{Phase}
-use Rattle.phase_bits.specs.Number.{phase_of}
 use Rattle.phase_bits.specs.Flags.{has, initialized}
 use Rattle.phase_seq.specs.Phases.{flags_refused}
-use Rattle.schedule_rules.specs.declared.plan.Call.{Call}
-use Rattle.schedule_rules.specs.declared.plan.Call.TheVariants as call
+use Rattle.lazy_cells.specs.declared.call.Call.{Call}
+use Rattle.schedule_rules.specs.declared.form.Form.{Form}
+use Rattle.schedule_rules.specs.declared.form.Form.TheVariants.{Told, Shown, Held}
 use Rattle.schedule_rules.specs.declared.plan.CellPlan.{CellPlan}
 use Rattle.schedule_rules.specs.declared.step.Act.{Act}
 use Rattle.schedule_rules.specs.declared.step.Act.TheVariants as act
@@ -14,17 +15,32 @@ use Rattle.schedule_rules.specs.declared.step.Want.TheVariants.{Calls, Turns}
 use Rattle.schedule_rules.specs.declared.line.Line.{Line}
 use Rattle.schedule_rules.specs.declared.line.Answer.{Answer}
 use Rattle.schedule_rules.specs.declared.line.Answer.TheVariants as answer
+use Rattle.schedule_rules.specs.Kinds.{cell_at}
+use Rattle.schedule_rules.specs.Phases.{is_accessible, finishes_so}
 use Rattle.schedule_rules.specs.Changes.{Change, Asked}
 use Rattle.schedule_rules.specs.Deeds.{Makes, Finishes, Deed, Quiet, Opens, Holds, Ends, EndsToRead, EndsToWrite, Drops, DropsToRead, Beside, Puts, Visits, Skips, Takes, Looks, deed_waiting, deed_by}
 use Rattle.schedule_rules.specs.History.{Event, act_of, accepts, is_exit, deed_of}
 use Rattle.schedule_rules.specs.Sections.{Section, innermost, is_turn, sections}
 use Rattle.schedule_rules.specs.Guards.{Guard, numbered, guards}
-use Rattle.schedule_rules.specs.Replay.{phase_at}
+use Rattle.schedule_rules.specs.Replay.{replay, phase_at}
 use Rattle.schedule_rules.specs.Exits.{finishing, registry}
 use Rattle.schedule_rules.specs.Holds.{write_holds}
+use Rattle.schedule_rules.specs.Answers.{answer_opened, answer_denied, answer_made}
+use Rattle.schedule_rules.specs.Due.{phase_made}
 use Rattle.schedule_rules.specs.Legal.{IsLegalLine, IsExclusive}
-use Rattle.schedule_rules.proofs.Cases.{Calling, step, Asking, Resting, Cases}
+use Rattle.schedule_rules.proofs.Cases.{Calling, step, Asking, Resting, Reach, form_at, Generating, Finalizing, Cases}
+use Rattle.schedule_rules.proofs.Facts.{first}
 use Rattle.schedule_rules.proofs.Steps.{of_legal}
+
+-- a call of this form gets a guard to read where the value may not be accessed
+abbrev pub errs : Form → Bool
+errs (Told tests) = false
+errs Shown = false
+errs (Held writes falls_back) = falls_back
+
+-- a value that may be accessed is there
+pub accessed_there : (cells : List CellPlan) (h : List Event) (c : ℕ) → is_accessible (cell_at cells c).kind (phase_at cells c h) ≡ true → has (phase_at cells c h) initialized ≡ true
+accessed_there cells h c e = first _ _ e
 
 module _ (cells : List CellPlan) (h : List Event) (p : ℕ) where
   -- the party is inside a section, of a finalizer or not
@@ -32,6 +48,13 @@ module _ (cells : List CellPlan) (h : List Event) (p : ℕ) where
     pub section : Section
     pub found : innermost p (sections h) ≡ Some section
     pub kind : is_turn section.want ≡ turns
+
+  -- it is inside that of a finalizer which may end so
+  pub record Finishing (fine : Bool) (left : Option ℕ) : Type 0 where
+    pub section : Section
+    pub found : innermost p (sections h) ≡ Some section
+    pub kind : is_turn section.want ≡ true
+    pub so : finishes_so (cell_at cells section.cell).kind fine left ≡ true
 
   -- a guard with this number is open
   pub record Named (g : ℕ) : Type 0 where
@@ -49,11 +72,12 @@ module _ (cells : List CellPlan) (h : List Event) (p : ℕ) where
     pub value : has (phase_at cells c h) initialized ≡ true
     pub unheld : IsExclusive cells h c → write_holds c h ≡ 0
 
-  -- a call that is admitted and leaves nothing open: it is declined, or changes nothing
-  pub record Visit (c : ℕ) (chs : List Change) : Type 0 where
+  -- a call that is admitted and leaves nothing open, or a guard to read a primed value: it is declined, or changes nothing
+  pub record Visit (c : ℕ) (chs : List Change) (reads : Bool) : Type 0 where
     pub asked : Call
     pub does : chs ≡ Asked (accepts h) asked ∷ []
-    pub finds : Asking cells h p c asked false ⊎ Resting cells h p c asked false
+    pub finds : Asking cells h p c asked false ⊎ Resting cells h p c asked
+    pub falls : reads ≡ true → errs (form_at cells h p c asked) ≡ true
 
   -- no cell is left, and one was registered since the last look, or none was
   abbrev pub Looking : Bool → Type 0
@@ -65,24 +89,24 @@ module _ (cells : List CellPlan) (h : List Event) (p : ℕ) where
   Finds Quiet = Unit {0}
   Finds (Opens c (Calls k) taken) = Asking cells h p c k true
   Finds (Opens c Turns taken) = Ready c
-  Finds (Holds c writes) = has (phase_at cells c h) initialized ≡ true
+  Finds (Holds c writes) = Reach cells h p c true
   Finds (Ends (Makes made)) = Inside false
-  Finds (Ends (Finishes fine)) = Inside true
+  Finds (Ends (Finishes fine left)) = Finishing fine left
   Finds (EndsToRead v) = Inside false
   Finds (EndsToWrite v) = Inside false
   Finds (Drops g) = Named g
   Finds (DropsToRead g) = NamedTo g true
   Finds (Beside g) = NamedTo g false
   Finds (Puts g v) = NamedTo g true
-  Finds (Visits c chs) = Visit c chs
+  Finds (Visits c chs reads) = Visit c chs reads
   Finds (Skips c taken) = has (phase_at cells c h) initialized ≡ false
   Finds Takes = Unit {0}
   Finds (Looks closes) = Looking closes
 
   -- how a finalizer ends is told by the act, and a phase is shown; and a call that leaves nothing open is the act's
   abbrev pub Tells : Act → Answer → Deed → Type 0
-  Tells a r (Visits c chs) = (v : Visit c chs) × Calling cells h p a c v.asked
-  Tells a r (Ends (Finishes fine)) = (a ≡ finishing fine) × ((q : Phase) × (r ≡ answer.Phase q))
+  Tells a r (Visits c chs reads) = (v : Visit c chs reads) × Calling cells h p a c v.asked
+  Tells a r (Ends (Finishes fine left)) = (a ≡ finishing fine left) × ((q : Phase) × (r ≡ answer.Phase q))
   Tells a r _ = Unit {0}
 
   abbrev Both : Act → Answer → Deed → Type 0
@@ -96,27 +120,64 @@ module _ (cells : List CellPlan) (h : List Event) (p : ℕ) where
   waits a r true = (tt, tt)
   waits a r false = (tt, tt)
 
+  -- what a call does that is answered so
+  abbrev Calls_so : Act → ℕ → Call → Answer → Type 0
+  Calls_so a c k r = Both a r (deed_by (accepts h) (is_exit a) (act.Call c k) r)
+
+  -- one that leaves nothing open, or a guard to read a primed value
+  visits : (a : Act) (c : ℕ) (k : Call) (reads : Bool) → Calling cells h p a c k → Asking cells h p c k false ⊎ Resting cells h p c k → (reads ≡ true → errs (form_at cells h p c k) ≡ true)
+      → Visit c (Asked (accepts h) k ∷ []) reads × ((v : Visit c (Asked (accepts h) k ∷ []) reads) × Calling cells h p a c v.asked)
+  visits a c k reads t f e = let v : Visit c (Asked (accepts h) k ∷ []) reads = record { asked = k; does = refl; finds = f; falls = e } in (v, (v, t))
+
+  module _ (a : Act) (c : ℕ) (k : Call) (t : Calling cells h p a c k) where
+    denied : (q : ℕ) → Asking cells h p c k false ⊎ Resting cells h p c k → (f : Form) → form_at cells h p c k ≡ f → Calls_so a c k (answer_denied f q)
+    denied q v (Told true) e = visits a c k false t v (λ x. absurd (cc))
+    denied q v (Told false) e = visits a c k false t v (λ x. absurd (cc))
+    denied q v Shown e = visits a c k false t v (λ x. absurd (cc))
+    denied q v (Held writes true) e = visits a c k true t v (λ x. ap errs e)
+    denied q v (Held writes false) e = visits a c k false t v (λ x. absurd (cc))
+
+    opened : Resting cells h p c k → Reach cells h p c true → (f : Form) → Calls_so a c k (answer_opened f (replay cells c h))
+    opened v e (Told tests) = visits a c k false t (inr v) (λ x. absurd (cc))
+    opened v e Shown = (tt, tt)
+    opened v e (Held true falls_back) = (e, tt)
+    opened v e (Held false falls_back) = (e, tt)
+
+  made : (v : ℕ) (t : Section) (k : Call) → Generating cells h p t k → (f : Form) (q : ℕ) → Both (act.Made v) (answer_made f v q) (deed_of h (step cells h p (act.Made v)) (answer_made f v q))
+  made v t k g f q = by f
+    where
+      inside : Inside false
+      inside = record { section = t; found = g.found; kind = ap (λ w. is_turn w) g.kind }
+
+      by : (f : Form) → Both (act.Made v) (answer_made f v q) (deed_of h (step cells h p (act.Made v)) (answer_made f v q))
+      by (Told tests) = (inside, tt)
+      by Shown = (inside, tt)
+      by (Held true falls_back) = (inside, tt)
+      by (Held false falls_back) = (inside, tt)
+
+  finished : (fine : Bool) (left : Option ℕ) (t : Section) → Finalizing cells h p t fine left → (q : Phase)
+      → Both (finishing fine left) (answer.Phase q) (deed_of h (step cells h p (finishing fine left)) (answer.Phase q))
+  finished true left t g q = (record { section = t; found = g.found; kind = g.kind; so = g.so }, (refl, (q, refl)))
+  finished false left t g q = (record { section = t; found = g.found; kind = g.kind; so = g.so }, (refl, (q, refl)))
+
   cases : Cases cells h p (λ a r. Both a r (deed_of h (step cells h p a) r))
   cases = record {
     cyclic = λ a c k t. (tt, tt);
     waiting = λ a c w way t. waits a (answer.Waiting way) (is_exit a);
-    phased = λ a c t. by_act a (act.Call c call.Phase) (answer.Phase (phase_of (phase_at cells c h))) t.does (tt, tt);
-    reading = λ a c t q. by_act a (act.Call c call.Read) answer.ReadGuard t.does (q.accessed, tt);
-    writing = λ a c t q. by_act a (act.Call c call.Write) answer.WriteGuard t.does (q.accessed, tt);
-    peeking = λ a c t q. by_act a (act.Call c call.TryRead) answer.ReadGuard t.does (q.accessed, tt);
+    missed = λ a c w f t. (tt, tt);
+    owned = λ a c w o t. (tt, tt);
+    opened = λ a c k t q e. by_act a (act.Call c k) _ t.does (opened a c k t q e (form_at cells h p c k));
+    denied = λ a c k t q e. by_act a (act.Call c k) _ t.does (denied a c k t (phase_at cells c h) (inr q) (form_at cells h p c k) refl);
     running = λ a c k t q. by_act a (act.Call c k) answer.Running t.does (q, tt);
-    declined = λ a c k t q. by_act a (act.Call c k) (answer.Access (phase_of flags_refused)) t.does (record { asked = k; does = refl; finds = inl q }, (record { asked = k; does = refl; finds = inl q }, t));
-    denied = λ a c k t q. by_act a (act.Call c k) (answer.Access (phase_of (phase_at cells c h))) t.does (record { asked = k; does = refl; finds = inr q }, (record { asked = k; does = refl; finds = inr q }, t));
+    declined = λ a c k t q. by_act a (act.Call c k) _ t.does (denied a c k t flags_refused (inl q) (form_at cells h p c k) refl);
     skipped = λ a c t q. (q, tt);
     finalizing = λ a c t q u. (record { value = q; unheld = u }, tt);
     round = λ c cs e n. ((n, (c, cs, e)), tt);
     closed = λ e n. ((n, e), tt);
-    made_read = λ v t f d. (record { section = t; found = f; kind = subst (λ w. is_turn w ≡ false) (sym d) refl }, tt);
-    made_write = λ v t f d. (record { section = t; found = f; kind = d }, tt);
-    failed = λ t f d. (record { section = t; found = f; kind = d }, tt);
-    finished = λ t f d. (record { section = t; found = f; kind = d }, (refl, (_, refl)));
-    finish_failed = λ t f d. (record { section = t; found = f; kind = d }, (refl, (_, refl)));
-    looked = λ g v x f. (tt, tt);
+    made = λ v t k g. made v t k g (form_at cells h p t.cell k) (phase_made cells h t);
+    failed = λ t k g. (record { section = t; found = g.found; kind = ap (λ w. is_turn w) g.kind }, tt);
+    finished = λ fine left t g. finished fine left t g _;
+    looked = λ g x f. (tt, tt);
     set = λ g v x f w. (record { guard = x; found = f; way = w }, tt);
     released = λ g x f. (record { guard = x; found = f }, tt);
     downgraded = λ g x f w. (record { guard = x; found = f; way = w }, tt);

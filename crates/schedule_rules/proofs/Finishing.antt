@@ -3,12 +3,12 @@ use Rattle.std.proofs.Common.{◌≡◌, ◌⊎◌, inl, inr, ℕ, List, [], ◌
 use Rattle.std.specs.Prelude.{◌==◌}
 use Rattle.std.specs.Int.RustNames.{bit_or}
 use Rattle.std.proofs.lemmas.Nat.{and_or_apart}
+use Rattle.std.specs.declared.option.Option.{Option}
 use Rattle.phase_bits.specs.declared.phase.Phase.{Phase}
 use Rattle.phase_bits.specs.Number.{phase_of}
 use Rattle.phase_bits.specs.Flags.{has, initialized}
 use Rattle.phase_locker.specs.declared.ways.Given.{Given}
 use Rattle.phase_seq.specs.Phases.{final_outcome}
-use Rattle.schedule_rules.specs.declared.plan.Call.TheVariants as call
 use Rattle.schedule_rules.specs.declared.plan.CellPlan.{CellPlan}
 use Rattle.schedule_rules.specs.declared.step.Act.{Act}
 use Rattle.schedule_rules.specs.declared.step.Step.{Step}
@@ -27,19 +27,15 @@ use Rattle.schedule_rules.specs.Guards.{Guard, numbered, guards}
 use Rattle.schedule_rules.specs.Replay.{Back, back_of_section, back_of_step, replay, phase_at}
 use Rattle.schedule_rules.specs.Waits.{cell_of_section, cell_concerned}
 use Rattle.schedule_rules.specs.Legal.{IsLegal, IsLegalLine}
-use Rattle.schedule_rules.specs.Laws.{IsEndedTurn}
+use Rattle.schedule_rules.specs.Laws.{IsEndedTurn, Finishes as Finishes_so}
 use Rattle.schedule_rules.specs.Exits.{finishing}
-use Rattle.schedule_rules.proofs.Alone.{alone}
-use Rattle.schedule_rules.proofs.Each.{each_found}
-use Rattle.schedule_rules.proofs.Backs.{back_here, back_elsewhere}
-use Rattle.schedule_rules.proofs.Cases.{IsCalling, Calling}
+use Rattle.schedule_rules.proofs.Exclusion.{alone}
+use Rattle.schedule_rules.proofs.Found.{each_found}
+use Rattle.schedule_rules.proofs.Leaves.{back_here, back_elsewhere, left_at, GivenAt, GivesOf, moves}
 use Rattle.schedule_rules.proofs.Finds.{Finds, Tells, finds, tells}
-use Rattle.schedule_rules.proofs.Means.{Finished, Means, means}
-use Rattle.schedule_rules.proofs.Leaves.{left_at, GivenAt, GivesOf, moves}
-use Rattle.schedule_rules.proofs.Grows.{Needs, IsStanding}
-use Rattle.schedule_rules.proofs.Initialized.{sound}
-use Rattle.schedule_rules.proofs.Opening.{IsOfRun}
-use Rattle.schedule_rules.proofs.Beside.{IsRunning, guards-run, beside, run_before, asked_before}
+use Rattle.schedule_rules.proofs.Means.{Finished, EndsNone, Means, means}
+use Rattle.schedule_rules.proofs.Grows.{Needs, IsStanding, sound}
+use Rattle.schedule_rules.proofs.Opening.{IsOfRun, IsRunning, guards-run, beside, run_before, asked_before}
 use Rattle.schedule_rules.proofs.Facts.{apart, same_number, other_number}
 
 -- a finalizer's section needs a value
@@ -60,11 +56,6 @@ module _ (cells : List CellPlan) (c : ℕ) where
     abbrev event : Act → Answer → Event
     event a r = record { step = record { party = p; act = a }; line = record { answer = r; given = i } }
 
-    -- a call ends no finalizer
-    never : (a : Act) (fine : Bool) → IsCalling a → a ≡ finishing fine → ⊥
-    never a true t e = subst IsCalling e t
-    never a false t e = subst IsCalling e t
-
     -- the cell of the section that ends is concerned
     concerned : (t : Section) → innermost p (sections h) ≡ Some t → cell_of_section (innermost p (sections h)) ≡ Some c → t.cell ≡ c
     concerned t f e = same (sym (ap cell_of_section f) ∙ e)
@@ -72,77 +63,79 @@ module _ (cells : List CellPlan) (c : ℕ) where
         same : Some t.cell ≡ Some c → t.cell ≡ c
         same x = cc
 
-    ended : (a : Act) (fine : Bool) (t : Section) → innermost p (sections h) ≡ Some t → is_turn t.want ≡ true → t.cell ≡ c
-        → (r : Answer) → r ≡ answer.Phase (phase_of (phase_finalized (phase_at cells t.cell h) fine)) → back_of_step h (record { party = p; act = a }) r ≡ Some (record { cell = t.cell; changes = Ended fine ∷ [] })
-        → IsEndedTurn cells h (event a r) c fine
-    ended a fine t f d here r shows back =
-        record {
-          section = t;
-          found = f;
-          here = here;
-          turns = d;
-          ready = subst (λ z. has (phase_at cells z h) initialized ≡ true) here
-              (needs-value t.want (cell_at cells t.cell) (phase_at cells t.cell h) d (each_found (λ s. s.party == p) (IsStanding cells h) (sections h) t f (sound cells h legal).standing));
-          marks = ap (λ y. y.phase) changed;
-          shown = shows ∙ ap (λ z. answer.Phase (phase_of (phase_finalized (phase_at cells z h) fine))) here ∙ ap (λ y. answer.Phase (phase_of y.phase)) (sym changed);
-          value_stays = ap (λ y. y.value) changed;
-          others_stay = λ e ne. back_elsewhere cells e (back_of_step h (record { party = p; act = a }) r) b (replay cells e h) back (other_number t.cell c e here ne);
-        }
+    concerned_by : (a : Act) (fine : Bool) (left : Option ℕ) → a ≡ finishing fine left → cell_concerned cells h (record { party = p; act = a }) ≡ cell_of_section (innermost p (sections h))
+    concerned_by a fine left e = subst (λ b. cell_concerned cells h (record { party = p; act = b }) ≡ cell_of_section (innermost p (sections h))) (sym e) (by fine)
       where
-        b : Back
-        b = record { cell = t.cell; changes = Ended fine ∷ [] }
-
-        changed : replay cells c (event a r ∷ h) ≡ effect (cell_at cells c) (Ended fine ∷ []) (replay cells c h)
-        changed = back_here cells c (back_of_step h (record { party = p; act = a }) r) b (replay cells c h) back (same_number t.cell c here)
-
-    -- the two ends of a finalizer
-    same_end : (a fine : Bool) → finishing a ≡ finishing fine → a ≡ fine
-    same_end true true e = refl
-    same_end false false e = refl
-    same_end true false e = absurd (cc)
-    same_end false true e = absurd (cc)
-
-    back : (a : Act) (fine : Bool) (q : Phase) (t : Section) → a ≡ finishing fine → innermost p (sections h) ≡ Some t
-        → back_of_step h (record { party = p; act = a }) (answer.Phase q) ≡ Some (record { cell = t.cell; changes = Ended fine ∷ [] })
-    back a fine q t e f = subst (λ b. back_of_step h (record { party = p; act = b }) (answer.Phase q) ≡ Some (record { cell = t.cell; changes = Ended fine ∷ [] })) (sym e) (by fine)
-      where
-        by : (fine : Bool) → back_of_step h (record { party = p; act = finishing fine }) (answer.Phase q) ≡ Some (record { cell = t.cell; changes = Ended fine ∷ [] })
-        by true = ap (back_of_section (Finishes true)) f
-        by false = ap (back_of_section (Finishes false)) f
-
-    concerned_by : (a : Act) (fine : Bool) → a ≡ finishing fine → cell_concerned cells h (record { party = p; act = a }) ≡ cell_of_section (innermost p (sections h))
-    concerned_by a fine e = subst (λ b. cell_concerned cells h (record { party = p; act = b }) ≡ cell_of_section (innermost p (sections h))) (sym e) (by fine)
-      where
-        by : (fine : Bool) → cell_concerned cells h (record { party = p; act = finishing fine }) ≡ cell_of_section (innermost p (sections h))
+        by : (fine : Bool) → cell_concerned cells h (record { party = p; act = finishing fine left }) ≡ cell_of_section (innermost p (sections h))
         by true = refl
         by false = refl
 
-    turn_ends : (a : Act) (q : Phase) (fine : Bool) → Finished cells h p a q → a ≡ finishing fine → cell_concerned cells h (record { party = p; act = a }) ≡ Some c → IsEndedTurn cells h (event a (answer.Phase q)) c fine
-    turn_ends a q fine m e n =
-        let same : m.fine ≡ fine = same_end m.fine fine (sym m.acts ∙ e) in
-        subst (λ b. IsEndedTurn cells h (event a (answer.Phase q)) c b) same
-        (ended a m.fine m.section m.found m.kind (concerned m.section m.found (sym (concerned_by a m.fine m.acts) ∙ n)) (answer.Phase q) (ap (λ r. answer.Phase r) m.shown) (back a m.fine q m.section m.acts m.found))
+    -- the two ends of a finalizer
+    same_end : (a fine : Bool) (m left : Option ℕ) → finishing a m ≡ finishing fine left → a ≡ fine
+    same_end true true m left e = refl
+    same_end false false m left e = refl
+    same_end true false m left e = absurd (cc)
+    same_end false true m left e = absurd (cc)
+
+    turn_ends : (a : Act) (q : Phase) (m : Finished cells h p a q) → cell_concerned cells h (record { party = p; act = a }) ≡ Some c → IsEndedTurn cells h (event a (answer.Phase q)) c m.fine
+    turn_ends a q m n =
+        record {
+          section = t;
+          found = m.ends.found;
+          here = here;
+          turns = m.ends.kind;
+          ready = subst (λ z. has (phase_at cells z h) initialized ≡ true) here
+              (needs-value t.want (cell_at cells t.cell) (phase_at cells t.cell h) m.ends.kind (each_found (λ s. s.party == p) (IsStanding cells h) (sections h) t m.ends.found (sound cells h legal).standing));
+          marks = ap (λ y. y.phase) changed;
+          shown = ap (λ r. answer.Phase r) m.shown ∙ ap (λ z. answer.Phase (phase_of (phase_finalized (phase_at cells z h) m.fine))) here ∙ ap (λ y. answer.Phase (phase_of y.phase)) (sym changed);
+          left = m.left;
+          ended = m.acts;
+          value_left = ap (λ y. y.value) changed;
+          others_stay = λ e ne. back_elsewhere cells e (back_of_step h (record { party = p; act = a }) (answer.Phase q)) b (replay cells e h) back (other_number t.cell c e here ne);
+        }
+      where
+        t : Section
+        t = m.section
+
+        here : t.cell ≡ c
+        here = concerned t m.ends.found (sym (concerned_by a m.fine m.left m.acts) ∙ n)
+
+        b : Back
+        b = record { cell = t.cell; changes = Ended m.fine m.left ∷ [] }
+
+        back : back_of_step h (record { party = p; act = a }) (answer.Phase q) ≡ Some b
+        back = subst (λ x. back_of_step h (record { party = p; act = x }) (answer.Phase q) ≡ Some b) (sym m.acts) (by m.fine m.left)
+          where
+            by : (fine : Bool) (left : Option ℕ) → back_of_step h (record { party = p; act = finishing fine left }) (answer.Phase q) ≡ Some (record { cell = t.cell; changes = Ended fine left ∷ [] })
+            by true left = ap (back_of_section (Finishes true left)) m.ends.found
+            by false left = ap (back_of_section (Finishes false left)) m.ends.found
+
+        changed : replay cells c (event a (answer.Phase q) ∷ h) ≡ effect (cell_at cells c) (Ended m.fine m.left ∷ []) (replay cells c h)
+        changed = back_here cells c (back_of_step h (record { party = p; act = a }) (answer.Phase q)) b (replay cells c h) back (same_number t.cell c here)
 
   -- a legal line of a finalizer that ends
-  pub ends-turn : (h : List Event) (s : Step) (l : Line) (q : Phase) (fine : Bool) → IsLegal cells h → IsLegalLine cells h s l → l.answer ≡ answer.Phase q → s.act ≡ finishing fine
+  pub ends-turn : (h : List Event) (s : Step) (l : Line) (q : Phase) (fine : Bool) → IsLegal cells h → IsLegalLine cells h s l → l.answer ≡ answer.Phase q → Finishes_so s fine
       → cell_concerned cells h s ≡ Some c → IsEndedTurn cells h (record { step = s; line = l }) c fine
   ends-turn h s l q fine k m e f n =
       subst (λ r. IsEndedTurn cells h (record { step = s; line = record { answer = r; given = l.given } }) c fine) (sym e) (by (subst (Means cells h s.party s.act) e (means cells h s l m)))
     where
-      by : ((d : ℕ) × Calling cells h s.party s.act d call.Phase) ⊎ Finished cells h s.party s.act q → IsEndedTurn cells h (record { step = s; line = record { answer = answer.Phase q; given = l.given } }) c fine
-      by (inl t) = absurd (never h s.party l.given k s.act fine t.1.acts f)
-      by (inr t) = turn_ends h s.party l.given k s.act q fine t f n
+      by : Finished cells h s.party s.act q ⊎ EndsNone cells h s.party s.act → IsEndedTurn cells h (record { step = s; line = record { answer = answer.Phase q; given = l.given } }) c fine
+      by (inr never) = absurd (never fine f.left f.act)
+      by (inl t) =
+          subst (λ b. IsEndedTurn cells h (record { step = s; line = record { answer = answer.Phase q; given = l.given } }) c b)
+          (same_end h s.party l.given k t.fine fine t.left f.left (sym t.acts ∙ f.act)) (turn_ends h s.party l.given k s.act q t n)
 
   -- so ends the turn of the cell whose section is innermost
-  pub ended-turn : (h : List Event) (e : Event) (fine : Bool) → IsLegal cells (e ∷ h) → e.step.act ≡ finishing fine → (q : Phase) → e.line.answer ≡ answer.Phase q
+  pub ended-turn : (h : List Event) (e : Event) (fine : Bool) (left : Option ℕ) → IsLegal cells (e ∷ h) → e.step.act ≡ finishing fine left → (q : Phase) → e.line.answer ≡ answer.Phase q
       → cell_of_section (innermost e.step.party (sections h)) ≡ Some c → IsEndedTurn cells h e c fine
-  ended-turn h e fine k acts q shows here = ends-turn h e.step e.line q fine k.2 k.0 shows acts (concerned_by h e.step.party e.line.given k.2 e.step.act fine acts ∙ here)
+  ended-turn h e fine left k acts q shows here =
+      ends-turn h e.step e.line q fine k.2 k.0 shows (record { left = left; act = acts }) (concerned_by h e.step.party e.line.given k.2 e.step.act fine left acts ∙ here)
 
   -- ---- nothing else marks a cell
 
   module _ (h : List Event) (p : ℕ) (fine : Bool) (legal : IsLegal cells h) where
     abbrev IsEnding : Deed → ℕ → Type 0
-    IsEnding (Ends (Finishes b)) z = (b ≡ fine) × (cell_of_section (innermost p (sections h)) ≡ Some z)
+    IsEnding (Ends (Finishes b left)) z = (b ≡ fine) × (cell_of_section (innermost p (sections h)) ≡ Some z)
     IsEnding _ z = ⊥
 
     -- a flag of finalizers comes by a finalizer of the cell that ends so
@@ -160,11 +153,11 @@ module _ (cells : List CellPlan) (c : ℕ) where
 
     gives : (d : Deed) (f : Finds cells h p d) → GivesOf cells h p (alone cells h legal) (Marks d) d f
     gives (Ends (Makes made)) f = ran f.section.cell (Ran f.section.is_open made ∷ []) tt
-    gives (Ends (Finishes b)) f = λ was is. (same_outcome b fine (phase_at cells f.section.cell h) was is, ap cell_of_section f.found)
+    gives (Ends (Finishes b left)) f = λ was is. (same_outcome b fine (phase_at cells f.section.cell h) was is, ap cell_of_section f.found)
     gives (EndsToRead v) f = ran f.section.cell (Ran f.section.is_open (Some v) ∷ []) tt
     gives (Drops g) f = λ w. ran f.guard.cell f.guard.changes (dropped g f.guard f.found)
     gives (DropsToRead g) f = ran f.guard.cell f.guard.changes (dropped g f.guard f.found)
-    gives (Visits z chs) f = λ was is.
+    gives (Visits z chs reads) f = λ was is.
         apart (sym (asked_before (final_outcome fine) (beside fine) (cell_at cells z) (accepts h) f.asked (replay cells z h) (subst (λ l. has (effect (cell_at cells z) l (replay cells z h)).phase (final_outcome fine) ≡ true) f.does is)) ∙ was)
     gives _ f = tt
 
@@ -173,15 +166,11 @@ module _ (cells : List CellPlan) (c : ℕ) where
 
   -- so a cell is marked as finalized only where a finalizer of it ends so
   pub marked-by-turn : (h : List Event) (e : Event) (fine : Bool) → IsLegal cells (e ∷ h) → has (phase_at cells c h) (final_outcome fine) ≡ false
-      → has (phase_at cells c (e ∷ h)) (final_outcome fine) ≡ true → (e.step.act ≡ finishing fine) × IsEndedTurn cells h e c fine
+      → has (phase_at cells c (e ∷ h)) (final_outcome fine) ≡ true → IsEndedTurn cells h e c fine
   marked-by-turn h e fine k was m =
       by (deed_of h e.step e.line.answer) (tells cells h e.step e.line k.0) (marks h e.step.party fine k.2 (deed_of h e.step e.line.answer) (finds cells h e.step e.line k.0) was m)
     where
-      turn : (b : Bool) → b ≡ fine → e.step.act ≡ finishing b → (q : Phase) → e.line.answer ≡ answer.Phase q → cell_of_section (innermost e.step.party (sections h)) ≡ Some c
-          → (e.step.act ≡ finishing fine) × IsEndedTurn cells h e c fine
-      turn b same acts q shows here = let ends : e.step.act ≡ finishing fine = acts ∙ ap finishing same in (ends, ended-turn h e fine k ends q shows here)
-
-      by : (d : Deed) → Tells cells h e.step.party e.step.act e.line.answer d → IsEnding h e.step.party fine k.2 d c → (e.step.act ≡ finishing fine) × IsEndedTurn cells h e c fine
-      by (Ends (Finishes b)) t i = turn b i.0 t.0 t.1.0 t.1.1 i.1
+      by : (d : Deed) → Tells cells h e.step.party e.step.act e.line.answer d → IsEnding h e.step.party fine k.2 d c → IsEndedTurn cells h e c fine
+      by (Ends (Finishes b left)) t i = subst (IsEndedTurn cells h e c) i.0 (ended-turn h e b left k t.0 t.1.0 t.1.1 i.1)
       by (Ends (Makes made)) t i = absurd i
       by _ t i = absurd i

@@ -1,5 +1,5 @@
 -- A waiting call goes on with what its party did last: its wait says the same call as the party's latest act.
-use Rattle.std.proofs.Common.{subst, ◌≡◌, ◌≢◌, ℕ, List, [], ◌∷◌, refl, ap, ◌∙◌, arith, true, false, None, Some}
+use Rattle.std.proofs.Common.{subst, ◌≡◌, ◌≢◌, ℕ, List, [], ◌∷◌, refl, sym, ap, ◌∙◌, arith, true, false, None, Some}
 use Rattle.std.specs.Prelude.{Bool, ◌==◌, map, if◌then◌else◌}
 use Rattle.std.specs.declared.option.Option.{Option}
 use Rattle.phase_locker.specs.declared.ways.Given.{Given}
@@ -8,13 +8,14 @@ use Rattle.exit_registry.specs.Registry.{first_of}
 use Rattle.schedule_rules.specs.declared.plan.CellPlan.{CellPlan}
 use Rattle.schedule_rules.specs.declared.step.Act.{Act}
 use Rattle.schedule_rules.specs.declared.step.Act.TheVariants as act
+use Rattle.phase_locker.specs.declared.ways.How.{How}
+use Rattle.schedule_rules.specs.declared.line.Refusal.{Refusal}
 use Rattle.schedule_rules.specs.declared.line.Answer.{Answer}
 use Rattle.schedule_rules.specs.declared.line.Answer.TheVariants as answer
 use Rattle.schedule_rules.specs.declared.step.Step.{Step}
-use Rattle.schedule_rules.specs.declared.step.Want.TheVariants.{Calls}
 use Rattle.schedule_rules.specs.History.{Event, latest_act, latest_act_after, newer_act}
 use Rattle.schedule_rules.specs.Exits.{registry}
-use Rattle.schedule_rules.specs.Waits.{Wait, Attempt, wait_of, without_wait, with_wait, attempt_of_wait, act_for, attempt_of_turn, attempt_with, wake_writer, wake_reader, wake_readers, wait_woken, waits_given_with, waits_answered, waits, cell_concerned_with}
+use Rattle.schedule_rules.specs.Waits.{Wait, Attempt, attempt, wait_of, without_wait, with_wait, attempt_of_wait, act_for, attempt_of_turn, attempt_with, wake_writer, wake_reader, wake_readers, wait_woken, waits_given_with, waits_answered, waits, cell_concerned_with}
 use Rattle.schedule_rules.proofs.Opened.{wait_removed, wait_kept}
 
 module _ (f : Wait → Wait) (same_party : (w : Wait) → (f w).party ≡ w.party) (same_attempt : (w : Wait) → attempt_of_wait (Some (f w)) ≡ attempt_of_wait (Some w)) where
@@ -48,10 +49,14 @@ abbrev pub Matches : Option Attempt → Act → Type 0
 Matches None a = Unit {0}
 Matches (Some t) a = a ≡ act_for t.cell t.want
 
--- a call that is attempted again is the act
-abbrev pub Agrees : Option Attempt → Act → Type 0
-Agrees None a = Unit {0}
-Agrees (Some t) a = (k : _) → t.want ≡ Calls k → a ≡ act.Call t.cell k
+-- what is attempted is so
+abbrev pub Of : (Attempt → Type 0) → Option Attempt → Type 0
+Of T None = Unit {0}
+Of T (Some a) = T a
+
+pub each_of : (T U : Attempt → Type 0) → ((a : Attempt) → T a → U a) → (o : Option Attempt) → Of T o → Of U o
+each_of T U f None t = tt
+each_of T U f (Some a) t = f a t
 
 module _ (cells : List CellPlan) where
   -- a gift changes no attempt
@@ -63,6 +68,54 @@ module _ (cells : List CellPlan) where
       by : (o : Option ℕ) → attempt_of_wait (wait_of p (wake_readers o ws)) ≡ attempt_of_wait (wait_of p ws)
       by None = refl
       by (Some c) = attempt_mapped (wake_reader c) (λ w. woken_party _ w) (λ w. woken_attempt _ w) p ws
+
+  -- what waits for the party
+  abbrev pub waiting : List Event → ℕ → Option Attempt
+  waiting h p = attempt_of_wait (wait_of p (waits cells h))
+
+  -- what is said of whatever waits, at each history of which this holds
+  module _ (L : List Event → Type 0) (earlier : (e : Event) (h : List Event) → L (e ∷ h) → L h) (T : List Event → ℕ → Attempt → Type 0) where
+    -- steps of others and refused steps keep it, and it is so of what a step attempts that waits by it
+    pub record Goes : Type 0 where
+      pub other : (h : List Event) (e : Event) (p : ℕ) (a : Attempt) → L (e ∷ h) → (e.step.party == p) ≡ false → T h p a → T (e ∷ h) p a
+      pub refused : (h : List Event) (e : Event) (p : ℕ) (a : Attempt) (r : Refusal) → e.line.answer ≡ answer.Refused r → T h p a → T (e ∷ h) p a
+      pub now : (h : List Event) (e : Event) (way : How) → L (e ∷ h) → e.line.answer ≡ answer.Waiting way → Of (T h e.step.party) (waiting h e.step.party) → Of (T (e ∷ h) e.step.party) (attempt cells h e.step)
+
+    module _ (k : Goes) where
+      module _ (h : List Event) (e : Event) (p : ℕ) (l : L (e ∷ h)) (IH : (q : ℕ) → Of (T h q) (waiting h q)) where
+        -- the calls of others, after what the step gave
+        abbrev others : List Wait
+        others = waits_given_with cells (waits cells h) h e.step e.line.given (without_wait e.step.party (waits cells h))
+
+        left_over : (b : Bool) → (e.step.party == p) ≡ b → Of (T (e ∷ h) p) (attempt_of_wait (wait_of p others))
+        left_over true is = rw (attempt_given (waits cells h) h e.step e.line.given p (without_wait e.step.party (waits cells h))) (rw (own is) (rw (wait_removed p (waits cells h)) tt))
+          where
+            own : (e.step.party == p) ≡ true → e.step.party ≡ p
+            own e = grind arith
+        left_over false is =
+            rw (attempt_given (waits cells h) h e.step e.line.given p (without_wait e.step.party (waits cells h))) (rw (wait_kept e.step.party p (waits cells h) (other is))
+            (each_of (T h p) (T (e ∷ h) p) (λ a t. k.other h e p a l is t) (waiting h p) (IH p)))
+          where
+            other : (e.step.party == p) ≡ false → p ≢ e.step.party
+            other e = grind arith
+
+        again : (way : How) (b : Bool) → (e.step.party == p) ≡ b → (o : Option Attempt) → (b ≡ true → Of (T (e ∷ h) p) o) → Of (T (e ∷ h) p) (attempt_of_wait (wait_of p (with_wait e.step.party way o others)))
+        again way b is None f = left_over b is
+        again way false is (Some a) f = rw is (left_over false is)
+        again way true is (Some a) f = rw is (f refl)
+
+        after : (r : Answer) → e.line.answer ≡ r → Of (T (e ∷ h) p) (attempt_of_wait (wait_of p (waits_answered cells h e.step e.line.given r (waits cells h))))
+        after (answer.Refused q) is = each_of (T h p) (T (e ∷ h) p) (λ a t. k.refused h e p a q is t) (waiting h p) (IH p)
+        after (answer.Waiting way) is = again way (e.step.party == p) refl (attempt cells h e.step) (λ own. subst (λ q. Of (T (e ∷ h) q) (attempt cells h e.step)) (same own) (k.now h e way l is (IH e.step.party)))
+          where
+            same : (e.step.party == p) ≡ true → e.step.party ≡ p
+            same own = grind arith
+        after _ is = left_over (e.step.party == p) refl
+
+      -- so it is said of all that waits
+      pub waits_so : (h : List Event) (p : ℕ) → L h → Of (T h p) (waiting h p)
+      waits_so [] p l = tt
+      waits_so (e ∷ h) p l = after h e p l (λ q. waits_so h q (earlier e h l)) e.line.answer refl
 
   matches_now : (ws : List Wait) (h : List Event) (s : Step) (older : Act) → Matches (attempt_of_wait (wait_of s.party ws)) older → Matches (attempt_with cells ws h s.party s.act) (newer_act true s.act older)
   matches_now ws h s older IH = by s.act
@@ -82,42 +135,41 @@ module _ (cells : List CellPlan) where
       by (act.Release g) = tt
       by (act.Downgrade g) = tt
       by (act.Clone g) = tt
-      by act.Finished = tt
-      by act.FinishFailed = tt
-
-  module _ (h : List Event) (s : Step) (g : Given) (p : ℕ) (ws : List Wait) (older : Act) (IH : Matches (attempt_of_wait (wait_of p ws)) older) where
-    left_over : (b : Bool) → (s.party == p) ≡ b → Matches (attempt_of_wait (wait_of p (waits_given_with cells ws h s g (without_wait s.party ws)))) (newer_act b s.act older)
-    left_over true is = rw (attempt_given ws h s g p (without_wait s.party ws)) (rw (own is) (rw (wait_removed p ws) tt))
-      where
-        own : (s.party == p) ≡ true → s.party ≡ p
-        own e = grind arith
-    left_over false is = rw (attempt_given ws h s g p (without_wait s.party ws)) (rw (wait_kept s.party p ws (other is)) IH)
-      where
-        other : (s.party == p) ≡ false → p ≢ s.party
-        other e = grind arith
-
-    again : (b : Bool) (way : _) → (s.party == p) ≡ b → (o : Option Attempt) → attempt_with cells ws h s.party s.act ≡ o → Matches (attempt_of_wait (wait_of p (with_wait s.party way o (waits_given_with cells ws h s g (without_wait s.party ws))))) (newer_act b s.act older)
-    again b way is None on = left_over b is
-    again false way is (Some a) on = rw is (left_over false is)
-    again true way is (Some a) on = rw is (subst (λ o. Matches o (newer_act true s.act older)) on (matches_now ws h s older (own is)))
-      where
-        own : (s.party == p) ≡ true → Matches (attempt_of_wait (wait_of s.party ws)) older
-        own e = let same : s.party ≡ p = grind arith in rw same IH
-
-    after : (a : Answer) → Matches (attempt_of_wait (wait_of p (waits_answered cells h s g a ws))) (latest_act_after a (s.party == p) s.act older)
-    after (answer.Refused r) = IH
-    after (answer.Waiting way) = again (s.party == p) way refl (attempt_with cells ws h s.party s.act) refl
-    after _ = left_over (s.party == p) refl
+      by (act.Finished left) = tt
+      by (act.FinishFailed left) = tt
 
   -- a party's wait and its latest act say the same call
-  pub wait-matches : (p : ℕ) (h : List Event) → Matches (attempt_of_wait (wait_of p (waits cells h))) (latest_act p h)
-  wait-matches p [] = tt
-  wait-matches p (e ∷ h) = after h e.step e.line.given p (waits cells h) (latest_act p h) (wait-matches p h) e.line.answer
+  abbrev Says : List Event → ℕ → Attempt → Type 0
+  Says h p a = latest_act p h ≡ act_for a.cell a.want
 
-  -- and so the call
-  pub wait-agrees : (p : ℕ) (h : List Event) → Agrees (attempt_of_wait (wait_of p (waits cells h))) (latest_act p h)
-  wait-agrees p h = by (attempt_of_wait (wait_of p (waits cells h))) (wait-matches p h)
+  matches_of : (h : List Event) (p : ℕ) (o : Option Attempt) → Of (Says h p) o → Matches o (latest_act p h)
+  matches_of h p None t = tt
+  matches_of h p (Some a) t = t
+
+  of_matches : (h : List Event) (p : ℕ) (o : Option Attempt) → Matches o (latest_act p h) → Of (Says h p) o
+  of_matches h p None t = tt
+  of_matches h p (Some a) t = t
+
+  latest_other : (r : Answer) (a older : Act) → latest_act_after r false a older ≡ older
+  latest_other (answer.Refused q) a older = refl
+  latest_other _ a older = refl
+
+  pub wait-matches : (p : ℕ) (h : List Event) → Matches (attempt_of_wait (wait_of p (waits cells h))) (latest_act p h)
+  wait-matches p h = matches_of h p (waiting h p) (waits_so (λ h. Unit {0}) (λ e h l. tt) Says (record { other = other; refused = refused; now = now }) h p tt)
     where
-      by : (o : Option Attempt) → Matches o (latest_act p h) → Agrees o (latest_act p h)
-      by None m = tt
-      by (Some t) m = λ k e. m ∙ ap (act_for t.cell) e
+      other : (h : List Event) (e : Event) (p : ℕ) (a : Attempt) → Unit {0} → (e.step.party == p) ≡ false → Says h p a → Says (e ∷ h) p a
+      other h e p a l is t = rw is (latest_other e.line.answer e.step.act (latest_act p h) ∙ t)
+
+      refused : (h : List Event) (e : Event) (p : ℕ) (a : Attempt) (r : Refusal) → e.line.answer ≡ answer.Refused r → Says h p a → Says (e ∷ h) p a
+      refused h e p a r is t = rw is t
+
+      now : (h : List Event) (e : Event) (way : How) → Unit {0} → e.line.answer ≡ answer.Waiting way → Of (Says h e.step.party) (waiting h e.step.party) → Of (Says (e ∷ h) e.step.party) (attempt cells h e.step)
+      now h e way l is t =
+          of_matches (e ∷ h) e.step.party (attempt cells h e.step)
+          (subst (Matches (attempt cells h e.step)) (sym latest) (matches_now (waits cells h) h e.step (latest_act e.step.party h) (matches_of h e.step.party (waiting h e.step.party) t)))
+        where
+          same : (q : ℕ) → (q == q) ≡ true
+          same q = grind arith
+
+          latest : latest_act e.step.party (e ∷ h) ≡ newer_act true e.step.act (latest_act e.step.party h)
+          latest = ap (λ r. latest_act_after r (e.step.party == e.step.party) e.step.act (latest_act e.step.party h)) is ∙ ap (λ b. newer_act b e.step.act (latest_act e.step.party h)) (same e.step.party)

@@ -1,4 +1,5 @@
--- What a legal step leaves: each section stands on the phase that it needs, and each holder of a write guard sees a value.
+-- What a legal step leaves: each section stands on the phase that it needs, each holder of a write guard sees a value, and
+-- INITIALIZED is never cleared.
 use Rattle.std.proofs.Common.{◌≡◌, ℕ, List, [], ◌∷◌, refl, sym, ◌∙◌, ap, subst, arith, Bool, true, false, not, ◌⊎◌, inl, inr, Some}
 use Rattle.std.specs.Prelude.{◌==◌, if◌then◌else◌}
 use Rattle.std.specs.List.{AllByRecursion}
@@ -15,16 +16,17 @@ use Rattle.schedule_rules.specs.Kinds.{cell_at, tolerance_of, tolerance_at}
 use Rattle.schedule_rules.specs.Phases.{flags_kept}
 use Rattle.schedule_rules.specs.Changes.{Content, Change, Ran, Asked, Put, Ended, effect}
 use Rattle.schedule_rules.specs.Deeds.{Makes, Finishes, Deed, Opens, Holds, Ends, EndsToRead, EndsToWrite, Drops, DropsToRead, Visits}
-use Rattle.schedule_rules.specs.History.{Event}
+use Rattle.schedule_rules.specs.History.{Event, deed_of}
 use Rattle.schedule_rules.specs.Sections.{Section, is_turn, sections}
 use Rattle.schedule_rules.specs.Guards.{Guard, numbered, guards}
 use Rattle.schedule_rules.specs.Replay.{replay, phase_at}
-use Rattle.schedule_rules.specs.Legal.{IsExclusive}
-use Rattle.schedule_rules.proofs.Each.{each_found}
+use Rattle.schedule_rules.specs.Legal.{IsExclusive, IsLegal}
+use Rattle.schedule_rules.proofs.Found.{each_found}
 use Rattle.schedule_rules.proofs.Cases.{Asking, Resting}
-use Rattle.schedule_rules.proofs.Finds.{Inside, Visit, Finds}
+use Rattle.schedule_rules.proofs.Finds.{Inside, Visit, accessed_there, Finds, finds}
 use Rattle.schedule_rules.proofs.Leaves.{left_at, sections_left, guards_left, NewOf, Says, sections_say, guards_say, GivesOf, moves, rests}
 use Rattle.schedule_rules.proofs.Facts.{apart}
+use Rattle.schedule_rules.proofs.Exclusion.{alone}
 
 -- where a run is wanted, INITIALIZED is not there
 pub wanted-lacks : (t : Tolerance) (p : ℕ) → shall_init t (phase_of p) ≡ true → has p initialized ≡ false
@@ -62,7 +64,7 @@ HasRun [] = ⊥
 HasRun (Ran o m ∷ chs) = Unit {0}
 HasRun (Asked o k ∷ chs) = HasRun chs
 HasRun (Put v ∷ chs) = HasRun chs
-HasRun (Ended fine ∷ chs) = HasRun chs
+HasRun (Ended fine left ∷ chs) = HasRun chs
 
 -- on this content the holder of the guard sees a value, and where it was made in the guard's section none was there
 abbrev pub SeesValue : CellPlan → Guard → Content → Type 0
@@ -94,7 +96,7 @@ module _ (cells : List CellPlan) where
     new : (d : Deed) (f : Finds cells h p d) → NewOf cells h p alone Stands Stands Sees Sees d f
     new (Opens c (Calls k) taken) f = f.wanted
     new (Opens c Turns taken) f = f.value
-    new (Holds c true) f = λ w. (f, λ n. absurd n)
+    new (Holds c true) f = λ w. (accessed_there cells h c f, λ n. absurd n)
     new (EndsToWrite v) f = λ u w. (
       has_made (flags_kept (cell_at cells f.section.cell).kind f.section.is_open (phase_at cells f.section.cell h)),
       λ n. needs-lacks f.section.want (cell_at cells f.section.cell) (phase_at cells f.section.cell h) f.kind u,
@@ -129,22 +131,35 @@ module _ (cells : List CellPlan) where
       ready : (g : ℕ) (x : Guard) → numbered g (guards h) ≡ Some x → x.writes ≡ true → Keeps x.cell (replay cells x.cell h) (effect (cell_at cells x.cell) x.changes (replay cells x.cell h))
       ready g x f w r = (each_found (λ y. y.number == g) (IsReady h) (guards h) x f k.ready w).0
 
-      visits : (c : ℕ) (chs : List Change) (v : Visit cells h p c chs) → Keeps c (replay cells c h) (effect (cell_at cells c) chs (replay cells c h))
-      visits c chs v r = by v.finds
+      visits : (c : ℕ) (chs : List Change) (reads : Bool) (v : Visit cells h p c chs reads) → Keeps c (replay cells c h) (effect (cell_at cells c) chs (replay cells c h))
+      visits c chs reads v r = by v.finds
         where
-          by : Asking cells h p c v.asked false ⊎ Resting cells h p c v.asked false → has (effect (cell_at cells c) chs (replay cells c h)).phase initialized ≡ true
+          by : Asking cells h p c v.asked false ⊎ Resting cells h p c v.asked → has (effect (cell_at cells c) chs (replay cells c h)).phase initialized ≡ true
           by (inl q) = absurd (apart (sym r ∙ wanted-lacks (tolerance_at cells c) (phase_at cells c h) q.wanted))
           by (inr q) = subst (λ y. has y.phase initialized ≡ true) (sym (rests cells h p alone c chs v.asked v.does q)) r
 
       gives : (d : Deed) (f : Finds cells h p d) → GivesOf cells h p alone Keeps d f
       gives (Ends (Makes made)) f = λ r. absurd (apart (sym r ∙ lacks f))
-      gives (Ends (Finishes true)) f = λ r. has_more (phase_at cells f.section.cell h) 64 refl ∙ r
-      gives (Ends (Finishes false)) f = λ r. has_more (phase_at cells f.section.cell h) 128 refl ∙ r
+      gives (Ends (Finishes true left)) f = λ r. has_more (phase_at cells f.section.cell h) 64 refl ∙ r
+      gives (Ends (Finishes false left)) f = λ r. has_more (phase_at cells f.section.cell h) 128 refl ∙ r
       gives (EndsToRead v) f = λ r. has_made (flags_kept (cell_at cells f.section.cell).kind f.section.is_open (phase_at cells f.section.cell h))
       gives (Drops g) f = ready g f.guard f.found
       gives (DropsToRead g) f = ready g f.guard f.found f.way
-      gives (Visits c chs) f = visits c chs f
+      gives (Visits c chs reads) f = visits c chs reads f
       gives _ f = tt
 
       pub kept-after : (d : Deed) (f : Finds cells h p d) (c : ℕ) → Keeps c (replay cells c h) (left_at cells h p d c)
       kept-after d f c = moves cells h p alone Keeps d f (λ z n r. r) (gives d f) c
+
+module _ (cells : List CellPlan) where
+  -- what a legal history goes on by
+  pub sound : (h : List Event) → IsLegal cells h → IsSound cells h
+  sound [] k = record { standing = tt; ready = tt }
+  sound (e ∷ h) k =
+      let after : _ = sound-after cells h e.step.party (alone cells h k.2) (sound h k.2) (deed_of h e.step e.line.answer) (finds cells h e.step e.line k.0) in
+      record { standing = after.0; ready = after.1 }
+
+  -- INITIALIZED stays
+  pub initialized-stays : (h : List Event) (e : Event) (c : ℕ) → IsLegal cells (e ∷ h) → has (phase_at cells c h) initialized ≡ true → has (phase_at cells c (e ∷ h)) initialized ≡ true
+  initialized-stays h e c k r =
+      kept-after cells h e.step.party (alone cells h k.2) (sound h k.2) (deed_of h e.step e.line.answer) (finds cells h e.step e.line k.0) c r

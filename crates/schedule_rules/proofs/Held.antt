@@ -1,24 +1,85 @@
--- A cell that was touched stays so: its phase is not 0, or a section runs in it, or a guard writes it.
-use Rattle.std.proofs.Common.{◌≡◌, ◌≢◌, ◌<◌, ℕ, List, [], ◌∷◌, sym, ◌∙◌, subst, arith, true, Some, ◌⊎◌, inl, inr}
+-- A phase that is not 0 never is 0 again; and a cell that was touched stays so: its phase is not 0, or a section runs in it,
+-- or a guard writes it.
+use Rattle.std.proofs.Common.{◌≡◌, ◌≢◌, ℕ, List, [], ◌∷◌, subst, Bool, true, false, cond, None, Some, ◌<◌, sym, ◌∙◌, arith, ◌⊎◌, inl, inr}
 use Rattle.std.specs.Prelude.{◌==◌}
+use Rattle.std.specs.Int.RustNames.{bit_and, bit_or}
+use Rattle.std.proofs.lemmas.Nat.{and_or_self}
+use Rattle.std.specs.declared.option.Option.{Option}
+use Rattle.schedule_rules.specs.declared.plan.CellPlan.{CellPlan}
+use Rattle.schedule_rules.specs.Kinds.{cell_at, tolerance_of}
+use Rattle.schedule_rules.specs.Phases.{flags_kept}
+use Rattle.schedule_rules.specs.Changes.{Content, Change, Ran, Asked, Put, Ended, is_declined, content_after, effect}
+use Rattle.schedule_rules.specs.History.{Event, deed_of}
+use Rattle.schedule_rules.specs.Replay.{Back, back_of_step, replay, phase_at, content_after_back}
 use Rattle.std.specs.List.{AllByRecursion}
 use Rattle.phase_bits.specs.Flags.{has, initialized}
-use Rattle.schedule_rules.specs.declared.plan.CellPlan.{CellPlan}
-use Rattle.schedule_rules.specs.Kinds.{cell_at}
-use Rattle.schedule_rules.specs.Changes.{Content, Ran, Ended, effect}
 use Rattle.schedule_rules.specs.Deeds.{Makes, Finishes, Deed, Holds, Ends, EndsToRead, EndsToWrite, Drops, DropsToRead, Visits}
-use Rattle.schedule_rules.specs.History.{Event, deed_of}
 use Rattle.schedule_rules.specs.Sections.{Section, sections}
 use Rattle.schedule_rules.specs.Guards.{Guard, numbered, guards}
-use Rattle.schedule_rules.specs.Replay.{replay, phase_at}
 use Rattle.schedule_rules.specs.Holds.{write_holds}
 use Rattle.schedule_rules.specs.Legal.{IsLegal, IsExclusive}
-use Rattle.schedule_rules.proofs.Alone.{alone}
-use Rattle.schedule_rules.proofs.Each.{each_of, each_found}
-use Rattle.schedule_rules.proofs.Finds.{Finds, finds}
+use Rattle.schedule_rules.proofs.Exclusion.{alone}
+use Rattle.schedule_rules.proofs.Found.{each_of, each_found}
+use Rattle.schedule_rules.proofs.Finds.{Finds, accessed_there, finds}
 use Rattle.schedule_rules.proofs.Leaves.{left_at, guards_left, GivenAt, holds_left, Holding, holding, NewOf, guards_say, GivesOf, moves}
-use Rattle.schedule_rules.proofs.Touched.{HasEnded, effect_keeps, effect_touches, phase_stays}
 use Rattle.schedule_rules.proofs.Facts.{apart}
+
+-- a phase with a flag is not 0
+with_flag : (p m : ℕ) → (bit_and 0 m ≡ m → ⊥) → bit_or p m ≢ 0
+with_flag p m f e = f (subst (λ z. bit_and z m ≡ m) e (and_or_self m p))
+
+-- a generator or a finalizer ended in the section
+abbrev pub HasEnded : List Change → Type 0
+HasEnded [] = ⊥
+HasEnded (Ran o m ∷ chs) = Unit {0}
+HasEnded (Ended fine left ∷ chs) = Unit {0}
+HasEnded (Asked o k ∷ chs) = HasEnded chs
+HasEnded (Put v ∷ chs) = HasEnded chs
+
+module _ (x : CellPlan) where
+  ran_touches : (o : Bool) (made : Option ℕ) (y : Content) → (content_after x (Ran o made) y).phase ≢ 0
+  ran_touches o (Some v) y = with_flag (flags_kept x.kind o y.phase) 1 (λ e. cc)
+  ran_touches o None y = with_flag (flags_kept x.kind o y.phase) 6 (λ e. cc)
+
+  ended_touches : (fine : Bool) (left : Option ℕ) (y : Content) → (content_after x (Ended fine left) y).phase ≢ 0
+  ended_touches true left y = with_flag y.phase 64 (λ e. cc)
+  ended_touches false left y = with_flag y.phase 128 (λ e. cc)
+
+  asked_keeps : (o : Bool) (k : _) (y : Content) → y.phase ≢ 0 → (content_after x (Asked o k) y).phase ≢ 0
+  asked_keeps o k y ne = by (is_declined x.kind (tolerance_of x) k o y.phase)
+    where
+      by : (b : Bool) → (cond b (record { phase = 36; value = y.value }) y).phase ≢ 0
+      by true = λ e. cc
+      by false = ne
+
+  -- what happens in a section keeps a phase that is not 0
+  pub effect_keeps : (chs : List Change) (y : Content) → y.phase ≢ 0 → (effect x chs y).phase ≢ 0
+  effect_keeps [] y ne = ne
+  effect_keeps (Ran o m ∷ chs) y ne = ran_touches o m (effect x chs y)
+  effect_keeps (Ended fine left ∷ chs) y ne = ended_touches fine left (effect x chs y)
+  effect_keeps (Asked o k ∷ chs) y ne = asked_keeps o k (effect x chs y) (effect_keeps chs y ne)
+  effect_keeps (Put v ∷ chs) y ne = effect_keeps chs y ne
+
+  -- and whatever it was, it is not 0 after a generator or a finalizer
+  pub effect_touches : (chs : List Change) (y : Content) → HasEnded chs → (effect x chs y).phase ≢ 0
+  effect_touches [] y r = absurd r
+  effect_touches (Ran o m ∷ chs) y r = ran_touches o m (effect x chs y)
+  effect_touches (Ended fine left ∷ chs) y r = ended_touches fine left (effect x chs y)
+  effect_touches (Asked o k ∷ chs) y r = asked_keeps o k (effect x chs y) (effect_touches chs y r)
+  effect_touches (Put v ∷ chs) y r = effect_touches chs y r
+
+-- what is given back keeps a phase that is not 0
+back_keeps : (cells : List CellPlan) (c : ℕ) (b : Option Back) (y : Content) → y.phase ≢ 0 → (content_after_back cells c b y).phase ≢ 0
+back_keeps cells c None y ne = ne
+back_keeps cells c (Some b) y ne = by (b.cell == c)
+  where
+    by : (d : Bool) → (cond d (effect (cell_at cells c) b.changes y) y).phase ≢ 0
+    by true = effect_keeps (cell_at cells c) b.changes y ne
+    by false = ne
+
+-- a published phase that is not 0 stays so
+pub phase_stays : (cells : List CellPlan) (c : ℕ) (e : Event) (h : List Event) → phase_at cells c h ≢ 0 → phase_at cells c (e ∷ h) ≢ 0
+phase_stays cells c e h ne = back_keeps cells c (back_of_step h e.step e.line.answer) (replay cells c h) ne
 
 -- what has a flag is not 0
 pub has_none : (p : ℕ) → has p initialized ≡ true → p ≢ 0
@@ -45,7 +106,7 @@ module _ (cells : List CellPlan) where
 
   module _ (h : List Event) (p : ℕ) (alone : (c : ℕ) → IsExclusive cells h c) where
     new : (d : Deed) (f : Finds cells h p d) → NewOf cells h p alone IsAny IsAny IsGood IsGood d f
-    new (Holds c true) f = λ w. inl (has_none (phase_at cells c h) f)
+    new (Holds c true) f = λ w. inl (has_none (phase_at cells c h) (accessed_there cells h c f))
     new (EndsToWrite v) f = λ u w. inr tt
     new _ f = tt
 
@@ -75,11 +136,12 @@ module _ (cells : List CellPlan) where
 
     gives : (d : Deed) (f : Finds cells h p d) → AllGood h → GivesOf cells h p alone (Touches d) d f
     gives (Ends (Makes made)) f k = λ n. inl (effect_touches (cell_at cells f.section.cell) (Ran f.section.is_open made ∷ []) (replay cells f.section.cell h) tt)
-    gives (Ends (Finishes fine)) f k = λ n. inl (effect_touches (cell_at cells f.section.cell) (Ended fine ∷ []) (replay cells f.section.cell h) tt)
+    gives (Ends (Finishes fine left)) f k = λ n. inl (effect_touches (cell_at cells f.section.cell) (Ended fine left ∷ []) (replay cells f.section.cell h) tt)
     gives (EndsToRead v) f k = λ n. inl (effect_touches (cell_at cells f.section.cell) (Ran f.section.is_open (Some v) ∷ []) (replay cells f.section.cell h) tt)
     gives (Drops g) f k = dropped (Drops g) g f.guard f.found k
     gives (DropsToRead g) f k = dropped (DropsToRead g) g f.guard f.found k f.way
-    gives (Visits c chs) f k = λ n. inr n
+    gives (Visits c chs true) f k = λ n. inr (omega (arith, n))
+    gives (Visits c chs false) f k = λ n. inr (omega (arith, n))
     gives _ f k = tt
 
     held-after : (d : Deed) (f : Finds cells h p d) → AllGood h → (c : ℕ) → Touches d c (replay cells c h) (left_at cells h p d c)

@@ -1,27 +1,43 @@
--- What a deed leaves: what is published changes only where nothing holds the cell to write afterwards, and what stands open
--- keeps what is said of it.
-use Rattle.std.proofs.Common.{◌≡◌, ◌<◌, ◌≤◌, ◌+◌, ◌⊎◌, inl, inr, ℕ, List, [], ◌∷◌, length, refl, sym, ◌∙◌, ap, subst, arith, Bool, true, false, not, ◌&&◌, cond, None, Some}
+-- What a deed leaves: what is given back changes its own cell, what is published changes only where nothing holds the cell to
+-- write afterwards, and what stands open keeps what is said of it.
+use Rattle.std.proofs.Common.{◌≡◌, ℕ, List, refl, Bool, true, false, Some, ◌<◌, ◌≤◌, ◌+◌, ◌⊎◌, inl, inr, [], ◌∷◌, length, sym, ◌∙◌, ap, subst, arith, not, ◌&&◌, cond, None}
 use Rattle.std.specs.Prelude.{◌==◌, if◌then◌else◌}
-use Rattle.std.specs.List.{AllByRecursion}
+use Rattle.std.specs.declared.option.Option.{Option}
+use Rattle.lazy_cells.specs.declared.call.Call.{Call}
 use Rattle.schedule_rules.specs.declared.plan.CellPlan.{CellPlan}
-use Rattle.schedule_rules.specs.Kinds.{cell_at, tolerance_at}
+use Rattle.schedule_rules.specs.Kinds.{cell_at, tolerance_of, tolerance_at}
+use Rattle.schedule_rules.specs.Changes.{Content, Asked, is_declined, content_after, effect, Change, Ended}
+use Rattle.schedule_rules.specs.Replay.{Back, content_after_back, change_of, back_of_section, back_of_guard, back_by, replay}
+use Rattle.std.specs.List.{AllByRecursion}
 use Rattle.schedule_rules.specs.Phases.{runs_generator}
-use Rattle.schedule_rules.specs.Changes.{Content, Change, Asked, Ended, effect}
 use Rattle.schedule_rules.specs.Deeds.{Ending, Makes, Finishes, Deed, Opens, Holds, Ends, EndsToRead, EndsToWrite, Drops, DropsToRead, Beside, Puts, Visits}
 use Rattle.schedule_rules.specs.History.{Event, accepts, count}
 use Rattle.schedule_rules.specs.Sections.{Section, innermost, without_innermost, runs_in, sections_by, sections}
 use Rattle.schedule_rules.specs.Guards.{Guard, numbered, without_guard, reader, writer, carrier, reader_made, writer_made, reader_beside, guards_by, guards}
-use Rattle.schedule_rules.specs.Replay.{Back, change_of, back_of_section, back_of_guard, back_by, replay, content_after_back}
 use Rattle.schedule_rules.specs.Holds.{writes_cell, write_holds}
 use Rattle.schedule_rules.specs.Legal.{IsExclusive}
-use Rattle.schedule_rules.proofs.Each.{each_counted, each_found, each_ended, each_removed, each_put}
+use Rattle.schedule_rules.proofs.Found.{each_counted, each_found, each_ended, each_removed, each_put}
 use Rattle.schedule_rules.proofs.Opened.{put, count_ended, count_removed, writes_put}
 use Rattle.schedule_rules.proofs.Exclusion.{no_writer_beside, no_run_left, no_run_beside, no_writer_left}
 use Rattle.schedule_rules.proofs.Counts.{one_if}
-use Rattle.schedule_rules.proofs.Backs.{back_here}
 use Rattle.schedule_rules.proofs.Facts.{apart, same_number, at_least}
 use Rattle.schedule_rules.proofs.Cases.{Asking, Resting}
 use Rattle.schedule_rules.proofs.Finds.{Visit, Finds}
+
+module _ (cells : List CellPlan) (c : ℕ) (o : Option Back) (b : Back) (y : Content) where
+  pub back_here : o ≡ Some b → (b.cell == c) ≡ true → content_after_back cells c o y ≡ effect (cell_at cells c) b.changes y
+  back_here e same = rw e (rw same refl)
+
+  pub back_elsewhere : o ≡ Some b → (b.cell == c) ≡ false → content_after_back cells c o y ≡ y
+  back_elsewhere e other = rw e (rw other refl)
+
+-- a call that leaves nothing open leaves the value
+pub asked_value : (x : CellPlan) (o : Bool) (k : Call) (y : Content) → (content_after x (Asked o k) y).value ≡ y.value
+asked_value x o k y = by (is_declined x.kind (tolerance_of x) k o y.phase)
+  where
+    by : (b : Bool) → (if b then record { phase = 36; value = y.value } else y).value ≡ y.value
+    by true = refl
+    by false = refl
 
 module _ (cells : List CellPlan) (h : List Event) (p : ℕ) where
   -- what is published at the cell after the deed
@@ -89,35 +105,39 @@ module _ (cells : List CellPlan) (h : List Event) (p : ℕ) where
         (ap (count (runs_in t.cell)) left ∙ no_run_left cells h alone p t f, same ∙ no_writer_beside cells h alone p t f)
 
     -- a call that leaves nothing open and is not declined
-    pub rests : (c : ℕ) (chs : List Change) (k : _) → chs ≡ Asked (accepts h) k ∷ [] → Resting cells h p c k false → effect (cell_at cells c) chs (replay cells c h) ≡ replay cells c h
+    pub rests : (c : ℕ) (chs : List Change) (k : _) → chs ≡ Asked (accepts h) k ∷ [] → Resting cells h p c k → effect (cell_at cells c) chs (replay cells c h) ≡ replay cells c h
     rests c chs k e r =
         ap (λ l. effect (cell_at cells c) l (replay cells c h)) e
         ∙ ap (λ (b : Bool). if b && not (runs_generator (cell_at cells c).kind (tolerance_at cells c) (accepts h) (replay cells c h).phase) then record { phase = 36; value = (replay cells c h).value } else replay cells c h) r.unasked
 
-    rests_at : (c z : ℕ) (chs : List Change) → effect (cell_at cells c) chs (replay cells c h) ≡ replay cells c h → left_at (Visits c chs) z ≡ replay cells z h
-    rests_at c z chs same = by (c == z) refl
+    rests_at : (c z : ℕ) (chs : List Change) (reads : Bool) → effect (cell_at cells c) chs (replay cells c h) ≡ replay cells c h → left_at (Visits c chs reads) z ≡ replay cells z h
+    rests_at c z chs reads same = by (c == z) refl
       where
-        by : (x : Bool) → (c == z) ≡ x → left_at (Visits c chs) z ≡ replay cells z h
+        by : (x : Bool) → (c == z) ≡ x → left_at (Visits c chs reads) z ≡ replay cells z h
         by true d =
             let at : c ≡ z = grind arith in
             ap (λ (x : Bool). if x then effect (cell_at cells z) chs (replay cells z h) else replay cells z h) d
             ∙ subst (λ z. effect (cell_at cells z) chs (replay cells z h) ≡ replay cells z h) at same
         by false d = ap (λ (x : Bool). if x then effect (cell_at cells z) chs (replay cells z h) else replay cells z h) d
 
-    visits : (c z : ℕ) (chs : List Change) → Visit cells h p c chs → Settles (Visits c chs) z
-    visits c z chs v = by v.finds
+    visits : (c z : ℕ) (chs : List Change) (reads : Bool) → Visit cells h p c chs reads → Settles (Visits c chs reads) z
+    visits c z chs reads v = by v.finds
       where
-        by : Asking cells h p c v.asked false ⊎ Resting cells h p c v.asked false → Settles (Visits c chs) z
-        by (inl q) = let u : _ = q.unheld (alone c) in gives (Visits c chs) (record { cell = c; changes = chs }) z refl (omega (arith, u), omega (arith, u))
-        by (inr r) = inl (rests_at c z chs (rests c chs v.asked v.does r))
+        none_written : (r : Bool) → write_holds c h ≡ 0 → count (writes_cell c) (guards_left (Visits c chs r)) ≡ 0
+        none_written true u = omega (arith, u)
+        none_written false u = omega (arith, u)
+
+        by : Asking cells h p c v.asked false ⊎ Resting cells h p c v.asked → Settles (Visits c chs reads) z
+        by (inl q) = let u : _ = q.unheld (alone c) in gives (Visits c chs reads) (record { cell = c; changes = chs }) z refl (omega (arith, u), none_written reads u)
+        by (inr r) = inl (rests_at c z chs reads (rests c chs v.asked v.does r))
 
     pub settles : (d : Deed) → Finds cells h p d → (c : ℕ) → Settles d c
     settles (Ends (Makes made)) f c = ends (Ends (Makes made)) (Makes made) f.section c f.found refl refl refl
-    settles (Ends (Finishes fine)) f c = ends (Ends (Finishes fine)) (Finishes fine) f.section c f.found refl refl refl
+    settles (Ends (Finishes fine left)) f c = ends (Ends (Finishes fine left)) (Finishes fine left) f.section c f.found refl refl refl
     settles (EndsToRead v) f c = ends (EndsToRead v) (Makes (Some v)) f.section c f.found refl refl (let e : _ = f.found in rw e refl)
     settles (Drops g) f c = drops (Drops g) g f.guard c f.found refl refl (λ z. refl)
     settles (DropsToRead g) f c = drops (DropsToRead g) g f.guard c f.found refl refl (λ z. let e : _ = f.found in rw e refl)
-    settles (Visits c chs) f z = visits c z chs f
+    settles (Visits c chs reads) f z = visits c z chs reads f
     settles d f z = inl refl
 
     -- ---- what holds a cell to write stays, or is given back
@@ -160,6 +180,8 @@ module _ (cells : List CellPlan) (h : List Event) (p : ℕ) where
     writing (DropsToRead g) f c = drops_write (DropsToRead g) g f.guard c f.found refl (let e : _ = f.found in rw e refl)
     writing (Holds z true) f c = inl (at_least (z == c) (count (writes_cell c) (guards h)))
     writing (Holds z false) f c = inl (omega arith)
+    writing (Visits z chs true) f c = inl (omega arith)
+    writing (Visits z chs false) f c = inl (omega arith)
     writing (Beside g) f c = inl (let e : _ = f.found in rw e (omega arith))
     writing (Puts g v) f c = inl (let s : _ = writes_put c g v (guards h) in omega (arith, s))
     writing d f c = inl (omega arith)
@@ -179,7 +201,7 @@ module _ (cells : List CellPlan) (h : List Event) (p : ℕ) where
 
     pub holding : (d : Deed) → Finds cells h p d → (c : ℕ) → Holding d c
     holding (Ends (Makes made)) f c = ends_hold (Ends (Makes made)) (Makes made) f.section c f.found refl refl refl
-    holding (Ends (Finishes fine)) f c = ends_hold (Ends (Finishes fine)) (Finishes fine) f.section c f.found refl refl refl
+    holding (Ends (Finishes fine left)) f c = ends_hold (Ends (Finishes fine left)) (Finishes fine left) f.section c f.found refl refl refl
     holding (EndsToRead v) f c = ends_hold (EndsToRead v) (Makes (Some v)) f.section c f.found refl refl (let e : _ = f.found in rw e refl)
     holding (EndsToWrite v) f c = inl (let e : _ = f.found in rw e (goes_on v f.section c e))
     holding (Opens z w taken) f c = stays_hold (Opens z w taken) c (at_least (z == c) (count (runs_in c) (sections h))) (writing (Opens z w taken) f c)
@@ -191,11 +213,11 @@ module _ (cells : List CellPlan) (h : List Event) (p : ℕ) where
       -- what is said of a cell of which the deed gives a section back
       abbrev pub GivesOf : (d : Deed) → Finds cells h p d → Type 0
       GivesOf (Ends (Makes made)) f = R f.section.cell (replay cells f.section.cell h) (effect (cell_at cells f.section.cell) (change_of (Makes made) f.section ∷ []) (replay cells f.section.cell h))
-      GivesOf (Ends (Finishes fine)) f = R f.section.cell (replay cells f.section.cell h) (effect (cell_at cells f.section.cell) (Ended fine ∷ []) (replay cells f.section.cell h))
+      GivesOf (Ends (Finishes fine left)) f = R f.section.cell (replay cells f.section.cell h) (effect (cell_at cells f.section.cell) (Ended fine left ∷ []) (replay cells f.section.cell h))
       GivesOf (EndsToRead v) f = R f.section.cell (replay cells f.section.cell h) (effect (cell_at cells f.section.cell) (change_of (Makes (Some v)) f.section ∷ []) (replay cells f.section.cell h))
       GivesOf (Drops g) f = f.guard.writes ≡ true → R f.guard.cell (replay cells f.guard.cell h) (effect (cell_at cells f.guard.cell) f.guard.changes (replay cells f.guard.cell h))
       GivesOf (DropsToRead g) f = R f.guard.cell (replay cells f.guard.cell h) (effect (cell_at cells f.guard.cell) f.guard.changes (replay cells f.guard.cell h))
-      GivesOf (Visits c chs) f = R c (replay cells c h) (effect (cell_at cells c) chs (replay cells c h))
+      GivesOf (Visits c chs reads) f = R c (replay cells c h) (effect (cell_at cells c) chs (replay cells c h))
       GivesOf _ f = Unit {0}
 
       module _ (d : Deed) (same : (c : ℕ) → (GivenAt d c → ⊥) → R c (replay cells c h) (replay cells c h)) where
@@ -235,11 +257,11 @@ module _ (cells : List CellPlan) (h : List Event) (p : ℕ) where
       -- so it is of each cell, where it is said of those of which nothing is given back
       pub moves : (d : Deed) (f : Finds cells h p d) → ((c : ℕ) → (GivenAt d c → ⊥) → R c (replay cells c h) (replay cells c h)) → GivesOf d f → (c : ℕ) → R c (replay cells c h) (left_at d c)
       moves (Ends (Makes made)) f same r c = back (Ends (Makes made)) same (record { cell = f.section.cell; changes = change_of (Makes made) f.section ∷ [] }) c (ap (back_of_section (Makes made)) f.found) r
-      moves (Ends (Finishes fine)) f same r c = back (Ends (Finishes fine)) same (record { cell = f.section.cell; changes = Ended fine ∷ [] }) c (ap (back_of_section (Finishes fine)) f.found) r
+      moves (Ends (Finishes fine left)) f same r c = back (Ends (Finishes fine left)) same (record { cell = f.section.cell; changes = Ended fine left ∷ [] }) c (ap (back_of_section (Finishes fine left)) f.found) r
       moves (EndsToRead v) f same r c = back (EndsToRead v) same (record { cell = f.section.cell; changes = change_of (Makes (Some v)) f.section ∷ [] }) c (ap (back_of_section (Makes (Some v))) f.found) r
       moves (Drops g) f same r c = dropped (Drops g) same g f.guard c f.found refl r
       moves (DropsToRead g) f same r c = dropped (DropsToRead g) same g f.guard c f.found refl (λ w. r)
-      moves (Visits z chs) f same r c = back (Visits z chs) same (record { cell = z; changes = chs }) c refl r
+      moves (Visits z chs reads) f same r c = back (Visits z chs reads) same (record { cell = z; changes = chs }) c refl r
       moves d f same r c = nothing d same c refl
 
     -- ---- what is said of what stands open, by what is published at its cell
@@ -303,6 +325,8 @@ module _ (cells : List CellPlan) (h : List Event) (p : ℕ) where
           → AllByRecursion (λ x. S (left_at d x.cell) x) (guards_left d)
       guards_say (Holds c false) f k ss gs = (k.reads _ c, old_guards (Holds c false) f k (guards h) (λ z. still _) gs)
       guards_say (Holds c true) f k ss gs = (k.new, old_guards (Holds c true) f k (guards h) (λ z. at_least (c == z) (count (writes_cell z) (guards h))) gs)
+      guards_say (Visits c chs true) f k ss gs = (k.reads _ c, old_guards (Visits c chs true) f k (guards h) (λ z. still _) gs)
+      guards_say (Visits c chs false) f k ss gs = old_guards (Visits c chs false) f k (guards h) (λ z. still _) gs
       guards_say (EndsToRead v) f k ss gs =
           let e : _ = f.found in
           subst (λ o. AllByRecursion (λ x. S (left_at (EndsToRead v) x.cell) x) (reader_made (length h) p o (guards h))) (sym e)

@@ -28,7 +28,7 @@ not_busy false = λ e. cc
 
 after : (p : ℕ) (d : Deed) (ss : List Section) (ts : List Turned) → NoneBusy ts → NoneBusy (turns_by p d ss ts)
 after p (Skips c taken) ss ts before = one_more ts c turn.Skipped (λ e. cc) before
-after p (Ends (Finishes fine)) ss ts before = of_section (turn_of fine) (innermost p ss) ts (not_busy fine) before
+after p (Ends (Finishes fine left)) ss ts before = of_section (turn_of fine) (innermost p ss) ts (not_busy fine) before
 after p (Ends (Makes made)) ss ts before = before
 after p _ ss ts before = before
 

@@ -3,29 +3,26 @@ use Rattle.std.proofs.Common.{◌≡◌, ◌≢◌, ◌<◌, ◌≤◌, ◌+◌,
 use Rattle.std.specs.Prelude.{◌==◌, if◌then◌else◌, is_none}
 use Rattle.std.specs.List.{find}
 use Rattle.std.specs.declared.option.Option.{Option}
-use Rattle.phase_locker.specs.declared.ways.Given.{Given}
 use Rattle.phase_locker.specs.declared.ways.How.{How}
 use Rattle.schedule_rules.specs.declared.plan.CellPlan.{CellPlan}
 use Rattle.schedule_rules.specs.declared.step.Act.TheVariants as act
 use Rattle.schedule_rules.specs.declared.step.Step.{Step}
 use Rattle.schedule_rules.specs.declared.line.Line.{Line}
-use Rattle.schedule_rules.specs.declared.line.Answer.{Answer}
 use Rattle.schedule_rules.specs.declared.line.Answer.TheVariants as answer
+use Rattle.schedule_rules.specs.Kinds.{cell_at}
 use Rattle.schedule_rules.specs.Calls.{initializes}
 use Rattle.schedule_rules.specs.Deeds.{Deed, Opens, Ends, EndsToRead, EndsToWrite, deed_waiting}
 use Rattle.schedule_rules.specs.History.{Event, is_exit, deed_of, count}
 use Rattle.schedule_rules.specs.Sections.{Section, without_innermost, sections_by, runs_in, is_turn, generates_for, runs, sections}
-use Rattle.schedule_rules.specs.Waits.{Attempt, attempt_of_wait, attempt, Wait, wait_of, without_wait, with_wait, waits_given_with, waits_answered, waits}
+use Rattle.schedule_rules.specs.Waits.{Attempt, attempt_of_wait, attempt, Wait, wait_of, waits}
 use Rattle.schedule_rules.specs.Refusals.{refusal}
 use Rattle.schedule_rules.specs.Legal.{IsLegal, IsLegalLine, IsExclusive}
-use Rattle.schedule_rules.specs.Causes.{is_waiting, is_cyclic, is_cyclic_step, is_attempted, is_barred_attempt, waits_judged}
-use Rattle.schedule_rules.proofs.Alone.{alone}
+use Rattle.schedule_rules.specs.Causes.{is_waiting, is_cyclic, is_cyclic_step, is_attempted, is_made_to_wait, waits_judged}
+use Rattle.schedule_rules.proofs.Exclusion.{alone}
 use Rattle.schedule_rules.proofs.Facts.{first, second, apart}
 use Rattle.schedule_rules.proofs.Found.{found_counts, found_passes, none_counted, only_one}
-use Rattle.schedule_rules.proofs.GoesOn.{attempt_given}
-use Rattle.schedule_rules.proofs.Opened.{wait_removed, wait_kept}
-use Rattle.schedule_rules.proofs.Waiting.{waits_where_barred}
-use Rattle.schedule_rules.proofs.Causes.{cyclic_where_own}
+use Rattle.schedule_rules.proofs.GoesOn.{Of, each_of, waiting, Goes, waits_so}
+use Rattle.schedule_rules.proofs.Causes.{cyclic_where_own, waits_where_barred}
 
 -- the section is the party's, on the cell, and its generator runs
 abbrev is_own_run : ℕ → ℕ → Section → Bool
@@ -34,16 +31,7 @@ is_own_run p c s = (s.party == p) && (runs_in c s && not (is_turn s.want))
 abbrev own_runs : ℕ → ℕ → List Section → ℕ
 own_runs p c ss = count (is_own_run p c) ss
 
--- what is attempted asks for no run that the party is running
-abbrev NotOwn : ℕ → Option Attempt → List Section → Type 0
-NotOwn p None ss = Unit {0}
-NotOwn p (Some a) ss = initializes a.want ≡ true → own_runs p a.cell ss ≡ 0
-
 module _ (p : ℕ) where
-  weaken : (o : Option Attempt) (ss us : List Section) → ((c : ℕ) → own_runs p c us ≤ own_runs p c ss) → NotOwn p o ss → NotOwn p o us
-  weaken None ss us less n = tt
-  weaken (Some a) ss us less n = λ i. let none : _ = n i in omega (arith, none, less a.cell)
-
   -- ---- sections of the party after a step of another
 
   ended_fewer : (q c : ℕ) (ss : List Section) → own_runs p c (without_innermost q ss) ≤ own_runs p c ss
@@ -115,46 +103,12 @@ module _ (cells : List CellPlan) where
       by None f = refl
       by (Some x) f = turns (is_turn x.want) (x.party == p) (runs_in c x) (uncounted x f (is_own_run p c x) refl) (found_passes (runs_in c) (sections h) x f)
 
-  -- ---- a step
-
-  module _ (h : List Event) (s : Step) (g : Given) (p : ℕ) (IH : NotOwn p (attempt_of_wait (wait_of p (waits cells h))) (sections h)) where
-    left_over : (b : Bool) → (s.party == p) ≡ b → (us : List Section) → (b ≡ false → (c : ℕ) → own_runs p c us ≤ own_runs p c (sections h))
-        → NotOwn p (attempt_of_wait (wait_of p (waits_given_with cells (waits cells h) h s g (without_wait s.party (waits cells h))))) us
-    left_over true is us less = rw (attempt_given cells (waits cells h) h s g p (without_wait s.party (waits cells h))) (rw (own is) (rw (wait_removed p (waits cells h)) tt))
-      where
-        own : (s.party == p) ≡ true → s.party ≡ p
-        own e = grind arith
-    left_over false is us less =
-        rw (attempt_given cells (waits cells h) h s g p (without_wait s.party (waits cells h))) (rw (wait_kept s.party p (waits cells h) (other is))
-        (weaken p (attempt_of_wait (wait_of p (waits cells h))) (sections h) us (less refl) IH))
-      where
-        other : (s.party == p) ≡ false → p ≢ s.party
-        other e = grind arith
-
-    again : (way : How) (b : Bool) → (s.party == p) ≡ b → (o : Option Attempt) (us : List Section) → ((c : ℕ) → own_runs p c us ≤ own_runs p c (sections h))
-        → (b ≡ true → NotOwn p o us)
-        → NotOwn p (attempt_of_wait (wait_of p (with_wait s.party way o (waits_given_with cells (waits cells h) h s g (without_wait s.party (waits cells h)))))) us
-    again way b is None us less now = left_over b is us (λ e. less)
-    again way false is (Some a) us less now = rw is (left_over false is us (λ e. less))
-    again way true is (Some a) us less now = rw is (now refl)
-
-    -- the sections after the step with this answer
-    abbrev left : Answer → List Section
-    left r = sections_by h s.party (deed_of h s r) (sections h)
-
-    goes_on : (r : Answer) → NotOwn p (attempt_of_wait (wait_of p (waits_given_with cells (waits cells h) h s g (without_wait s.party (waits cells h))))) (left r)
-    goes_on r = left_over (s.party == p) refl (left r) (λ e c. others_fewer p h s.party (deed_of h s r) c (sections h) e)
-
-    after : (r : Answer) → (is_waiting r ≡ true → (s.party == p) ≡ true → NotOwn p (attempt cells h s) (sections h))
-        → NotOwn p (attempt_of_wait (wait_of p (waits_answered cells h s g r (waits cells h)))) (left r)
-    after (answer.Refused q) now = IH
-    after (answer.Waiting way) now =
-        again way (s.party == p) refl (attempt cells h s) (left (answer.Waiting way)) (λ c. waiting_fewer p h s.party (is_exit s.act) c (sections h))
-        (λ is. weaken p (attempt cells h s) (sections h) (left (answer.Waiting way)) (λ c. waiting_fewer p h s.party (is_exit s.act) c (sections h)) (now refl is))
-    after r now = goes_on r
+  -- what is attempted asks for no run that its party is running
+  abbrev Apart : List Event → ℕ → Attempt → Type 0
+  Apart h p a = initializes (cell_at cells a.cell).kind a.want ≡ true → own_runs p a.cell (sections h) ≡ 0
 
   -- a step that waits attempts nothing that is cyclic
-  waits_apart : (h : List Event) (s : Step) (l : Line) → IsLegal cells h → IsLegalLine cells h s l → is_waiting l.answer ≡ true → NotOwn s.party (attempt cells h s) (sections h)
+  waits_apart : (h : List Event) (s : Step) (l : Line) → IsLegal cells h → IsLegalLine cells h s l → is_waiting l.answer ≡ true → Of (Apart h s.party) (attempt cells h s)
   waits_apart h s l legal k w = by (attempt cells h s) (second (is_none (refusal cells h s)) _ (sym (waits_where_barred cells h s l k) ∙ w))
     where
       not_both : (i o rest : Bool) → (not (i && o) && rest) ≡ true → i ≡ true → o ≡ false
@@ -162,27 +116,31 @@ module _ (cells : List CellPlan) where
       not_both true true rest f e = absurd (apart (sym f))
       not_both false true rest f e = absurd (apart (sym e))
 
-      by : (o : Option Attempt) → is_attempted (is_barred_attempt cells h s.party (waits_judged cells k.moment h s l.given)) o ≡ true → NotOwn s.party o (sections h)
+      by : (o : Option Attempt) → is_attempted (is_made_to_wait cells h s.party (waits_judged cells k.moment h s l.given)) o ≡ true → Of (Apart h s.party) o
       by None f = tt
-      by (Some a) f = λ i. none_own h s.party a.cell (alone cells h legal a.cell) (not_both (initializes a.want) (runs s.party a.cell h) _ f i)
+      by (Some a) f = λ i. none_own h s.party a.cell (alone cells h legal a.cell) (not_both (initializes (cell_at cells a.cell).kind a.want) (runs s.party a.cell h) _ (first _ _ f) i)
 
-  not-own : (h : List Event) (p : ℕ) → IsLegal cells h → NotOwn p (attempt_of_wait (wait_of p (waits cells h))) (sections h)
-  not-own [] p k = tt
-  not-own (e ∷ h) p k =
-      after h e.step e.line.given p (not-own h p k.2) e.line.answer
-      (λ w is. subst (λ q. NotOwn q (attempt cells h e.step) (sections h)) (own is) (waits_apart h e.step e.line k.2 k.0 w))
+  goes : Goes cells (IsLegal cells) (λ e h l. l.2) Apart
+  goes = record {
+    other = λ h e p a l is t i. let none : _ = t i in let less : _ = others_fewer p h e.step.party (deed_of h e.step e.line.answer) a.cell (sections h) is in omega (arith, none, less);
+    refused = λ h e p a r is t. rw is t;
+    now = now;
+  }
     where
-      own : (e.step.party == p) ≡ true → e.step.party ≡ p
-      own is = grind arith
+      now : (h : List Event) (e : Event) (way : How) → IsLegal cells (e ∷ h) → e.line.answer ≡ answer.Waiting way → Of (Apart h e.step.party) (waiting cells h e.step.party) → Of (Apart (e ∷ h) e.step.party) (attempt cells h e.step)
+      now h e way l is t =
+          each_of (Apart h e.step.party) (Apart (e ∷ h) e.step.party)
+          (λ a f i. let none : _ = f i in let less : _ = waiting_fewer e.step.party h e.step.party (is_exit e.step.act) a.cell (sections h) in rw is (omega (arith, none, less)))
+          (attempt cells h e.step) (waits_apart h e.step e.line l.2 l.0 (ap is_waiting is))
 
   -- so a call that waits is not cyclic
-  pub waiting-not-cyclic : (h : List Event) (p : ℕ) (w : Wait) → IsLegal cells h → wait_of p (waits cells h) ≡ Some w → (initializes w.want && runs p w.cell h) ≡ false
-  waiting-not-cyclic h p w k f = by (initializes w.want) refl
+  pub waiting-not-cyclic : (h : List Event) (p : ℕ) (w : Wait) → IsLegal cells h → wait_of p (waits cells h) ≡ Some w → (initializes (cell_at cells w.cell).kind w.want && runs p w.cell h) ≡ false
+  waiting-not-cyclic h p w k f = by (initializes (cell_at cells w.cell).kind w.want) refl
     where
-      mine : NotOwn p (Some (record { cell = w.cell; want = w.want })) (sections h)
-      mine = subst (λ o. NotOwn p (attempt_of_wait o) (sections h)) f (not-own h p k)
+      mine : Apart h p (record { cell = w.cell; want = w.want })
+      mine = subst (λ o. Of (Apart h p) (attempt_of_wait o)) f (waits_so cells (IsLegal cells) (λ e h l. l.2) Apart goes h p k)
 
-      by : (b : Bool) → initializes w.want ≡ b → (b && runs p w.cell h) ≡ false
+      by : (b : Bool) → initializes (cell_at cells w.cell).kind w.want ≡ b → (b && runs p w.cell h) ≡ false
       by true i = runs_none h p w.cell (mine i)
       by false i = refl
 

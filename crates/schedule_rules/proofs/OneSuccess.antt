@@ -1,27 +1,24 @@
 -- A generator of a cell succeeds at most once.
-use Rattle.std.proofs.Common.{◌≡◌, ◌<◌, ◌≤◌, ◌+◌, ℕ, List, [], ◌∷◌, refl, sym, ◌∙◌, ap, subst, arith, Bool, true, false, cond, ◌⊎◌, inl, inr, Some}
+use Rattle.std.proofs.Common.{◌≡◌, ◌<◌, ◌≤◌, ◌+◌, ℕ, List, [], ◌∷◌, refl, sym, ◌∙◌, ap, subst, arith, Bool, true, false, cond, ◌⊎◌, inl, inr, None, Some}
 use Rattle.std.specs.Prelude.{◌==◌}
 use Rattle.phase_bits.specs.Flags.{has, initialized}
 use Rattle.schedule_rules.specs.declared.plan.CellPlan.{CellPlan}
 use Rattle.schedule_rules.specs.Kinds.{cell_at}
 use Rattle.schedule_rules.specs.Phases.{flags_kept}
 use Rattle.schedule_rules.specs.Changes.{Content, Ran, effect}
-use Rattle.schedule_rules.specs.Deeds.{Makes, Deed, EndsToRead, EndsToWrite, Ends, Drops, DropsToRead, Visits}
+use Rattle.schedule_rules.specs.Deeds.{Makes, Finishes, Deed, EndsToRead, EndsToWrite, Ends, Drops, DropsToRead, Visits}
 use Rattle.schedule_rules.specs.History.{Event, deed_of, count}
 use Rattle.schedule_rules.specs.Sections.{Section, innermost, is_turn, runs_in, sections}
 use Rattle.schedule_rules.specs.Guards.{Guard, numbered, guards}
-use Rattle.schedule_rules.specs.Replay.{back_of_section, replay, phase_at}
+use Rattle.schedule_rules.specs.Replay.{back_of_section, back_by, replay, phase_at}
 use Rattle.schedule_rules.specs.Holds.{writes_cell}
 use Rattle.schedule_rules.specs.Legal.{IsLegal}
 use Rattle.schedule_rules.specs.Laws.{successes, is_success}
-use Rattle.schedule_rules.proofs.Alone.{alone}
-use Rattle.schedule_rules.proofs.Found.{found_counts}
-use Rattle.schedule_rules.proofs.Each.{each_found}
-use Rattle.schedule_rules.proofs.Backs.{back_here}
+use Rattle.schedule_rules.proofs.Exclusion.{alone}
+use Rattle.schedule_rules.proofs.Found.{found_counts, each_found}
+use Rattle.schedule_rules.proofs.Leaves.{back_here, left_at, guards_left, GivenAt, Writing, writing, GivesOf, moves}
 use Rattle.schedule_rules.proofs.Finds.{Inside, Finds, finds}
-use Rattle.schedule_rules.proofs.Leaves.{left_at, guards_left, GivenAt, Writing, writing, GivesOf, moves}
-use Rattle.schedule_rules.proofs.Grows.{IsReady, IsStanding, has_made, needs-lacks}
-use Rattle.schedule_rules.proofs.Initialized.{sound, initialized-stays}
+use Rattle.schedule_rules.proofs.Grows.{IsReady, IsStanding, has_made, needs-lacks, sound, initialized-stays}
 use Rattle.schedule_rules.proofs.Facts.{apart}
 
 module _ (cells : List CellPlan) (c : ℕ) where
@@ -54,7 +51,8 @@ module _ (cells : List CellPlan) (c : ℕ) where
     gives (EndsToRead v) f = λ n. inl (has_made (flags_kept (cell_at cells f.section.cell).kind f.section.is_open (phase_at cells f.section.cell h)))
     gives (Drops g) f = λ w n. inl (seen g f.guard f.found w)
     gives (DropsToRead g) f = λ n. inl (seen g f.guard f.found f.way)
-    gives (Visits z chs) f = λ n. inr n
+    gives (Visits z chs true) f = λ n. inr (omega (arith, n))
+    gives (Visits z chs false) f = λ n. inr n
     gives _ f = tt
 
     keeps : (d : Deed) (f : Finds cells h p d) → 0 < count (writes_cell c) (guards h) → MadeBy d
@@ -64,21 +62,27 @@ module _ (cells : List CellPlan) (c : ℕ) where
     abbrev Succeeds : Deed → Type 0
     Succeeds d = (i : Inside cells h p false) × (i.section.cell ≡ c) × MadeBy d
 
-    succeeds : (d : Deed) → Finds cells h p d → is_success c d (innermost p (sections h)) ≡ true → Succeeds d
-    succeeds (EndsToRead v) f s =
-        let e : _ = f.found in
-        let same : (f.section.cell == c) ≡ true = rw e at s in
+    -- a generator whose section is given back published its value
+    published : (v : ℕ) (d : Deed) (f : Inside cells h p false) → back_by p d (sections h) (guards h) ≡ back_of_section (Makes (Some v)) (innermost p (sections h))
+        → (f.section.cell == c) ≡ true → Succeeds d
+    published v d f is same =
         let here : f.section.cell ≡ c = grind arith in (
           f,
           here,
           inl (subst (λ y. has y.phase initialized ≡ true)
-              (sym (back_here cells c (back_of_section (Makes (Some v)) (innermost p (sections h))) (record { cell = f.section.cell; changes = Ran f.section.is_open (Some v) ∷ [] }) (replay cells c h) (ap (back_of_section (Makes (Some v))) f.found) same))
+              (sym (back_here cells c (back_by p d (sections h) (guards h)) (record { cell = f.section.cell; changes = Ran f.section.is_open (Some v) ∷ [] }) (replay cells c h) (is ∙ ap (back_of_section (Makes (Some v))) f.found) same))
               (has_made (flags_kept (cell_at cells c).kind f.section.is_open (phase_at cells c h)))),
         )
+
+    succeeds : (d : Deed) → Finds cells h p d → is_success c d (innermost p (sections h)) ≡ true → Succeeds d
+    succeeds (EndsToRead v) f s = let e : _ = f.found in published v (EndsToRead v) f refl (rw e at s)
+    succeeds (Ends (Makes (Some v))) f s = let e : _ = f.found in published v (Ends (Makes (Some v))) f refl (rw e at s)
     succeeds (EndsToWrite v) f s =
         let e : _ = f.found in
         let same : (f.section.cell == c) ≡ true = rw e at s in
         let here : f.section.cell ≡ c = grind arith in (f, here, inr (rw e (rw same (omega arith))))
+    succeeds (Ends (Makes None)) f s = absurd (cc)
+    succeeds (Ends (Finishes fine left)) f s = absurd (cc)
     succeeds _ f s = absurd (cc)
 
     -- where a value was made no generator of the cell runs

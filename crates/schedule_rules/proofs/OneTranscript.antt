@@ -24,13 +24,13 @@ use Rattle.schedule_rules.specs.declared.step.Act.TheVariants as act
 use Rattle.schedule_rules.specs.declared.transcript.Final.{Final}
 use Rattle.schedule_rules.specs.History.{Event}
 use Rattle.schedule_rules.specs.Kinds.{no_cell, cell_at, tolerance_of, is_parking}
-use Rattle.schedule_rules.specs.Calls.{lock_wanted, initializes}
+use Rattle.schedule_rules.specs.Calls.{lock_wanted, initializes, is_fast}
 use Rattle.schedule_rules.specs.declared.step.Want.{Want}
 use Rattle.schedule_rules.specs.declared.step.Want.TheVariants.{Calls}
 use Rattle.schedule_rules.specs.Exits.{registry, ended_turns}
 use Rattle.schedule_rules.specs.Waits.{Attempt, attempt, Wait, wait_of, attempt_of_wait, attempt_of_turn, waits, other_waits, cell_concerned}
 use Rattle.schedule_rules.specs.Refusals.{refusal}
-use Rattle.schedule_rules.specs.Answers.{way_parked, way_at, Meeting, drains_by, answer_barred, answer_admitted, answer_of_attempt}
+use Rattle.schedule_rules.specs.Answers.{way_parked, Meeting, drains_by, answer_barred, answer_admitted, answer_of_attempt}
 use Rattle.schedule_rules.specs.Holds.{is_barred}
 use Rattle.schedule_rules.specs.Due.{meeting, due_tried, due_answer}
 use Rattle.schedule_rules.specs.Gifts.{is_nobody, may_give_on, may_give_first, may_give_last}
@@ -52,22 +52,21 @@ line a g = record { answer = a; given = g }
 line_by_answer : (a b : Answer) (g k : Given) → a ≡ b → g ≡ k → line a g ≡ line b k
 line_by_answer a b g k e f = ap (λ x. line x g) e ∙ ap (λ x. line b x) f
 
--- at a place where no call parks, a call waits in one way
-one_way : (p : Place) (v w : How) → is_parking p ≡ false → way_at p v ≡ way_at p w
-one_way place.Spin v w e = refl
-one_way place.Park v w e = absurd (cc)
+-- at a place where no call parks, a barred call is answered in one way
+one_way : (fast : Bool) (p : Place) (v w : How) → is_parking p ≡ false → answer_barred fast p v ≡ answer_barred fast p w
+one_way true p v w e = refl
+one_way false place.Spin v w e = refl
+one_way false (place.Own q) v w e = refl
+one_way false place.Park v w e = absurd (cc)
 
 -- so an attempt there has one answer
 one_answer : (x : CellPlan) (w : Want) (m : Meeting) (b d : Bool) → is_parking x.place ≡ false → answer_of_attempt x w m b ≡ answer_of_attempt x w m d
 one_answer x w m b d e =
-    ap (λ (y : Answer). if initializes w && m.own_run then answer.Cyclic else if not m.kept && is_barred n m.holding then y else answer_admitted x.kind (tolerance_of x) m.cell m.is_open w m.content)
-    same
+    ap (λ (y : Answer). if initializes x.kind w && m.own_run then answer.Cyclic else if not m.kept && is_barred n m.holding then y else answer_admitted x.kind (tolerance_of x) m.cell m.is_open w m.content)
+    (one_way (is_fast w) x.place (way_parked x.kind w (drains_by n m.holding b)) (way_parked x.kind w (drains_by n m.holding d)) e)
   where
     n : LockNature
-    n = lock_wanted (tolerance_of x) w m.content.phase
-
-    same : answer_barred x.place (way_parked w (drains_by n m.holding b)) ≡ answer_barred x.place (way_parked w (drains_by n m.holding d))
-    same = ap (λ (v : How). answer.Waiting v) (one_way x.place _ _ e)
+    n = lock_wanted x.kind (tolerance_of x) w m.content.phase
 
 apart : false ≡ true → ⊥
 apart e = cc

@@ -1,4 +1,4 @@
--- A phase changes only where a section of its cell is given back, and while no guard reads the cell.
+-- What is published changes only while no guard reads the cell, and its phase where a section of the cell is given back.
 use Rattle.std.proofs.Common.{◌≡◌, ◌≢◌, ◌<◌, ℕ, List, ◌∷◌, refl, ◌∙◌, ap, subst, arith, Bool, true, false, not, Some, ◌⊎◌, inl, inr}
 use Rattle.std.specs.Prelude.{◌==◌, if◌then◌else◌}
 use Rattle.schedule_rules.specs.declared.plan.CellPlan.{CellPlan}
@@ -15,7 +15,7 @@ use Rattle.schedule_rules.specs.Replay.{replay, phase_at}
 use Rattle.schedule_rules.specs.Holds.{writes_cell, read_guards, write_holds}
 use Rattle.schedule_rules.specs.Legal.{IsLegal}
 use Rattle.schedule_rules.specs.Laws.{GivesBack, DeclinesAt}
-use Rattle.schedule_rules.proofs.Alone.{alone}
+use Rattle.schedule_rules.proofs.Exclusion.{alone}
 use Rattle.schedule_rules.proofs.Found.{found_counts}
 use Rattle.schedule_rules.proofs.Cases.{Asking, Resting}
 use Rattle.schedule_rules.proofs.Finds.{Finds, Tells, finds, tells}
@@ -29,7 +29,7 @@ number_found z c e = grind arith
 module _ (cells : List CellPlan) (h : List Event) (s : Step) (r : Answer) (legal : IsLegal cells h) where
   -- it is a call that leaves nothing open
   abbrev IsVisit : Deed → Type 0
-  IsVisit (Visits c chs) = Unit {0}
+  IsVisit (Visits c chs reads) = Unit {0}
   IsVisit d = ⊥
 
   -- where a phase changes that is given back, the cell was held to write, or the deed is such a call
@@ -42,13 +42,37 @@ module _ (cells : List CellPlan) (h : List Event) (s : Step) (r : Answer) (legal
   wrote : (g : ℕ) (x : Guard) → numbered g (guards h) ≡ Some x → x.writes ≡ true → 0 < write_holds x.cell h
   wrote g x f w = let n : 0 < count (writes_cell x.cell) (guards h) = found_counts (λ y. y.number == g) (writes_cell x.cell) (guards h) x f (rw w (same_number x.cell x.cell refl)) in omega (arith, n)
 
+  -- where something holds a cell to write, no guard reads it
+  unread : (c : ℕ) → 0 < write_holds c h → read_guards c h ≡ 0
+  unread c n = let k : _ = (alone cells h legal c).no_reader (omega (arith, n)) in omega (arith, k)
+
+  -- so a cell that a guard reads stays as it was
+  abbrev Stays : ℕ → Content → Content → Type 0
+  Stays c y w = (w ≡ y) ⊎ (read_guards c h ≡ 0)
+
+  untouches : (d : Deed) (f : Finds cells h s.party d) → GivesOf cells h s.party (alone cells h legal) Stays d f
+  untouches (Ends (Makes made)) f = inr (unread f.section.cell (ran f.section f.found))
+  untouches (Ends (Finishes fine left)) f = inr (unread f.section.cell (ran f.section f.found))
+  untouches (EndsToRead v) f = inr (unread f.section.cell (ran f.section f.found))
+  untouches (Drops g) f = λ w. inr (unread f.guard.cell (wrote g f.guard f.found w))
+  untouches (DropsToRead g) f = inr (unread f.guard.cell (wrote g f.guard f.found f.way))
+  untouches (Visits c chs reads) f = by f.finds
+    where
+      by : Asking cells h s.party c f.asked false ⊎ Resting cells h s.party c f.asked → Stays c (replay cells c h) (effect (cell_at cells c) chs (replay cells c h))
+      by (inl q) = inr (q.unread (alone cells h legal c))
+      by (inr q) = inl (rests cells h s.party (alone cells h legal) c chs f.asked f.does q)
+  untouches _ f = tt
+
+  pub untouched : (d : Deed) (f : Finds cells h s.party d) (c : ℕ) → Stays c (replay cells c h) (left_at cells h s.party d c)
+  untouched d f c = moves cells h s.party (alone cells h legal) Stays d f (λ z none. inl refl) (untouches d f) c
+
   gives : (d : Deed) (f : Finds cells h s.party d) → GivesOf cells h s.party (alone cells h legal) (WasHeld d) d f
   gives (Ends (Makes made)) f = λ ne. inl (ran f.section f.found)
-  gives (Ends (Finishes fine)) f = λ ne. inl (ran f.section f.found)
+  gives (Ends (Finishes fine left)) f = λ ne. inl (ran f.section f.found)
   gives (EndsToRead v) f = λ ne. inl (ran f.section f.found)
   gives (Drops g) f = λ w ne. inl (wrote g f.guard f.found w)
   gives (DropsToRead g) f = λ ne. inl (wrote g f.guard f.found f.way)
-  gives (Visits c chs) f = λ ne. inr tt
+  gives (Visits c chs reads) f = λ ne. inr tt
   gives _ f = tt
 
   held : (d : Deed) (f : Finds cells h s.party d) (c : ℕ) → WasHeld d c (replay cells c h) (left_at cells h s.party d c)
@@ -60,20 +84,17 @@ module _ (cells : List CellPlan) (h : List Event) (s : Step) (r : Answer) (legal
     IsGiven d = ((holds_left cells h s.party d c < write_holds c h) ⊎ DeclinesAt cells h s c) × (read_guards c h ≡ 0)
 
     one_less : (d : Deed) (f : Finds cells h s.party d) → (left_at cells h s.party d c).phase ≢ phase_at cells c h → 0 < write_holds c h → IsGiven d
-    one_less d f ne was = (by (settles cells h s.party (alone cells h legal) d f c), unread)
+    one_less d f ne was = (by (settles cells h s.party (alone cells h legal) d f c), unread c was)
       where
         by : Settles cells h s.party d c → (holds_left cells h s.party d c < write_holds c h) ⊎ DeclinesAt cells h s c
         by (inl same) = absurd (ne (ap (λ y. y.phase) same))
         by (inr none) = let a : _ = none.0 in let b : _ = none.1 in inl (omega (arith, a, b, was))
 
-        unread : read_guards c h ≡ 0
-        unread = let k : _ = (alone cells h legal c).no_reader (omega (arith, was)) in omega (arith, k)
-
     -- a call that leaves nothing open is declined
-    visits : (z : ℕ) (chs : List Change) → Tells cells h s.party s.act r (Visits z chs) → (left_at cells h s.party (Visits z chs) c).phase ≢ phase_at cells c h → IsGiven (Visits z chs)
-    visits z chs (v, t) ne = by (z == c) refl v.finds
+    visits : (z : ℕ) (chs : List Change) (reads : Bool) → Tells cells h s.party s.act r (Visits z chs reads) → (left_at cells h s.party (Visits z chs reads) c).phase ≢ phase_at cells c h → IsGiven (Visits z chs reads)
+    visits z chs reads (v, t) ne = by (z == c) refl v.finds
       where
-        declined : (z == c) ≡ true → Asking cells h s.party z v.asked false → IsGiven (Visits z chs)
+        declined : (z == c) ≡ true → Asking cells h s.party z v.asked false → IsGiven (Visits z chs reads)
         declined same q = (
           inr (record {
             call = v.asked;
@@ -89,19 +110,19 @@ module _ (cells : List CellPlan) (h : List Event) (s : Step) (r : Answer) (legal
             declines : is_declined (cell_at cells z).kind (tolerance_at cells z) v.asked (accepts h) (phase_at cells z h) ≡ true
             declines = rw q.asked (ap not q.generates)
 
-        still : (z == c) ≡ true → Resting cells h s.party z v.asked false → (left_at cells h s.party (Visits z chs) c).phase ≡ phase_at cells c h
+        still : (z == c) ≡ true → Resting cells h s.party z v.asked → (left_at cells h s.party (Visits z chs reads) c).phase ≡ phase_at cells c h
         still same q =
             let at : z ≡ c = number_found z c same in
             ap (λ (b : Bool). (if b then effect (cell_at cells c) chs (replay cells c h) else replay cells c h).phase) same
             ∙ subst (λ y. (effect (cell_at cells y) chs (replay cells y h)).phase ≡ phase_at cells y h) at (ap (λ y. y.phase) (rests cells h s.party (alone cells h legal) z chs v.asked v.does q))
 
-        by : (b : Bool) → (z == c) ≡ b → Asking cells h s.party z v.asked false ⊎ Resting cells h s.party z v.asked false → IsGiven (Visits z chs)
+        by : (b : Bool) → (z == c) ≡ b → Asking cells h s.party z v.asked false ⊎ Resting cells h s.party z v.asked → IsGiven (Visits z chs reads)
         by true same (inl q) = declined same q
         by true same (inr q) = absurd (ne (still same q))
         by false other q = absurd (ne (ap (λ (b : Bool). (if b then effect (cell_at cells c) chs (replay cells c h) else replay cells c h).phase) other))
 
     published : (d : Deed) → Finds cells h s.party d → Tells cells h s.party s.act r d → (left_at cells h s.party d c).phase ≢ phase_at cells c h → IsGiven d
-    published (Visits z chs) f t ne = visits z chs t ne
+    published (Visits z chs reads) f t ne = visits z chs reads t ne
     published d f t ne = by (held d f c ne)
       where
         by : (0 < write_holds c h) ⊎ ⊥ → IsGiven d

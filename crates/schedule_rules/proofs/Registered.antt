@@ -1,23 +1,22 @@
 -- A cell that the registry knows was touched, and is registered at most once.
-use Rattle.std.proofs.Common.{◌≡◌, ◌≢◌, ◌<◌, ◌≤◌, ◌+◌, ℕ, List, [], ◌∷◌, length, refl, sym, ◌∙◌, arith, Bool, true, false, cond, None, Some, ◌⊎◌, inl, inr}
+use Rattle.std.proofs.Common.{◌≡◌, ◌≢◌, ◌<◌, ◌≤◌, ◌+◌, ℕ, List, [], ◌∷◌, length, refl, sym, subst, ◌∙◌, arith, Bool, true, false, cond, Some, ◌⊎◌, inl, inr, ap}
 use Rattle.std.specs.Prelude.{◌==◌, if◌then◌else◌, slice_set, slice_index_or, replicate, nat_lt}
-use Rattle.std.specs.List.{find}
-use Rattle.std.specs.declared.option.Option.{Option}
+use Rattle.std.specs.List.{AllByRecursion}
 use Rattle.std.proofs.lemmas.List.{get_or-set_other, get_or-replicate, get_or_past, length-replicate}
-use Rattle.exit_registry.specs.Registry.{Registry, is_known, after_register}
+use Rattle.exit_registry.specs.Registry.{Registry, is_known, first_of, rest_of, after_register}
+use Rattle.lazy_cells.specs.Kinds.{is_finalizable}
 use Rattle.schedule_rules.specs.declared.plan.CellPlan.{CellPlan}
 use Rattle.schedule_rules.specs.declared.step.Want.TheVariants.{Calls, Turns}
-use Rattle.schedule_rules.specs.Kinds.{cell_at}
+use Rattle.schedule_rules.specs.Kinds.{cell_at, no_cell}
 use Rattle.schedule_rules.specs.Phases.{tries_registration}
-use Rattle.schedule_rules.specs.Deeds.{Deed, Opens, Skips}
+use Rattle.schedule_rules.specs.Deeds.{Deed, Opens, Skips, Takes, Looks}
 use Rattle.schedule_rules.specs.History.{Event, deed_of, count}
-use Rattle.schedule_rules.specs.Sections.{Section, runs_in, sections_by, sections}
-use Rattle.schedule_rules.specs.Guards.{Guard, guards}
+use Rattle.schedule_rules.specs.Sections.{runs_in, sections_by, sections}
 use Rattle.schedule_rules.specs.Replay.{phase_at}
-use Rattle.schedule_rules.specs.Exits.{registry_taken, registry_by, registry}
-use Rattle.schedule_rules.specs.Holds.{writes_cell, write_holds}
+use Rattle.schedule_rules.specs.Exits.{registry_taken, registry_of_run, registry_by, registry}
+use Rattle.schedule_rules.specs.Holds.{write_holds}
 use Rattle.schedule_rules.specs.Legal.{IsLegal}
-use Rattle.schedule_rules.proofs.Found.{none_counted}
+use Rattle.schedule_rules.proofs.Facts.{first}
 use Rattle.schedule_rules.proofs.Held.{IsHeld, held-stays}
 
 -- a turn that is taken leaves which are known
@@ -88,28 +87,6 @@ module _ (cells : List CellPlan) where
       by (inl was) f = held-stays cells h e c k (f was)
       by (inr is) f = is
 
-  -- the published phase of the cell is not 0, or a section runs in it, or a guard writes it
-  abbrev pub IsTouched : List Event → ℕ → Type 0
-  IsTouched h c =
-      (phase_at cells c h ≢ 0)
-      ⊎ ((s : Section) × (find (runs_in c) (sections h) ≡ Some s))
-      ⊎ ((x : Guard) × (find (writes_cell c) (guards h) ≡ Some x))
-
-  -- a cell that the registry knows was touched
-  pub registered-touched : (h : List Event) (c : ℕ) → IsLegal cells h → is_known (registry cells h) c ≡ true → IsTouched h c
-  registered-touched h c k known = by (known-held c h k known)
-    where
-      by : IsHeld cells h c → IsTouched h c
-      by (inl ne) = inl ne
-      by (inr n) = inr (found (find (runs_in c) (sections h)) refl (find (writes_cell c) (guards h)) refl)
-        where
-          found : (o : Option Section) → find (runs_in c) (sections h) ≡ o → (x : Option Guard) → find (writes_cell c) (guards h) ≡ x
-              → ((s : Section) × (find (runs_in c) (sections h) ≡ Some s)) ⊎ ((x : Guard) × (find (writes_cell c) (guards h) ≡ Some x))
-          found (Some s) e o f = inl (s, e)
-          found None e (Some x) f = inr (x, f)
-          found None e None f =
-              let a : _ = none_counted (runs_in c) (sections h) e in let b : _ = none_counted (writes_cell c) (guards h) f in absurd (omega (arith, a, b, n))
-
   -- so one whose phase is 0, and that nothing holds to write, is not known
   pub fresh-unknown : (h : List Event) (c : ℕ) → IsLegal cells h → phase_at cells c h ≡ 0 → write_holds c h ≡ 0 → is_known (registry cells h) c ≡ false
   fresh-unknown h c k empty unheld = by (is_known (registry cells h) c) refl
@@ -121,3 +98,67 @@ module _ (cells : List CellPlan) where
       by : (b : Bool) → is_known (registry cells h) c ≡ b → is_known (registry cells h) c ≡ false
       by true e = absurd (never (known-held c h k e))
       by false e = e
+
+  -- ---- what is registered is of a kind that is
+
+  abbrev IsRegistered : ℕ → Type 0
+  IsRegistered c = is_finalizable (cell_at cells c).kind ≡ true
+
+  -- so of each cell whose turn is to come
+  record AreRegistered (m : Registry) : Type 0 where
+    pub pending : AllByRecursion IsRegistered m.pending
+    pub left : AllByRecursion IsRegistered m.left
+
+  registers : (c p : ℕ) (m : Registry) → AreRegistered m → AreRegistered (registry_of_run cells c p m)
+  registers c p m k = by (tries_registration (cell_at cells c).kind p) m.is_open refl
+    where
+      by : (b o : Bool) → tries_registration (cell_at cells c).kind p ≡ b
+          → AreRegistered (if b then (if o then record { pending = c ∷ m.pending; left = m.left; known = slice_set m.known c true; is_open = m.is_open } else m) else m)
+      by true true e = record { pending = (first _ _ e, k.pending); left = k.left }
+      by true false e = k
+      by false o e = k
+
+  takes : (b : Bool) (m : Registry) → AreRegistered m → AreRegistered (registry_taken b m)
+  takes true m k = record { pending = k.pending; left = rest m.left k.left }
+    where
+      rest : (cs : List ℕ) → AllByRecursion IsRegistered cs → AllByRecursion IsRegistered (rest_of cs)
+      rest [] r = tt
+      rest (c ∷ cs) r = r.1
+  takes false m k = k
+
+  registered_by : (h : List Event) (d : Deed) (m : Registry) → AreRegistered m → AreRegistered (registry_by cells h d m)
+  registered_by h (Opens c (Calls j) taken) m k = registers c (phase_at cells c h) m k
+  registered_by h (Opens c Turns taken) m k = takes taken m k
+  registered_by h (Skips c taken) m k = takes taken m k
+  registered_by h Takes m k = takes true m k
+  registered_by h (Looks closes) m k = record { pending = tt; left = k.pending }
+  registered_by h _ m k = k
+
+  are_registered : (h : List Event) → AreRegistered (registry cells h)
+  are_registered [] = record { pending = tt; left = tt }
+  are_registered (e ∷ h) = registered_by h (deed_of h e.step e.line.answer) (registry cells h) (are_registered h)
+
+  -- so the first cell left is of a kind that is registered
+  pub left-finalizable : (h : List Event) (c : ℕ) → first_of (registry cells h).left ≡ Some c → is_finalizable (cell_at cells c).kind ≡ true
+  left-finalizable h c e = by (registry cells h).left (are_registered h).left e
+    where
+      same : (d : ℕ) → Some d ≡ Some c → d ≡ c
+      same d f = cc
+
+      by : (cs : List ℕ) → AllByRecursion IsRegistered cs → first_of cs ≡ Some c → is_finalizable (cell_at cells c).kind ≡ true
+      by [] k f = absurd (cc)
+      by (d ∷ ds) k f = subst IsRegistered (same d f) k.0
+
+-- a cell that is registered is one of the plan
+pub finalizable-inside : (cells : List CellPlan) (c : ℕ) → is_finalizable (cell_at cells c).kind ≡ true → c < length cells
+finalizable-inside cells c e = by (nat_lt c (length cells)) refl
+  where
+    none : cell_at cells c ≡ no_cell → ⊥
+    none f = clash (sym (ap (λ x. is_finalizable x.kind) f) ∙ e)
+      where
+        clash : false ≡ true → ⊥
+        clash x = cc
+
+    by : (b : Bool) → nat_lt c (length cells) ≡ b → c < length cells
+    by true f = grind arith
+    by false f = absurd (none (get_or_past cells c no_cell (grind arith)))

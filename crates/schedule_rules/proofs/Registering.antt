@@ -5,10 +5,11 @@ use Rattle.std.proofs.lemmas.List.{get_or-set_same, get_or-set_other}
 use Rattle.exit_registry.specs.Registry.{is_known, after_register, registered}
 use Rattle.phase_bits.specs.Flags.{without_flags}
 use Rattle.phase_seq.specs.Phases.{flags_generate, registration, initialization_flags}
-use Rattle.schedule_rules.specs.declared.plan.Call.{Call}
+use Rattle.lazy_cells.specs.declared.call.Call.{Call}
 use Rattle.schedule_rules.specs.declared.plan.CellPlan.{CellPlan}
 use Rattle.schedule_rules.specs.declared.step.Want.TheVariants.{Calls, Turns}
-use Rattle.schedule_rules.specs.Kinds.{cell_at, is_finalizable, tolerance_of}
+use Rattle.lazy_cells.specs.Kinds.{is_finalizable}
+use Rattle.schedule_rules.specs.Kinds.{cell_at, tolerance_of}
 use Rattle.schedule_rules.specs.Phases.{tries_registration, runs_generator}
 use Rattle.schedule_rules.specs.Changes.{Change}
 use Rattle.schedule_rules.specs.Deeds.{Deed, Opens, Visits, Skips}
@@ -16,13 +17,12 @@ use Rattle.schedule_rules.specs.History.{Event, accepts, deed_of}
 use Rattle.schedule_rules.specs.Replay.{phase_at}
 use Rattle.schedule_rules.specs.Exits.{registry_taken, registry_of_run, registry_by, registry}
 use Rattle.schedule_rules.specs.Legal.{IsLegal}
-use Rattle.schedule_rules.proofs.Trying.{asks_so, visit_registers, deed_registers, shows_registration}
+use Rattle.schedule_rules.proofs.Registrations.{asks_so, visit_registers, deed_registers, shows_registration}
 use Rattle.schedule_rules.proofs.Facts.{first, second}
 use Rattle.schedule_rules.proofs.Cases.{Asking, Resting}
 use Rattle.schedule_rules.proofs.Finds.{Visit, Finds, finds}
 use Rattle.schedule_rules.proofs.Accepts.{open-accepts, known-length}
-use Rattle.schedule_rules.proofs.Registered.{known_taken}
-use Rattle.schedule_rules.proofs.Turns.{finalizable-inside}
+use Rattle.schedule_rules.proofs.Registered.{known_taken, finalizable-inside}
 
 or_none : (b : Bool) → (b || false) ≡ b
 or_none true = refl
@@ -58,13 +58,13 @@ module _ (cells : List CellPlan) (c : ℕ) (h : List Event) (p : ℕ) (legal : I
   rests k e = e ∙ sym (or_none (is_known (registry cells h) c))
 
   -- a call that leaves nothing open registers nothing
-  visits : (d : ℕ) (chs : List Change) (v : Visit cells h p d chs) → (visit_registers cells c h d chs && accepts h) ≡ false
-  visits d chs v = subst (λ l. (visit_registers cells c h d l && accepts h) ≡ false) (sym v.does) (by v.finds)
+  visits : (d : ℕ) (chs : List Change) (reads : Bool) (v : Visit cells h p d chs reads) → (visit_registers cells c h d chs && accepts h) ≡ false
+  visits d chs reads v = subst (λ l. (visit_registers cells c h d l && accepts h) ≡ false) (sym v.does) (by v.finds)
     where
       tried : Bool
       tried = asks_so cells c h (Some (record { cell = d; want = Calls v.asked }))
 
-      by : Asking cells h p d v.asked false ⊎ Resting cells h p d v.asked false → (tried && accepts h) ≡ false
+      by : Asking cells h p d v.asked false ⊎ Resting cells h p d v.asked → (tried && accepts h) ≡ false
       by (inl q) = none tried refl
         where
           none : (b : Bool) → tried ≡ b → (b && accepts h) ≡ false
@@ -124,7 +124,7 @@ module _ (cells : List CellPlan) (c : ℕ) (h : List Event) (p : ℕ) (legal : I
   registering (Opens d (Calls j) taken) f = run_registers d j taken f
   registering (Opens d Turns taken) f = rests (is_known (registry_taken taken (registry cells h)) c) (known_taken taken (registry cells h) c)
   registering (Skips d taken) f = rests (is_known (registry_taken taken (registry cells h)) c) (known_taken taken (registry cells h) c)
-  registering (Visits d chs) f = sym (or_none (is_known (registry cells h) c)) ∙ ap (λ b. is_known (registry cells h) c || b) (sym (visits d chs f))
+  registering (Visits d chs reads) f = sym (or_none (is_known (registry cells h) c)) ∙ ap (λ b. is_known (registry cells h) c || b) (sym (visits d chs reads f))
   registering _ f = sym (or_none (is_known (registry cells h) c))
 
 -- the registry knows a cell after a step where it did before, or where the step tries to register it and cells may be

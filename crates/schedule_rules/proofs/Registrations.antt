@@ -1,29 +1,61 @@
--- Registration is tried at most once at a cell.
-use Rattle.std.proofs.Common.{◌≡◌, ◌≢◌, ◌<◌, ◌≤◌, ◌+◌, ℕ, List, [], ◌∷◌, refl, sym, ◌∙◌, ap, subst, arith, Bool, true, false, not, cond, Some, ◌⊎◌, inl, inr}
-use Rattle.std.specs.Prelude.{◌==◌, if◌then◌else◌}
-use Rattle.exit_registry.specs.Registry.{is_known}
-use Rattle.schedule_rules.specs.declared.plan.Call.{Call}
+-- Which lines show that their step tried to register a cell, and that it is tried at most once at a cell.
+use Rattle.std.specs.Prelude.{ℕ, Bool, false, List, [], ◌∷◌, ◌+◌, if◌then◌else◌, ◌==◌}
+use Rattle.std.specs.declared.option.Option.{Option}
+use Rattle.std.specs.declared.option.Option.TheVariants.{Some}
 use Rattle.schedule_rules.specs.declared.plan.CellPlan.{CellPlan}
 use Rattle.schedule_rules.specs.declared.step.Step.{Step}
+use Rattle.schedule_rules.specs.declared.line.Answer.{Answer}
 use Rattle.schedule_rules.specs.declared.step.Want.TheVariants.{Calls}
-use Rattle.schedule_rules.specs.declared.line.Line.{Line}
-use Rattle.schedule_rules.specs.Kinds.{cell_at, is_finalizable, tolerance_at}
-use Rattle.schedule_rules.specs.Calls.{asks}
-use Rattle.schedule_rules.specs.Changes.{Change, is_declined, effect}
+use Rattle.schedule_rules.specs.Changes.{Change, Asked, is_declined, effect}
 use Rattle.schedule_rules.specs.Deeds.{Deed, Opens, Visits}
-use Rattle.schedule_rules.specs.History.{Event, accepts, deed_of}
+use Rattle.schedule_rules.specs.History.{Event, deed_of, accepts}
+use Rattle.schedule_rules.specs.Waits.{Attempt}
+use Rattle.schedule_rules.specs.Causes.{is_attempted}
+use Rattle.schedule_rules.specs.Laws.{asks_registration}
+use Rattle.std.proofs.Common.{◌≡◌, ◌≢◌, ◌<◌, ◌≤◌, ◌+◌, ℕ, List, [], ◌∷◌, refl, sym, ◌∙◌, ap, subst, arith, Bool, true, false, not, cond, Some, ◌⊎◌, inl, inr}
+use Rattle.exit_registry.specs.Registry.{is_known}
+use Rattle.lazy_cells.specs.declared.call.Call.{Call}
+use Rattle.schedule_rules.specs.declared.line.Line.{Line}
+use Rattle.lazy_cells.specs.Kinds.{is_finalizable}
+use Rattle.schedule_rules.specs.Kinds.{cell_at, tolerance_at}
+use Rattle.schedule_rules.specs.Calls.{asks}
 use Rattle.schedule_rules.specs.Exits.{registry}
 use Rattle.schedule_rules.specs.Replay.{replay, phase_at}
 use Rattle.schedule_rules.specs.Holds.{write_holds}
 use Rattle.schedule_rules.specs.Legal.{IsLegal, IsLegalLine, IsExclusive}
-use Rattle.schedule_rules.proofs.Trying.{asks_so, visit_registers, deed_registers, shows_registration, registrations_shown}
-use Rattle.schedule_rules.proofs.Alone.{alone}
+use Rattle.schedule_rules.proofs.Exclusion.{alone}
 use Rattle.schedule_rules.proofs.Cases.{Asking, Resting}
 use Rattle.schedule_rules.proofs.Finds.{Visit, Finds, finds}
 use Rattle.schedule_rules.proofs.Leaves.{left_at, holds_left}
 use Rattle.schedule_rules.proofs.Held.{IsHeld, held-stays}
 use Rattle.schedule_rules.proofs.Registered.{fresh-unknown}
 use Rattle.schedule_rules.proofs.Facts.{apart, first, second}
+
+module _ (cells : List CellPlan) where
+  -- something is attempted that asks for a run which registers the cell
+  abbrev pub asks_so : ℕ → List Event → Option Attempt → Bool
+  asks_so c h o = is_attempted (asks_registration cells c h) o
+
+  -- what happens in a section at once tries to register the cell: its call asks so
+  abbrev pub visit_registers : ℕ → List Event → ℕ → List Change → Bool
+  visit_registers c h d (Asked o k ∷ chs) = asks_so c h (Some (record { cell = d; want = Calls k }))
+  visit_registers c h d _ = false
+
+  -- the deed does: it begins such a run, or its call is declined
+  abbrev pub deed_registers : ℕ → List Event → Deed → Bool
+  deed_registers c h (Opens d (Calls k) taken) = asks_so c h (Some (record { cell = d; want = Calls k }))
+  deed_registers c h (Visits d chs reads) = visit_registers c h d chs
+  deed_registers c h _ = false
+
+  -- the step with this answer does
+  abbrev pub shows_registration : ℕ → List Event → Step → Answer → Bool
+  shows_registration c h s r = deed_registers c h (deed_of h s r)
+
+  -- how many lines show it
+  abbrev pub registrations_shown : ℕ → List Event → ℕ
+  registrations_shown c [] = 0
+  registrations_shown c (e ∷ h) =
+      if shows_registration c h e.step e.line.answer then registrations_shown c h + 1 else registrations_shown c h
 
 module _ (cells : List CellPlan) (c : ℕ) where
   module _ (h : List Event) (p : ℕ) (only : IsExclusive cells h c) where
@@ -38,7 +70,7 @@ module _ (cells : List CellPlan) (c : ℕ) where
 
     -- what a call asks that tries to register the cell
     tried : (d : ℕ) (j : Call) → asks_so cells c h (Some (record { cell = d; want = Calls j })) ≡ true
-        → (d ≡ c) × (asks (tolerance_at cells d) (Calls j) (phase_at cells d h) ≡ true) × (phase_at cells d h ≡ 0)
+        → (d ≡ c) × (asks (cell_at cells d).kind (tolerance_at cells d) (Calls j) (phase_at cells d h) ≡ true) × (phase_at cells d h ≡ 0)
     tried d j e = (same (first _ _ e), first _ _ (second _ _ e), empty (second (is_finalizable (cell_at cells d).kind) _ (second _ _ (second _ _ e))))
       where
         same : (d == c) ≡ true → d ≡ c
@@ -48,7 +80,7 @@ module _ (cells : List CellPlan) (c : ℕ) where
         empty f = grind arith
 
     asked : (d : ℕ) (j : Call) (x : Deed) → (IsExclusive cells h d → write_holds d h ≡ 0) → (d ≡ c → IsHeldBy x)
-        → (d ≡ c) × (asks (tolerance_at cells d) (Calls j) (phase_at cells d h) ≡ true) × (phase_at cells d h ≡ 0)
+        → (d ≡ c) × (asks (cell_at cells d).kind (tolerance_at cells d) (Calls j) (phase_at cells d h) ≡ true) × (phase_at cells d h ≡ 0)
         → (phase_at cells c h ≡ 0) × (write_holds c h ≡ 0) × IsHeldBy x
     asked d j x unheld is (here, n, empty) = (subst (λ z. phase_at cells z h ≡ 0) here empty, subst (λ z. IsExclusive cells h z → write_holds z h ≡ 0) here unheld only, is here)
 
@@ -58,13 +90,13 @@ module _ (cells : List CellPlan) (c : ℕ) where
         by : d ≡ c → 0 < holds_left cells h p (Opens d (Calls j) taken) c
         by here = let same : (d == c) ≡ true = grind arith in rw same (omega arith)
 
-    visits : (d : ℕ) (chs : List Change) → Visit cells h p d chs → IsFresh (Visits d chs)
-    visits d chs v e = by v.finds (tried d v.asked (subst (λ l. visit_registers cells c h d l ≡ true) v.does e))
+    visits : (d : ℕ) (chs : List Change) (reads : Bool) → Visit cells h p d chs reads → IsFresh (Visits d chs reads)
+    visits d chs reads v e = by v.finds (tried d v.asked (subst (λ l. visit_registers cells c h d l ≡ true) v.does e))
       where
-        by : Asking cells h p d v.asked false ⊎ Resting cells h p d v.asked false → (d ≡ c) × (asks (tolerance_at cells d) (Calls v.asked) (phase_at cells d h) ≡ true) × (phase_at cells d h ≡ 0)
-            → (phase_at cells c h ≡ 0) × (write_holds c h ≡ 0) × IsHeldBy (Visits d chs)
+        by : Asking cells h p d v.asked false ⊎ Resting cells h p d v.asked → (d ≡ c) × (asks (cell_at cells d).kind (tolerance_at cells d) (Calls v.asked) (phase_at cells d h) ≡ true) × (phase_at cells d h ≡ 0)
+            → (phase_at cells c h ≡ 0) × (write_holds c h ≡ 0) × IsHeldBy (Visits d chs reads)
         by (inr r) t = absurd (apart (sym t.1 ∙ r.unasked))
-        by (inl q) t = asked d v.asked (Visits d chs) q.unheld (λ here. inl (left here)) t
+        by (inl q) t = asked d v.asked (Visits d chs reads) q.unheld (λ here. inl (left here)) t
           where
             declined : is_declined (cell_at cells d).kind (tolerance_at cells d) v.asked (accepts h) (phase_at cells d h) ≡ true
             declined = rw q.asked (ap not q.generates)
@@ -72,20 +104,20 @@ module _ (cells : List CellPlan) (c : ℕ) where
             phase : effect (cell_at cells d) chs (replay cells d h) ≡ record { phase = 36; value = (replay cells d h).value }
             phase = ap (λ l. effect (cell_at cells d) l (replay cells d h)) v.does ∙ ap (λ (b : Bool). if b then record { phase = 36; value = (replay cells d h).value } else replay cells d h) declined
 
-            left : d ≡ c → (left_at cells h p (Visits d chs) c).phase ≢ 0
+            left : d ≡ c → (left_at cells h p (Visits d chs reads) c).phase ≢ 0
             left here z =
                 let same : (d == c) ≡ true = grind arith in
-                let is : left_at cells h p (Visits d chs) c ≡ record { phase = 36; value = (replay cells c h).value } =
+                let is : left_at cells h p (Visits d chs reads) c ≡ record { phase = 36; value = (replay cells c h).value } =
                 ap (λ (b : Bool). if b then effect (cell_at cells c) chs (replay cells c h) else replay cells c h) same
                 ∙ subst (λ y. effect (cell_at cells y) chs (replay cells y h) ≡ record { phase = 36; value = (replay cells y h).value }) here phase in
-                clash (left_at cells h p (Visits d chs) c).phase (ap (λ y. y.phase) is) z
+                clash (left_at cells h p (Visits d chs reads) c).phase (ap (λ y. y.phase) is) z
               where
                 clash : (n : ℕ) → n ≡ 36 → n ≡ 0 → ⊥
                 clash n e z = omega (arith, e, z)
 
     pub freshly : (d : Deed) → Finds cells h p d → IsFresh d
     freshly (Opens d (Calls j) taken) f = running d j taken f
-    freshly (Visits d chs) f = visits d chs f
+    freshly (Visits d chs reads) f = visits d chs reads f
     freshly _ f = λ e. absurd (cc)
 
   -- a legal line that tries to register the cell

@@ -1,7 +1,10 @@
--- A phase that has INITIALIZED changes only where a finalizer of its cell ends.
-use Rattle.std.proofs.Common.{◌≡◌, ◌≢◌, ◌⊎◌, inl, inr, ℕ, List, [], ◌∷◌, refl, sym, ◌∙◌, ap, Bool, true, false, Some}
-use Rattle.std.specs.Prelude.{◌==◌}
+-- A phase that has INITIALIZED changes only where a finalizer of its cell ends, and of a plain cell the value stays.
+use Rattle.std.proofs.Common.{◌≡◌, ◌≢◌, ◌⊎◌, inl, inr, ℕ, List, [], ◌∷◌, ◌++◌, refl, sym, ◌∙◌, ap, Bool, true, false, Some}
+use Rattle.std.specs.Prelude.{◌==◌, if◌then◌else◌}
 use Rattle.phase_bits.specs.Flags.{has, initialized}
+use Rattle.lazy_cells.specs.Kinds.{is_plain, is_hard}
+use Rattle.lazy_cells.specs.declared.kind.Kind.{Kind}
+use Rattle.lazy_cells.specs.declared.kind.Kind.TheVariants as kind
 use Rattle.schedule_rules.specs.declared.plan.CellPlan.{CellPlan}
 use Rattle.schedule_rules.specs.Kinds.{cell_at, tolerance_at}
 use Rattle.schedule_rules.specs.Changes.{Content, Change, Ran, Asked, Put, Ended, effect}
@@ -13,15 +16,14 @@ use Rattle.schedule_rules.specs.Replay.{replay, phase_at}
 use Rattle.schedule_rules.specs.Waits.{cell_of_section}
 use Rattle.schedule_rules.specs.Legal.{IsLegal}
 use Rattle.schedule_rules.specs.Laws.{IsEndedTurn}
-use Rattle.schedule_rules.proofs.Alone.{alone}
-use Rattle.schedule_rules.proofs.Each.{each_found}
+use Rattle.schedule_rules.proofs.Exclusion.{alone}
+use Rattle.schedule_rules.proofs.Found.{each_found}
 use Rattle.schedule_rules.proofs.Cases.{Asking, Resting}
 use Rattle.schedule_rules.proofs.Finds.{Visit, Finds, Tells, finds, tells}
-use Rattle.schedule_rules.proofs.Leaves.{left_at, GivesOf, moves, rests}
-use Rattle.schedule_rules.proofs.Grows.{HasRun, IsReady, wanted-lacks, lacks}
-use Rattle.schedule_rules.proofs.Initialized.{sound}
-use Rattle.schedule_rules.proofs.Opening.{IsOfRun}
-use Rattle.schedule_rules.proofs.Beside.{IsRunning, guards-run}
+use Rattle.schedule_rules.proofs.Leaves.{left_at, GivesOf, moves, rests, asked_value}
+use Rattle.schedule_rules.proofs.Grows.{HasRun, IsReady, wanted-lacks, lacks, sound, initialized-stays}
+use Rattle.schedule_rules.proofs.Opening.{IsOfRun, IsRunning, guards-run}
+use Rattle.schedule_rules.proofs.Kinded.{IsUnplain, unplain}
 use Rattle.schedule_rules.proofs.Finishing.{ended-turn}
 use Rattle.schedule_rules.proofs.Facts.{apart}
 
@@ -31,22 +33,28 @@ puts_keep q [] y r = inr refl
 puts_keep q (Ran o m ∷ chs) y r = inl tt
 puts_keep q (Put v ∷ chs) y r = puts_keep q chs y r
 puts_keep q (Asked o k ∷ chs) y r = absurd r
-puts_keep q (Ended fine ∷ chs) y r = absurd r
+puts_keep q (Ended fine left ∷ chs) y r = absurd r
+
+-- a plain kind is soft
+pub plain_soft : (q : Kind) → is_plain q ≡ true → is_hard q ≡ false
+plain_soft kind.Lazy e = refl
+plain_soft kind.LazyFinalize e = refl
+plain_soft _ e = absurd (apart (sym e))
 
 module _ (cells : List CellPlan) (h : List Event) (p : ℕ) (legal : IsLegal cells h) where
   -- a finalizer of the cell ends
   abbrev IsEnding : Deed → ℕ → Type 0
-  IsEnding (Ends (Finishes b)) z = cell_of_section (innermost p (sections h)) ≡ Some z
+  IsEnding (Ends (Finishes b left)) z = cell_of_section (innermost p (sections h)) ≡ Some z
   IsEnding _ z = ⊥
 
   -- a phase with a value stays, or a finalizer ends
   abbrev Settles : Deed → ℕ → Content → Content → Type 0
   Settles d z y w = has y.phase initialized ≡ true → (w.phase ≡ y.phase) ⊎ IsEnding d z
 
-  visits : (c : ℕ) (chs : List Change) (v : Visit cells h p c chs) → has (phase_at cells c h) initialized ≡ true → (effect (cell_at cells c) chs (replay cells c h)).phase ≡ phase_at cells c h
-  visits c chs v r = by v.finds
+  visits : (c : ℕ) (chs : List Change) (reads : Bool) (v : Visit cells h p c chs reads) → has (phase_at cells c h) initialized ≡ true → (effect (cell_at cells c) chs (replay cells c h)).phase ≡ phase_at cells c h
+  visits c chs reads v r = by v.finds
     where
-      by : Asking cells h p c v.asked false ⊎ Resting cells h p c v.asked false → (effect (cell_at cells c) chs (replay cells c h)).phase ≡ phase_at cells c h
+      by : Asking cells h p c v.asked false ⊎ Resting cells h p c v.asked → (effect (cell_at cells c) chs (replay cells c h)).phase ≡ phase_at cells c h
       by (inl q) = absurd (apart (sym r ∙ wanted-lacks (tolerance_at cells c) (phase_at cells c h) q.wanted))
       by (inr q) = ap (λ y. y.phase) (rests cells h p (alone cells h legal) c chs v.asked v.does q)
 
@@ -61,15 +69,46 @@ module _ (cells : List CellPlan) (h : List Event) (p : ℕ) (legal : IsLegal cel
 
   gives : (d : Deed) (f : Finds cells h p d) → GivesOf cells h p (alone cells h legal) (Settles d) d f
   gives (Ends (Makes made)) f = λ r. absurd (apart (sym r ∙ lacks cells h p (alone cells h legal) (sound cells h legal) f))
-  gives (Ends (Finishes b)) f = λ r. inr (ap cell_of_section f.found)
+  gives (Ends (Finishes b left)) f = λ r. inr (ap cell_of_section f.found)
   gives (EndsToRead v) f = λ r. absurd (apart (sym r ∙ lacks cells h p (alone cells h legal) (sound cells h legal) f))
   gives (Drops g) f = λ w r. inl (dropped g f.guard f.found w r)
   gives (DropsToRead g) f = λ r. inl (dropped g f.guard f.found f.way r)
-  gives (Visits z chs) f = λ r. inl (visits z chs f r)
+  gives (Visits z chs reads) f = λ r. inl (visits z chs reads f r)
   gives _ f = tt
 
   settles : (d : Deed) → Finds cells h p d → (c : ℕ) → Settles d c (replay cells c h) (left_at cells h p d c)
   settles d f c = moves cells h p (alone cells h legal) (Settles d) d f (λ z n r. inl refl) (gives d f) c
+
+  -- ---- of a plain cell the value stays too
+
+  abbrev KeepsPlain : ℕ → Content → Content → Type 0
+  KeepsPlain z y w = is_plain (cell_at cells z).kind ≡ true → has y.phase initialized ≡ true → w.value ≡ y.value
+
+  -- no guard writes it
+  never : (g : ℕ) (x : Guard) → numbered g (guards h) ≡ Some x → x.writes ≡ true → is_plain (cell_at cells x.cell).kind ≡ true → ⊥
+  never g x f w q = apart (sym q ∙ each_found (λ y. y.number == g) (IsUnplain cells) (guards h) x f (unplain cells h legal) w)
+
+  keeps_plain : (d : Deed) (f : Finds cells h p d) → GivesOf cells h p (alone cells h legal) KeepsPlain d f
+  keeps_plain (Ends (Makes made)) f = λ q r. absurd (apart (sym r ∙ lacks cells h p (alone cells h legal) (sound cells h legal) f))
+  keeps_plain (Ends (Finishes b left)) f = λ q r. ap (λ (x : Bool). if x then left else (replay cells f.section.cell h).value) (plain_soft (cell_at cells f.section.cell).kind q)
+  keeps_plain (EndsToRead v) f = λ q r. absurd (apart (sym r ∙ lacks cells h p (alone cells h legal) (sound cells h legal) f))
+  keeps_plain (Drops g) f = λ w q r. absurd (never g f.guard f.found w q)
+  keeps_plain (DropsToRead g) f = λ q r. absurd (never g f.guard f.found f.way q)
+  keeps_plain (Visits z chs reads) f = λ q r. ap (λ l. (effect (cell_at cells z) l (replay cells z h)).value) f.does ∙ asked_value (cell_at cells z) _ f.asked (replay cells z h)
+  keeps_plain _ f = tt
+
+  kept_plain : (d : Deed) → Finds cells h p d → (c : ℕ) → KeepsPlain c (replay cells c h) (left_at cells h p d c)
+  kept_plain d f c = moves cells h p (alone cells h legal) KeepsPlain d f (λ z n q r. refl) (keeps_plain d f) c
+
+-- the value of a plain cell stays once its phase has INITIALIZED
+pub plain-stays : (cells : List CellPlan) (h later : List Event) (c : ℕ) → IsLegal cells (later ++ h) → is_plain (cell_at cells c).kind ≡ true → has (phase_at cells c h) initialized ≡ true
+    → (has (phase_at cells c (later ++ h)) initialized ≡ true) × ((replay cells c (later ++ h)).value ≡ (replay cells c h).value)
+plain-stays cells h [] c k q r = (r, refl)
+plain-stays cells h (e ∷ later) c k q r =
+    let before : _ = plain-stays cells h later c k.2 q r in (
+      initialized-stays cells (later ++ h) e c k before.0,
+      kept_plain cells (later ++ h) e.step.party k.2 (deed_of (later ++ h) e.step e.line.answer) (finds cells (later ++ h) e.step e.line k.0) c q before.0 ∙ before.1,
+    )
 
 -- a phase that has INITIALIZED and changes, is marked by a finalizer that ends
 pub settled : (cells : List CellPlan) (h : List Event) (e : Event) (c : ℕ) → IsLegal cells (e ∷ h) → has (phase_at cells c h) initialized ≡ true
@@ -81,7 +120,7 @@ settled cells h e c k ready moves = by (settles cells h e.step.party k.2 (deed_o
     turn false t = inr t
 
     ends : (d : Deed) → Tells cells h e.step.party e.step.act e.line.answer d → IsEnding cells h e.step.party k.2 d c → IsEndedTurn cells h e c true ⊎ IsEndedTurn cells h e c false
-    ends (Ends (Finishes b)) t i = turn b (ended-turn cells c h e b k t.0 t.1.0 t.1.1 i)
+    ends (Ends (Finishes b left)) t i = turn b (ended-turn cells c h e b left k t.0 t.1.0 t.1.1 i)
     ends (Ends (Makes made)) t i = absurd i
     ends _ t i = absurd i
 

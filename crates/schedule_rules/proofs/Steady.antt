@@ -1,23 +1,31 @@
 -- What is published of a cell stays while a section of it is open.
-use Rattle.std.proofs.Common.{◌≡◌, ◌<◌, ℕ, List, [], ◌∷◌, length, sym, ◌∙◌, ap, arith, true, Some}
+use Rattle.std.proofs.Common.{◌≡◌, ℕ, ◌≤◌, List, [], ◌∷◌, length, refl, arith, ◌<◌, sym, ◌∙◌, ap, true, Some}
+use Rattle.schedule_rules.specs.History.{Event, before, deed_of}
 use Rattle.std.specs.Prelude.{◌==◌}
 use Rattle.std.specs.List.{AllByRecursion}
 use Rattle.schedule_rules.specs.declared.plan.CellPlan.{CellPlan}
 use Rattle.schedule_rules.specs.Kinds.{cell_at}
 use Rattle.schedule_rules.specs.Changes.{Content, effect}
 use Rattle.schedule_rules.specs.Deeds.{Deed, Opens, Holds, EndsToWrite}
-use Rattle.schedule_rules.specs.History.{Event, before, deed_of}
 use Rattle.schedule_rules.specs.Sections.{Section, innermost, sections}
 use Rattle.schedule_rules.specs.Guards.{Guard, numbered, guards}
 use Rattle.schedule_rules.specs.Replay.{replay, inside}
 use Rattle.schedule_rules.specs.Legal.{IsLegal, IsExclusive}
 use Rattle.schedule_rules.specs.Laws.{IsAsAt}
-use Rattle.schedule_rules.proofs.Alone.{alone}
-use Rattle.schedule_rules.proofs.Each.{each_found}
-use Rattle.schedule_rules.proofs.Earlier.{before_more, before_now}
+use Rattle.schedule_rules.proofs.Exclusion.{alone}
+use Rattle.schedule_rules.proofs.Found.{each_found}
 use Rattle.schedule_rules.proofs.Finds.{Finds, finds}
 use Rattle.schedule_rules.proofs.Leaves.{NewOf, Says, sections_say, guards_say}
 use Rattle.schedule_rules.proofs.Facts.{apart}
+
+-- the events before an earlier step are the same after one more
+pub before_more : (n : ℕ) (e : Event) (h : List Event) → n ≤ length h → before n (e ∷ h) ≡ before n h
+before_more n e h le = grind arith
+
+-- those before the next step are all
+pub before_now : (h : List Event) → before (length h) h ≡ h
+before_now [] = refl
+before_now (e ∷ h) = grind arith
 
 module _ (cells : List CellPlan) (h : List Event) where
   -- the section was opened before now, and nothing of its cell was given back since: this is still published there

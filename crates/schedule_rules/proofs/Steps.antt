@@ -1,11 +1,10 @@
 -- What holds in each case, holds of each legal step.
-use Rattle.std.proofs.Common.{◌≡◌, ℕ, List, refl, sym, ◌∙◌, ap, subst, Bool, true, false, not, None, Some}
+use Rattle.std.proofs.Common.{◌≡◌, ℕ, List, refl, sym, ◌∙◌, ap, subst, Bool, true, false, not, ◌&&◌, None, Some}
 use Rattle.std.specs.Prelude.{◌==◌, if◌then◌else◌}
 use Rattle.std.specs.declared.option.Option.{Option}
 use Rattle.exit_registry.specs.Registry.{first_of}
-use Rattle.phase_bits.specs.Number.{phase_of}
 use Rattle.phase_locker.specs.declared.tickets.LockNature.TheVariants as nature
-use Rattle.schedule_rules.specs.declared.plan.Call.TheVariants as call
+use Rattle.lazy_cells.specs.declared.call.Call.{Call}
 use Rattle.schedule_rules.specs.declared.plan.CellPlan.{CellPlan}
 use Rattle.schedule_rules.specs.declared.step.Act.{Act}
 use Rattle.schedule_rules.specs.declared.step.Act.TheVariants as act
@@ -16,41 +15,28 @@ use Rattle.schedule_rules.specs.declared.line.Line.{Line}
 use Rattle.schedule_rules.specs.declared.line.Answer.{Answer}
 use Rattle.schedule_rules.specs.declared.line.Answer.TheVariants as answer
 use Rattle.schedule_rules.specs.declared.line.Refusal.{Refusal}
-use Rattle.schedule_rules.specs.Phases.{phase_finalized}
+use Rattle.schedule_rules.specs.Kinds.{cell_at}
+use Rattle.schedule_rules.specs.Phases.{finishes_so}
 use Rattle.schedule_rules.specs.History.{Event}
 use Rattle.schedule_rules.specs.Sections.{Section, innermost, is_turn, sections}
 use Rattle.schedule_rules.specs.Guards.{Guard, numbered, own, guards}
-use Rattle.schedule_rules.specs.Replay.{phase_at}
-use Rattle.schedule_rules.specs.Exits.{registry}
+use Rattle.schedule_rules.specs.Exits.{registry, finishing}
 use Rattle.schedule_rules.specs.Waits.{Wait, wait_of, waits}
 use Rattle.schedule_rules.specs.Holds.{is_barred, holding_with}
 use Rattle.schedule_rules.specs.Refusals.{refusal, no_guard, no_writer, no_reader, writes_of, no_outcome, ends_run, ends_turn}
 use Rattle.schedule_rules.specs.Answers.{answer_of_made}
-use Rattle.schedule_rules.specs.Due.{due_made, due_finished, due_clone, due_answer}
+use Rattle.schedule_rules.specs.Due.{phase_made, due_made, due_finished, due_clone, due_answer}
 use Rattle.schedule_rules.specs.Legal.{IsLegalLine, answer_of, due_at}
 use Rattle.schedule_rules.specs.Causes.{waits_judged}
-use Rattle.schedule_rules.proofs.Cases.{step, Cases}
+use Rattle.schedule_rules.proofs.Cases.{step, Cases, Generating}
 use Rattle.schedule_rules.proofs.Attempts.{rests, mine_where_none, attempted, again, exits}
-use Rattle.schedule_rules.proofs.Judged.{due_at-judged}
-use Rattle.schedule_rules.proofs.Facts.{apart}
+use Rattle.schedule_rules.proofs.Answered.{due_at-judged}
+use Rattle.schedule_rules.proofs.Facts.{first, second}
 
--- an outcome of a generator that is not refused ends a generator's section
-run_ends : (o : Option Section) → no_outcome (ends_run o) ≡ None → (t : Section) × (o ≡ Some t) × (is_turn t.want ≡ false)
-run_ends None e = absurd (cc)
-run_ends (Some t) e = (t, refl, by (is_turn t.want) e)
-  where
-    by : (b : Bool) → no_outcome (Some (not b)) ≡ None → b ≡ false
-    by true f = absurd (cc)
-    by false f = refl
-
--- and one of a finalizer ends a finalizer's
-turn_ends : (o : Option Section) → no_outcome (ends_turn o) ≡ None → (t : Section) × (o ≡ Some t) × (is_turn t.want ≡ true)
-turn_ends None e = absurd (cc)
-turn_ends (Some t) e = (t, refl, by (is_turn t.want) e)
-  where
-    by : (b : Bool) → no_outcome (Some b) ≡ None → b ≡ true
-    by true f = refl
-    by false f = absurd (cc)
+-- an outcome that is not refused ends its section so
+ends_so : (b : Bool) → no_outcome (Some b) ≡ None → b ≡ true
+ends_so true f = refl
+ends_so false f = absurd (cc)
 
 -- what is not refused for want of a guard names an open one
 is_opened : (f : Option Bool → Option Refusal) (p : ℕ) (o : Option Guard) → (f None ≡ None → ⊥) → f (writes_of (own p o)) ≡ None
@@ -76,39 +62,27 @@ no_refusal : (r : Refusal) → Some r ≡ None → ⊥
 no_refusal r e = cc
 
 module _ (cells : List CellPlan) (h : List Event) (p : ℕ) (P : Act → Answer → Type 0) (k : Cases cells h p P) where
-  -- a value made
-  makes : (v : ℕ) (o : Option Section) → innermost p (sections h) ≡ o → no_outcome (ends_run o) ≡ None → P (act.Made v) (due_made cells h v o)
-  makes v o e f = by o e (run_ends o f)
+  -- the section of a generator
+  generates : (o : Option Section) → innermost p (sections h) ≡ o → no_outcome (ends_run o) ≡ None
+      → (t : Section) × (j : Call) × (o ≡ Some t) × Generating cells h p t j
+  generates None e f = absurd (cc)
+  generates (Some t) e f = by t.want refl f
     where
-      reads : (t : Section) → innermost p (sections h) ≡ Some t → (u : Want) → t.want ≡ u → is_turn u ≡ false → P (act.Made v) (answer_of_made u)
-      reads t e (Calls call.Phase) d g = k.made_write v t e (ap is_turn d)
-      reads t e (Calls call.Read) d g = k.made_read v t e d
-      reads t e (Calls call.Write) d g = k.made_write v t e (ap is_turn d)
-      reads t e (Calls call.TryRead) d g = k.made_write v t e (ap is_turn d)
-      reads t e Turns d g = absurd (apart g)
+      by : (u : Want) → t.want ≡ u → no_outcome (Some (not (is_turn u))) ≡ None → (s : Section) × (j : Call) × (Some t ≡ Some s) × Generating cells h p s j
+      by (Calls j) d g = (t, j, refl, record { found = e; kind = d })
+      by Turns d g = absurd (cc)
 
-      by : (o : Option Section) → innermost p (sections h) ≡ o → (t : Section) × (o ≡ Some t) × (is_turn t.want ≡ false) → P (act.Made v) (due_made cells h v o)
-      by None e t = absurd (none t.1)
-        where
-          none : None ≡ Some t.0 → ⊥
-          none x = cc
-      by (Some s) e t = reads s e s.want refl (ap (λ u. is_turn u) (same t.1) ∙ t.2)
-        where
-          same : Some s ≡ Some t.0 → s.want ≡ t.0.want
-          same x = cc
+  -- a value made
+  makes : (v : ℕ) (t : Section) (j : Call) → Generating cells h p t j → P (act.Made v) (due_made cells h v (Some t))
+  makes v t j g = subst (λ u. P (act.Made v) (answer_of_made (cell_at cells t.cell).kind u v (phase_made cells h t))) (sym g.kind) (k.made v t j g)
 
   -- a finalizer that ends
-  ends : (fine : Bool) (a : Act) (o : Option Section) → innermost p (sections h) ≡ o → no_outcome (ends_turn o) ≡ None
-      → ((t : Section) → innermost p (sections h) ≡ Some t → is_turn t.want ≡ true → P a (answer.Phase (phase_of (phase_finalized (phase_at cells t.cell h) fine))))
-      → P a (due_finished cells h fine o)
-  ends fine a None e f does = absurd (cc)
-  ends fine a (Some s) e f does = does s e (outcome (turn_ends (Some s) f))
-    where
-      outcome : (t : Section) × (Some s ≡ Some t) × (is_turn t.want ≡ true) → is_turn s.want ≡ true
-      outcome t = ap is_turn (same t.1) ∙ t.2
-        where
-          same : Some s ≡ Some t.0 → s.want ≡ t.0.want
-          same x = cc
+  ends : (fine : Bool) (left : Option ℕ) (o : Option Section) → innermost p (sections h) ≡ o → no_outcome (ends_turn cells fine left o) ≡ None
+      → P (finishing fine left) (due_finished cells h fine o)
+  ends fine left None e f = absurd (cc)
+  ends fine left (Some t) e f =
+      let both : _ = ends_so (is_turn t.want && finishes_so (cell_at cells t.cell).kind fine left) f in
+      k.finished fine left t (record { found = e; kind = first _ _ both; so = second (is_turn t.want) _ both })
 
   -- a clone
   clones : (g : ℕ) (ws : List Wait) (x : Guard) → numbered g (guards h) ≡ Some x → x.writes ≡ false → P (act.Clone g) (due_clone cells h ws (Some x))
@@ -124,15 +98,14 @@ module _ (cells : List CellPlan) (h : List Event) (p : ℕ) (P : Act → Answer 
       let r : _ = rests cells h p (act.Call c j) (no_refusal _) f in
       attempted cells h p P k (act.Call c j) c (Calls j) ws chosen (record { tried = refl; does = refl; acts = tt }) (mine_where_none cells h p c r.0)
   allowed act.Again ws chosen f = again cells h p P k (wait_of p (waits cells h)) refl f ws chosen
-  allowed (act.Made v) ws chosen f = makes v (innermost p (sections h)) refl (rests cells h p (act.Made v) (no_refusal _) f).1
+  allowed (act.Made v) ws chosen f =
+      let t : _ = generates (innermost p (sections h)) refl (rests cells h p (act.Made v) (no_refusal _) f).1 in rw t.2 (makes v t.0 t.1 t.3)
   allowed act.MadeFailed ws chosen f =
-      let t : _ = run_ends (innermost p (sections h)) (rests cells h p act.MadeFailed (no_refusal _) f).1 in k.failed t.0 t.1 t.2
-  allowed act.Finished ws chosen f =
-      ends true act.Finished (innermost p (sections h)) refl (rests cells h p act.Finished (no_refusal _) f).1 (λ t e d. k.finished t e d)
-  allowed act.FinishFailed ws chosen f =
-      ends false act.FinishFailed (innermost p (sections h)) refl (rests cells h p act.FinishFailed (no_refusal _) f).1 (λ t e d. k.finish_failed t e d)
+      let t : _ = generates (innermost p (sections h)) refl (rests cells h p act.MadeFailed (no_refusal _) f).1 in k.failed t.0 t.1 t.3
+  allowed (act.Finished left) ws chosen f = ends true left (innermost p (sections h)) refl (rests cells h p (act.Finished left) (no_refusal _) f).1
+  allowed (act.FinishFailed left) ws chosen f = ends false left (innermost p (sections h)) refl (rests cells h p (act.FinishFailed left) (no_refusal _) f).1
   allowed (act.Look g) ws chosen f =
-      let x : _ = is_opened no_guard p (numbered g (guards h)) (no_refusal _) (rests cells h p (act.Look g) (no_refusal _) f).1 in rw x.1 (k.looked g _ x.0 x.1)
+      let x : _ = is_opened no_guard p (numbered g (guards h)) (no_refusal _) (rests cells h p (act.Look g) (no_refusal _) f).1 in rw x.1 (k.looked g x.0 x.1)
   allowed (act.Set g v) ws chosen f =
       let x : _ = is_opened no_writer p (numbered g (guards h)) (no_refusal _) (rests cells h p (act.Set g v) (no_refusal _) f).1 in
       k.set g v x.0 x.1 (is_writer x.0.writes x.2)

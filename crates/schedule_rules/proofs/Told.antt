@@ -1,16 +1,24 @@
--- A phase that is not empty tells whether its cell is registered.
-use Rattle.std.proofs.Common.{◌≡◌, ◌≢◌, ℕ, List, [], ◌∷◌, refl, sym, ◌∙◌, ap, subst, arith, Bool, true, false, not, ◌&&◌, ◌||◌, Some, ◌⊎◌, inl, inr}
-use Rattle.std.specs.Prelude.{◌==◌, if◌then◌else◌}
+-- A phase that is not empty tells whether its cell is registered: which flags tell it, what runs and finalizers leave of them,
+-- and that it is so in legal histories.
+use Rattle.std.proofs.Common.{◌≡◌, ◌≢◌, ℕ, refl, sym, ◌∙◌, ap, subst, arith, Bool, true, false, ◌||◌, None, Some, List, [], ◌∷◌, not, ◌&&◌, ◌⊎◌, inl, inr}
+use Rattle.std.specs.Prelude.{◌==◌, ◌^◌, ◌-◌, if◌then◌else◌}
+use Rattle.std.specs.Int.RustNames.{bit_and, bit_or}
+use Rattle.std.proofs.lemmas.Nat.{and_assoc, and_or_apart}
+use Rattle.std.specs.declared.option.Option.{Option}
+use Rattle.phase_bits.specs.Flags.{has, initialized}
+use Rattle.phase_seq.specs.Phases.{registration}
+use Rattle.schedule_rules.specs.declared.plan.CellPlan.{CellPlan}
+use Rattle.lazy_cells.specs.Kinds.{is_finalizable}
+use Rattle.schedule_rules.specs.Kinds.{tolerance_of, cell_at, tolerance_at}
+use Rattle.schedule_rules.specs.Phases.{flags_kept, runs_generator, tries_registration}
+use Rattle.schedule_rules.specs.Changes.{Content, Ran, Ended, content_after, Change, is_declined, effect}
+use Rattle.schedule_rules.specs.Laws.{TellsRegistration}
+use Rattle.schedule_rules.proofs.Facts.{apart}
 use Rattle.std.specs.List.{AllByRecursion}
 use Rattle.exit_registry.specs.Registry.{is_known}
-use Rattle.phase_bits.specs.Flags.{has, initialized}
-use Rattle.schedule_rules.specs.declared.plan.Call.{Call}
-use Rattle.schedule_rules.specs.declared.plan.CellPlan.{CellPlan}
+use Rattle.lazy_cells.specs.declared.call.Call.{Call}
 use Rattle.schedule_rules.specs.declared.step.Want.TheVariants.{Calls, Turns}
-use Rattle.schedule_rules.specs.Kinds.{cell_at, is_finalizable, tolerance_at}
-use Rattle.schedule_rules.specs.Phases.{tries_registration}
 use Rattle.schedule_rules.specs.Calls.{asks}
-use Rattle.schedule_rules.specs.Changes.{Content, Change, Ran, Ended, is_declined, effect}
 use Rattle.schedule_rules.specs.Deeds.{Makes, Finishes, Deed, Opens, Holds, Ends, EndsToRead, EndsToWrite, Drops, DropsToRead, Visits, Skips}
 use Rattle.schedule_rules.specs.History.{Event, accepts, deed_of}
 use Rattle.schedule_rules.specs.Sections.{Section, is_turn, runs_in, sections}
@@ -19,20 +27,76 @@ use Rattle.schedule_rules.specs.Replay.{replay, phase_at}
 use Rattle.schedule_rules.specs.Exits.{registry_by, registry}
 use Rattle.schedule_rules.specs.Holds.{writes_cell, write_holds}
 use Rattle.schedule_rules.specs.Legal.{IsLegal}
-use Rattle.schedule_rules.specs.Laws.{TellsRegistration}
-use Rattle.schedule_rules.proofs.Alone.{alone}
-use Rattle.schedule_rules.proofs.Each.{each_none, each_found}
+use Rattle.schedule_rules.proofs.Exclusion.{alone}
+use Rattle.schedule_rules.proofs.Found.{each_none, each_found}
 use Rattle.schedule_rules.proofs.Cases.{Asking, Resting}
-use Rattle.schedule_rules.proofs.Finds.{Inside, Visit, Finds, finds}
+use Rattle.schedule_rules.proofs.Finds.{Inside, Finishing, Visit, accessed_there, Finds, finds}
 use Rattle.schedule_rules.proofs.Leaves.{left_at, sections_left, guards_left, NewOf, Says, sections_say, guards_say, GivesOf, moves, rests}
-use Rattle.schedule_rules.proofs.Tells.{told_run, told_ended, told_declined}
-use Rattle.schedule_rules.proofs.Facts.{apart}
 use Rattle.schedule_rules.proofs.Registered.{known_taken, fresh-unknown}
 use Rattle.schedule_rules.proofs.Registering.{registering}
 use Rattle.schedule_rules.proofs.Held.{has_none}
 use Rattle.schedule_rules.proofs.Finishing.{needs-value}
-use Rattle.schedule_rules.proofs.Grows.{IsStanding}
-use Rattle.schedule_rules.proofs.Initialized.{sound}
+use Rattle.schedule_rules.proofs.Grows.{IsStanding, sound}
+
+-- other flags tell nothing
+pub told_more : (b : Bool) (p m : ℕ) → bit_and m 8 ≡ 0 → bit_and m 32 ≡ 0 → TellsRegistration b p → TellsRegistration b (bit_or p m)
+told_more b p m e f t = record {
+  taken = ap (λ z. z == 8) (and_or_apart 8 p m e) ∙ t.taken;
+  refused = ap (λ z. z == 32) (and_or_apart 32 p m f) ∙ t.refused;
+}
+
+-- what a registration sets tells whether it came in time
+told_now : (o b : Bool) → o ≡ b → TellsRegistration b (registration o)
+told_now true true e = record { taken = refl; refused = refl }
+told_now false false e = record { taken = refl; refused = refl }
+told_now true false e = absurd (apart e)
+told_now false true e = absurd (apart (sym e))
+
+-- the flags that stay beside those of a run tell it too
+told_kept : (x : CellPlan) (o b : Bool) (p : ℕ) → is_finalizable x.kind ≡ true → (p ≡ 0 → o ≡ b) → (p ≢ 0 → TellsRegistration b p) → TellsRegistration b (flags_kept x.kind o p)
+told_kept x o b p is now before =
+    subst (λ (d : Bool). TellsRegistration b (if d then (if p == 0 then registration o else bit_and p (2 ^ 32 - 1 - 7)) else 0)) (sym is) (by (p == 0) refl)
+  where
+    stays : TellsRegistration b p → TellsRegistration b (bit_and p (2 ^ 32 - 1 - 7))
+    stays t = record {
+      taken = ap (λ z. z == 8) (and_assoc 8 p (2 ^ 32 - 1 - 7)) ∙ t.taken;
+      refused = ap (λ z. z == 32) (and_assoc 32 p (2 ^ 32 - 1 - 7)) ∙ t.refused;
+    }
+
+    by : (d : Bool) → (p == 0) ≡ d → TellsRegistration b (if d then registration o else bit_and p (2 ^ 32 - 1 - 7))
+    by true e = told_now o b (now (grind arith))
+    by false e = stays (before (other e))
+      where
+        other : (p == 0) ≡ false → p ≢ 0
+        other f z = absurd (apart (sym (ap (λ n. n == 0) z) ∙ f))
+
+-- so does the phase after the run
+pub told_run : (x : CellPlan) (o b : Bool) (m : Option ℕ) (y : Content) → is_finalizable x.kind ≡ true → (y.phase ≡ 0 → o ≡ b) → (y.phase ≢ 0 → TellsRegistration b y.phase)
+    → TellsRegistration b (content_after x (Ran o m) y).phase
+told_run x o b (Some v) y is now before = told_more b (flags_kept x.kind o y.phase) 1 refl refl (told_kept x o b y.phase is now before)
+told_run x o b None y is now before = told_more b (flags_kept x.kind o y.phase) 6 refl refl (told_kept x o b y.phase is now before)
+
+-- and after a finalizer
+pub told_ended : (x : CellPlan) (b fine : Bool) (left : Option ℕ) (y : Content) → TellsRegistration b y.phase → TellsRegistration b (content_after x (Ended fine left) y).phase
+told_ended x b true left y t = told_more b y.phase 64 refl refl t
+told_ended x b false left y t = told_more b y.phase 128 refl refl t
+
+-- what is declined is not registered
+pub told_declined : (x : CellPlan) (o b : Bool) (p : ℕ) → is_finalizable x.kind ≡ true → runs_generator x.kind (tolerance_of x) o p ≡ false → (p ≡ 0 → b ≡ false) → (p ≢ 0 → TellsRegistration b p) → b ≡ false
+told_declined x o b p is declines now before = by (p == 0) refl
+  where
+    neither : (d e : Bool) → (d || e) ≡ false → d ≡ false
+    neither false e f = refl
+    neither true e f = absurd (apart f)
+
+    kept : (p ≡ 0 → ⊥) → b ≡ false
+    kept ne =
+        let t : TellsRegistration b (flags_kept x.kind o p) = told_kept x o b p is (λ z. absurd (ne z)) before in
+        sym t.taken ∙ neither (has (flags_kept x.kind o p) 8) x.leak (sym (ap (λ (d : Bool). if d then has (flags_kept x.kind o p) 8 || x.leak else true) is) ∙ declines)
+
+    by : (d : Bool) → (p == 0) ≡ d → b ≡ false
+    by true e = now (grind arith)
+    by false e = kept (λ z. apart (sym (ap (λ n. n == 0) z) ∙ e))
 
 or_none : (b : Bool) → (b || false) ≡ b
 or_none true = refl
@@ -95,7 +159,7 @@ module _ (cells : List CellPlan) (c : ℕ) (kind : is_finalizable (cell_at cells
     new : (d : Deed) (f : Finds cells h p d) → IsOther d → NewOf cells h p (alone cells h legal) (Begun (knows h)) (Begun (knows h)) (Seen (knows h)) (Seen (knows h)) d f
     new (Opens d (Calls j) taken) f other = λ same. absurd (apart (sym same ∙ other))
     new (Opens d Turns taken) f other = λ same n. absurd (apart n)
-    new (Holds d true) f other = λ same. phase_tells d same (has_none (phase_at cells d h) f)
+    new (Holds d true) f other = λ same. phase_tells d same (has_none (phase_at cells d h) (accessed_there cells h d f))
     new (EndsToWrite v) f other = λ begun same. ran f.section (Some v) f.kind same begun
     new _ f other = tt
 
@@ -116,25 +180,25 @@ module _ (cells : List CellPlan) (c : ℕ) (kind : is_finalizable (cell_at cells
     begun_of : (f : Inside cells h p false) → Begun (knows h) (replay cells f.section.cell h) f.section
     begun_of f = each_found (λ s. s.party == p) (λ s. Begun (knows h) (replay cells s.cell h) s) (sections h) f.section f.found k.begun
 
-    finished : (fine : Bool) (f : Inside cells h p true) → (f.section.cell == c) ≡ true → TellsRegistration (knows h) (effect (cell_at cells f.section.cell) (Ended fine ∷ []) (replay cells f.section.cell h)).phase
-    finished fine f same =
+    finished : (fine : Bool) (left : Option ℕ) (f : Finishing cells h p fine left) → (f.section.cell == c) ≡ true → TellsRegistration (knows h) (effect (cell_at cells f.section.cell) (Ended fine left ∷ []) (replay cells f.section.cell h)).phase
+    finished fine left f same =
         let t : Section = f.section in
         let value : has (phase_at cells t.cell h) initialized ≡ true =
         needs-value t.want (cell_at cells t.cell) (phase_at cells t.cell h) f.kind (each_found (λ s. s.party == p) (IsStanding cells h) (sections h) t f.found (sound cells h legal).standing) in
-        told_ended (cell_at cells t.cell) (knows h) fine (replay cells t.cell h) (phase_tells t.cell same (has_none (phase_at cells t.cell h) value))
+        told_ended (cell_at cells t.cell) (knows h) fine left (replay cells t.cell h) (phase_tells t.cell same (has_none (phase_at cells t.cell h) value))
 
     dropped : (g : ℕ) (x : Guard) → numbered g (guards h) ≡ Some x → x.writes ≡ true → (x.cell == c) ≡ true → TellsRegistration (knows h) (effect (cell_at cells x.cell) x.changes (replay cells x.cell h)).phase
     dropped g x f w same = each_found (λ y. y.number == g) (λ y. Seen (knows h) (replay cells y.cell h) y) (guards h) x f k.seen (rw w same)
 
     -- a call that is declined finds a cell that is not known
-    visits : (d : ℕ) (chs : List Change) → Visit cells h p d chs → Told d (replay cells d h) (effect (cell_at cells d) chs (replay cells d h))
-    visits d chs v same ne = by v.finds
+    visits : (d : ℕ) (chs : List Change) (reads : Bool) → Visit cells h p d chs reads → Told d (replay cells d h) (effect (cell_at cells d) chs (replay cells d h))
+    visits d chs reads v same ne = by v.finds
       where
         refused : (b : Bool) → b ≡ false → TellsRegistration b 36
         refused false e = record { taken = refl; refused = refl }
         refused true e = absurd (apart e)
 
-        by : Asking cells h p d v.asked false ⊎ Resting cells h p d v.asked false → TellsRegistration (knows h) (effect (cell_at cells d) chs (replay cells d h)).phase
+        by : Asking cells h p d v.asked false ⊎ Resting cells h p d v.asked → TellsRegistration (knows h) (effect (cell_at cells d) chs (replay cells d h)).phase
         by (inr q) =
             let is : _ = rests cells h p (alone cells h legal) d chs v.asked v.does q in
             subst (λ y. TellsRegistration (knows h) y.phase) (sym is) (phase_tells d same (subst (λ y. y.phase ≢ 0) is ne))
@@ -149,11 +213,11 @@ module _ (cells : List CellPlan) (c : ℕ) (kind : is_finalizable (cell_at cells
 
     gives : (d : Deed) (f : Finds cells h p d) → GivesOf cells h p (alone cells h legal) Told d f
     gives (Ends (Makes made)) f = λ same ne. ran f.section made f.kind same (begun_of f)
-    gives (Ends (Finishes fine)) f = λ same ne. finished fine f same
+    gives (Ends (Finishes fine left)) f = λ same ne. finished fine left f same
     gives (EndsToRead v) f = λ same ne. ran f.section (Some v) f.kind same (begun_of f)
     gives (Drops g) f = λ w same ne. dropped g f.guard f.found w same
     gives (DropsToRead g) f = λ same ne. dropped g f.guard f.found f.way same
-    gives (Visits d chs) f = visits d chs f
+    gives (Visits d chs reads) f = visits d chs reads f
     gives _ f = tt
 
     others : (d : Deed) (f : Finds cells h p d) → IsOther d → ToldBy (knows h) d
@@ -175,7 +239,7 @@ module _ (cells : List CellPlan) (c : ℕ) (kind : is_finalizable (cell_at cells
       known : knows_now ≡ (knows h || ((phase_at cells c h == 0) && accepts h))
       known =
           registering cells c h p legal (Opens d (Calls j) taken) q
-          ∙ ap (λ b. knows h || ((b && (asks (tolerance_at cells d) (Calls j) (phase_at cells d h) && tries_registration (cell_at cells d).kind (phase_at cells d h))) && accepts h)) same
+          ∙ ap (λ b. knows h || ((b && (asks (cell_at cells d).kind (tolerance_at cells d) (Calls j) (phase_at cells d h) && tries_registration (cell_at cells d).kind (phase_at cells d h))) && accepts h)) same
           ∙ ap (λ b. knows h || ((true && (b && tries_registration (cell_at cells d).kind (phase_at cells d h))) && accepts h)) q.asked
           ∙ ap (λ z. knows h || (tries_registration (cell_at cells z).kind (phase_at cells z h) && accepts h)) (sym (at d same))
           ∙ ap (λ b. knows h || ((b && (phase_at cells c h == 0)) && accepts h)) kind
@@ -203,7 +267,7 @@ module _ (cells : List CellPlan) (c : ℕ) (kind : is_finalizable (cell_at cells
         by true same = here d j taken q same
         by false other =
             let known : is_known (registry_by cells h (Opens d (Calls j) taken) (registry cells h)) c ≡ knows h =
-            registering cells c h p legal (Opens d (Calls j) taken) q ∙ ap (λ b. knows h || ((b && (asks (tolerance_at cells d) (Calls j) (phase_at cells d h) && tries_registration (cell_at cells d).kind (phase_at cells d h))) && accepts h)) other ∙ or_none (knows h) in
+            registering cells c h p legal (Opens d (Calls j) taken) q ∙ ap (λ b. knows h || ((b && (asks (cell_at cells d).kind (tolerance_at cells d) (Calls j) (phase_at cells d h) && tries_registration (cell_at cells d).kind (phase_at cells d h))) && accepts h)) other ∙ or_none (knows h) in
             subst (λ b. ToldBy b (Opens d (Calls j) taken)) (sym known) (others (Opens d (Calls j) taken) q other)
 
     told-after : (d : Deed) → Finds cells h p d → ToldBy (is_known (registry_by cells h d (registry cells h)) c) d

@@ -2,140 +2,210 @@
 use Rattle.std.proofs.Common.{◌≡◌, ◌≤◌, ℕ, List, [], ◌∷◌, refl, sym, ◌∙◌, ap, subst, Bool, true, false, not, ◌&&◌, ◌||◌, None, Some, ◌⊎◌, inl, inr}
 use Rattle.std.specs.Prelude.{◌==◌, ◌+◌, is_none, if◌then◌else◌}
 use Rattle.std.specs.declared.option.Option.{Option}
-use Rattle.exit_registry.specs.Registry.{is_known}
-use Rattle.phase_bits.specs.Number.{phase_of}
+use Rattle.exit_registry.specs.Registry.{is_known, first_of}
+use Rattle.phase_locker.specs.declared.ways.How.{How}
 use Rattle.phase_seq.specs.Phases.{flags_refused}
+use Rattle.lazy_cells.specs.declared.call.Call.{Call}
+use Rattle.schedule_rules.specs.declared.form.Form.{Form}
+use Rattle.schedule_rules.specs.declared.form.Form.TheVariants.{Told, Shown, Held}
 use Rattle.schedule_rules.specs.declared.plan.CellPlan.{CellPlan}
+use Rattle.schedule_rules.specs.declared.plan.Place.{Place}
+use Rattle.schedule_rules.specs.declared.plan.Place.TheVariants as place
 use Rattle.schedule_rules.specs.declared.step.Act.{Act}
 use Rattle.schedule_rules.specs.declared.step.Act.TheVariants as act
-use Rattle.schedule_rules.specs.declared.step.Want.TheVariants.{Calls}
+use Rattle.schedule_rules.specs.declared.step.Want.TheVariants.{Calls, Turns}
 use Rattle.schedule_rules.specs.declared.step.Step.{Step}
 use Rattle.schedule_rules.specs.declared.line.Line.{Line}
 use Rattle.schedule_rules.specs.declared.line.Answer.{Answer}
 use Rattle.schedule_rules.specs.declared.line.Answer.TheVariants as answer
-use Rattle.schedule_rules.specs.Kinds.{tolerance_at}
-use Rattle.schedule_rules.specs.Calls.{asks}
-use Rattle.schedule_rules.specs.Deeds.{deed_running, deed_phased, deed_accessed, deed_failed, deed_read, deed_written, deed_done, deed_waiting}
-use Rattle.schedule_rules.specs.History.{Event, act_of, is_exit, accepts}
-use Rattle.schedule_rules.specs.Replay.{phase_at}
-use Rattle.schedule_rules.specs.Exits.{registry}
-use Rattle.schedule_rules.specs.Waits.{Attempt, attempt, Wait}
+use Rattle.schedule_rules.specs.declared.line.Refusal.{Refusal}
+use Rattle.schedule_rules.specs.Kinds.{cell_at}
+use Rattle.schedule_rules.specs.Phases.{tries_registration}
+use Rattle.schedule_rules.specs.Deeds.{deed_waiting, deed_by}
+use Rattle.schedule_rules.specs.History.{Event, is_exit, accepts}
+use Rattle.schedule_rules.specs.Replay.{replay, phase_at}
+use Rattle.schedule_rules.specs.Exits.{finishing, registry}
+use Rattle.schedule_rules.specs.Waits.{Attempt, attempt_of_turn, attempt_with, attempt, Wait, waits}
 use Rattle.schedule_rules.specs.Refusals.{refusal}
-use Rattle.schedule_rules.specs.Legal.{IsLegal, IsLegalLine}
-use Rattle.schedule_rules.specs.Causes.{is_running, is_access, is_attempted, waits_judged, asks_run, generates, is_kept_out, is_admitted, is_run, is_turned_away}
-use Rattle.schedule_rules.specs.Laws.{asks_registration, tries_to_register, registrations}
-use Rattle.schedule_rules.proofs.Trying.{asks_so, deed_registers, shows_registration, registrations_shown}
-use Rattle.schedule_rules.proofs.Cases.{Asking, Resting}
-use Rattle.schedule_rules.proofs.Means.{Means, means}
-use Rattle.schedule_rules.proofs.Facts.{apart, first, second}
-use Rattle.schedule_rules.proofs.Causes.{runs_where_asked, accesses_where_turned_away}
-use Rattle.schedule_rules.proofs.Registrations.{tries-unknown, registered-once}
+use Rattle.schedule_rules.specs.Answers.{answer_denied, answer_barred}
+use Rattle.schedule_rules.specs.Due.{phase_made, due_attempt, due_tried, due_answer}
+use Rattle.schedule_rules.specs.Legal.{IsLegal, IsLegalLine, answer_of}
+use Rattle.schedule_rules.specs.Causes.{is_attempted, waits_judged, is_admitted}
+use Rattle.schedule_rules.specs.Laws.{tells_declined, asks_registration, tries_to_register, registrations}
+use Rattle.schedule_rules.proofs.Registrations.{asks_so, deed_registers, shows_registration, registrations_shown, tries-unknown, registered-once}
+use Rattle.schedule_rules.proofs.Answered.{due_at-judged, IsShown, IsTold, opened, denied, made_so}
+use Rattle.schedule_rules.proofs.Cases.{step, Calling, Resting, form_at, Cases}
+use Rattle.schedule_rules.proofs.Steps.{of_legal}
+use Rattle.schedule_rules.proofs.Facts.{apart}
+use Rattle.schedule_rules.proofs.Tests.{IsBeyond}
+use Rattle.schedule_rules.proofs.Causes.{unless_admitted}
 use Rattle.schedule_rules.proofs.Registering.{known-by-trying}
 
--- a run that is asked begins or is declined, and else it registers nothing
-asked_either : (free admitted asks gen out same new : Bool)
-    → (((free && (admitted && (asks && gen))) || (free && (admitted && (if asks then not gen else out)))) && (same && (asks && new)))
-    ≡ (free && (admitted && (same && (asks && new))))
-asked_either false admitted asks gen out same new = refl
-asked_either true false asks gen out same new = refl
-asked_either true true true true out same new = refl
-asked_either true true true false out same new = refl
-asked_either true true false gen true same new = refl
-asked_either true true false gen false true new = refl
-asked_either true true false gen false false new = refl
+-- a step that is answered so was refused, or turned back or put off
+abbrev is_back : Answer → Bool
+is_back answer.Cyclic = true
+is_back answer.Borrowed = true
+is_back answer.Missed = true
+is_back (answer.Waiting way) = true
+is_back (answer.Refused q) = true
+is_back _ = false
+
+barred_back : (fast : Bool) (x : Place) (w : How) → is_back (answer_barred fast x w) ≡ true
+barred_back true x w = refl
+barred_back false place.Park w = refl
+barred_back false place.Spin w = refl
+barred_back false (place.Own p) w = refl
+
+beyond_back : IsBeyond is_back
+beyond_back = record {
+  told = record { shown = record { phase = λ p. refl; value = λ v. refl; read_guard = refl; write_guard = refl }; access = λ p. refl; err_guard = refl };
+  running = refl;
+  finalizing = λ c. refl;
+  skipped = λ c. refl;
+}
+
+no_more : (b : Bool) → false ≡ (b && false)
+no_more true = refl
+no_more false = refl
 
 module _ (cells : List CellPlan) (c : ℕ) where
-  -- by the two answers
-  module _ (h : List Event) (s : Step) where
-    phased : (b : Act) → deed_registers cells c h (deed_phased b) ≡ false
-    phased act.Finished = refl
-    phased act.FinishFailed = refl
-    phased _ = refl
+  module _ (h : List Event) (p : ℕ) where
+    -- what is known of the deed of a step that is answered so, where this is asked
+    record Shows (r : Answer) (registers asks : Bool) : Type 0 where
+      pub same : registers ≡ (not (is_back r) && asks)
+      pub answers : registers ≡ true → (r ≡ answer.Running) ⊎ (tells_declined r ≡ true)
 
-    read : (b : Act) → deed_registers cells c h (deed_read b) ≡ false
-    read (act.Call d k) = refl
-    read (act.Made v) = refl
-    read (act.Downgrade g) = refl
-    read (act.Clone g) = refl
-    read _ = refl
+    -- that of a step of the party
+    abbrev Tried : Act → Answer → Type 0
+    Tried a r = Shows r (shows_registration cells c h (step cells h p a) r) (asks_so cells c h (attempt cells h (step cells h p a)))
 
-    written : (b : Act) → deed_registers cells c h (deed_written b) ≡ false
-    written (act.Call d k) = refl
-    written (act.Made v) = refl
-    written _ = refl
+    -- and of a call
+    abbrev asks_of : ℕ → Call → Bool
+    asks_of d j = asks_so cells c h (Some (record { cell = d; want = Calls j }))
 
-    done : (b : Act) → deed_registers cells c h (deed_done b) ≡ false
-    done (act.Release g) = refl
-    done (act.Set g v) = refl
-    done _ = refl
+    abbrev Called : Act → ℕ → Call → Answer → Type 0
+    Called a d j r = Shows r (deed_registers cells c h (deed_by (accepts h) (is_exit a) (act.Call d j) r)) (asks_of d j)
 
-    failed : (b : Act) → deed_registers cells c h (deed_failed b) ≡ false
-    failed act.MadeFailed = refl
-    failed _ = refl
+    called : (a : Act) (d : ℕ) (j : Call) (r : Answer) → Calling cells h p a d j → Called a d j r → Tried a r
+    called a d j r t k =
+        subst (λ o. Shows r (shows_registration cells c h (step cells h p a) r) (asks_so cells c h o)) (sym t.tried)
+        (subst (λ b. Shows r (deed_registers cells c h (deed_by (accepts h) (is_exit a) b r)) (asks_of d j)) (sym t.does) k)
+
+    -- one that asks for no run
+    module _ (a : Act) (d : ℕ) (j : Call) (q : Resting cells h p d j) where
+      none : asks_of d j ≡ false
+      none = ap (λ b. (d == c) && (b && tries_registration (cell_at cells d).kind (phase_at cells d h))) q.unasked ∙ sym (no_more (d == c))
+
+      never : {r : Answer} → asks_of d j ≡ true → (r ≡ answer.Running) ⊎ (tells_declined r ≡ true)
+      never e = absurd (apart (sym e ∙ none))
+
+      rests : IsTold (Called a d j)
+      rests = record {
+        shown = record {
+          phase = λ x. record { same = refl; answers = never };
+          value = λ v. record { same = sym none; answers = λ e. absurd (cc) };
+          read_guard = record { same = sym none; answers = λ e. absurd (cc) };
+          write_guard = record { same = sym none; answers = λ e. absurd (cc) };
+        };
+        access = λ x. record { same = refl; answers = never };
+        err_guard = record { same = refl; answers = never };
+      }
+
+    -- one that is declined says so
+    declines : (a : Act) (d : ℕ) (j : Call) (f : Form) → Called a d j (answer_denied f flags_refused)
+    declines a d j (Told true) = record { same = refl; answers = λ e. inr refl }
+    declines a d j (Told false) = record { same = refl; answers = λ e. inr refl }
+    declines a d j Shown = record { same = refl; answers = λ e. inr refl }
+    declines a d j (Held writes true) = record { same = refl; answers = λ e. inr refl }
+    declines a d j (Held writes false) = record { same = refl; answers = λ e. inr refl }
 
     waited : (b : Bool) → deed_registers cells c h (deed_waiting b) ≡ false
     waited true = refl
     waited false = refl
 
-    shown : (r : Answer) → Means cells h s.party s.act r → shows_registration cells c h s r ≡ ((is_running r || is_access r) && asks_so cells c h (attempt cells h s))
-    shown answer.Running m = ap (λ b. deed_registers cells c h (deed_running b)) m.calls.does ∙ sym (ap (asks_so cells c h) m.calls.tried)
-    shown (answer.Access q) m = ap (λ b. deed_registers cells c h (deed_accessed (accepts h) b)) m.calls.does ∙ sym (ap (asks_so cells c h) m.calls.tried)
-    shown (answer.Phase q) m = phased (act_of h s)
-    shown answer.ReadGuard m = read (act_of h s)
-    shown answer.WriteGuard m = written (act_of h s)
-    shown answer.Done m = done (act_of h s)
-    shown answer.Failed m = failed (act_of h s)
-    shown (answer.Waiting way) m = waited (is_exit s.act)
-    shown (answer.Value v) m = refl
-    shown (answer.Finalizing d) m = refl
-    shown (answer.Skipped d) m = refl
-    shown (answer.Round n) m = refl
-    shown answer.Closed m = refl
-    shown answer.Cyclic m = refl
-    shown answer.Borrowed m = refl
-    shown (answer.Refused q) m = refl
+    -- that of the turn of a cell
+    turned : (o : Option Attempt) (d : ℕ) → o ≡ Some (record { cell = d; want = Turns }) → false ≡ asks_so cells c h o
+    turned o d e = no_more (d == c) ∙ ap (asks_so cells c h) (sym e)
 
-    -- what tries to register the cell begins a run, or is declined
-    begins : (r : Answer) → Means cells h s.party s.act r → ((is_running r || is_access r) && asks_so cells c h (attempt cells h s)) ≡ true
-        → (r ≡ answer.Running) ⊎ (r ≡ answer.Access (phase_of flags_refused))
-    begins answer.Running m e = inl refl
-    begins (answer.Access q) m e = away m.reason
+    -- and of a look
+    looked : (cs : List ℕ) → cs ≡ [] → false ≡ asks_so cells c h (attempt_of_turn (first_of cs))
+    looked cs e = ap (λ x. asks_so cells c h (attempt_of_turn (first_of x))) (sym e)
+
+    made : (v : ℕ) → IsShown (Tried (act.Made v))
+    made v = record {
+      phase = λ x. record { same = refl; answers = λ e. absurd (cc) };
+      value = λ w. record { same = refl; answers = λ e. absurd (cc) };
+      read_guard = record { same = refl; answers = λ e. absurd (cc) };
+      write_guard = record { same = refl; answers = λ e. absurd (cc) };
+    }
+
+    finished : (fine : Bool) (left : Option ℕ) (q : _) → Tried (finishing fine left) (answer.Phase q)
+    finished true left q = record { same = refl; answers = λ e. absurd (cc) }
+    finished false left q = record { same = refl; answers = λ e. absurd (cc) }
+
+    cases : Cases cells h p Tried
+    cases = record {
+      cyclic = λ a d j t. record { same = refl; answers = λ e. absurd (cc) };
+      waiting = λ a d w way t. record { same = waited (is_exit a); answers = λ e. absurd (apart (sym e ∙ waited (is_exit a))) };
+      missed = λ a d w f t. record { same = refl; answers = λ e. absurd (cc) };
+      owned = λ a d w o t. record { same = refl; answers = λ e. absurd (cc) };
+      opened = λ a d j t q e. called a d j _ t (opened (Called a d j) (rests a d j q).shown (form_at cells h p d j) (replay cells d h));
+      denied = λ a d j t q e. called a d j _ t (denied (Called a d j) (rests a d j q) (form_at cells h p d j) (phase_at cells d h));
+      running = λ a d j t q. called a d j answer.Running t (record { same = refl; answers = λ e. inl refl });
+      declined = λ a d j t q. called a d j _ t (declines a d j (form_at cells h p d j));
+      skipped = λ a d t q. record { same = turned _ d t.tried; answers = λ e. absurd (cc) };
+      finalizing = λ a d t q u. record { same = turned _ d t.tried; answers = λ e. absurd (cc) };
+      round = λ d ds e n. record { same = looked _ n; answers = λ f. absurd (cc) };
+      closed = λ e n. record { same = looked _ n; answers = λ f. absurd (cc) };
+      made = λ v t j g. made_so (Tried (act.Made v)) (made v) (form_at cells h p t.cell j) v (phase_made cells h t);
+      failed = λ t j g. record { same = refl; answers = λ e. absurd (cc) };
+      finished = λ fine left t g. finished fine left _;
+      looked = λ g x f. record { same = refl; answers = λ e. absurd (cc) };
+      set = λ g v x f w. record { same = refl; answers = λ e. absurd (cc) };
+      released = λ g x f. record { same = refl; answers = λ e. absurd (cc) };
+      downgraded = λ g x f w. record { same = refl; answers = λ e. absurd (cc) };
+      borrowed = λ g x f w. record { same = refl; answers = λ e. absurd (cc) };
+      cloned = λ g x f w. record { same = refl; answers = λ e. absurd (cc) };
+    }
+
+  module _ (h : List Event) (s : Step) (l : Line) (k : IsLegalLine cells h s l) where
+    abbrev ws : List Wait
+    ws = waits_judged cells k.moment h s l.given
+
+    shows : Shows h s.party l.answer (shows_registration cells c h s l.answer) (asks_so cells c h (attempt cells h s))
+    shows = of_legal cells h s l k (Tried h s.party) (λ a r. record { same = refl; answers = λ e. absurd (cc) }) (cases h s.party)
+
+    -- what is due for a step that attempts this
+    due_of : (a : Act) (x : Attempt) → attempt_with cells (waits cells h) h s.party a ≡ Some x → due_answer cells h (record { party = s.party; act = a }) ws k.chosen ≡ due_attempt cells h s.party x ws k.chosen
+    due_of (act.Call d j) x e = ap (λ o. due_tried cells h s.party o ws k.chosen) e
+    due_of act.Again x e = ap (λ o. due_tried cells h s.party o ws k.chosen) e
+    due_of act.Exit x e = ap (λ o. due_tried cells h s.party o ws k.chosen) e
+    due_of _ x e = absurd (cc)
+
+    -- it is not put off exactly where it is admitted
+    not_back : (not (is_back l.answer) && asks_so cells c h (attempt cells h s)) ≡ tries_to_register cells c h s l.given k.moment
+    not_back = by (refusal cells h s) (attempt cells h s) refl (k.answered ∙ ap (answer_of (refusal cells h s)) (due_at-judged cells k.moment h s l.given k.chosen))
       where
-        asked : asks (tolerance_at cells m.cell) (Calls m.asked) (phase_at cells m.cell h) ≡ true
-        asked = first _ _ (second (m.cell == c) _ (sym (ap (asks_so cells c h) m.calls.tried) ∙ e))
+        twice : (b : Bool) → not (not b) ≡ b
+        twice true = refl
+        twice false = refl
 
-        away : (Asking cells h s.party m.cell m.asked false × (q ≡ phase_of flags_refused)) ⊎ (Resting cells h s.party m.cell m.asked false × (q ≡ phase_of (phase_at cells m.cell h)))
-            → (answer.Access q ≡ answer.Running) ⊎ (answer.Access q ≡ answer.Access (phase_of flags_refused))
-        away (inl d) = inr (ap (λ z. answer.Access z) d.1)
-        away (inr d) = absurd (apart (sym asked ∙ d.0.unasked))
-    begins _ m e = absurd (apart (sym e))
+        by : (r : Option Refusal) (o : Option Attempt) → attempt cells h s ≡ o → l.answer ≡ answer_of r (due_answer cells h s ws k.chosen)
+            → (not (is_back l.answer) && asks_so cells c h o) ≡ (is_none r && is_attempted (λ a. is_admitted cells h s.party ws a && asks_registration cells c h a) o)
+        by (Some q) o e f = ap (λ r. not (is_back r) && asks_so cells c h o) f
+        by None None e f = sym (no_more (not (is_back l.answer)))
+        by None (Some a) e f =
+            ap (λ r. not (is_back r) && asks_registration cells c h a) (f ∙ due_of s.act a e)
+            ∙ ap (λ b. not b && asks_registration cells c h a) (unless_admitted is_back cells h s.party ws k.chosen refl barred_back beyond_back a)
+            ∙ ap (λ b. b && asks_registration cells c h a) (twice (is_admitted cells h s.party ws a))
 
-  -- a legal line shows it exactly where the step tries
-  pub shown_where_tried : (h : List Event) (s : Step) (l : Line) (k : IsLegalLine cells h s l) → shows_registration cells c h s l.answer ≡ tries_to_register cells c h s l.given k.moment
-  shown_where_tried h s l k =
-      shown h s l.answer (means cells h s l k)
-      ∙ ap (λ b. (b || is_access l.answer) && asks_so cells c h (attempt cells h s)) (runs_where_asked cells h s l k)
-      ∙ ap (λ b. ((is_none (refusal cells h s) && is_attempted (is_run cells h s.party ws) (attempt cells h s)) || b) && asks_so cells c h (attempt cells h s)) (accesses_where_turned_away cells h s l k)
-      ∙ by (attempt cells h s)
-    where
-      ws : List Wait
-      ws = waits_judged cells k.moment h s l.given
+    -- a legal line shows it exactly where the step tries
+    pub shown_where_tried : shows_registration cells c h s l.answer ≡ tries_to_register cells c h s l.given k.moment
+    shown_where_tried = shows.same ∙ not_back
 
-      none : (b : Bool) → (((b && false) || (b && false)) && false) ≡ (b && false)
-      none true = refl
-      none false = refl
-
-      by : (o : Option Attempt)
-          → (((is_none (refusal cells h s) && is_attempted (is_run cells h s.party ws) o) || (is_none (refusal cells h s) && is_attempted (is_turned_away cells h s.party ws) o)) && asks_so cells c h o)
-          ≡ (is_none (refusal cells h s) && is_attempted (λ a. is_admitted cells h s.party ws a && asks_registration cells c h a) o)
-      by None = none (is_none (refusal cells h s))
-      by (Some a) =
-          asked_either (is_none (refusal cells h s)) (is_admitted cells h s.party ws a) (asks_run cells h s.party a) (generates cells h s.party a) (is_kept_out cells h s.party a) _ _
-
-  -- a step that tries begins a run or is declined
-  pub tried-runs-or-declines : (h : List Event) (s : Step) (l : Line) (k : IsLegalLine cells h s l) → tries_to_register cells c h s l.given k.moment ≡ true
-      → (l.answer ≡ answer.Running) ⊎ (l.answer ≡ answer.Access (phase_of flags_refused))
-  tried-runs-or-declines h s l k e = begins h s l.answer (means cells h s l k) (sym (shown h s l.answer (means cells h s l k)) ∙ shown_where_tried h s l k ∙ e)
+    -- a step that tries begins a run or is declined
+    pub tried-runs-or-declines : tries_to_register cells c h s l.given k.moment ≡ true → (l.answer ≡ answer.Running) ⊎ (tells_declined l.answer ≡ true)
+    tried-runs-or-declines e = shows.answers (shown_where_tried ∙ e)
 
   -- where the registry does not know the cell
   pub tried-unknown : (h : List Event) (s : Step) (l : Line) → IsLegal cells h → (k : IsLegalLine cells h s l) → tries_to_register cells c h s l.given k.moment ≡ true

@@ -19,9 +19,9 @@ use Rattle.schedule_rules.specs.Legal.{IsLegal}
 use Rattle.schedule_rules.specs.Causes.{is_attempted}
 use Rattle.schedule_rules.specs.Laws.{waits_to_turn, finalizes_in, turns_of, turns_at_hand}
 use Rattle.schedule_rules.proofs.Accepts.{known-length}
-use Rattle.schedule_rules.proofs.Counts.{occurs_joined}
+use Rattle.schedule_rules.proofs.Counts.{occurs_joined, waits_so, first_so, begins}
 use Rattle.schedule_rules.proofs.Found.{found_counts}
-use Rattle.schedule_rules.proofs.Turns.{one-turn, waits_so, first_so, begins}
+use Rattle.schedule_rules.proofs.Turns.{one-turn}
 
 -- ---- the cells of those that pass a test
 

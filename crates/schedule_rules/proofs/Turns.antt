@@ -1,16 +1,16 @@
 -- Each registered cell has one turn: to come, waiting, going on or ended.
 use Rattle.std.proofs.Common.{◌≡◌, ◌<◌, ◌+◌, ◌++◌, ℕ, List, [], ◌∷◌, length, refl, sym, ◌∙◌, ap, subst, arith, Bool, true, false, ◌&&◌, cond, None, Some}
-use Rattle.std.specs.Prelude.{◌==◌, if◌then◌else◌, slice_set, slice_index_or, nat_lt}
+use Rattle.std.specs.Prelude.{◌==◌, if◌then◌else◌, slice_set, slice_index_or}
 use Rattle.std.specs.declared.option.Option.{Option}
-use Rattle.std.proofs.lemmas.List.{get_or-set_same, get_or-set_other, get_or_past}
+use Rattle.std.proofs.lemmas.List.{get_or-set_same, get_or-set_other}
 use Rattle.exit_registry.specs.Registry.{is_known, first_of, rest_of, occurs, due, registered, after_register}
 use Rattle.exit_registry.specs.Exits.{cells_of_turns}
 use Rattle.exit_registry.specs.declared.turns.Turn.TheVariants as turn
 use Rattle.phase_bits.specs.Number.{phase_of}
 use Rattle.phase_seq.specs.Phases.{flags_refused}
 use Rattle.phase_locker.specs.declared.ways.Given.{Given}
-use Rattle.schedule_rules.specs.declared.plan.Call.{Call}
-use Rattle.schedule_rules.specs.declared.plan.Call.TheVariants as call
+use Rattle.lazy_cells.specs.Kinds.{is_finalizable}
+use Rattle.lazy_cells.specs.declared.call.Call.{Call}
 use Rattle.schedule_rules.specs.declared.plan.CellPlan.{CellPlan}
 use Rattle.schedule_rules.specs.declared.step.Act.{Act}
 use Rattle.schedule_rules.specs.declared.step.Act.TheVariants as act
@@ -19,65 +19,31 @@ use Rattle.schedule_rules.specs.declared.step.Want.TheVariants.{Calls, Turns}
 use Rattle.schedule_rules.specs.declared.line.Answer.{Answer}
 use Rattle.schedule_rules.specs.declared.line.Refusal.{Refusal}
 use Rattle.schedule_rules.specs.declared.line.Answer.TheVariants as answer
-use Rattle.schedule_rules.specs.Kinds.{cell_at, is_finalizable, no_cell}
-use Rattle.schedule_rules.specs.Phases.{tries_registration}
+use Rattle.schedule_rules.specs.Kinds.{cell_at, is_owned}
+use Rattle.schedule_rules.specs.Phases.{tries_registration, phase_finalized}
+use Rattle.schedule_rules.specs.Calls.{is_fast}
 use Rattle.schedule_rules.specs.Deeds.{Makes, Finishes, Deed, Opens, Ends, EndsToRead, EndsToWrite, Skips, Takes, Looks, deed_waiting, deed_by}
 use Rattle.schedule_rules.specs.History.{Event, accepts, is_exit, deed_of, count}
 use Rattle.schedule_rules.specs.Sections.{Section, innermost, without_innermost, is_turn, sections_by, sections}
-use Rattle.schedule_rules.specs.Exits.{registry_taken, registry_by, registry, turn_of, turn_of_section, turns_by, ended_turns}
-use Rattle.schedule_rules.specs.Waits.{Attempt, Wait, wait_of, without_wait, with_wait, attempt_of_wait, attempt_of_turn, attempt_with, waits_given_with, waits}
-use Rattle.schedule_rules.specs.Replay.{phase_at}
+use Rattle.schedule_rules.specs.Exits.{finishing, registry_taken, registry_by, registry, turn_of, turn_of_section, turns_by, ended_turns}
+use Rattle.schedule_rules.specs.Waits.{Wait, wait_of, without_wait, with_wait, attempt_with, waits_given_with, waits}
+use Rattle.schedule_rules.specs.Replay.{replay, phase_at}
 use Rattle.schedule_rules.specs.Refusals.{refusal, refusal_waiting}
+use Rattle.schedule_rules.specs.Due.{phase_made}
 use Rattle.schedule_rules.specs.Legal.{IsLegal}
 use Rattle.schedule_rules.specs.Laws.{waits_to_turn, finalizes_in, turns_of}
-use Rattle.schedule_rules.proofs.Alone.{alone}
+use Rattle.schedule_rules.proofs.Exclusion.{alone}
 use Rattle.schedule_rules.proofs.Opened.{count_ended}
-use Rattle.schedule_rules.proofs.Cases.{step, IsCalling, IsTurning, Calling, Turning, Tries, Asking, Cases}
+use Rattle.schedule_rules.proofs.Cases.{step, IsCalling, IsTurning, Calling, Turning, Tries, Asking, form_at, Cases}
+use Rattle.schedule_rules.proofs.Answered.{IsShown, IsTold, opened, denied, made_so}
+use Rattle.schedule_rules.proofs.WaitsToLock.{waiting-shared}
 use Rattle.schedule_rules.proofs.Attempts.{rests}
 use Rattle.schedule_rules.proofs.Steps.{of_free}
-use Rattle.schedule_rules.proofs.Finds.{Inside, Finds, finds}
+use Rattle.schedule_rules.proofs.Finds.{Inside, Finishing, Finds, finds}
 use Rattle.schedule_rules.proofs.Accepts.{known-length}
-use Rattle.schedule_rules.proofs.Registered.{none_known, known_taken, fresh-unknown}
-use Rattle.schedule_rules.proofs.Counts.{one_if, occurs_joined, occurs_ended, count_given, without_none, count_without, one-wait}
-use Rattle.schedule_rules.proofs.Facts.{first, second}
-
--- a cell that is registered is one of the plan
-pub finalizable-inside : (cells : List CellPlan) (c : ℕ) → is_finalizable (cell_at cells c).kind ≡ true → c < length cells
-finalizable-inside cells c e = by (nat_lt c (length cells)) refl
-  where
-    none : cell_at cells c ≡ no_cell → ⊥
-    none f = clash (sym (ap (λ x. is_finalizable x.kind) f) ∙ e)
-      where
-        clash : false ≡ true → ⊥
-        clash x = cc
-
-    by : (b : Bool) → nat_lt c (length cells) ≡ b → c < length cells
-    by true f = grind arith
-    by false f = absurd (none (get_or_past cells c no_cell (grind arith)))
-
--- what has a first begins with it
-pub begins : (cs : List ℕ) (d : ℕ) → first_of cs ≡ Some d → cs ≡ d ∷ rest_of cs
-begins [] d e = absurd (cc)
-begins (b ∷ cs) d e = ap (λ x. x ∷ cs) (same e)
-  where
-    same : Some b ≡ Some d → b ≡ d
-    same x = cc
-
--- a call or turn that is attempted again, waits
-same_attempt : (a b : Attempt) → Some a ≡ Some b → a ≡ b
-same_attempt a b e = cc
-
-pub waits_so : (o : Option Wait) (d : ℕ) (v : Want) → attempt_of_wait o ≡ Some (record { cell = d; want = v }) → (w : Wait) × (o ≡ Some w) × (w.cell ≡ d) × (w.want ≡ v)
-waits_so None d v e = absurd (cc)
-waits_so (Some w) d v e =
-    let same : _ = same_attempt (record { cell = w.cell; want = w.want }) (record { cell = d; want = v }) e in
-    (w, refl, ap (λ a. a.cell) same, ap (λ a. a.want) same)
-
--- a turn that is attempted is the first left
-pub first_so : (o : Option ℕ) (d : ℕ) → attempt_of_turn o ≡ Some (record { cell = d; want = Turns }) → o ≡ Some d
-first_so None d e = absurd (cc)
-first_so (Some b) d e =
-    let same : _ = same_attempt (record { cell = b; want = Turns }) (record { cell = d; want = Turns }) e in ap (λ (a : Attempt). Some a.cell) same
+use Rattle.schedule_rules.proofs.Registered.{none_known, known_taken, fresh-unknown, finalizable-inside}
+use Rattle.schedule_rules.proofs.Counts.{one_if, occurs_joined, occurs_ended, count_given, without_none, count_without, one-wait, begins, waits_so, first_so}
+use Rattle.schedule_rules.proofs.Facts.{first, second, apart}
 
 module _ (cells : List CellPlan) (c : ℕ) where
   -- one turn where the cell is registered, and else none
@@ -86,7 +52,7 @@ module _ (cells : List CellPlan) (c : ℕ) where
 
   -- ---- which turns wait after a step
 
-  module _ (h : List Event) (p : ℕ) (i : Given) where
+  module _ (h : List Event) (p : ℕ) (i : Given) (shared : (w : Wait) → wait_of p (waits cells h) ≡ Some w → is_owned (cell_at cells w.cell).place ≡ false) where
     -- the event of the party
     abbrev event : Act → Answer → Event
     event a r = record { step = record { party = p; act = a }; line = record { answer = r; given = i } }
@@ -194,41 +160,92 @@ module _ (cells : List CellPlan) (c : ℕ) where
     resting : (a : Act) → (refusal_waiting a ≡ None → ⊥) → IsAllowed a → count (waits_to_turn c) (others a) ≡ waiting
     resting a n f = rests_count a (rests cells h p a n f).0
 
-    cases : Cases cells h p (λ a r. IsAllowed a → WaitsSo (deed_of h (step cells h p a) r) (count (waits_to_turn c) (waits cells (event a r ∷ h))))
+    -- a turn that is barred at a cell of the party's own does not wait: the act is an Exit
+    lent : (a : Act) (d : ℕ) → is_owned (cell_at cells d).place ≡ true → Turning cells h p a d → IsAllowed a → count (waits_to_turn c) (others a) ≡ waiting
+    lent a d o t f = by a t.acts t.tried f
+      where
+        by : (a : Act) → IsTurning a → attempt_with cells (waits cells h) h p a ≡ Some (record { cell = d; want = Turns }) → IsAllowed a → count (waits_to_turn c) (others a) ≡ waiting
+        by act.Exit t e f = resting act.Exit (waits_for _) f
+        by act.Again t e f =
+            let w : _ = waits_so (wait_of p (waits cells h)) d Turns e in absurd (apart (sym o ∙ ap (λ z. is_owned (cell_at cells z).place) (sym w.2) ∙ shared w.0 w.1))
+        by _ t e f = absurd t
+
+    -- a call that is answered so leaves the waits of others, and the turns that wait
+    abbrev IsPlain : Act → ℕ → Call → Answer → Type 0
+    IsPlain a d j r =
+        (count (waits_to_turn c) (waits cells (event a r ∷ h)) ≡ count (waits_to_turn c) (others a))
+        × ((n : ℕ) → n ≡ waiting → WaitsSo (deed_by (accepts h) (is_exit a) (act.Call d j) r) n)
+
+    plain : (a : Act) (d : ℕ) (j : Call) → IsTold (IsPlain a d j)
+    plain a d j = record {
+      shown = record { phase = λ q. (refl, λ n e. e); value = λ v. (refl, λ n e. e); read_guard = (refl, λ n e. e); write_guard = (refl, λ n e. e) };
+      access = λ q. (refl, λ n e. e);
+      err_guard = (refl, λ n e. e);
+    }
+
+    plainly : (a : Act) (d : ℕ) (j : Call) (r : Answer) → Calling cells h p a d j → IsAllowed a → IsPlain a d j r → WaitsSo (deed_of h (step cells h p a) r) (count (waits_to_turn c) (waits cells (event a r ∷ h)))
+    plainly a d j r t f k = let n : _ = k.0 ∙ called_count a d j t f in called a d j r t n (k.1 _ n)
+
+    -- what holds of each answer of a step that is allowed
+    abbrev Allowed : Act → Answer → Type 0
+    Allowed a r = IsAllowed a → WaitsSo (deed_of h (step cells h p a) r) (count (waits_to_turn c) (waits cells (event a r ∷ h)))
+
+    made : (v : ℕ) → IsShown (Allowed (act.Made v))
+    made v = record {
+      phase = λ q f. resting (act.Made v) (waits_for _) f;
+      value = λ w f. resting (act.Made v) (waits_for _) f;
+      read_guard = λ f. resting (act.Made v) (waits_for _) f;
+      write_guard = λ f. resting (act.Made v) (waits_for _) f;
+    }
+
+    finished : (fine : Bool) (left : Option ℕ) (q : _) → Allowed (finishing fine left) (answer.Phase q)
+    finished true left q f = resting (act.Finished left) (waits_for _) f
+    finished false left q f = resting (act.FinishFailed left) (waits_for _) f
+
+    waits_so_far : (a : Act) (d : ℕ) (w : Want) (way : _) → Tries cells h p a d w → Allowed a (answer.Waiting way)
+    waits_so_far a d (Calls j) way t f = call_waits a d j way t f
+    waits_so_far a d Turns way t f = turn_waits a d way t f
+
+    misses : (a : Act) (d : ℕ) (w : Want) → is_fast w ≡ true → Tries cells h p a d w → Allowed a answer.Missed
+    misses a d (Calls j) q t f = called_count a d j t f
+    misses a d Turns q t f = absurd (apart (sym q))
+
+    borrows : (a : Act) (d : ℕ) (w : Want) → is_owned (cell_at cells d).place ≡ true → Tries cells h p a d w → Allowed a answer.Borrowed
+    borrows a d (Calls j) o t f = called_count a d j t f
+    borrows a d Turns o t f = lent a d o t f
+
+    cases : Cases cells h p Allowed
     cases = record {
       cyclic = λ a d j t f. called_count a d j t f;
-      waiting = λ a d w way. waits_so_far a d w way;
-      phased = λ a d t f. let n : _ = called_count a d call.Phase t f in called a d call.Phase (answer.Phase (phase_of (phase_at cells d h))) t n n;
-      reading = λ a d t q f. let n : _ = called_count a d call.Read t f in called a d call.Read answer.ReadGuard t n n;
-      writing = λ a d t q f. let n : _ = called_count a d call.Write t f in called a d call.Write answer.WriteGuard t n n;
-      peeking = λ a d t q f. let n : _ = called_count a d call.TryRead t f in called a d call.TryRead answer.ReadGuard t n n;
+      waiting = waits_so_far;
+      missed = misses;
+      owned = borrows;
+      opened = λ a d j t q e f. plainly a d j _ t f (opened (IsPlain a d j) (plain a d j).shown (form_at cells h p d j) (replay cells d h));
+      denied = λ a d j t q e f. plainly a d j _ t f (denied (IsPlain a d j) (plain a d j) (form_at cells h p d j) (phase_at cells d h));
       running = λ a d j t q f. let n : _ = called_count a d j t f in called a d j answer.Running t n n;
-      declined = λ a d j t q f. let n : _ = called_count a d j t f in called a d j (answer.Access (phase_of flags_refused)) t n n;
-      denied = λ a d j t q f. let n : _ = called_count a d j t f in called a d j (answer.Access (phase_of (phase_at cells d h))) t n n;
+      declined = λ a d j t q f. plainly a d j _ t f (denied (IsPlain a d j) (plain a d j) (form_at cells h p d j) flags_refused);
       skipped = λ a d t q f. took a d t f;
       finalizing = λ a d t q u f. took a d t f;
       round = λ d ds e n f. resting act.Exit (waits_for _) f;
       closed = λ e n f. resting act.Exit (waits_for _) f;
-      made_read = λ v t e d f. resting (act.Made v) (waits_for _) f;
-      made_write = λ v t e d f. resting (act.Made v) (waits_for _) f;
-      failed = λ t e d f. resting act.MadeFailed (waits_for _) f;
-      finished = λ t e d f. resting act.Finished (waits_for _) f;
-      finish_failed = λ t e d f. resting act.FinishFailed (waits_for _) f;
-      looked = λ g v x e f. resting (act.Look g) (waits_for _) f;
+      made = λ v t j g. made_so (Allowed (act.Made v)) (made v) (form_at cells h p t.cell j) v (phase_made cells h t);
+      failed = λ t j g f. resting act.MadeFailed (waits_for _) f;
+      finished = λ fine left t g. finished fine left (phase_of (phase_finalized (phase_at cells t.cell h) fine));
+      looked = λ g x e f. resting (act.Look g) (waits_for _) f;
       set = λ g v x e w f. resting (act.Set g v) (waits_for _) f;
       released = λ g x e f. resting (act.Release g) (waits_for _) f;
       downgraded = λ g x e w f. resting (act.Downgrade g) (waits_for _) f;
       borrowed = λ g x e w f. resting (act.Clone g) (waits_for _) f;
       cloned = λ g x e w f. resting (act.Clone g) (waits_for _) f;
     }
-      where
-        waits_so_far : (a : Act) (d : ℕ) (w : Want) (way : _) → Tries cells h p a d w → IsAllowed a → WaitsSo (deed_waiting (is_exit a)) (count (waits_to_turn c) (waits cells (event a (answer.Waiting way) ∷ h)))
-        waits_so_far a d (Calls j) way t f = call_waits a d j way t f
-        waits_so_far a d Turns way t f = turn_waits a d way t f
 
   -- ---- each deed
 
   module _ (h : List Event) (p : ℕ) (i : Given) (legal : IsLegal cells h) (k : HasTurn h) where
+    -- what waits, is at a cell of no party's own
+    abbrev shared : (w : Wait) → wait_of p (waits cells h) ≡ Some w → is_owned (cell_at cells w.cell).place ≡ false
+    shared w e = waiting-shared cells h p w legal e
+
     -- the turns after a deed, where so many wait
     abbrev turns_left : Deed → ℕ → ℕ
     turns_left d n =
@@ -243,7 +260,7 @@ module _ (cells : List CellPlan) (c : ℕ) where
     keeps d n known same = same ∙ k ∙ sym (ap (λ (b : Bool). if b then 1 else 0) known)
 
     -- a turn that is taken, or waited, is to come or waits once less
-    taken_count : (d n : ℕ) (b : Bool) → Took h p i d b n → occurs c (due (registry_taken b (registry cells h))) + n + one_if (d == c) ≡ occurs c (due (registry cells h)) + waiting h p i
+    taken_count : (d n : ℕ) (b : Bool) → Took h p i shared d b n → occurs c (due (registry_taken b (registry cells h))) + n + one_if (d == c) ≡ occurs c (due (registry cells h)) + waiting h p i shared
     taken_count d n true t =
         let e : (registry cells h).left ≡ d ∷ rest_of (registry cells h).left = begins (registry cells h).left d t.0 in
         let whole : occurs c (due (registry cells h)) ≡ one_if (d == c) + occurs c (rest_of (registry cells h).left) + occurs c (registry cells h).pending =
@@ -253,19 +270,19 @@ module _ (cells : List CellPlan) (c : ℕ) where
         omega (arith, whole, rest, n)
     taken_count d n false t = omega (arith, t)
 
-    skips : (d n : ℕ) (b : Bool) → Took h p i d b n → HasTurnBy (Skips d b) n
+    skips : (d n : ℕ) (b : Bool) → Took h p i shared d b n → HasTurnBy (Skips d b) n
     skips d n b t =
         let taken : _ = taken_count d n b t in
         let e : _ = occurs_ended c d turn.Skipped (ended_turns h) in
         keeps (Skips d b) n (known_taken b (registry cells h) c) (omega (arith, taken, e))
 
-    finalizes : (d n : ℕ) (b : Bool) → Took h p i d b n → HasTurnBy (Opens d Turns b) n
+    finalizes : (d n : ℕ) (b : Bool) → Took h p i shared d b n → HasTurnBy (Opens d Turns b) n
     finalizes d n b t =
         let taken : _ = taken_count d n b t in
-        let one : _ = one_or_none h p i (d == c) (count (finalizes_in c) (sections h)) in
+        let one : _ = one_or_none h p i shared (d == c) (count (finalizes_in c) (sections h)) in
         keeps (Opens d Turns b) n (known_taken b (registry cells h) c) (omega (arith, taken, one))
 
-    looks : (b : Bool) (n : ℕ) → (registry cells h).left ≡ [] → n ≡ waiting h p i → HasTurnBy (Looks b) n
+    looks : (b : Bool) (n : ℕ) → (registry cells h).left ≡ [] → n ≡ waiting h p i shared → HasTurnBy (Looks b) n
     looks b n none w =
         let all : _ = occurs_joined c (registry cells h).pending [] in
         let before : occurs c (due (registry cells h)) ≡ occurs c (registry cells h).pending = ap (λ cs. occurs c (cs ++ (registry cells h).pending)) none in
@@ -273,7 +290,7 @@ module _ (cells : List CellPlan) (c : ℕ) where
 
     -- a generator's section that ends
     run_ends : (d : Deed) (n : ℕ) (f : Inside cells h p false) → registry_by cells h d (registry cells h) ≡ registry cells h → sections_by h p d (sections h) ≡ without_innermost p (sections h)
-        → turns_by p d (sections h) (ended_turns h) ≡ ended_turns h → n ≡ waiting h p i → HasTurnBy d n
+        → turns_by p d (sections h) (ended_turns h) ≡ ended_turns h → n ≡ waiting h p i shared → HasTurnBy d n
     run_ends d n f m s e w =
         let one : count (finalizes_in c) (sections h) ≡ count (finalizes_in c) (without_innermost p (sections h)) + 0 =
         count_ended (finalizes_in c) p (sections h) f.section f.found ∙ ap (λ b. count (finalizes_in c) (without_innermost p (sections h)) + cond (b && (f.section.cell == c)) 1 0) f.kind in
@@ -283,17 +300,17 @@ module _ (cells : List CellPlan) (c : ℕ) where
         keeps d n (ap (λ r. is_known r c) m) (omega (arith, one, to_come, on, ended, w))
 
     -- a finalizer's
-    turn_ends : (fine : Bool) (n : ℕ) → Inside cells h p true → n ≡ waiting h p i → HasTurnBy (Ends (Finishes fine)) n
-    turn_ends fine n f w =
+    turn_ends : (fine : Bool) (left : Option ℕ) (n : ℕ) → Finishing cells h p fine left → n ≡ waiting h p i shared → HasTurnBy (Ends (Finishes fine left)) n
+    turn_ends fine left n f w =
         let t : Section = f.section in
         let one : count (finalizes_in c) (sections h) ≡ count (finalizes_in c) (without_innermost p (sections h)) + one_if (t.cell == c) =
         count_ended (finalizes_in c) p (sections h) t f.found ∙ ap (λ b. count (finalizes_in c) (without_innermost p (sections h)) + cond (b && (t.cell == c)) 1 0) f.kind in
         let more : occurs c (cells_of_turns (turn_of_section (turn_of fine) (innermost p (sections h)) (ended_turns h))) ≡ occurs c (cells_of_turns (ended_turns h)) + one_if (t.cell == c) =
         ap (λ o. occurs c (cells_of_turns (turn_of_section (turn_of fine) o (ended_turns h)))) f.found ∙ occurs_ended c t.cell (turn_of fine) (ended_turns h) in
-        keeps (Ends (Finishes fine)) n refl (omega (arith, one, more, w))
+        keeps (Ends (Finishes fine left)) n refl (omega (arith, one, more, w))
 
     -- a registration adds a turn to come, of a cell that had none
-    module _ (d : ℕ) (j : Call) (b : Bool) (n : ℕ) (w : n ≡ waiting h p i) where
+    module _ (d : ℕ) (j : Call) (b : Bool) (n : ℕ) (w : n ≡ waiting h p i shared) where
       stays : registry_by cells h (Opens d (Calls j) b) (registry cells h) ≡ registry cells h → HasTurnBy (Opens d (Calls j) b) n
       stays r =
           let to_come : occurs c (due (registry_by cells h (Opens d (Calls j) b) (registry cells h))) ≡ occurs c (due (registry cells h)) = ap (λ m. occurs c (due m)) r in
@@ -346,16 +363,16 @@ module _ (cells : List CellPlan) (c : ℕ) where
               registers (fresh-unknown cells h d legal zero (q.unheld (alone cells h legal d))) (omega (arith, inside, long))
               (ap (λ (x : Bool). if x then after_register d (registry cells h) else registry cells h) e ∙ ap (λ (x : Bool). if x then registered d (registry cells h) else registry cells h) f)
 
-    has_turn : (d : Deed) (n : ℕ) → Finds cells h p d → WaitsSo h p i d n → HasTurnBy d n
+    has_turn : (d : Deed) (n : ℕ) → Finds cells h p d → WaitsSo h p i shared d n → HasTurnBy d n
     has_turn (Opens d (Calls j) taken) n f w = running d j taken n w f
     has_turn (Opens d Turns taken) n f w = finalizes d n taken w
     has_turn (Skips d taken) n f w = skips d n taken w
     has_turn Takes n f w =
-        let taken : _ = taken_count w.0 (waiting h p i) true (w.1, refl) in let m : _ = w.2 in keeps Takes n refl (omega (arith, taken, m))
+        let taken : _ = taken_count w.0 (waiting h p i shared) true (w.1, refl) in let m : _ = w.2 in keeps Takes n refl (omega (arith, taken, m))
     has_turn (Looks true) n f w = looks true n f.0 w
     has_turn (Looks false) n f w = looks false n f.0 w
     has_turn (Ends (Makes made)) n f w = run_ends (Ends (Makes made)) n f refl refl refl w
-    has_turn (Ends (Finishes fine)) n f w = turn_ends fine n f w
+    has_turn (Ends (Finishes fine left)) n f w = turn_ends fine left n f w
     has_turn (EndsToRead v) n f w = run_ends (EndsToRead v) n f refl refl refl w
     has_turn (EndsToWrite v) n f w = run_ends (EndsToWrite v) n f refl refl refl w
     has_turn d n f w = keeps d n refl (omega (arith, w))
@@ -365,5 +382,5 @@ module _ (cells : List CellPlan) (c : ℕ) where
   one-turn [] k = sym (ap (λ (b : Bool). if b then 1 else 0) (none_known (length cells) c))
   one-turn (e ∷ h) k =
       has_turn h e.step.party e.line.given k.2 (one-turn h k.2) (deed_of h e.step e.line.answer) (count (waits_to_turn c) (waits cells (e ∷ h))) (finds cells h e.step e.line k.0)
-      (of_free cells h e.step e.line k.0 (λ a r. WaitsSo h e.step.party e.line.given (deed_of h (step cells h e.step.party a) r) (count (waits_to_turn c) (waits cells (event h e.step.party e.line.given a r ∷ h))))
-      (λ a r. refl) (cases h e.step.party e.line.given))
+      (of_free cells h e.step e.line k.0 (λ a r. WaitsSo h e.step.party e.line.given (λ w f. waiting-shared cells h e.step.party w k.2 f) (deed_of h (step cells h e.step.party a) r) (count (waits_to_turn c) (waits cells (event h e.step.party e.line.given (λ w f. waiting-shared cells h e.step.party w k.2 f) a r ∷ h))))
+      (λ a r. refl) (cases h e.step.party e.line.given (λ w f. waiting-shared cells h e.step.party w k.2 f)))

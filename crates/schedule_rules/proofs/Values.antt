@@ -1,38 +1,59 @@
--- A value that a guard shows is there.
-use Rattle.std.proofs.Common.{◌≡◌, ◌≤◌, ℕ, List, [], ◌∷◌, length, refl, sym, ◌∙◌, ap, subst, arith, Bool, true, false, None, Some, ◌⊎◌, inl, inr}
+-- A value that is shown is there.
+use Rattle.std.proofs.Common.{◌≡◌, ◌<◌, ◌≤◌, ℕ, List, [], ◌∷◌, length, refl, sym, ◌∙◌, ap, subst, arith, Bool, true, false, not, ◌&&◌, ◌||◌, None, Some, ◌⊎◌, inl, inr}
 use Rattle.std.specs.Prelude.{◌==◌, ◌^◌, ◌-◌, is_some, if◌then◌else◌}
 use Rattle.std.specs.List.{AllByRecursion}
-use Rattle.std.specs.Int.RustNames.{bit_and}
-use Rattle.std.proofs.lemmas.Nat.{and_assoc, and_le_r}
+use Rattle.std.specs.Option.{unwrap_or}
+use Rattle.std.specs.Int.RustNames.{bit_and, bit_or}
+use Rattle.std.proofs.lemmas.Nat.{and_assoc, and_le_r, and_or_self}
 use Rattle.std.specs.declared.option.Option.{Option}
 use Rattle.phase_bits.specs.Flags.{has, initialized}
-use Rattle.phase_seq.specs.Phases.{registration}
+use Rattle.phase_seq.specs.Phases.{registration, flags_refused}
+use Rattle.lazy_cells.specs.Kinds.{is_finalizable, is_plain, is_primed, is_hard}
+use Rattle.lazy_cells.specs.declared.call.Call.{Call}
+use Rattle.schedule_rules.specs.declared.form.Form.{Form}
+use Rattle.schedule_rules.specs.declared.form.Form.TheVariants.{Told, Shown, Held}
 use Rattle.schedule_rules.specs.declared.plan.CellPlan.{CellPlan}
-use Rattle.schedule_rules.specs.Kinds.{cell_at, is_finalizable, tolerance_of}
-use Rattle.schedule_rules.specs.Phases.{flags_kept}
+use Rattle.schedule_rules.specs.declared.step.Act.{Act}
+use Rattle.schedule_rules.specs.declared.step.Act.TheVariants as act
+use Rattle.schedule_rules.specs.declared.step.Step.{Step}
+use Rattle.schedule_rules.specs.declared.line.Line.{Line}
+use Rattle.schedule_rules.specs.declared.line.Answer.{Answer}
+use Rattle.schedule_rules.specs.declared.line.Answer.TheVariants as answer
+use Rattle.schedule_rules.specs.Kinds.{cell_at, tolerance_of}
+use Rattle.schedule_rules.specs.Phases.{is_accessible, flags_kept, phase_finalized, value_finalized, finishes_so}
 use Rattle.schedule_rules.specs.Changes.{Content, Change, Ran, Asked, Put, Ended, is_declined, content_after, effect}
-use Rattle.schedule_rules.specs.declared.plan.Call.{Call}
-use Rattle.schedule_rules.specs.Deeds.{Makes, Deed, Holds, EndsToRead, EndsToWrite, Drops, DropsToRead, Beside, Puts}
-use Rattle.schedule_rules.specs.History.{Event, before, deed_of}
-use Rattle.schedule_rules.specs.Sections.{sections}
-use Rattle.schedule_rules.specs.Guards.{Guard, numbered, without_guard, reader, writer, reader_made, writer_made, reader_beside, guards_by, guards}
-use Rattle.schedule_rules.specs.Replay.{Back, change_of, back_of_section, back_of_guard, back_by, back_of_step, content_after_back, replay, inside}
-use Rattle.schedule_rules.specs.Legal.{IsLegal}
-use Rattle.schedule_rules.proofs.Earlier.{before_more, before_now}
-use Rattle.schedule_rules.proofs.Each.{each_mapped, each_found, each_removed, each_put}
-use Rattle.schedule_rules.proofs.Backs.{back_here}
-use Rattle.schedule_rules.proofs.Grows.{IsReady, has_more}
-use Rattle.schedule_rules.proofs.Initialized.{sound}
-use Rattle.schedule_rules.proofs.Facts.{apart, same_number}
+use Rattle.schedule_rules.specs.Deeds.{Makes, Finishes, Deed, Holds, Ends, EndsToRead, EndsToWrite, Drops, DropsToRead, Beside, Puts, Visits}
+use Rattle.schedule_rules.specs.History.{Event, deed_of}
+use Rattle.schedule_rules.specs.Sections.{Section, sections}
+use Rattle.schedule_rules.specs.Guards.{Guard, numbered, without_guard, reader_made, writer_made, reader_beside, guards_by, guards}
+use Rattle.schedule_rules.specs.Replay.{Back, change_of, back_of_section, back_of_guard, back_by, back_of_step, content_after_back, replay, phase_at, inside}
+use Rattle.schedule_rules.specs.Holds.{reads_cell, read_guards}
+use Rattle.schedule_rules.specs.Answers.{answer_opened, answer_denied, answer_made}
+use Rattle.schedule_rules.specs.Due.{phase_made}
+use Rattle.schedule_rules.specs.Legal.{IsLegal, IsLegalLine}
+use Rattle.schedule_rules.specs.Laws.{ShowsValue}
+use Rattle.schedule_rules.proofs.Cases.{step, Calling, Reach, form_at, Cases}
+use Rattle.schedule_rules.proofs.Steps.{of_legal}
+use Rattle.schedule_rules.proofs.Exclusion.{alone}
+use Rattle.schedule_rules.proofs.Found.{each_counted, each_found, each_of, each_removed, each_put}
+use Rattle.schedule_rules.proofs.Leaves.{back_here, NewOf, guards_say, left_at, GivesOf, moves}
+use Rattle.schedule_rules.proofs.Opening.{IsRunning, guards-run, IsOfRun}
+use Rattle.schedule_rules.proofs.Grows.{has_more}
+use Rattle.schedule_rules.proofs.Facts.{apart, first, same_number}
 use Rattle.schedule_rules.proofs.Finds.{Finds, finds}
+use Rattle.schedule_rules.proofs.Settled.{plain_soft}
+use Rattle.schedule_rules.proofs.Kinded.{errs-primed}
+use Rattle.schedule_rules.proofs.Published.{untouched}
+use Rattle.schedule_rules.proofs.Steady.{guard-shows}
 
 -- there is a value
-abbrev HasValue : Content → Type 0
+abbrev pub HasValue : Content → Type 0
 HasValue y = is_some y.value ≡ true
 
--- there is one where the phase has INITIALIZED
-abbrev IsTrue : Content → Type 0
-IsTrue y = has y.phase initialized ≡ true → HasValue y
+-- a value that is there is shown
+pub shown_so : (o : Option ℕ) → is_some o ≡ true → o ≡ Some (unwrap_or o 0)
+shown_so None e = absurd (apart (sym e))
+shown_so (Some v) e = refl
 
 -- no flag that stays is INITIALIZED
 kept_lacks : (x : CellPlan) (o : Bool) (p : ℕ) → has (flags_kept x.kind o p) initialized ≡ false
@@ -48,13 +69,84 @@ kept_lacks x o p = by (is_finalizable x.kind) (p == 0) o
     by true false o = ap (λ z. z == 1) (and_assoc 1 p (2 ^ 32 - 1 - 7) ∙ none (and_le_r p 0))
 
 module _ (x : CellPlan) where
+  -- there is one where it may be accessed
+  abbrev IsTrue : Content → Type 0
+  IsTrue y = is_accessible x.kind y.phase ≡ true → HasValue y
+
+  -- a finalizer of a hard kind takes the value out of reach, and one of a soft kind leaves it
+  ended_true : (fine : Bool) (left : Option ℕ) (y : Content) → IsTrue y → IsTrue (content_after x (Ended fine left) y)
+  ended_true fine left y t = by fine (is_hard x.kind) refl
+    where
+      marked : (m : ℕ) (b : Bool) → b ≡ false → (b && false) ≡ true → is_some left ≡ true
+      marked m b e f = absurd (apart (sym f ∙ ap (λ z. z && false) e))
+
+      out : (i a b : Bool) → (a || b) ≡ true → (i && not (true && (a || b))) ≡ true → is_some left ≡ true
+      out i true b e f = absurd (none i f)
+        where
+          none : (i : Bool) → (i && false) ≡ true → ⊥
+          none true g = apart (sym g)
+          none false g = apart (sym g)
+      out i false true e f = absurd (none i f)
+        where
+          none : (i : Bool) → (i && false) ≡ true → ⊥
+          none true g = apart (sym g)
+          none false g = apart (sym g)
+      out i false false e f = absurd (apart (sym e))
+
+      within : (i b : Bool) → (i && not (false && b)) ≡ true → i ≡ true
+      within true b e = refl
+      within false b e = absurd (apart (sym e))
+
+      marks : (fine : Bool) → (has (phase_finalized y.phase fine) 64 || has (phase_finalized y.phase fine) 128) ≡ true
+      marks true = ap (λ z. (z == 64) || has (bit_or y.phase 64) 128) (and_or_self 64 y.phase)
+      marks false = ap (λ z. has (bit_or y.phase 128) 64 || (z == 128)) (and_or_self 128 y.phase) ∙ or_true (has (bit_or y.phase 128) 64)
+        where
+          or_true : (b : Bool) → (b || true) ≡ true
+          or_true true = refl
+          or_true false = refl
+
+      kept : (fine : Bool) → has (phase_finalized y.phase fine) initialized ≡ has y.phase initialized
+      kept true = has_more y.phase 64 refl
+      kept false = has_more y.phase 128 refl
+
+      by : (fine h : Bool) → is_hard x.kind ≡ h → is_accessible x.kind (phase_finalized y.phase fine) ≡ true → is_some (value_finalized x.kind left y.value) ≡ true
+      by fine true e a =
+          ap (λ b. is_some (if b then left else y.value)) e
+          ∙ out (has (phase_finalized y.phase fine) initialized) (has (phase_finalized y.phase fine) 64) (has (phase_finalized y.phase fine) 128) (marks fine)
+          (sym (ap (λ b. has (phase_finalized y.phase fine) initialized && not (b && (has (phase_finalized y.phase fine) 64 || has (phase_finalized y.phase fine) 128))) e) ∙ a)
+      by fine false e a =
+          ap (λ b. is_some (if b then left else y.value)) e
+          ∙ t (soft (has y.phase initialized) _ e (sym (kept fine) ∙ first _ _ a))
+        where
+          soft : (i b : Bool) → is_hard x.kind ≡ false → i ≡ true → (i && not (is_hard x.kind && b)) ≡ true
+          soft i b f g = ap (λ z. z && not (is_hard x.kind && b)) g ∙ ap (λ z. not (z && b)) f
+
   asked_true : (o : Bool) (k : Call) (y : Content) → IsTrue y → IsTrue (content_after x (Asked o k) y)
   asked_true o k y t = by (is_declined x.kind (tolerance_of x) k o y.phase)
     where
       by : (b : Bool) → IsTrue (if b then record { phase = 36; value = y.value } else y)
-      by true = λ e. absurd (cc)
+      by true = λ e. absurd (apart (sym e))
       by false = t
 
+  -- what happens in a section keeps this
+  effect_true : (chs : List Change) (y : Content) → IsTrue y → IsTrue (effect x chs y)
+  effect_true [] y t = t
+  effect_true (Ran o (Some v) ∷ chs) y t = λ e. refl
+  effect_true (Ran o None ∷ chs) y t = λ e. absurd (apart (sym (first _ _ e) ∙ has_more (flags_kept x.kind o (effect x chs y).phase) 6 refl ∙ kept_lacks x o (effect x chs y).phase))
+  effect_true (Asked o k ∷ chs) y t = asked_true o k (effect x chs y) (effect_true chs y t)
+  effect_true (Put v ∷ chs) y t = λ e. refl
+  effect_true (Ended fine left ∷ chs) y t = ended_true fine left (effect x chs y) (effect_true chs y t)
+
+  -- and no value is lost where no finalizer ends
+  effect_stays : (chs : List Change) (y : Content) → IsOfRun chs → HasValue y → HasValue (effect x chs y)
+  effect_stays [] y r v = v
+  effect_stays (Ran o (Some w) ∷ chs) y r v = refl
+  effect_stays (Ran o None ∷ chs) y r v = effect_stays chs y r v
+  effect_stays (Put w ∷ chs) y r v = refl
+  effect_stays (Asked o k ∷ chs) y r v = absurd r
+  effect_stays (Ended fine left ∷ chs) y r v = absurd r
+
+  -- nor by a call that leaves nothing open
   asked_stays : (o : Bool) (k : Call) (y : Content) → HasValue y → HasValue (content_after x (Asked o k) y)
   asked_stays o k y v = by (is_declined x.kind (tolerance_of x) k o y.phase)
     where
@@ -62,127 +154,203 @@ module _ (x : CellPlan) where
       by true = v
       by false = v
 
-  -- what happens in a section keeps this
-  pub effect_true : (chs : List Change) (y : Content) → IsTrue y → IsTrue (effect x chs y)
-  effect_true [] y t = t
-  effect_true (Ran o (Some v) ∷ chs) y t = λ e. refl
-  effect_true (Ran o None ∷ chs) y t = λ e. absurd (apart (sym e ∙ has_more (flags_kept x.kind o (effect x chs y).phase) 6 refl ∙ kept_lacks x o (effect x chs y).phase))
-  effect_true (Asked o k ∷ chs) y t = asked_true o k (effect x chs y) (effect_true chs y t)
-  effect_true (Put v ∷ chs) y t = λ e. refl
-  effect_true (Ended true ∷ chs) y t = λ e. effect_true chs y t (sym (has_more (effect x chs y).phase 64 refl) ∙ e)
-  effect_true (Ended false ∷ chs) y t = λ e. effect_true chs y t (sym (has_more (effect x chs y).phase 128 refl) ∙ e)
-
-  -- and no value is lost
-  pub effect_stays : (chs : List Change) (y : Content) → HasValue y → HasValue (effect x chs y)
-  effect_stays [] y v = v
-  effect_stays (Ran o (Some w) ∷ chs) y v = refl
-  effect_stays (Ran o None ∷ chs) y v = effect_stays chs y v
-  effect_stays (Asked o k ∷ chs) y v = asked_stays o k (effect x chs y) (effect_stays chs y v)
-  effect_stays (Put w ∷ chs) y v = refl
-  effect_stays (Ended fine ∷ chs) y v = effect_stays chs y v
+  -- nor by a finalizer of a primed kind, which leaves one where it takes it out of reach
+  primed_left : (fine : Bool) (left : Option ℕ) (y : Content) → is_primed x.kind ≡ true → finishes_so x.kind fine left ≡ true → HasValue y → HasValue (content_after x (Ended fine left) y)
+  primed_left fine left y p so v = by (is_hard x.kind) (is_primed x.kind) p so
+    where
+      by : (h q : Bool) → q ≡ true → ((if h && q then is_some left else not (is_some left)) && (fine || (not h || q))) ≡ true → is_some (if h then left else y.value) ≡ true
+      by true true e f = first _ _ f
+      by false q e f = v
+      by true false e f = absurd (apart (sym e))
 
 module _ (cells : List CellPlan) where
-  back_true : (c : ℕ) (o : Option Back) (y : Content) → IsTrue y → IsTrue (content_after_back cells c o y)
+  back_true : (c : ℕ) (o : Option Back) (y : Content) → IsTrue (cell_at cells c) y → IsTrue (cell_at cells c) (content_after_back cells c o y)
   back_true c None y t = t
   back_true c (Some b) y t = by (b.cell == c)
     where
-      by : (d : Bool) → IsTrue (if d then effect (cell_at cells c) b.changes y else y)
+      by : (d : Bool) → IsTrue (cell_at cells c) (if d then effect (cell_at cells c) b.changes y else y)
       by true = effect_true (cell_at cells c) b.changes y t
       by false = t
 
-  back_stays : (c : ℕ) (o : Option Back) (y : Content) → HasValue y → HasValue (content_after_back cells c o y)
-  back_stays c None y v = v
-  back_stays c (Some b) y v = by (b.cell == c)
+  -- so it is with what is published: where it may be accessed, it has a value
+  pub accessed-value : (c : ℕ) (h : List Event) → IsTrue (cell_at cells c) (replay cells c h)
+  accessed-value c [] = λ e. absurd (apart (sym e))
+  accessed-value c (e ∷ h) = back_true c (back_of_step h e.step e.line.answer) (replay cells c h) (accessed-value c h)
+
+  -- a plain kind has one where its phase has INITIALIZED
+  pub plain-value : (h : List Event) (c : ℕ) → is_plain (cell_at cells c).kind ≡ true → has (phase_at cells c h) initialized ≡ true → HasValue (replay cells c h)
+  plain-value h c q r = accessed-value c h (soft (is_hard (cell_at cells c).kind) (plain_soft (cell_at cells c).kind q) _)
     where
-      by : (d : Bool) → HasValue (if d then effect (cell_at cells c) b.changes y else y)
-      by true = effect_stays (cell_at cells c) b.changes y v
-      by false = v
+      soft : (b : Bool) → b ≡ false → (z : Bool) → (has (phase_at cells c h) initialized && not (b && z)) ≡ true
+      soft b e z = ap (λ (x : Bool). has (phase_at cells c h) initialized && not (x && z)) e ∙ ap (λ (x : Bool). x && true) r
 
-  -- so it is with what is published
-  replay_true : (c : ℕ) (h : List Event) → IsTrue (replay cells c h)
-  replay_true c [] = λ e. absurd (cc)
-  replay_true c (e ∷ h) = back_true c (back_of_step h e.step e.line.answer) (replay cells c h) (replay_true c h)
+  module _ (h : List Event) (p : ℕ) (legal : IsLegal cells h) where
+    -- a primed kind keeps a value
+    abbrev KeepsPrimed : ℕ → Content → Content → Type 0
+    KeepsPrimed c y z = is_primed (cell_at cells c).kind ≡ true → HasValue y → HasValue z
 
-  replay_stays : (c : ℕ) (e : Event) (h : List Event) → HasValue (replay cells c h) → HasValue (replay cells c (e ∷ h))
-  replay_stays c e h = back_stays c (back_of_step h e.step e.line.answer) (replay cells c h)
+    dropped_stays : (g : ℕ) (x : Guard) → numbered g (guards h) ≡ Some x → HasValue (replay cells x.cell h) → HasValue (effect (cell_at cells x.cell) x.changes (replay cells x.cell h))
+    dropped_stays g x f v = effect_stays (cell_at cells x.cell) x.changes (replay cells x.cell h) (each_found (λ y. y.number == g) IsRunning (guards h) x f (guards-run h)) v
 
-  -- the section of the guard makes a value, or stands on one
-  abbrev StandsOnValue : List Event → Guard → Type 0
-  StandsOnValue h x =
-      ((y : Content) → HasValue (effect (cell_at cells x.cell) x.changes y)) ⊎ ((x.start ≤ length h) × HasValue (replay cells x.cell (before x.start h)))
+    keeps_primed : (d : Deed) (f : Finds cells h p d) → GivesOf cells h p (alone cells h legal) KeepsPrimed d f
+    keeps_primed (Ends (Makes made)) f = λ q v. effect_stays (cell_at cells f.section.cell) (Ran f.section.is_open made ∷ []) (replay cells f.section.cell h) tt v
+    keeps_primed (Ends (Finishes fine left)) f = λ q v. primed_left (cell_at cells f.section.cell) fine left (replay cells f.section.cell h) q f.so v
+    keeps_primed (EndsToRead v) f = λ q w. refl
+    keeps_primed (Drops g) f = λ w q v. dropped_stays g f.guard f.found v
+    keeps_primed (DropsToRead g) f = λ q v. dropped_stays g f.guard f.found v
+    keeps_primed (Visits c chs reads) f = λ q v. subst (λ l. HasValue (effect (cell_at cells c) l (replay cells c h))) (sym f.does) (asked_stays (cell_at cells c) _ f.asked (replay cells c h) v)
+    keeps_primed _ f = tt
 
-  -- what the guard shows has a value
-  record Shows (h : List Event) (x : Guard) : Type 0 where
-    pub reads : x.writes ≡ false → HasValue (replay cells x.cell h)
-    pub writes : x.writes ≡ true → StandsOnValue h x
+    -- ---- what the holder of a write guard sees
 
-  module _ (h : List Event) (e : Event) (legal : IsLegal cells h) where
-    -- what was open shows a value still
-    still : (gs : List Guard) → AllByRecursion (Shows h) gs → AllByRecursion (Shows (e ∷ h)) gs
-    still gs ks = each_mapped (Shows h) (Shows (e ∷ h)) gs (λ x s. record { reads = λ w. replay_stays x.cell e h (s.reads w); writes = λ w. later x (s.writes w) }) ks
+    abbrev Any : Content → Section → Type 0
+    Any y s = Unit {0}
+
+    abbrev Sees : Content → Guard → Type 0
+    Sees y x = x.writes ≡ true → HasValue (effect (cell_at cells x.cell) x.changes y)
+
+    new : (d : Deed) (f : Finds cells h p d) → NewOf cells h p (alone cells h legal) Any Any Sees Sees d f
+    new (Holds c true) f = λ w. accessed-value c h f
+    new (EndsToWrite v) f = λ u w. refl
+    new _ f = tt
+
+    sees_after : (d : Deed) (f : Finds cells h p d) → AllByRecursion (λ x. Sees (replay cells x.cell h) x) (guards h)
+        → AllByRecursion (λ x. Sees (left_at cells h p d x.cell) x) (guards_by (length h) p d (sections h) (guards h))
+    sees_after d f k =
+        guards_say cells h p (alone cells h legal) Any Any Sees Sees d f
+        (record { section = λ s u. u; guard = λ x u. u; beside = λ y x e u w. absurd (apart (sym w ∙ e)); reads = λ y c w. absurd (cc); sets = λ v y x u w. refl; new = new d f })
+        (each_of (λ s. Any (replay cells s.cell h) s) (sections h) (λ s. tt)) k
+
+  -- a primed kind always has a value
+  pub primed-value : (c : ℕ) (h : List Event) → IsLegal cells h → is_primed (cell_at cells c).kind ≡ true → HasValue (replay cells c h)
+  primed-value c [] k q = ap (λ b. is_some (if b then Some (cell_at cells c).prime else None)) q
+  primed-value c (e ∷ h) k q =
+      moves cells h e.step.party (alone cells h k.2) (KeepsPrimed h e.step.party k.2) (deed_of h e.step e.line.answer) (finds cells h e.step e.line k.0) (λ z n r v. v)
+      (keeps_primed h e.step.party k.2 (deed_of h e.step e.line.answer) (finds cells h e.step e.line k.0)) c q (primed-value c h k.2 q)
+
+  -- each holder of a write guard sees a value
+  all_see : (h : List Event) → IsLegal cells h → AllByRecursion (λ x. x.writes ≡ true → HasValue (effect (cell_at cells x.cell) x.changes (replay cells x.cell h))) (guards h)
+  all_see [] k = tt
+  all_see (e ∷ h) k = sees_after h e.step.party k.2 (deed_of h e.step e.line.answer) (finds cells h e.step e.line k.0) (all_see h k.2)
+
+  -- ---- what the holder of a guard to read sees
+
+  abbrev Reads : List Event → Guard → Type 0
+  Reads h x = x.writes ≡ false → HasValue (replay cells x.cell h)
+
+  module _ (h : List Event) (e : Event) (k : IsLegal cells (e ∷ h)) (rs : AllByRecursion (Reads h) (guards h)) where
+    abbrev p : ℕ
+    p = e.step.party
+
+    -- what was open reads a value still
+    still : AllByRecursion (Reads (e ∷ h)) (guards h)
+    still =
+        each_counted (λ x y. reads_cell x.cell y) (Reads h) (Reads (e ∷ h)) (guards h) (guards h) (λ x. omega arith)
+        (λ x n r w. by x (untouched cells h e.step e.line.answer k.2 (deed_of h e.step e.line.answer) (finds cells h e.step e.line k.0) x.cell) (n (rw w (same_number x.cell x.cell refl))) (r w)) rs
       where
-        later : (x : Guard) → StandsOnValue h x → StandsOnValue (e ∷ h) x
-        later x (inl f) = inl f
-        later x (inr (le, v)) = inr (omega (arith, le), subst (λ b. HasValue (replay cells x.cell b)) (sym (before_more x.start e h le)) v)
-
-    -- a guard to read where there is a value
-    reads_here : (c n : ℕ) → HasValue (replay cells c (e ∷ h)) → Shows (e ∷ h) (reader n e.step.party c)
-    reads_here c n v = record { reads = λ w. v; writes = λ w. absurd (cc) }
-
-    -- a guard to write on a value
-    writes_here : (c : ℕ) → HasValue (replay cells c h) → Shows (e ∷ h) (writer (length h) e.step.party c)
-    writes_here c v = record { reads = λ w. absurd (cc); writes = λ w. inr (omega arith, subst (λ b. HasValue (replay cells c b)) (sym (before_more (length h) e h (omega arith) ∙ before_now h)) v) }
+        by : (x : Guard) → (replay cells x.cell (e ∷ h) ≡ replay cells x.cell h) ⊎ (read_guards x.cell h ≡ 0) → 0 < read_guards x.cell h → HasValue (replay cells x.cell h) → HasValue (replay cells x.cell (e ∷ h))
+        by x (inl same) n v = subst HasValue (sym same) v
+        by x (inr none) n v = absurd (omega (arith, none, n))
 
     -- what is given back has a value
-    given : (d : Deed) (b : Back) → deed_of h e.step e.line.answer ≡ d → back_by e.step.party d (sections h) (guards h) ≡ Some b → HasValue (effect (cell_at cells b.cell) b.changes (replay cells b.cell h))
+    given : (d : Deed) (b : Back) → deed_of h e.step e.line.answer ≡ d → back_by p d (sections h) (guards h) ≡ Some b → HasValue (effect (cell_at cells b.cell) b.changes (replay cells b.cell h))
         → HasValue (replay cells b.cell (e ∷ h))
     given d b is back v =
-        subst HasValue (sym (back_here cells b.cell (back_of_step h e.step e.line.answer) b (replay cells b.cell h) (ap (λ z. back_by e.step.party z (sections h) (guards h)) is ∙ back) (same_number b.cell b.cell refl))) v
+        subst HasValue (sym (back_here cells b.cell (back_of_step h e.step e.line.answer) b (replay cells b.cell h) (ap (λ z. back_by p z (sections h) (guards h)) is ∙ back) (same_number b.cell b.cell refl))) v
 
-    module _ (k : AllByRecursion (Shows h) (guards h)) where
-      dropped : (g : ℕ) (x : Guard) → deed_of h e.step e.line.answer ≡ DropsToRead g → numbered g (guards h) ≡ Some x → x.writes ≡ true → Shows (e ∷ h) (reader (length h) e.step.party x.cell)
-      dropped g x is f w =
-          let seen : _ = each_found (λ y. y.number == g) (IsReady cells h) (guards h) x f (sound cells h legal).ready w in
-          reads_here x.cell (length h) (given (DropsToRead g) (record { cell = x.cell; changes = x.changes }) is (ap back_of_guard f ∙ ap (λ b. if b then Some (record { cell = x.cell; changes = x.changes }) else None) w)
-          (effect_true (cell_at cells x.cell) x.changes (replay cells x.cell h) (replay_true x.cell h) seen.0))
+    -- and stays where nothing is
+    stays : (d : Deed) (c : ℕ) → deed_of h e.step e.line.answer ≡ d → back_by p d (sections h) (guards h) ≡ None → HasValue (replay cells c h) → HasValue (replay cells c (e ∷ h))
+    stays d c is none v = subst HasValue (sym (ap (λ z. content_after_back cells c (back_by p z (sections h) (guards h)) (replay cells c h)) is ∙ ap (λ o. content_after_back cells c o (replay cells c h)) none)) v
 
-      -- each guard after the deed
-      shows : (d : Deed) → deed_of h e.step e.line.answer ≡ d → Finds cells h e.step.party d → AllByRecursion (Shows (e ∷ h)) (guards_by (length h) e.step.party d (sections h) (guards h))
-      shows (Holds c false) is f = (reads_here c (length h) (replay_stays c e h (replay_true c h f)), still (guards h) k)
-      shows (Holds c true) is f = (writes_here c (replay_true c h f), still (guards h) k)
-      shows (EndsToRead v) is f =
-          let here : HasValue (replay cells f.section.cell (e ∷ h)) =
-          given (EndsToRead v) (record { cell = f.section.cell; changes = change_of (Makes (Some v)) f.section ∷ [] }) is (ap (back_of_section (Makes (Some v))) f.found) refl in
-          subst (λ o. AllByRecursion (Shows (e ∷ h)) (reader_made (length h) e.step.party o (guards h))) (sym f.found) (reads_here f.section.cell (length h) here, still (guards h) k)
-      shows (EndsToWrite v) is f =
-          subst (λ o. AllByRecursion (Shows (e ∷ h)) (writer_made (length h) e.step.party v o (guards h))) (sym f.found)
-          (record { reads = λ w. absurd (cc); writes = λ w. inl (λ y. refl) }, still (guards h) k)
-      shows (Drops g) is f = each_removed (Shows (e ∷ h)) g (guards h) (still (guards h) k)
-      shows (DropsToRead g) is f =
-          subst (λ o. AllByRecursion (Shows (e ∷ h)) (reader_beside (length h) e.step.party o (without_guard g (guards h)))) (sym f.found)
-          (dropped g f.guard is f.found f.way, each_removed (Shows (e ∷ h)) g (guards h) (still (guards h) k))
-      shows (Beside g) is f =
-          let here : HasValue (replay cells f.guard.cell (e ∷ h)) =
-          replay_stays f.guard.cell e h ((each_found (λ y. y.number == g) (Shows h) (guards h) f.guard f.found k).reads f.way) in
-          subst (λ o. AllByRecursion (Shows (e ∷ h)) (reader_beside (length h) e.step.party o (guards h))) (sym f.found) (reads_here f.guard.cell (length h) here, still (guards h) k)
-      shows (Puts g v) is f = each_put (Shows (e ∷ h)) g v (guards h) (λ y s. record { reads = s.reads; writes = λ z. inl (λ u. refl) }) (still (guards h) k)
-      shows d is f = still (guards h) k
+    -- each guard after the deed
+    reads : (d : Deed) → deed_of h e.step e.line.answer ≡ d → Finds cells h p d → AllByRecursion (Reads (e ∷ h)) (guards_by (length h) p d (sections h) (guards h))
+    reads (Holds c false) is f = ((λ w. stays (Holds c false) c is refl (accessed-value c h f)), still)
+    reads (Holds c true) is f = ((λ w. absurd (cc)), still)
+    reads (Visits c chs true) is f = ((λ w. primed-value c (e ∷ h) k (errs-primed cells h e c chs k is)), still)
+    reads (Visits c chs false) is f = still
+    reads (EndsToRead v) is f =
+        let here : HasValue (replay cells f.section.cell (e ∷ h)) =
+        given (EndsToRead v) (record { cell = f.section.cell; changes = change_of (Makes (Some v)) f.section ∷ [] }) is (ap (back_of_section (Makes (Some v))) f.found) refl in
+        subst (λ o. AllByRecursion (Reads (e ∷ h)) (reader_made (length h) p o (guards h))) (sym f.found) ((λ w. here), still)
+    reads (EndsToWrite v) is f = subst (λ o. AllByRecursion (Reads (e ∷ h)) (writer_made (length h) p v o (guards h))) (sym f.found) ((λ w. absurd (cc)), still)
+    reads (Drops g) is f = each_removed (Reads (e ∷ h)) g (guards h) still
+    reads (DropsToRead g) is f =
+        let here : HasValue (replay cells f.guard.cell (e ∷ h)) =
+        given (DropsToRead g) (record { cell = f.guard.cell; changes = f.guard.changes }) is (ap back_of_guard f.found ∙ ap (λ b. if b then Some (record { cell = f.guard.cell; changes = f.guard.changes }) else None) f.way)
+        (each_found (λ y. y.number == g) (λ x. x.writes ≡ true → HasValue (effect (cell_at cells x.cell) x.changes (replay cells x.cell h))) (guards h) f.guard f.found (all_see h k.2) f.way) in
+        subst (λ o. AllByRecursion (Reads (e ∷ h)) (reader_beside (length h) p o (without_guard g (guards h)))) (sym f.found) ((λ w. here), each_removed (Reads (e ∷ h)) g (guards h) still)
+    reads (Beside g) is f =
+        let here : HasValue (replay cells f.guard.cell (e ∷ h)) = each_found (λ y. y.number == g) (Reads (e ∷ h)) (guards h) f.guard f.found still f.way in
+        subst (λ o. AllByRecursion (Reads (e ∷ h)) (reader_beside (length h) p o (guards h))) (sym f.found) ((λ w. here), still)
+    reads (Puts g v) is f = each_put (Reads (e ∷ h)) g v (guards h) (λ x r. r) still
+    reads d is f = still
 
-  all_show : (h : List Event) → IsLegal cells h → AllByRecursion (Shows h) (guards h)
-  all_show [] k = tt
-  all_show (e ∷ h) k = shows h e k.2 (all_show h k.2) (deed_of h e.step e.line.answer) refl (finds cells h e.step e.line k.0)
+  all_read : (h : List Event) → IsLegal cells h → AllByRecursion (Reads h) (guards h)
+  all_read [] k = tt
+  all_read (e ∷ h) k = reads h e k (all_read h k.2) (deed_of h e.step e.line.answer) refl (finds cells h e.step e.line k.0)
 
   -- what an open guard shows has a value
   pub shown-value : (h : List Event) (g : ℕ) (x : Guard) → IsLegal cells h → numbered g (guards h) ≡ Some x → is_some (if x.writes then inside cells h x else replay cells x.cell h).value ≡ true
   shown-value h g x legal f = by x.writes refl
     where
-      s : Shows h x
-      s = each_found (λ y. y.number == g) (Shows h) (guards h) x f (all_show h legal)
-
-      within : StandsOnValue h x → HasValue (inside cells h x)
-      within (inl v) = v (replay cells x.cell (before x.start h))
-      within (inr (le, v)) = effect_stays (cell_at cells x.cell) x.changes (replay cells x.cell (before x.start h)) v
-
       by : (b : Bool) → x.writes ≡ b → HasValue (if b then inside cells h x else replay cells x.cell h)
-      by true w = within (s.writes w)
-      by false w = s.reads w
+      by true w =
+          subst HasValue (sym (guard-shows cells h g x legal f w))
+          (each_found (λ y. y.number == g) (λ x. x.writes ≡ true → HasValue (effect (cell_at cells x.cell) x.changes (replay cells x.cell h))) (guards h) x f (all_see h legal) w)
+      by false w = each_found (λ y. y.number == g) (Reads h) (guards h) x f (all_read h legal) w
+
+  -- ---- lines that show a value
+
+  module _ (h : List Event) (p : ℕ) (legal : IsLegal cells h) where
+    -- a step of the party that is answered by a value shows one that is there
+    abbrev Showing : Act → Answer → Type 0
+    Showing a (answer.Value v) = ShowsValue cells h (step cells h p a) v
+    Showing a _ = Unit {0}
+
+    opened : (a : Act) (c : ℕ) (k : Call) → Calling cells h p a c k → Reach cells h p c true → (f : Form) → Showing a (answer_opened f (replay cells c h))
+    opened a c k t e (Told tests) = tt
+    opened a c k t e Shown = inl (record { cell = c; call = k; tried = t.tried; reached = e; value = shown_so (replay cells c h).value (accessed-value c h e) })
+    opened a c k t e (Held true falls_back) = tt
+    opened a c k t e (Held false falls_back) = tt
+
+    denied : (a : Act) (f : Form) (q : ℕ) → Showing a (answer_denied f q)
+    denied a (Told true) q = tt
+    denied a (Told false) q = tt
+    denied a Shown q = tt
+    denied a (Held writes true) q = tt
+    denied a (Held writes false) q = tt
+
+    made : (v : ℕ) (f : Form) (q : ℕ) → Showing (act.Made v) (answer_made f v q)
+    made v (Told tests) q = tt
+    made v Shown q = inr (inr refl)
+    made v (Held true falls_back) q = tt
+    made v (Held false falls_back) q = tt
+
+    shows : Cases cells h p Showing
+    shows = record {
+      cyclic = λ a c k t. tt;
+      waiting = λ a c w way t. tt;
+      missed = λ a c w f t. tt;
+      owned = λ a c w o t. tt;
+      opened = λ a c k t q e. opened a c k t e (form_at cells h p c k);
+      denied = λ a c k t q e. denied a (form_at cells h p c k) (phase_at cells c h);
+      running = λ a c k t q. tt;
+      declined = λ a c k t q. denied a (form_at cells h p c k) flags_refused;
+      skipped = λ a c t q. tt;
+      finalizing = λ a c t q u. tt;
+      round = λ c cs e n. tt;
+      closed = λ e n. tt;
+      made = λ v t k g. made v (form_at cells h p t.cell k) (phase_made cells h t);
+      failed = λ t k g. tt;
+      finished = λ fine left t g. tt;
+      looked = λ g x f. inr (inl (record { number = g; guard = x; looks = refl; found = f; value = shown_so _ (shown-value h g x legal f) }));
+      set = λ g v x f w. tt;
+      released = λ g x f. tt;
+      downgraded = λ g x f w. tt;
+      borrowed = λ g x f w. tt;
+      cloned = λ g x f w. tt;
+    }
+
+  -- a legal line that shows a value shows one that is there
+  pub value-shown : (h : List Event) (s : Step) (l : Line) (v : ℕ) → IsLegal cells h → IsLegalLine cells h s l → l.answer ≡ answer.Value v → ShowsValue cells h s v
+  value-shown h s l v legal k e = subst (Showing h s.party legal s.act) e (of_legal cells h s l k (Showing h s.party legal) (λ a r. tt) (shows h s.party legal))

@@ -1,72 +1,177 @@
--- A call that waits wants a lock: it is no call for the phase.
-use Rattle.std.proofs.Common.{◌≡◌, ◌≢◌, ℕ, List, [], ◌∷◌, refl, sym, ◌∙◌, ap, subst, arith, Bool, true, false, ◌&&◌, None, Some}
-use Rattle.std.specs.Prelude.{◌==◌, is_none}
+-- What waits: a call for a lock or a turn, which is not fast, at a cell of no party's own, whose kind has the call.
+use Rattle.std.proofs.Common.{◌≡◌, ℕ, List, refl, sym, ◌∙◌, ap, subst, arith, Bool, true, false, not, None, Some}
+use Rattle.std.specs.Prelude.{◌==◌, is_none, is_some}
+use Rattle.std.specs.List.{find}
 use Rattle.std.specs.declared.option.Option.{Option}
-use Rattle.phase_locker.specs.declared.ways.Given.{Given}
-use Rattle.phase_locker.specs.declared.ways.How.{How}
-use Rattle.schedule_rules.specs.declared.plan.Call.TheVariants as call
+use Rattle.exit_registry.specs.Registry.{first_of}
+use Rattle.phase_seq.specs.declared.ask.Want.{Want as Sought}
+use Rattle.lazy_cells.specs.Calls.{asking, has_call}
+use Rattle.lazy_cells.specs.declared.call.Call.{Call}
 use Rattle.schedule_rules.specs.declared.plan.CellPlan.{CellPlan}
+use Rattle.schedule_rules.specs.declared.step.Act.{Act}
+use Rattle.schedule_rules.specs.declared.step.Act.TheVariants as act
 use Rattle.schedule_rules.specs.declared.step.Step.{Step}
-use Rattle.schedule_rules.specs.declared.step.Want.TheVariants.{Calls}
+use Rattle.schedule_rules.specs.declared.step.Want.TheVariants.{Calls, Turns}
 use Rattle.schedule_rules.specs.declared.line.Line.{Line}
-use Rattle.schedule_rules.specs.declared.line.Answer.{Answer}
 use Rattle.schedule_rules.specs.declared.line.Answer.TheVariants as answer
-use Rattle.schedule_rules.specs.Kinds.{tolerance_at}
-use Rattle.schedule_rules.specs.Calls.{lock_wanted}
-use Rattle.schedule_rules.specs.History.{Event}
-use Rattle.schedule_rules.specs.Waits.{Attempt, attempt_of_wait, attempt, Wait, wait_of, without_wait, with_wait, waits_given_with, waits_answered, waits}
+use Rattle.schedule_rules.specs.declared.line.Refusal.{Refusal}
+use Rattle.schedule_rules.specs.declared.line.Refusal.TheVariants as refused
+use Rattle.schedule_rules.specs.Kinds.{cell_at, tolerance_at, is_of_other, is_owned}
+use Rattle.schedule_rules.specs.Calls.{seeks, is_fast, lock_asked}
+use Rattle.schedule_rules.specs.History.{Event, count}
+use Rattle.schedule_rules.specs.Exits.{registry}
+use Rattle.schedule_rules.specs.Waits.{Attempt, attempt_of_wait, attempt_of_turn, attempt_with, attempt, Wait, wait_of, waits}
 use Rattle.schedule_rules.specs.Holds.{holding_with, is_barred}
-use Rattle.schedule_rules.specs.Refusals.{refusal}
-use Rattle.schedule_rules.specs.Legal.{IsLegal, IsLegalLine}
-use Rattle.schedule_rules.specs.Causes.{is_waiting, is_attempted, is_barred_attempt, waits_judged, phase_met}
-use Rattle.schedule_rules.proofs.Facts.{second, apart}
-use Rattle.schedule_rules.proofs.GoesOn.{attempt_given}
-use Rattle.schedule_rules.proofs.Opened.{wait_removed, wait_kept}
-use Rattle.schedule_rules.proofs.Waiting.{waits_where_barred}
+use Rattle.schedule_rules.specs.Refusals.{refusal, refusal_by, no_call}
+use Rattle.schedule_rules.specs.Legal.{IsLegal, IsLegalLine, answer_of, due_at}
+use Rattle.schedule_rules.specs.Laws.{ChangesNothing}
+use Rattle.schedule_rules.specs.Causes.{is_waiting, is_attempted, is_made_to_wait, waits_judged, phase_met}
+use Rattle.schedule_rules.proofs.Facts.{first, second, apart, same_number}
+use Rattle.schedule_rules.proofs.Found.{found_passes, only_one, none_counted}
+use Rattle.schedule_rules.proofs.Counts.{one-wait}
+use Rattle.schedule_rules.proofs.GoesOn.{Of, waiting, waits_so}
+use Rattle.schedule_rules.proofs.Causes.{waits_where_barred}
 
--- what is attempted wants a lock
-abbrev WantsLock : Option Attempt → Type 0
-WantsLock None = Unit {0}
-WantsLock (Some a) = a.want ≢ Calls call.Phase
+-- what waits is so, where whatever a step attempts is so that waits by it
+each_waits : (cells : List CellPlan) (T : Attempt → Type 0)
+    → ((h : List Event) (s : Step) (l : Line) → IsLegalLine cells h s l → is_waiting l.answer ≡ true → Of T (waiting cells h s.party) → Of T (attempt cells h s))
+    → (h : List Event) (p : ℕ) → IsLegal cells h → Of T (waiting cells h p)
+each_waits cells T f =
+    waits_so cells (IsLegal cells) (λ e h l. l.2) (λ h p. T) (record {
+      other = λ h e p a l is t. t;
+      refused = λ h e p a r is t. t;
+      now = λ h e way l is t. f h e.step e.line l.0 (ap is_waiting is) t;
+    })
+
+-- what a step that waits is, by its cause
+abbrev Waits : List CellPlan → Attempt → Type 0
+Waits cells a = (is_some (seeks (cell_at cells a.cell).kind a.want) ≡ true) × (is_fast a.want ≡ false) × (is_owned (cell_at cells a.cell).place ≡ false)
 
 module _ (cells : List CellPlan) where
-  module _ (h : List Event) (s : Step) (g : Given) (p : ℕ) (IH : WantsLock (attempt_of_wait (wait_of p (waits cells h)))) where
-    left_over : (b : Bool) → (s.party == p) ≡ b → WantsLock (attempt_of_wait (wait_of p (waits_given_with cells (waits cells h) h s g (without_wait s.party (waits cells h)))))
-    left_over true is = rw (attempt_given cells (waits cells h) h s g p (without_wait s.party (waits cells h))) (rw (own is) (rw (wait_removed p (waits cells h)) tt))
-      where
-        own : (s.party == p) ≡ true → s.party ≡ p
-        own e = grind arith
-    left_over false is = rw (attempt_given cells (waits cells h) h s g p (without_wait s.party (waits cells h))) (rw (wait_kept s.party p (waits cells h) (other is)) IH)
-      where
-        other : (s.party == p) ≡ false → p ≢ s.party
-        other e = grind arith
-
-    again : (way : How) (b : Bool) → (s.party == p) ≡ b → (o : Option Attempt) → WantsLock o
-        → WantsLock (attempt_of_wait (wait_of p (with_wait s.party way o (waits_given_with cells (waits cells h) h s g (without_wait s.party (waits cells h))))))
-    again way b is None now = left_over b is
-    again way false is (Some a) now = rw is (left_over false is)
-    again way true is (Some a) now = rw is now
-
-    after : (r : Answer) → (is_waiting r ≡ true → WantsLock (attempt cells h s)) → WantsLock (attempt_of_wait (wait_of p (waits_answered cells h s g r (waits cells h))))
-    after (answer.Refused q) now = IH
-    after (answer.Waiting way) now = again way (s.party == p) refl (attempt cells h s) (now refl)
-    after _ now = left_over (s.party == p) refl
-
-  -- a step that waits is barred
-  barred : (h : List Event) (s : Step) (l : Line) → IsLegalLine cells h s l → is_waiting l.answer ≡ true → WantsLock (attempt cells h s)
+  barred : (h : List Event) (s : Step) (l : Line) → IsLegalLine cells h s l → is_waiting l.answer ≡ true → Of (Waits cells) (attempt cells h s)
   barred h s l k w = by (attempt cells h s) (second (is_none (refusal cells h s)) _ (sym (waits_where_barred cells h s l k) ∙ w))
     where
-      last : (x y z : Bool) → (x && (y && z)) ≡ true → z ≡ true
-      last x y z e = second y z (second x (y && z) e)
+      not_so : (b : Bool) → not b ≡ true → b ≡ false
+      not_so true e = absurd (apart (sym e))
+      not_so false e = refl
 
-      by : (o : Option Attempt) → is_attempted (is_barred_attempt cells h s.party (waits_judged cells k.moment h s l.given)) o ≡ true → WantsLock o
+      sought : (a : Attempt) (o : Option Sought) (x : _) → is_barred (lock_asked (asking o (is_fast a.want) (tolerance_at cells a.cell)) (phase_met cells h s.party a)) x ≡ true → is_some o ≡ true
+      sought a None x e = absurd (apart (sym e))
+      sought a (Some u) x e = refl
+
+      by : (o : Option Attempt) → is_attempted (is_made_to_wait cells h s.party (waits_judged cells k.moment h s l.given)) o ≡ true → Of (Waits cells) o
       by None f = tt
-      by (Some a) f = λ e. apart (sym (last _ _ _ f) ∙ ap (λ w. is_barred (lock_wanted (tolerance_at cells a.cell) w (phase_met cells h s.party a)) (holding_with a.cell h (waits_judged cells k.moment h s l.given))) e)
+      by (Some a) f =
+          let ways : _ = second _ _ f in (
+            sought a (seeks (cell_at cells a.cell).kind a.want) (holding_with a.cell h (waits_judged cells k.moment h s l.given)) (second _ _ (second _ _ (first _ _ f))),
+            not_so _ (first _ _ ways),
+            not_so _ (second _ _ ways),
+          )
 
-  wants-lock : (h : List Event) (p : ℕ) → IsLegal cells h → WantsLock (attempt_of_wait (wait_of p (waits cells h)))
-  wants-lock [] p k = tt
-  wants-lock (e ∷ h) p k = after h e.step e.line.given p (wants-lock h p k.2) e.line.answer (barred h e.step e.line k.0)
+  waits-so : (h : List Event) (p : ℕ) (w : Wait) → IsLegal cells h → wait_of p (waits cells h) ≡ Some w → Waits cells (record { cell = w.cell; want = w.want })
+  waits-so h p w k f = subst (λ o. Of (Waits cells) (attempt_of_wait o)) f (each_waits cells (Waits cells) (λ h s l k w i. barred h s l k w) h p k)
 
-  -- so a call that waits is no call for the phase
-  pub waiting-no-phase : (h : List Event) (p : ℕ) (w : Wait) → IsLegal cells h → wait_of p (waits cells h) ≡ Some w → w.want ≢ Calls call.Phase
-  waiting-no-phase h p w k f = subst (λ o. WantsLock (attempt_of_wait o)) f (wants-lock h p k)
+  -- what waits asks for a lock
+  pub waiting-asks : (h : List Event) (p : ℕ) (w : Wait) → IsLegal cells h → wait_of p (waits cells h) ≡ Some w → is_some (seeks (cell_at cells w.cell).kind w.want) ≡ true
+  waiting-asks h p w k f = (waits-so h p w k f).0
+
+  -- is not fast
+  pub waiting-slow : (h : List Event) (p : ℕ) (w : Wait) → IsLegal cells h → wait_of p (waits cells h) ≡ Some w → is_fast w.want ≡ false
+  waiting-slow h p w k f = (waits-so h p w k f).1
+
+  -- and is at a cell of no party's own
+  pub waiting-shared : (h : List Event) (p : ℕ) (w : Wait) → IsLegal cells h → wait_of p (waits cells h) ≡ Some w → is_owned (cell_at cells w.cell).place ≡ false
+  waiting-shared h p w k f = (waits-so h p w k f).2
+
+  -- ---- the kind of its cell has the call
+
+  abbrev HasCall : Attempt → Type 0
+  HasCall a = (k : Call) → a.want ≡ Calls k → has_call (cell_at cells a.cell).kind k ≡ true
+
+  turns_not : (k : Call) → Turns ≡ Calls k → ⊥
+  turns_not k e = cc
+
+  -- so where a step is not refused
+  allowed : (h : List Event) (s : Step) → refusal cells h s ≡ None → Of HasCall (waiting cells h s.party) → Of HasCall (attempt cells h s)
+  allowed h s n IH = by s.act (wait_of s.party (waits cells h)) refl n
+    where
+      has : (b d : Bool) → no_call b d ≡ None → d ≡ true
+      has true d e = absurd (cc)
+      has false false e = absurd (cc)
+      has false true e = refl
+
+      turned : (o : Option ℕ) → Of HasCall (attempt_of_turn o)
+      turned None = tt
+      turned (Some c) = λ k e. absurd (turns_not k e)
+
+      by : (a : Act) (o : Option Wait) → wait_of s.party (waits cells h) ≡ o → refusal_by cells (is_some o) h s.party a ≡ None → Of HasCall (attempt_with cells (waits cells h) h s.party a)
+      by (act.Call c k) None e f = λ j d. same k j d (has (is_of_other (cell_at cells c).place s.party) (has_call (cell_at cells c).kind k) f)
+        where
+          same : (k j : Call) → Calls k ≡ Calls j → has_call (cell_at cells c).kind k ≡ true → has_call (cell_at cells c).kind j ≡ true
+          same k j d e = let is : k ≡ j = cc in subst (λ i. has_call (cell_at cells c).kind i ≡ true) is e
+      by (act.Call c k) (Some w) e f = absurd (cc)
+      by act.Again o e f = IH
+      by act.Exit o e f = turned (first_of (registry cells h).left)
+      by _ o e f = tt
+
+  -- what waits is a call that the kind of its cell has
+  has-waiting : (h : List Event) (p : ℕ) → IsLegal cells h → Of HasCall (waiting cells h p)
+  has-waiting h p k = each_waits cells HasCall (λ h s l m w IH. allowed h s (unrefused h s l m w) IH) h p k
+    where
+      unrefused : (h : List Event) (s : Step) (l : Line) → IsLegalLine cells h s l → is_waiting l.answer ≡ true → refusal cells h s ≡ None
+      unrefused h s l m w = none (refusal cells h s) (first (is_none (refusal cells h s)) _ (sym (waits_where_barred cells h s l m) ∙ w))
+        where
+          none : (o : Option Refusal) → is_none o ≡ true → o ≡ None
+          none None e = refl
+          none (Some r) e = absurd (cc)
+
+  -- so is what a step attempts that is not refused
+  pub attempted-has : (h : List Event) (s : Step) (c : ℕ) (k : Call) → IsLegal cells h → refusal cells h s ≡ None → attempt cells h s ≡ Some (record { cell = c; want = Calls k })
+      → has_call (cell_at cells c).kind k ≡ true
+  attempted-has h s c k legal n e = subst (Of HasCall) e (allowed h s n (has-waiting h s.party legal)) k refl
+
+  -- and what waits is a call that its kind has
+  pub waiting-has : (h : List Event) (p : ℕ) (w : Wait) (k : Call) → IsLegal cells h → wait_of p (waits cells h) ≡ Some w → w.want ≡ Calls k → has_call (cell_at cells w.cell).kind k ≡ true
+  waiting-has h p w k legal f e = subst (λ o. Of HasCall (attempt_of_wait o)) f (has-waiting h p legal) k e
+
+  -- ---- cells of a party's own
+
+  -- nothing waits there
+  pub owned-never-waits : (h : List Event) (c : ℕ) → IsLegal cells h → is_owned (cell_at cells c).place ≡ true → count (λ w. w.cell == c) (waits cells h) ≡ 0
+  owned-never-waits h c legal o = by (find (λ w. w.cell == c) (waits cells h)) refl
+    where
+      by : (x : Option Wait) → find (λ w. w.cell == c) (waits cells h) ≡ x → count (λ w. w.cell == c) (waits cells h) ≡ 0
+      by None f = none_counted (λ w. w.cell == c) (waits cells h) f
+      by (Some w) f =
+          let here : (w.cell == c) ≡ true = found_passes (λ v. v.cell == c) (waits cells h) w f in
+          let at : w.cell ≡ c = grind arith in
+          let own : wait_of w.party (waits cells h) ≡ Some w = only_one (λ v. v.cell == c) (λ v. v.party == w.party) (waits cells h) w f (same_number w.party w.party refl) (one-wait cells w.party h) in
+          absurd (apart (sym o ∙ ap (λ z. is_owned (cell_at cells z).place) (sym at) ∙ waiting-shared h w.party w legal own))
+
+  -- a call on it by another party that does not wait is refused, and changes nothing
+  pub other-refused : (h : List Event) (s : Step) (l : Line) (c : ℕ) (k : Call) → IsLegalLine cells h s l → s.act ≡ act.Call c k → is_of_other (cell_at cells c).place s.party ≡ true
+      → is_none (wait_of s.party (waits cells h)) ≡ true → (l.answer ≡ answer.Refused refused.NotOwner) × ChangesNothing cells h (record { step = s; line = l })
+  other-refused h s l c k m e o n =
+      (answered, subst (λ r. ChangesNothing cells h (record { step = s; line = record { answer = r; given = l.given } })) (sym answered) nothing)
+    where
+      none : (x : Option Wait) → is_none x ≡ true → refusal_by cells (is_some x) h s.party (act.Call c k) ≡ Some refused.NotOwner
+      none None f = ap (λ b. no_call b (has_call (cell_at cells c).kind k)) o
+      none (Some w) f = absurd (cc)
+
+      refuses : refusal cells h s ≡ Some refused.NotOwner
+      refuses = ap (refusal_by cells (is_some (wait_of s.party (waits cells h))) h s.party) e ∙ none (wait_of s.party (waits cells h)) n
+
+      answered : l.answer ≡ answer.Refused refused.NotOwner
+      answered = m.answered ∙ ap (λ r. answer_of r (due_at cells m.moment h s l.given m.chosen)) refuses
+
+      nothing : ChangesNothing cells h (record { step = s; line = record { answer = answer.Refused refused.NotOwner; given = l.given } })
+      nothing = record {
+        sections_stay = refl;
+        guards_stay = refl;
+        waits_stay = refl;
+        published_stays = λ z. refl;
+        registry_stays = refl;
+        closing_stays = refl;
+        owner_stays = refl;
+        turns_stay = refl;
+      }

@@ -1,5 +1,5 @@
 -- Which answers a step gets, by their causes.
-use Rattle.std.specs.Prelude.{ℕ, Bool, true, false, not, List, ◌==◌, ◌&&◌, length, is_none, if◌then◌else◌}
+use Rattle.std.specs.Prelude.{ℕ, Bool, true, false, not, List, ◌==◌, ◌&&◌, ◌||◌, length, is_none, if◌then◌else◌}
 use Rattle.std.specs.declared.option.Option.{Option}
 use Rattle.std.specs.declared.option.Option.TheVariants.{None, Some}
 use Rattle.exit_registry.specs.Registry.{is_empty, first_of}
@@ -13,9 +13,14 @@ use Rattle.schedule_rules.specs.declared.step.Act.TheVariants as act
 use Rattle.schedule_rules.specs.declared.step.Step.{Step}
 use Rattle.schedule_rules.specs.declared.line.Answer.{Answer}
 use Rattle.schedule_rules.specs.declared.line.Answer.TheVariants as answer
-use Rattle.schedule_rules.specs.Kinds.{cell_at, tolerance_at}
+use Rattle.schedule_rules.specs.Kinds.{cell_at, tolerance_at, is_owned}
 use Rattle.schedule_rules.specs.Phases.{is_accessible, runs_generator}
-use Rattle.schedule_rules.specs.Calls.{lock_wanted, asks, initializes}
+use Rattle.phase_seq.specs.Phases.{flags_refused}
+use Rattle.lazy_cells.specs.declared.kind.Kind.{Kind}
+use Rattle.schedule_rules.specs.declared.step.Want.{Want}
+use Rattle.schedule_rules.specs.declared.step.Want.TheVariants.{Calls, Turns}
+use Rattle.schedule_rules.specs.Forms.{form_of, denies}
+use Rattle.schedule_rules.specs.Calls.{lock_wanted, asks, initializes, is_fast}
 use Rattle.schedule_rules.specs.History.{Event, is_exit, accepts}
 use Rattle.schedule_rules.specs.Sections.{is_turn, runs}
 use Rattle.schedule_rules.specs.Guards.{Guard, numbered, guards}
@@ -34,10 +39,15 @@ abbrev pub is_waiting : Answer → Bool
 is_waiting (answer.Waiting way) = true
 is_waiting _ = false
 
--- a clone is barred
+-- a clone is barred, or a call on a cell of the party's own
 abbrev pub is_borrowed : Answer → Bool
 is_borrowed answer.Borrowed = true
 is_borrowed _ = false
+
+-- a fast call is barred
+abbrev pub is_missed : Answer → Bool
+is_missed answer.Missed = true
+is_missed _ = false
 
 -- a generator failed
 abbrev pub is_failed : Answer → Bool
@@ -86,16 +96,15 @@ is_failure _ = false
 
 -- ---- what is attempted
 
--- a lock is wanted
-abbrev pub is_lock : LockNature → Bool
-is_lock nature.None = false
-is_lock nature.Read = true
-is_lock nature.Write = true
-
 -- something is attempted, and it passes this test
 abbrev pub is_attempted : (Attempt → Bool) → Option Attempt → Bool
 is_attempted t None = false
 is_attempted t (Some a) = t a
+
+-- a call that is told where the value may not be accessed. A turn is not
+abbrev pub want_denies : Kind → Want → Bool
+want_denies q (Calls k) = denies (form_of q k)
+want_denies q Turns = false
 
 module _ (cells : List CellPlan) where
   -- the calls of others that wait when the rule of the step is judged: after a gift of the first moment
@@ -114,11 +123,11 @@ module _ (cells : List CellPlan) where
 
     -- it asks for a run of the generator that its own party runs
     abbrev pub is_of_own_run : Attempt → Bool
-    is_of_own_run a = initializes a.want && runs p a.cell h
+    is_of_own_run a = initializes (cell_at cells a.cell).kind a.want && runs p a.cell h
 
     -- a run is asked
     abbrev pub asks_run : Attempt → Bool
-    asks_run a = asks (tolerance_at cells a.cell) a.want (phase_met a)
+    asks_run a = asks (cell_at cells a.cell).kind (tolerance_at cells a.cell) a.want (phase_met a)
 
     -- a run that is asked runs the generator
     abbrev pub generates : Attempt → Bool
@@ -126,12 +135,16 @@ module _ (cells : List CellPlan) where
 
     -- the lock that it wants
     abbrev pub lock_met : Attempt → LockNature
-    lock_met a = lock_wanted (tolerance_at cells a.cell) a.want (phase_met a)
+    lock_met a = lock_wanted (cell_at cells a.cell).kind (tolerance_at cells a.cell) a.want (phase_met a)
 
-    -- a call that wants a lock, and the value may not be accessed
+    -- the phase of the cell after a call that runs nothing: where it asks for a run, it is declined
+    abbrev pub phase_left : Attempt → ℕ
+    phase_left a = if asks_run a then flags_refused else phase_met a
+
+    -- a call that is told where the value may not be accessed, and it may not
     abbrev pub is_kept_out : Attempt → Bool
     is_kept_out a =
-        not (is_turn a.want) && (is_lock (lock_met a) && not (is_accessible (cell_at cells a.cell).kind (phase_met a)))
+        want_denies (cell_at cells a.cell).kind a.want && not (is_accessible (cell_at cells a.cell).kind (phase_left a))
 
     -- ---- where these calls of others wait
     module _ (ws : List Wait) where
@@ -149,9 +162,21 @@ module _ (cells : List CellPlan) where
       abbrev pub is_run : Attempt → Bool
       is_run a = is_admitted a && (asks_run a && generates a)
 
-      -- it is admitted, and asks for a run that runs no generator, or asks for none and is kept out
+      -- it is admitted, runs nothing and is kept out
       abbrev pub is_turned_away : Attempt → Bool
-      is_turned_away a = is_admitted a && (if asks_run a then not (generates a) else is_kept_out a)
+      is_turned_away a = is_admitted a && (not (asks_run a && generates a) && is_kept_out a)
+
+      -- it is barred, and waits: it is not fast, and its cell is not the party's own
+      abbrev pub is_made_to_wait : Attempt → Bool
+      is_made_to_wait a = is_barred_attempt a && (not (is_fast a.want) && not (is_owned (cell_at cells a.cell).place))
+
+      -- it is barred, and fast
+      abbrev pub is_made_to_miss : Attempt → Bool
+      is_made_to_miss a = is_barred_attempt a && is_fast a.want
+
+      -- it is barred, and not fast, at a cell of the party's own
+      abbrev pub is_made_to_borrow : Attempt → Bool
+      is_made_to_borrow a = is_barred_attempt a && (not (is_fast a.want) && is_owned (cell_at cells a.cell).place)
 
       -- it is admitted, and is the turn of this cell, whose value is there, or is not
       abbrev pub is_turn_where : ℕ → Bool → Attempt → Bool
@@ -162,7 +187,11 @@ module _ (cells : List CellPlan) where
 
   -- its call or its turn waits
   abbrev pub is_barred_step : List Event → Step → Given → Moment → Bool
-  is_barred_step h s g m = is_step_of (is_barred_attempt h s.party (waits_judged m h s g)) h s
+  is_barred_step h s g m = is_step_of (is_made_to_wait h s.party (waits_judged m h s g)) h s
+
+  -- its call is fast, and barred
+  abbrev pub is_missing_step : List Event → Step → Given → Moment → Bool
+  is_missing_step h s g m = is_step_of (is_made_to_miss h s.party (waits_judged m h s g)) h s
 
   -- its call begins a run
   abbrev pub is_running_step : List Event → Step → Given → Moment → Bool
@@ -202,6 +231,8 @@ module _ (cells : List CellPlan) where
   is_barred_clone h (act.Clone g) ws = is_barred_beside h (numbered g (guards h)) ws
   is_barred_clone h _ ws = false
 
-  -- the step is a clone that is not refused, and it is barred
+  -- the step is not refused, and is a clone that is barred, or a call that is barred at a cell of the party's own
   abbrev pub is_borrowing_step : List Event → Step → Given → Moment → Bool
-  is_borrowing_step h s g m = is_none (refusal cells h s) && is_barred_clone h s.act (waits_judged m h s g)
+  is_borrowing_step h s g m =
+      (is_none (refusal cells h s) && is_barred_clone h s.act (waits_judged m h s g))
+      || is_step_of (is_made_to_borrow h s.party (waits_judged m h s g)) h s

@@ -2,7 +2,7 @@
 -- folds of the deed of each event.
 use Rattle.std.specs.Prelude.{ℕ, Bool, true, false, List, [], ◌∷◌}
 use Rattle.std.specs.declared.option.Option.{Option}
-use Rattle.std.specs.declared.option.Option.TheVariants.{None}
+use Rattle.std.specs.declared.option.Option.TheVariants.{None, Some}
 use Rattle.schedule_rules.specs.declared.step.Act.{Act}
 use Rattle.schedule_rules.specs.declared.step.Act.TheVariants as act
 use Rattle.schedule_rules.specs.declared.step.Want.{Want}
@@ -14,7 +14,7 @@ use Rattle.schedule_rules.specs.Changes.{Change, Asked}
 -- how a section ends
 pub data Ending : Type 0 where
   Makes : (made : Option ℕ) → Ending  -- its generator ended, with a value or failing
-  Finishes : (fine : Bool) → Ending  -- its finalizer ended
+  Finishes : (fine : Bool) (left : Option ℕ) → Ending  -- its finalizer ended, and left a value or none
 
 -- what a party does in a step. A guard that it gets has the number of the step
 pub data Deed : Type 0 where
@@ -28,7 +28,7 @@ pub data Deed : Type 0 where
   DropsToRead : (g : ℕ) → Deed  -- the same, and a guard reads on
   Beside : (g : ℕ) → Deed  -- one more guard to read, beside this one
   Puts : (g v : ℕ) → Deed  -- the holder of the guard sets this value
-  Visits : (c : ℕ) (chs : List Change) → Deed  -- a section that opens and closes at once, with what happened in it
+  Visits : (c : ℕ) (chs : List Change) (reads : Bool) → Deed  -- a section that opens and closes at once, with what happened in it. A guard may read on
   Skips : (c : ℕ) (taken : Bool) → Deed  -- the turn of the cell ends without a section. It may be taken now
   Takes : Deed  -- the turn of the first cell left is taken, and waits
   Looks : (closes : Bool) → Deed  -- the cells registered since the last look are taken; there is none, and the exit closes
@@ -39,14 +39,21 @@ abbrev pub deed_running : Act → Deed
 deed_running (act.Call c k) = Opens c (Calls k) false
 deed_running _ = Quiet
 
-abbrev pub deed_phased : Act → Deed
-deed_phased act.Finished = Ends (Finishes true)
-deed_phased act.FinishFailed = Ends (Finishes false)
-deed_phased _ = Quiet
+abbrev pub deed_phased : Bool → Act → Deed
+deed_phased o (act.Call c k) = Visits c (Asked o k ∷ []) false
+deed_phased o (act.Made v) = Ends (Makes (Some v))
+deed_phased o (act.Finished left) = Ends (Finishes true left)
+deed_phased o (act.FinishFailed left) = Ends (Finishes false left)
+deed_phased o _ = Quiet
 
-abbrev pub deed_accessed : Bool → Act → Deed
-deed_accessed o (act.Call c k) = Visits c (Asked o k ∷ [])
-deed_accessed o _ = Quiet
+abbrev pub deed_shown : Act → Deed
+deed_shown (act.Made v) = Ends (Makes (Some v))
+deed_shown _ = Quiet
+
+-- a call that left nothing open, or a guard to read
+abbrev pub deed_visited : Bool → Bool → Act → Deed
+deed_visited o reads (act.Call c k) = Visits c (Asked o k ∷ []) reads
+deed_visited o reads _ = Quiet
 
 abbrev pub deed_failed : Act → Deed
 deed_failed act.MadeFailed = Ends (Makes None)
@@ -83,15 +90,17 @@ deed_by o e a (answer.Finalizing c) = Opens c Turns e
 deed_by o e a (answer.Skipped c) = Skips c e
 deed_by o e a (answer.Round n) = Looks false
 deed_by o e a answer.Closed = Looks true
-deed_by o e a (answer.Phase p) = deed_phased a
-deed_by o e a (answer.Value v) = Quiet
+deed_by o e a (answer.Phase p) = deed_phased o a
+deed_by o e a (answer.Value v) = deed_shown a
 deed_by o e a answer.ReadGuard = deed_read a
+deed_by o e a answer.ErrGuard = deed_visited o true a
 deed_by o e a answer.WriteGuard = deed_written a
 deed_by o e a answer.Done = deed_done a
-deed_by o e a (answer.Access p) = deed_accessed o a
+deed_by o e a (answer.Access p) = deed_visited o false a
 deed_by o e a answer.Failed = deed_failed a
 deed_by o e a answer.Cyclic = Quiet
 deed_by o e a answer.Borrowed = Quiet
+deed_by o e a answer.Missed = Quiet
 deed_by o e a (answer.Waiting way) = deed_waiting e
 
 -- ---- what a deed does to the exit

@@ -14,7 +14,7 @@ use Rattle.exit_registry.specs.declared.registry.Look.{Look}
 use Rattle.exit_registry.specs.declared.registry.Look.TheVariants as look
 use Rattle.exit_registry.specs.Registry.{look_at}
 use Rattle.phase_bits.specs.Number.{phase_of}
-use Rattle.schedule_rules.specs.Phases.{phase_finalized}
+use Rattle.schedule_rules.specs.Phases.{Success, phase_reached, phase_finalized}
 use Rattle.schedule_rules.specs.Calls.{lock_wanted}
 use Rattle.schedule_rules.specs.History.{Event, accepts}
 use Rattle.schedule_rules.specs.Sections.{Section, innermost, runs, sections}
@@ -34,7 +34,7 @@ module _ (cells : List CellPlan) where
   -- the party's waiting call keeps its share or drain
   abbrev pub keeps_own : List Event → ℕ → Attempt → Bool
   keeps_own h p a =
-      keeps (wait_of p (waits cells h)) (lock_wanted (tolerance_at cells a.cell) a.want (phase_at cells a.cell h)) (readers cells a.cell h)
+      keeps (wait_of p (waits cells h)) (lock_wanted (cell_at cells a.cell).kind (tolerance_at cells a.cell) a.want (phase_at cells a.cell h)) (readers cells a.cell h)
 
   -- what an attempt of the party at the cell meets, where these calls of others wait
   abbrev pub meeting : List Event → ℕ → Attempt → List Wait → Meeting
@@ -58,10 +58,14 @@ module _ (cells : List CellPlan) where
   due_tried h p None ws chosen = answer_of_look (look_at (registry cells h).pending)
   due_tried h p (Some a) ws chosen = due_attempt h p a ws chosen
 
+  -- the phase that a run of the section reaches, which made a value
+  abbrev pub phase_made : List Event → Section → ℕ
+  phase_made h s = phase_reached (cell_at cells s.cell).kind s.is_open (phase_at cells s.cell h) Success
+
   -- the answer of a value made, by the section that it ends. None does not occur: without a section it is refused
   abbrev pub due_made : List Event → ℕ → Option Section → Answer
   due_made h v None = answer.Done
-  due_made h v (Some s) = answer_of_made s.want
+  due_made h v (Some s) = answer_of_made (cell_at cells s.cell).kind s.want v (phase_made h s)
 
   -- the answer of a finalizer that ends, by the section that it ends: the phase that is published. None does not occur, as
   -- above
@@ -86,8 +90,8 @@ module _ (cells : List CellPlan) where
   due_act h s ws chosen act.Again = due_tried h s.party (attempt cells h s) ws chosen
   due_act h s ws chosen (act.Made v) = due_made h v (innermost s.party (sections h))
   due_act h s ws chosen act.MadeFailed = answer.Failed
-  due_act h s ws chosen act.Finished = due_finished h true (innermost s.party (sections h))
-  due_act h s ws chosen act.FinishFailed = due_finished h false (innermost s.party (sections h))
+  due_act h s ws chosen (act.Finished left) = due_finished h true (innermost s.party (sections h))
+  due_act h s ws chosen (act.FinishFailed left) = due_finished h false (innermost s.party (sections h))
   due_act h s ws chosen act.Exit = due_tried h s.party (attempt cells h s) ws chosen
   due_act h s ws chosen (act.Look g) = due_look h (numbered g (guards h))
   due_act h s ws chosen (act.Set g v) = answer.Done

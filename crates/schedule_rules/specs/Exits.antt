@@ -32,10 +32,10 @@ owner (e ∷ h) = owner_by e.step.party (is_of_exit (deed_of h e.step e.line.ans
 
 -- ---- the turns that ended
 
--- the act that ends a finalizer, which succeeded or failed
-abbrev pub finishing : Bool → Act
-finishing true = act.Finished
-finishing false = act.FinishFailed
+-- the act that ends a finalizer, which succeeded or failed, and left a value or none
+abbrev pub finishing : Bool → Option ℕ → Act
+finishing true left = act.Finished left
+finishing false left = act.FinishFailed left
 
 -- the turn of the section that ends. None does not occur: without a section an outcome is refused
 abbrev pub turn_of_section : Turn → Option Section → List Turned → List Turned
@@ -50,7 +50,7 @@ turn_of false = turn.Failed
 -- the turns that ended after this deed of the party, where these sections ran
 abbrev pub turns_by : ℕ → Deed → List Section → List Turned → List Turned
 turns_by p (Skips c taken) ss ts = ts ++ record { cell = c; turn = turn.Skipped } ∷ []
-turns_by p (Ends (Finishes fine)) ss ts = turn_of_section (turn_of fine) (innermost p ss) ts
+turns_by p (Ends (Finishes fine left)) ss ts = turn_of_section (turn_of fine) (innermost p ss) ts
 turns_by p _ ss ts = ts
 
 -- the turns that ended, in order

@@ -13,14 +13,14 @@ use Rattle.schedule_rules.specs.declared.step.Step.{Step}
 use Rattle.schedule_rules.specs.declared.plan.CellPlan.{CellPlan}
 use Rattle.schedule_rules.specs.declared.step.Want.{Want}
 use Rattle.schedule_rules.specs.declared.step.Want.TheVariants.{Calls, Turns}
-use Rattle.schedule_rules.specs.declared.plan.Call.{Call}
-use Rattle.schedule_rules.specs.declared.plan.Call.TheVariants as call
+use Rattle.lazy_cells.specs.declared.kind.Kind.{Kind}
 use Rattle.schedule_rules.specs.Kinds.{cell_at, tolerance_at, is_parking}
-use Rattle.schedule_rules.specs.Changes.{is_declined}
-use Rattle.schedule_rules.specs.History.{Event, accepts}
+use Rattle.schedule_rules.specs.Forms.{form_of, is_to_read}
+use Rattle.schedule_rules.specs.Calls.{lock_wanted}
+use Rattle.schedule_rules.specs.History.{Event}
 use Rattle.schedule_rules.specs.Replay.{phase_at}
 use Rattle.schedule_rules.specs.Waits.{Attempt, attempt, Wait, wait_of, parks_to_read, parks_to_write, cell_concerned, waits, other_waits}
-use Rattle.schedule_rules.specs.Holds.{has_own, is_free, is_free_with}
+use Rattle.schedule_rules.specs.Holds.{has_own, is_free, is_free_with, wants_to_write}
 use Rattle.schedule_rules.specs.Due.{keeps_own}
 
 -- a guard to read that a section was downgraded to
@@ -29,12 +29,10 @@ turns_to_read (act.Made v) = true
 turns_to_read (act.Downgrade g) = true
 turns_to_read _ = false
 
--- a call that reads what a run that it asked has made
-abbrev pub reads_on : Call → Bool
-reads_on call.Phase = false
-reads_on call.Read = true
-reads_on call.Write = false
-reads_on call.TryRead = false
+-- the call answers with a guard to read
+abbrev pub asks_to_read : Kind → Want → Bool
+asks_to_read q (Calls k) = is_to_read (form_of q k)
+asks_to_read q Turns = false
 
 -- the calls that a gift is for are parked on the cell
 abbrev pub reaches : ℕ → Given → List Wait → Bool
@@ -53,20 +51,27 @@ is_readers given.Readers = true
 is_readers _ = false
 
 module _ (cells : List CellPlan) where
-  -- a call that reads on, and is declined: its section is downgraded, and then the read lock is given back
-  abbrev pub is_declined_read : List Event → ℕ → Want → Bool
-  is_declined_read h c Turns = false
-  is_declined_read h c (Calls k) = reads_on k && is_declined (cell_at cells c).kind (tolerance_at cells c) k (accepts h) (phase_at cells c h)
+  -- the attempt wants the lock to write
+  abbrev pub wants_section : List Event → Attempt → Bool
+  wants_section h a =
+      wants_to_write (lock_wanted (cell_at cells a.cell).kind (tolerance_at cells a.cell) a.want (phase_at cells a.cell h))
 
-  -- the attempt is such a call
-  abbrev pub declines_read : List Event → Option Attempt → Bool
-  declines_read h None = false
-  declines_read h (Some a) = is_declined_read h a.cell a.want
+  -- the attempt wants the lock to write, and nothing is left open: where it is for a guard to read, its section was
+  -- downgraded, and then the read lock given back
+  abbrev pub turns_back : List Event → Option Attempt → Bool
+  turns_back h None = false
+  turns_back h (Some a) = asks_to_read (cell_at cells a.cell).kind a.want && wants_section h a
+
+  -- the attempt wants the lock to write, and its section is downgraded to a guard
+  abbrev pub falls_back : List Event → Option Attempt → Bool
+  falls_back h None = false
+  falls_back h (Some a) = wants_section h a
 
   -- the step with this answer downgrades a section
   abbrev pub downgrades : List Event → Step → Answer → Bool
   downgrades h s answer.ReadGuard = turns_to_read s.act
-  downgrades h s (answer.Access p) = declines_read h (attempt cells h s)
+  downgrades h s answer.ErrGuard = falls_back h (attempt cells h s)
+  downgrades h s (answer.Access p) = turns_back h (attempt cells h s)
   downgrades h s _ = false
 
   -- the call that goes on has a share or a drain, and does not keep it

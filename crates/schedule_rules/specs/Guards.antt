@@ -4,7 +4,7 @@ use Rattle.std.specs.List.{find}
 use Rattle.std.specs.declared.option.Option.{Option}
 use Rattle.std.specs.declared.option.Option.TheVariants.{None, Some}
 use Rattle.schedule_rules.specs.Changes.{Change, Ran, Put}
-use Rattle.schedule_rules.specs.Deeds.{Deed, Holds, EndsToRead, EndsToWrite, Drops, DropsToRead, Beside, Puts}
+use Rattle.schedule_rules.specs.Deeds.{Deed, Holds, EndsToRead, EndsToWrite, Drops, DropsToRead, Beside, Puts, Visits}
 use Rattle.schedule_rules.specs.History.{Event, deed_of}
 use Rattle.schedule_rules.specs.Sections.{Section, innermost, sections}
 
@@ -75,6 +75,7 @@ reader_beside n p (Some x) gs = reader n p x.cell ∷ gs
 abbrev pub guards_by : ℕ → ℕ → Deed → List Section → List Guard → List Guard
 guards_by n p (Holds c false) ss gs = reader n p c ∷ gs
 guards_by n p (Holds c true) ss gs = writer n p c ∷ gs
+guards_by n p (Visits c chs true) ss gs = reader n p c ∷ gs
 guards_by n p (EndsToRead v) ss gs = reader_made n p (innermost p ss) gs
 guards_by n p (EndsToWrite v) ss gs = writer_made n p v (innermost p ss) gs
 guards_by n p (Drops g) ss gs = without_guard g gs

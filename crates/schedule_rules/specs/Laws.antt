@@ -3,6 +3,7 @@ use Rattle.std.specs.Prelude.{ℕ, Bool, true, false, not, List, [], ◌∷◌, 
 use Rattle.std.specs.declared.option.Option.{Option}
 use Rattle.std.specs.declared.option.Option.TheVariants.{Some}
 use Rattle.schedule_rules.specs.declared.line.Answer.TheVariants as answer
+use Rattle.schedule_rules.specs.declared.step.Act.TheVariants as act
 use Rattle.schedule_rules.specs.declared.step.Step.{Step}
 use Rattle.schedule_rules.specs.declared.plan.CellPlan.{CellPlan}
 use Rattle.phase_bits.specs.declared.phase.Phase.{Phase}
@@ -12,18 +13,20 @@ use Rattle.phase_locker.specs.declared.ways.Given.{Given}
 use Rattle.exit_registry.specs.Registry.{occurs, due}
 use Rattle.exit_registry.specs.Exits.{cells_of_turns}
 use Rattle.phase_seq.specs.Phases.{registered, registration_refused, flags_refused}
-use Rattle.schedule_rules.specs.declared.plan.Call.{Call}
+use Rattle.lazy_cells.specs.declared.call.Call.{Call}
+use Rattle.lazy_cells.specs.declared.call.Call.TheVariants as call
+use Rattle.schedule_rules.specs.declared.line.Answer.{Answer}
 use Rattle.schedule_rules.specs.declared.step.Want.TheVariants.{Calls, Turns}
 use Rattle.schedule_rules.specs.Kinds.{cell_at, tolerance_at, is_parking}
 use Rattle.schedule_rules.specs.Changes.{is_declined}
-use Rattle.schedule_rules.specs.Phases.{Failure, phase_reached, phase_finalized, tries_registration}
+use Rattle.schedule_rules.specs.Phases.{Failure, is_accessible, phase_reached, phase_finalized, value_finalized, tries_registration}
 use Rattle.schedule_rules.specs.Calls.{asks, initializes}
-use Rattle.schedule_rules.specs.Deeds.{Deed, EndsToRead, EndsToWrite}
+use Rattle.schedule_rules.specs.Deeds.{Makes, Deed, Ends, EndsToRead, EndsToWrite}
 use Rattle.schedule_rules.specs.History.{Event, before, is_closed, accepts, deed_of, count}
 use Rattle.schedule_rules.specs.Sections.{Section, innermost, is_turn, sections}
-use Rattle.schedule_rules.specs.Guards.{guards}
-use Rattle.schedule_rules.specs.Replay.{replay, phase_at}
-use Rattle.schedule_rules.specs.Exits.{owner, ended_turns, registry}
+use Rattle.schedule_rules.specs.Guards.{Guard, numbered, guards}
+use Rattle.schedule_rules.specs.Replay.{replay, phase_at, inside}
+use Rattle.schedule_rules.specs.Exits.{finishing, owner, ended_turns, registry}
 use Rattle.schedule_rules.specs.Waits.{Attempt, attempt, Wait, waits}
 use Rattle.schedule_rules.specs.Holds.{write_holds}
 use Rattle.schedule_rules.specs.Legal.{Moment, IsLegal}
@@ -47,15 +50,15 @@ pub record IsWithoutEffect (cells : List CellPlan) (h : List Event) (e : Event) 
   pub guards_stay : guards (e ∷ h) ≡ guards h
   pub published_stays : (c : ℕ) → replay cells c (e ∷ h) ≡ replay cells c h
 
--- this phase is shown, and it is published and the value of the cell may not be accessed: its phase lacks INITIALIZED.
--- Where the call of the step asks for runs, the cell has no retry, and its phase is not empty
+-- this phase is shown, and it is published and the value of the cell may not be accessed. Where the call of the step asks
+-- for runs, the phase is not empty, and has INITIALIZED or is that of a cell without retry
 pub record IsDenied (cells : List CellPlan) (h : List Event) (s : Step) (c : ℕ) (shows : Phase) : Type 0 where
   pub call : Call
   pub tried : attempt cells h s ≡ Some (record { cell = c; want = Calls call })
   pub shown : shows ≡ phase_of (phase_at cells c h)
-  pub lacks : has (phase_at cells c h) initialized ≡ false
-  pub once : initializes (Calls call) ≡ true → (cell_at cells c).retry ≡ false
-  pub ended : initializes (Calls call) ≡ true → phase_at cells c h ≢ 0
+  pub lacks : is_accessible (cell_at cells c).kind (phase_at cells c h) ≡ false
+  pub once : initializes (cell_at cells c).kind (Calls call) ≡ true → has (phase_at cells c h) initialized ≡ false → (cell_at cells c).retry ≡ false
+  pub ended : initializes (cell_at cells c).kind (Calls call) ≡ true → phase_at cells c h ≢ 0
 
 -- the event leaves what is open, and every published value
 pub record KeepsValues (cells : List CellPlan) (h : List Event) (e : Event) : Type 0 where
@@ -102,6 +105,25 @@ pub record IsFailedRun (cells : List CellPlan) (h : List Event) (e : Event) (c :
   pub fails : phase_at cells c (e ∷ h) ≡ phase_reached (cell_at cells c).kind section.is_open (phase_at cells c h) Failure
   pub others_stay : (d : ℕ) → c ≢ d → replay cells d (e ∷ h) ≡ replay cells d h
 
+-- a call that asks for a run where one is due
+abbrev pub is_initializing : Call → Bool
+is_initializing call.Get = true
+is_initializing call.Init = true
+is_initializing call.Read = true
+is_initializing call.Write = true
+is_initializing call.FastRead = true
+is_initializing call.FastWrite = true
+is_initializing call.PrimedRead = true
+is_initializing call.PrimedWrite = true
+is_initializing _ = false
+
+-- the answer of a call that was declined: the phase that says so, or a guard to read a primed value
+abbrev pub tells_declined : Answer → Bool
+tells_declined (answer.Access p) = p.bits == flags_refused
+tells_declined (answer.Phase p) = p.bits == flags_refused
+tells_declined answer.ErrGuard = true
+tells_declined _ = false
+
 -- no cell parks a call
 abbrev pub NoneParks : List CellPlan → Type 0
 NoneParks cells = All (λ x. is_parking x.place ≡ false) cells
@@ -110,6 +132,7 @@ NoneParks cells = All (λ x. is_parking x.place ≡ false) cells
 abbrev pub is_success : ℕ → Deed → Option Section → Bool
 is_success c (EndsToRead v) (Some s) = s.cell == c
 is_success c (EndsToWrite v) (Some s) = s.cell == c
+is_success c (Ends (Makes (Some v))) (Some s) = s.cell == c
 is_success c _ s = false
 
 -- how many generators of the cell ended by a value
@@ -125,7 +148,7 @@ module _ (cells : List CellPlan) where
   abbrev pub asks_registration : ℕ → List Event → Attempt → Bool
   asks_registration c h a =
       (a.cell == c)
-      && (asks (tolerance_at cells a.cell) a.want (phase_at cells a.cell h) && tries_registration (cell_at cells a.cell).kind (phase_at cells a.cell h))
+      && (asks (cell_at cells a.cell).kind (tolerance_at cells a.cell) a.want (phase_at cells a.cell h) && tries_registration (cell_at cells a.cell).kind (phase_at cells a.cell h))
 
   -- the step tries to register the cell, where its line gives this at this moment: it is not refused, and its attempt is
   -- admitted and asks so
@@ -146,7 +169,7 @@ pub record TurnsWhere (cells : List CellPlan) (h : List Event) (s : Step) (c : �
   pub value : has (phase_at cells c h) initialized ≡ ready
 
 -- the event ends the turn of the cell, whose value is there: it adds what a finalizer adds that ended so, shows that phase,
--- and leaves the value and every other cell
+-- and leaves the value, or what its kind leaves in its place, and every other cell
 pub record IsEndedTurn (cells : List CellPlan) (h : List Event) (e : Event) (c : ℕ) (fine : Bool) : Type 0 where
   pub section : Section
   pub found : innermost e.step.party (sections h) ≡ Some section
@@ -155,8 +178,15 @@ pub record IsEndedTurn (cells : List CellPlan) (h : List Event) (e : Event) (c :
   pub ready : has (phase_at cells c h) initialized ≡ true
   pub marks : phase_at cells c (e ∷ h) ≡ phase_finalized (phase_at cells c h) fine
   pub shown : e.line.answer ≡ answer.Phase (phase_of (phase_at cells c (e ∷ h)))
-  pub value_stays : (replay cells c (e ∷ h)).value ≡ (replay cells c h).value
+  pub left : Option ℕ
+  pub ended : e.step.act ≡ finishing fine left
+  pub value_left : (replay cells c (e ∷ h)).value ≡ value_finalized (cell_at cells c).kind left (replay cells c h).value
   pub others_stay : (d : ℕ) → c ≢ d → replay cells d (e ∷ h) ≡ replay cells d h
+
+-- the step ends a finalizer, which succeeded or failed
+pub record Finishes (s : Step) (fine : Bool) : Type 0 where
+  pub left : Option ℕ
+  pub act : s.act ≡ finishing fine left
 
 -- ---- turns
 
@@ -178,6 +208,28 @@ turns_of cells c h =
 abbrev pub turns_at_hand : List CellPlan → List Event → ℕ
 turns_at_hand cells h =
     length (due (registry cells h)) + count (λ w. is_turn w.want) (waits cells h) + count (λ s. is_turn s.want) (sections h)
+
+-- ---- values that are shown
+
+-- a call of the step shows this value: it is published at the cell, where it may be accessed
+pub record ShowsPublished (cells : List CellPlan) (h : List Event) (s : Step) (v : ℕ) : Type 0 where
+  pub cell : ℕ
+  pub call : Call
+  pub tried : attempt cells h s ≡ Some (record { cell = cell; want = Calls call })
+  pub reached : is_accessible (cell_at cells cell).kind (phase_at cells cell h) ≡ true
+  pub value : (replay cells cell h).value ≡ Some v
+
+-- the step looks through an open guard, whose holder sees this value
+pub record ShowsGuarded (cells : List CellPlan) (h : List Event) (s : Step) (v : ℕ) : Type 0 where
+  pub number : ℕ
+  pub guard : Guard
+  pub looks : s.act ≡ act.Look number
+  pub found : numbered number (guards h) ≡ Some guard
+  pub value : (if guard.writes then inside cells h guard else replay cells guard.cell h).value ≡ Some v
+
+-- the step shows a value that is there: a published one, one that the holder of a guard sees, or one that a generator made
+abbrev pub ShowsValue : List CellPlan → List Event → Step → ℕ → Type 0
+ShowsValue cells h s v = ShowsPublished cells h s v ⊎ (ShowsGuarded cells h s v ⊎ (s.act ≡ act.Made v))
 
 -- ---- what is open
 

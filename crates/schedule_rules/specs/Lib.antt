@@ -1,4 +1,5 @@
 pub mod Kinds
+pub mod Forms
 pub mod Phases
 pub mod Calls
 pub mod Changes

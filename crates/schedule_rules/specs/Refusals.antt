@@ -1,5 +1,5 @@
 -- The reasons to refuse a step: small tables by what is known of the step, and the first reason that holds.
-use Rattle.std.specs.Prelude.{ℕ, Bool, true, false, not, List, ◌==◌, ◌||◌, is_some}
+use Rattle.std.specs.Prelude.{ℕ, Bool, true, false, not, List, ◌==◌, ◌&&◌, ◌||◌, is_some}
 use Rattle.std.specs.declared.option.Option.{Option}
 use Rattle.std.specs.declared.option.Option.TheVariants.{None, Some}
 use Rattle.schedule_rules.specs.declared.step.Act.{Act}
@@ -8,6 +8,9 @@ use Rattle.schedule_rules.specs.declared.line.Refusal.{Refusal}
 use Rattle.schedule_rules.specs.declared.line.Refusal.TheVariants as refused
 use Rattle.schedule_rules.specs.declared.step.Step.{Step}
 use Rattle.schedule_rules.specs.declared.plan.CellPlan.{CellPlan}
+use Rattle.lazy_cells.specs.Calls.{has_call}
+use Rattle.schedule_rules.specs.Kinds.{cell_at, is_of_other}
+use Rattle.schedule_rules.specs.Phases.{finishes_so}
 use Rattle.schedule_rules.specs.History.{Event, is_closed}
 use Rattle.schedule_rules.specs.Sections.{Section, innermost, is_turn, sections}
 use Rattle.schedule_rules.specs.Guards.{Guard, guard_of, guards}
@@ -23,6 +26,12 @@ refusal_waiting _ = Some refused.Waits
 abbrev pub writes_of : Option Guard → Option Bool
 writes_of None = None
 writes_of (Some x) = Some x.writes
+
+-- the cell is the party's own or nobody's, and its kind has the call
+abbrev pub no_call : Bool → Bool → Option Refusal
+no_call true has = Some refused.NotOwner
+no_call false false = Some refused.NoSuchCall
+no_call false true = None
 
 -- a guard is needed
 abbrev pub no_guard : Option Bool → Option Refusal
@@ -52,11 +61,6 @@ abbrev pub ends_run : Option Section → Option Bool
 ends_run None = None
 ends_run (Some s) = Some (not (is_turn s.want))
 
--- whether the outcome of a finalizer ends the section
-abbrev pub ends_turn : Option Section → Option Bool
-ends_turn None = None
-ends_turn (Some s) = Some (is_turn s.want)
-
 -- the owner is another party
 abbrev pub is_other : Option ℕ → ℕ → Bool
 is_other None p = false
@@ -69,14 +73,19 @@ no_exit false true = Some refused.Inside
 no_exit false false = None
 
 module _ (cells : List CellPlan) where
+  -- whether this outcome of a finalizer ends the section
+  abbrev pub ends_turn : Bool → Option ℕ → Option Section → Option Bool
+  ends_turn fine left None = None
+  ends_turn fine left (Some s) = Some (is_turn s.want && finishes_so (cell_at cells s.cell).kind fine left)
+
   -- the reason to refuse the act of a party that does not wait
   abbrev pub refusal_free : List Event → ℕ → Act → Option Refusal
-  refusal_free h p (act.Call c k) = None
+  refusal_free h p (act.Call c k) = no_call (is_of_other (cell_at cells c).place p) (has_call (cell_at cells c).kind k)
   refusal_free h p act.Again = Some refused.NotWaiting
   refusal_free h p (act.Made v) = no_outcome (ends_run (innermost p (sections h)))
   refusal_free h p act.MadeFailed = no_outcome (ends_run (innermost p (sections h)))
-  refusal_free h p act.Finished = no_outcome (ends_turn (innermost p (sections h)))
-  refusal_free h p act.FinishFailed = no_outcome (ends_turn (innermost p (sections h)))
+  refusal_free h p (act.Finished left) = no_outcome (ends_turn true left (innermost p (sections h)))
+  refusal_free h p (act.FinishFailed left) = no_outcome (ends_turn false left (innermost p (sections h)))
   refusal_free h p (act.Look g) = no_guard (writes_of (guard_of g p (guards h)))
   refusal_free h p (act.Set g v) = no_writer (writes_of (guard_of g p (guards h)))
   refusal_free h p (act.Release g) = no_guard (writes_of (guard_of g p (guards h)))

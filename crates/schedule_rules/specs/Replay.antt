@@ -20,7 +20,7 @@ pub record Back : Type 0 where
 -- what happened in a section that ends so
 abbrev pub change_of : Ending → Section → Change
 change_of (Makes made) s = Ran s.is_open made
-change_of (Finishes fine) s = Ended fine
+change_of (Finishes fine left) s = Ended fine left
 
 -- a section that ends. None does not occur: without a section an outcome is refused
 abbrev pub back_of_section : Ending → Option Section → Option Back
@@ -38,7 +38,7 @@ back_by p (Ends e) ss gs = back_of_section e (innermost p ss)
 back_by p (EndsToRead v) ss gs = back_of_section (Makes (Some v)) (innermost p ss)
 back_by p (Drops g) ss gs = back_of_guard (numbered g gs)
 back_by p (DropsToRead g) ss gs = back_of_guard (numbered g gs)
-back_by p (Visits c chs) ss gs = Some (record { cell = c; changes = chs })
+back_by p (Visits c chs reads) ss gs = Some (record { cell = c; changes = chs })
 back_by p _ ss gs = None
 
 -- the section that a step with this answer gives back

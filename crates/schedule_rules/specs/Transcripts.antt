@@ -11,6 +11,7 @@ use Rattle.schedule_rules.specs.declared.plan.Plan.{Plan}
 use Rattle.schedule_rules.specs.declared.transcript.Final.{Final}
 use Rattle.exit_registry.specs.declared.turns.Turned.{Turned}
 use Rattle.schedule_rules.specs.declared.transcript.Transcript.{Transcript}
+use Rattle.schedule_rules.specs.Kinds.{is_placed}
 use Rattle.schedule_rules.specs.History.{Event}
 use Rattle.schedule_rules.specs.Replay.{replay, phase_at}
 use Rattle.schedule_rules.specs.Exits.{ended_turns}
@@ -47,8 +48,8 @@ names_known_cell cells (act.Set g v) = true
 names_known_cell cells (act.Release g) = true
 names_known_cell cells (act.Downgrade g) = true
 names_known_cell cells (act.Clone g) = true
-names_known_cell cells act.Finished = true
-names_known_cell cells act.FinishFailed = true
+names_known_cell cells (act.Finished left) = true
+names_known_cell cells (act.FinishFailed left) = true
 names_known_cell cells act.Exit = true
 
 -- the party and the cell that a step names are among so many
@@ -64,6 +65,7 @@ most_parties = 2 ^ 20
 pub record IsValid (x : Schedule) : Type 0 where
   pub parties : x.parties < most_parties
   pub known : All (NamesKnown x.parties (length x.cells)) x.steps
+  pub placed : All (λ c. IsTrue (is_placed x.parties c.kind c.place)) x.cells
   pub cells_count : length x.cells < 2 ^ 32
   pub steps_count : length x.steps < 2 ^ 32
 

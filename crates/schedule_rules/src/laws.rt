@@ -1,6 +1,25 @@
-//! Laws of the definitions, for every history. Each is the contract of a function that does nothing.
+//! Laws of the definitions, for every history. Each is the contract of a function that does nothing. Those of registration
+//! and of the exit stand in `exit_laws`.
 
-ghost use Rattle.std.specs.Prelude.{ℕ, Bool, List, ◌∷◌, ◌≡◌, ◌≢◌, ◌≤◌, ◌<◌, ◌+◌, ◌&&◌, ◌||◌, ◌⊎◌, ◌++◌, length, is_none, is_some, true, false, if◌then◌else◌};
+ghost use Rattle.std.specs.Prelude.{
+  ℕ,
+  Bool,
+  List,
+  ◌∷◌,
+  ◌≡◌,
+  ◌≢◌,
+  ◌≤◌,
+  ◌<◌,
+  ◌+◌,
+  ◌&&◌,
+  ◌++◌,
+  length,
+  is_none,
+  is_some,
+  true,
+  false,
+  if◌then◌else◌,
+};
 ghost use Rattle.std.specs.declared.option.Option.TheVariants.{Some};
 ghost use Rattle.phase_bits.specs.declared.phase.Phase.{Phase};
 ghost use Rattle.phase_bits.specs.Records.{bars_read, bars_write};
@@ -11,20 +30,28 @@ ghost use Rattle.schedule_rules.specs.declared.step.Step.{Step};
 ghost use Rattle.schedule_rules.specs.declared.line.Line.{Line};
 ghost use Rattle.schedule_rules.specs.declared.line.Refusal.{Refusal};
 ghost use Rattle.schedule_rules.specs.declared.line.Answer.TheVariants as answer;
-ghost use Rattle.schedule_rules.specs.declared.plan.Call.TheVariants as call;
+ghost use Rattle.lazy_cells.specs.declared.call.Call.{Call};
 ghost use Rattle.phase_locker.specs.declared.tickets.LockNature.TheVariants as nature;
-ghost use Rattle.schedule_rules.specs.declared.step.Want.TheVariants.{Calls, Turns};
+ghost use Rattle.schedule_rules.specs.declared.step.Want.TheVariants.{Calls};
 ghost use Rattle.schedule_rules.specs.Refusals.{refusal};
-ghost use Rattle.schedule_rules.specs.History.{Event, accepts, is_closed};
-ghost use Rattle.schedule_rules.specs.Kinds.{cell_at, is_finalizable};
-ghost use Rattle.schedule_rules.specs.Sections.{Section, innermost, is_turn, runs, sections};
+ghost use Rattle.schedule_rules.specs.History.{Event};
+ghost use Rattle.schedule_rules.specs.Kinds.{cell_at, is_owned};
+ghost use Rattle.schedule_rules.specs.Sections.{Section, innermost, runs, sections};
 ghost use Rattle.schedule_rules.specs.Changes.{effect};
 ghost use Rattle.schedule_rules.specs.Guards.{Guard, numbered, reader, guards};
 ghost use Rattle.schedule_rules.specs.Gifts.{turns_to_read};
 ghost use Rattle.schedule_rules.specs.Waits.{Attempt, attempt, Wait, wait_of, waits, cell_concerned};
-ghost use Rattle.schedule_rules.specs.Calls.{initializes};
+ghost use Rattle.schedule_rules.specs.Calls.{initializes, is_fast, seeks};
 ghost use Rattle.schedule_rules.specs.declared.step.Act.TheVariants as act;
-ghost use Rattle.schedule_rules.specs.Holds.{read_guards, write_holds, readers_with, writers_with, holding, holding_with, is_barred};
+ghost use Rattle.schedule_rules.specs.Holds.{
+  read_guards,
+  write_holds,
+  readers_with,
+  writers_with,
+  holding,
+  holding_with,
+  is_barred,
+};
 ghost use Rattle.schedule_rules.specs.Core.{core, core_with};
 ghost use Rattle.schedule_rules.specs.Due.{keeps_own, due_attempt};
 ghost use Rattle.schedule_rules.specs.Legal.{IsLegal, IsLegalLine, IsExclusive};
@@ -33,6 +60,7 @@ ghost use Rattle.phase_bits.specs.Flags.{has, initialized};
 ghost use Rattle.schedule_rules.specs.Causes.{
   is_waiting,
   is_borrowed,
+  is_missed,
   is_failed,
   is_running,
   is_access,
@@ -43,6 +71,7 @@ ghost use Rattle.schedule_rules.specs.Causes.{
   is_closing,
   is_failure,
   is_barred_step,
+  is_missing_step,
   is_running_step,
   is_access_step,
   is_turn_step,
@@ -61,22 +90,17 @@ ghost use Rattle.schedule_rules.specs.Laws.{
   read_at,
   NoneParks,
   successes,
-  tries_to_register,
-  registrations,
-  TellsRegistration,
-  TurnsWhere,
-  IsEndedTurn,
-  turns_of,
-  turns_at_hand,
+  is_initializing,
   IsAsAt,
 };
-ghost use Rattle.schedule_rules.specs.Exits.{finishing};
-ghost use Rattle.exit_registry.specs.Registry.{is_known};
 ghost use Rattle.exit_registry.specs.Exits.{closed};
-ghost use Rattle.phase_bits.specs.Number.{phase_of};
-ghost use Rattle.phase_seq.specs.Phases.{final_outcome, flags_refused};
-ghost use Rattle.schedule_rules.specs.Exits.{registry, ended_turns, NoneBusy};
 ghost use Rattle.schedule_rules.specs.Transcripts.{Schedule, Account, IsLegalTranscript};
+ghost use Rattle.lazy_cells.specs.Kinds.{is_plain};
+ghost use Rattle.schedule_rules.specs.declared.line.Refusal.TheVariants as refused;
+ghost use Rattle.schedule_rules.specs.Kinds.{is_of_other};
+ghost use Rattle.schedule_rules.specs.History.{count};
+ghost use Rattle.schedule_rules.specs.Laws.{ShowsValue};
+ghost use Rattle.std.specs.Prelude.{◌==◌};
 
 /// A refused step leaves all sections, guards and waiting calls with their shares and drains, every published phase and
 /// value, and all of the exit, as they were. Where its line is legal, it gives nothing.
@@ -87,13 +111,16 @@ pub fn refused_steps_change_nothing()
         IsLegalLine cells h s (record { answer = answer.Refused r; given = g }) → g ≡ given.Nobody }
 {}
 
-/// A step waits exactly where it is not refused, is not cyclic, its call or turn keeps no share and no drain, and the lock
-/// that it wants is barred: by what stands on the cell without a share or a drain of its own, and with what its line gave at
-/// the first moment. So a step that is neither refused nor barred is answered in that step. A clone never waits: where a
-/// read is barred, it is answered so.
+/// A step is barred where it is not refused, is not cyclic, its call or turn keeps no share and no drain, and the lock that
+/// it wants is barred: by what stands on the cell without a share or a drain of its own, and with what its line gave at the
+/// first moment. Exactly then a fast call misses, any other call borrows at a cell of its party's own, and waits at another
+/// cell. So a step that is neither refused nor barred is answered in that step. A clone never waits: where a read is barred,
+/// it borrows.
 pub fn steps_wait_exactly_where_barred()
     ensures waits { (cells : List CellPlan) (h : List Event) (s : Step) (l : Line) →
         (legal : IsLegalLine cells h s l) → is_waiting l.answer ≡ is_barred_step cells h s l.given legal.moment }
+    ensures misses { (cells : List CellPlan) (h : List Event) (s : Step) (l : Line) →
+        (legal : IsLegalLine cells h s l) → is_missed l.answer ≡ is_missing_step cells h s l.given legal.moment }
     ensures borrows { (cells : List CellPlan) (h : List Event) (s : Step) (l : Line) →
         (legal : IsLegalLine cells h s l) → is_borrowed l.answer ≡ is_borrowing_step cells h s l.given legal.moment }
 {}
@@ -107,8 +134,8 @@ pub fn steps_run_exactly_where_asked()
 {}
 
 /// Each of these answers comes exactly by its cause, at a step that is not refused. Cyclic: the call asks for a run of the
-/// generator that its own party runs. Access: the call is neither cyclic nor barred, and asks for a run that runs no
-/// generator, or asks for none and wants a lock of a cell whose value may not be accessed. Finalizing and Skipped, with the
+/// generator that its own party runs. Access: the call is neither cyclic nor barred, runs nothing, is one that is told where
+/// the value may not be accessed, and the value may not be, at the phase that the call leaves. Finalizing and Skipped, with the
 /// number of the cell: the turn of this cell is not barred, and its value is there, or is not.
 pub fn answers_come_exactly_by_their_causes()
     ensures cyclic { (cells : List CellPlan) (h : List Event) (s : Step) (l : Line) →
@@ -130,13 +157,14 @@ pub fn looks_tell_what_is_registered()
         IsLegalLine cells h s l → is_closing l.answer ≡ is_closing_step cells h s }
 {}
 
-/// A call for the phase begins no run of a generator, whatever the phase is.
-pub fn phase_calls_run_nothing()
-    ensures { (cells : List CellPlan) (h : List Event) (s : Step) (l : Line) (c : ℕ) → IsLegalLine cells h s l →
-        attempt cells h s ≡ Some (record { cell = c; want = Calls call.Phase }) → l.answer ≢ answer.Running }
+/// A call that does not initialize begins no run of a generator, whatever the phase is: a call for the phase, `try_get`, the
+/// four try calls and the two primed calls that do not initialize.
+pub fn only_initializing_calls_run()
+    ensures { (cells : List CellPlan) (h : List Event) (s : Step) (l : Line) (c : ℕ) (k : Call) → IsLegalLine cells h s l →
+        attempt cells h s ≡ Some (record { cell = c; want = Calls k }) → is_initializing k ≡ false → l.answer ≢ answer.Running }
 {}
 
-/// A call that is turned back, because it is cyclic or is a clone that is barred, leaves all sections and guards, and
+/// A call that is turned back, because it is cyclic, or is barred and does not wait, leaves all sections and guards, and
 /// every published phase and value, as they were.
 pub fn turned_back_calls_change_nothing()
     ensures cyclic { (cells : List CellPlan) (h : List Event) (s : Step) (g : Given) →
@@ -145,6 +173,9 @@ pub fn turned_back_calls_change_nothing()
     ensures borrowed { (cells : List CellPlan) (h : List Event) (s : Step) (g : Given) →
         IsLegalLine cells h s (record { answer = answer.Borrowed; given = g }) →
         IsWithoutEffect cells h (record { step = s; line = record { answer = answer.Borrowed; given = g } }) }
+    ensures missed { (cells : List CellPlan) (h : List Event) (s : Step) (g : Given) →
+        IsLegalLine cells h s (record { answer = answer.Missed; given = g }) →
+        IsWithoutEffect cells h (record { step = s; line = record { answer = answer.Missed; given = g } }) }
 {}
 
 /// A step answers Failed exactly where it ends a generator by a failure and is not refused. It leaves the published value
@@ -210,11 +241,24 @@ pub fn downgrades_keep_sections_out()
         write_holds c (later ++ read_at s g ∷ h) ≡ 0 }
 {}
 
-/// What an open guard shows has a value: its own section's, where it writes, and else the published one. So a look always
-/// answers with a value that is there.
-pub fn shown_values_are_there()
-    ensures { (cells : List CellPlan) (h : List Event) (g : ℕ) (x : Guard) → IsLegal cells h → numbered g (guards h) ≡ Some x →
+/// A value that is shown is there. What an open guard shows has a value: its own section's, where it writes, and else the
+/// published one. A line that shows a value shows the one that is there: a call the published value of its cell, which may
+/// be accessed, a look what the holder of its guard sees, and a run that ends the value that it made.
+pub fn values_shown_are_there()
+    ensures guards { (cells : List CellPlan) (h : List Event) (g : ℕ) (x : Guard) → IsLegal cells h → numbered g (guards h) ≡ Some x →
         is_some (if x.writes then inside cells h x else replay cells x.cell h).value ≡ true }
+    ensures lines { (cells : List CellPlan) (h : List Event) (s : Step) (l : Line) (v : ℕ) → IsLegal cells h →
+        IsLegalLine cells h s l → l.answer ≡ answer.Value v → ShowsValue cells h s v }
+{}
+
+/// Once the phase of a plain cell has INITIALIZED, a value is published there, and it stays whatever steps come, also those
+/// of a finalizer. So each later call for the value shows the same.
+pub fn plain_values_stay()
+    ensures there { (cells : List CellPlan) (h : List Event) (c : ℕ) → is_plain (cell_at cells c).kind ≡ true →
+        has (phase_at cells c h) initialized ≡ true → is_some (replay cells c h).value ≡ true }
+    ensures stays { (cells : List CellPlan) (h later : List Event) (c : ℕ) → IsLegal cells (later ++ h) →
+        is_plain (cell_at cells c).kind ≡ true → has (phase_at cells c h) initialized ≡ true →
+        (replay cells c (later ++ h)).value ≡ (replay cells c h).value }
 {}
 
 /// INITIALIZED is never cleared.
@@ -234,9 +278,10 @@ pub fn without_retry_one_run()
 {}
 
 /// A call that answers Access leaves all sections and guards, and every published value, as they were. Where its line is
-/// legal, it leaves every cell but its own, and shows the phase that is then published there. That is the phase as it was,
-/// which lacks INITIALIZED, and where the call is one for runs, that of a cell without retry, whose only run has failed or
-/// was declined; or the call itself was declined, since its cell is not registered, and leaves the phase that says so.
+/// legal, it leaves every cell but its own, and shows the phase that is then published there. That is the phase as it was, at
+/// which the value may not be accessed, and where the call is one for runs and that phase lacks INITIALIZED, that of a cell
+/// without retry, whose only run has failed or was declined; or the call itself was declined, since its cell is not
+/// registered, and leaves the phase that says so.
 pub fn access_changes_no_value()
     ensures changes { (cells : List CellPlan) (h : List Event) (s : Step) (p : Phase) (g : Given) →
         KeepsValues cells h (record { step = s; line = record { answer = answer.Access p; given = g } }) }
@@ -248,95 +293,6 @@ pub fn access_changes_no_value()
 /// A generator of a cell succeeds at most once.
 pub fn generators_succeed_once()
     ensures { (cells : List CellPlan) (h : List Event) (c : ℕ) → IsLegal cells h → successes c h ≤ 1 }
-{}
-
-/// Registration for the exit is tried exactly where a step is not refused, its attempt is neither cyclic nor barred, and it
-/// asks for a run of a cell that is to be registered, on the empty phase (`tries_to_register`). Then the run begins, or the
-/// call is declined. It is tried at most once at a cell, which was not registered before. A cell is registered exactly by the
-/// step that tries it, where cells may still be registered.
-pub fn registration_is_tried_once()
-    ensures answers { (cells : List CellPlan) (h : List Event) (s : Step) (l : Line) (c : ℕ) →
-        (legal : IsLegalLine cells h s l) → tries_to_register cells c h s l.given legal.moment ≡ true →
-        (l.answer ≡ answer.Running) ⊎ (l.answer ≡ answer.Access (phase_of flags_refused)) }
-    ensures unknown { (cells : List CellPlan) (h : List Event) (s : Step) (l : Line) (c : ℕ) → IsLegal cells h →
-        (legal : IsLegalLine cells h s l) → tries_to_register cells c h s l.given legal.moment ≡ true →
-        is_known (registry cells h) c ≡ false }
-    ensures once { (cells : List CellPlan) (h : List Event) (c : ℕ) → (legal : IsLegal cells h) →
-        registrations cells c h legal ≤ 1 }
-    ensures registers { (cells : List CellPlan) (h : List Event) (e : Event) (c : ℕ) → (legal : IsLegal cells (e ∷ h)) →
-        is_known (registry cells (e ∷ h)) c ≡
-        (is_known (registry cells h) c || (tries_to_register cells c h e.step e.line.given legal.0.moment && accepts h)) }
-{}
-
-/// Of a cell of a kind that is registered, a phase that is not empty has REGISTERED where the cell is registered, and
-/// REGISTRATION_REFUSED where it is not, and never both.
-pub fn phases_tell_registration()
-    ensures { (cells : List CellPlan) (h : List Event) (c : ℕ) → IsLegal cells h →
-        is_finalizable (cell_at cells c).kind ≡ true → phase_at cells c h ≢ 0 →
-        TellsRegistration (is_known (registry cells h) c) (phase_at cells c h) }
-{}
-
-/// A turn that runs a finalizer is that of a cell whose value is there. A turn that is skipped is that of a cell whose
-/// value is not there, and leaves all sections and guards, and every published phase and value, as they were.
-pub fn turns_finalize_what_is_there()
-    ensures finalizes { (cells : List CellPlan) (h : List Event) (s : Step) (l : Line) (c : ℕ) → IsLegalLine cells h s l →
-        l.answer ≡ answer.Finalizing c → TurnsWhere cells h s c true }
-    ensures skips { (cells : List CellPlan) (h : List Event) (s : Step) (l : Line) (c : ℕ) → IsLegalLine cells h s l →
-        l.answer ≡ answer.Skipped c →
-        TurnsWhere cells h s c false × IsWithoutEffect cells h (record { step = s; line = l }) }
-{}
-
-/// A finalizer that ends adds FINALIZED or FINALIZATION_PANICKED to the phase of its cell, which has INITIALIZED, and
-/// leaves the value of the cell, and every other cell, as they were. Nothing else adds one of the two to a phase.
-pub fn finalizers_mark_initialized_cells()
-    ensures ends { (cells : List CellPlan) (h : List Event) (s : Step) (l : Line) (c : ℕ) (p : Phase) (fine : Bool) →
-        IsLegal cells h → IsLegalLine cells h s l → l.answer ≡ answer.Phase p → s.act ≡ finishing fine →
-        cell_concerned cells h s ≡ Some c → IsEndedTurn cells h (record { step = s; line = l }) c fine }
-    ensures marks { (cells : List CellPlan) (h : List Event) (e : Event) (c : ℕ) (fine : Bool) → IsLegal cells (e ∷ h) →
-        has (phase_at cells c h) (final_outcome fine) ≡ false → has (phase_at cells c (e ∷ h)) (final_outcome fine) ≡ true →
-        (e.step.act ≡ finishing fine) × IsEndedTurn cells h e c fine }
-{}
-
-/// A phase that has INITIALIZED changes only where a finalizer of its cell ends, which adds a flag. So no flag of it is
-/// ever cleared.
-pub fn initialized_phases_change_by_finalizers()
-    ensures { (cells : List CellPlan) (h : List Event) (e : Event) (c : ℕ) → IsLegal cells (e ∷ h) →
-        has (phase_at cells c h) initialized ≡ true → phase_at cells c (e ∷ h) ≢ phase_at cells c h →
-        IsEndedTurn cells h e c true ⊎ IsEndedTurn cells h e c false }
-{}
-
-/// The registry is open as long as no look found that there is no cell. Once one did, no cell has a turn to come and none
-/// can be registered, and the registry stays as it is.
-pub fn closed_registries_stay()
-    ensures open { (cells : List CellPlan) (h : List Event) → IsLegal cells h →
-        (registry cells h).is_open ≡ accepts h }
-    ensures closed { (cells : List CellPlan) (h : List Event) → IsLegal cells h → is_closed h ≡ true →
-        registry cells h ≡ closed (registry cells h) }
-    ensures stays { (cells : List CellPlan) (h : List Event) (e : Event) → IsLegal cells h → is_closed h ≡ true →
-        registry cells (e ∷ h) ≡ registry cells h }
-{}
-
-/// Each cell that was registered has one turn: it is to come, waits for the cell, goes on or has ended. No other cell has
-/// one. So the exit turns each registered cell at most once, and forgets none.
-pub fn registered_cells_have_one_turn()
-    ensures { (cells : List CellPlan) (h : List Event) (c : ℕ) → IsLegal cells h →
-        turns_of cells c h ≡ (if is_known (registry cells h) c then 1 else 0) }
-{}
-
-/// No turn of a legal transcript is Busy: each is done, skipped or failed, and has a text.
-pub fn no_turn_is_busy()
-    ensures { (x : Schedule) (t : Account) → IsLegalTranscript x t → NoneBusy t.exits }
-{}
-
-/// The turns to come, those that wait, those that go on and those that ended are together at most as many as the cells.
-/// So fewer turns ended than there are cells, where a finalizer runs and where a step takes a turn or goes on with one.
-pub fn turns_have_room()
-    ensures all { (cells : List CellPlan) (h : List Event) → IsLegal cells h →
-        turns_at_hand cells h + length (ended_turns h) ≤ length cells }
-    ensures runs { (cells : List CellPlan) (h : List Event) (p : ℕ) (s : Section) → IsLegal cells h →
-        innermost p (sections h) ≡ Some s → is_turn s.want ≡ true → length (ended_turns h) < length cells }
-    ensures taken { (cells : List CellPlan) (h : List Event) (s : Step) (c : ℕ) → IsLegal cells h →
-        attempt cells h s ≡ Some (record { cell = c; want = Turns }) → length (ended_turns h) < length cells }
 {}
 
 /// What is published of a cell stays while a section of it is open: it is what was published there before the step that
@@ -355,13 +311,28 @@ pub fn write_guards_stand_on_what_is_published()
 /// cyclic.
 pub fn waiting_calls_are_not_cyclic()
     ensures waits { (cells : List CellPlan) (h : List Event) (p : ℕ) (w : Wait) → IsLegal cells h →
-        wait_of p (waits cells h) ≡ Some w → (initializes w.want && runs p w.cell h) ≡ false }
+        wait_of p (waits cells h) ≡ Some w → (initializes (cell_at cells w.cell).kind w.want && runs p w.cell h) ≡ false }
     ensures again { (cells : List CellPlan) (h : List Event) (s : Step) (l : Line) → IsLegal cells h →
         IsLegalLine cells h s l → s.act ≡ act.Again → l.answer ≢ answer.Cyclic }
 {}
 
-/// What waits is a call for a lock or a turn: a call for the phase never waits.
-pub fn phase_calls_do_not_wait()
-    ensures { (cells : List CellPlan) (h : List Event) (p : ℕ) (w : Wait) → IsLegal cells h →
-        wait_of p (waits cells h) ≡ Some w → w.want ≢ Calls call.Phase }
+/// What waits is a call for a lock or a turn, at a cell of no party's own: a call for the phase or for the value as it is
+/// never waits, and neither does a fast call.
+pub fn what_waits_asks_for_a_lock()
+    ensures asks { (cells : List CellPlan) (h : List Event) (p : ℕ) (w : Wait) → IsLegal cells h →
+        wait_of p (waits cells h) ≡ Some w → is_some (seeks (cell_at cells w.cell).kind w.want) ≡ true }
+    ensures slow { (cells : List CellPlan) (h : List Event) (p : ℕ) (w : Wait) → IsLegal cells h →
+        wait_of p (waits cells h) ≡ Some w → is_fast w.want ≡ false }
+    ensures shared { (cells : List CellPlan) (h : List Event) (p : ℕ) (w : Wait) → IsLegal cells h →
+        wait_of p (waits cells h) ≡ Some w → is_owned (cell_at cells w.cell).place ≡ false }
+{}
+
+/// At a cell that belongs to a party nothing ever waits. A call on it by another party that does not wait elsewhere is refused
+/// as not the owner's, and changes nothing.
+pub fn owned_cells_never_wait()
+    ensures waits { (cells : List CellPlan) (h : List Event) (c : ℕ) → IsLegal cells h → is_owned (cell_at cells c).place ≡ true →
+        count (λ w. w.cell == c) (waits cells h) ≡ 0 }
+    ensures refuses { (cells : List CellPlan) (h : List Event) (s : Step) (l : Line) (c : ℕ) (k : Call) → IsLegalLine cells h s l →
+        s.act ≡ act.Call c k → is_of_other (cell_at cells c).place s.party ≡ true → is_none (wait_of s.party (waits cells h)) ≡ true →
+        (l.answer ≡ answer.Refused refused.NotOwner) × ChangesNothing cells h (record { step = s; line = l }) }
 {}

@@ -11,6 +11,10 @@ pub enum Refusal {
     Waits,
     /// 2: the act is `Again`, and the party does not wait.
     NotWaiting,
+    /// 3: a call on a cell that belongs to another party.
+    NotOwner,
+    /// 4: cells of this kind do not have the call.
+    NoSuchCall,
     /// 5: no open guard of the party has this number, or a clone names a write guard.
     NoGuard,
     /// 6: a set or a downgrade on a read guard.
@@ -18,7 +22,8 @@ pub enum Refusal {
     /// 7: an outcome, and the party runs no section.
     NoSection,
     /// 8: the party's innermost section does not end so: a generator's outcome does not end a finalizer, nor a
-    /// finalizer's a generator.
+    /// finalizer's a generator; a finalizer of `PrimedLockedLazyDroped` leaves a value, and no other does; that of
+    /// `LockedLazyDroped` does not fail.
     NoOutcome,
     /// 10: an exit, and another party owns the exit, or registration is closed.
     ExitBegun,
@@ -29,12 +34,15 @@ pub enum Refusal {
 /// What a step answers. This project's own, where a case does not say otherwise.
 #[derive(Clone, Copy, PartialEq, Eq, Debug)]
 pub enum Answer {
-    /// The published phase, of a call for it or of a finalizer that ended.
+    /// The published phase: of a call for it, of an `init`, or of a finalizer that ended.
     Phase(Phase),
-    /// The value that the holder of a guard sees.
+    /// The value that the holder of a guard sees, or that a call shows.
     Value(u64),
     /// A guard to read. It has the number of this step.
     ReadGuard,
+    /// A guard to read the primed value of a cell whose own may not be accessed: static_init's guard in an `Err`. It has
+    /// the number of this step.
+    ErrGuard,
     /// A guard to write. It has the number of this step.
     WriteGuard,
     /// The party is now inside a section whose generator runs.
@@ -57,8 +65,10 @@ pub enum Answer {
     /// The party asked for a run of the generator that it is running, and nothing is left open. static_init panics or
     /// deadlocks there.
     Cyclic,
-    /// A clone is barred.
+    /// A clone is barred, or a call on a cell of the party's own.
     Borrowed,
+    /// A fast call is barred.
+    Missed,
     /// The lock that the call wants is barred.
     Waiting(How),
     /// The step is refused.

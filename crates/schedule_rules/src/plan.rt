@@ -1,13 +1,6 @@
 //! The plan of a schedule: its parties and its cells.
 
-/// What a cell is, by the type of static_init that it stands for.
-#[derive(Clone, Copy, PartialEq, Eq, Debug)]
-pub enum Kind {
-    /// A value behind a lock, which a read or a write initializes.
-    LockedLazy,
-    /// The same, for a value that the exit finalizes: the cell is registered for the exit before its generator runs.
-    LockedLazyFinalize,
-}
+use lazy_cells::Kind;
 
 /// Which lock a cell has, that is, how a call waits that its lock bars. This project's own, by the two families of
 /// lockers of static_init.
@@ -17,20 +10,9 @@ pub enum Place {
     Park,
     /// A call that is barred tries again by itself, and nothing is handed to it.
     Spin,
-}
-
-/// What a party may ask of a cell. `Read` and `Write` are static_init's `read` and `write`, with the initialization
-/// that they make.
-#[derive(Clone, Copy, PartialEq, Eq, Debug)]
-pub enum Call {
-    /// The published phase, without a lock.
-    Phase,
-    /// A guard to read, after a run of the generator where one is wanted.
-    Read,
-    /// A guard to write, after a run of the generator where one is wanted.
-    Write,
-    /// A guard to read the value as it is: no generator is run for it. static_init's `try_read`.
-    TryRead,
+    /// The cell belongs to the party with this number, and no other party may call it. A call that is barred is answered
+    /// so at once, and nothing waits. For the kinds `Lazy` and `LockedLazy` alone, in a schedule that runs.
+    Own(u32),
 }
 
 /// A cell of a plan.
@@ -48,6 +30,8 @@ pub struct CellPlan {
     pub leak: bool,
     /// How a barred call waits.
     pub place: Place,
+    /// The value that a cell of a primed kind holds from the start. It has no effect on other kinds.
+    pub prime: u64,
 }
 
 /// The parties and the cells of a schedule. Both are numbered from 0. This project's own.

@@ -1,6 +1,6 @@
 //! The steps of a schedule.
 
-use crate::plan::Call;
+use lazy_cells::Call;
 
 /// What a party does in one step. This project's own. A guard is named by the number of the step whose line answered it.
 #[derive(Clone, Copy, PartialEq, Eq, Debug)]
@@ -13,10 +13,12 @@ pub enum Act {
     Made { value: u64 },
     /// The generator of the party's innermost section failed.
     MadeFailed,
-    /// The finalizer of the party's innermost section succeeded.
-    Finished,
-    /// The finalizer of the party's innermost section failed.
-    FinishFailed,
+    /// The finalizer of the party's innermost section succeeded, and left this value, where the cell's kind is
+    /// `PrimedLockedLazyDroped`. Any other finalizer leaves none.
+    Finished { left: Option<u64> },
+    /// The finalizer of the party's innermost section failed, and left this value, as above. That of
+    /// `LockedLazyDroped` drops the value, and can't fail.
+    FinishFailed { left: Option<u64> },
     /// The value that the holder of the guard sees.
     Look { guard: u32 },
     /// The holder of a write guard sets the value.

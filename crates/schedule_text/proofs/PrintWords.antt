@@ -34,6 +34,7 @@ pub answer_goes_on : (a : Answer) (vs : List Word) → line_text (answer_words a
 answer_goes_on (answer.Phase p) vs = line_text-more (codes "phase") (phase_text (number p) ∷ []) vs
 answer_goes_on (answer.Value v) vs = line_text-more (codes "value") (decimal v ∷ []) vs
 answer_goes_on answer.ReadGuard vs = line_text-more (codes "read-guard") [] vs
+answer_goes_on answer.ErrGuard vs = line_text-more (codes "err-guard") [] vs
 answer_goes_on answer.WriteGuard vs = line_text-more (codes "write-guard") [] vs
 answer_goes_on answer.Running vs = line_text-more (codes "running") [] vs
 answer_goes_on (answer.Finalizing c) vs = line_text-more (codes "finalizing") (decimal c ∷ []) vs
@@ -45,6 +46,7 @@ answer_goes_on (answer.Access p) vs = line_text-more (codes "access") (phase_tex
 answer_goes_on answer.Failed vs = line_text-more (codes "failed") [] vs
 answer_goes_on answer.Cyclic vs = line_text-more (codes "cyclic") [] vs
 answer_goes_on answer.Borrowed vs = line_text-more (codes "borrowed") [] vs
+answer_goes_on answer.Missed vs = line_text-more (codes "none") [] vs
 answer_goes_on (answer.Waiting w) vs = line_text-more (codes "waiting") (way_name w ∷ []) vs
 answer_goes_on (answer.Refused r) vs = line_text-more (codes "refused") (refusal_words r) vs
 

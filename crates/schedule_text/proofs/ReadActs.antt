@@ -2,16 +2,15 @@
 use Rattle.std.proofs.Common.{◌≡◌, ℕ, ◌^◌, ◌<◌, Bool, true, false, cond, eqb, List, [], ◌∷◌, ◌++◌, Option, Some, None, refl, sym, ap, ◌∙◌, append_assoc, arith}
 use Rattle.std.specs.Prelude.{codes}
 use Rattle.std.specs.Fmt.{decimal}
-use Rattle.std.specs.List.{AllByRecursion}
-use Rattle.schedule_rules.specs.declared.plan.Call.{Call}
-use Rattle.schedule_rules.specs.declared.plan.Call.TheVariants as call
+use Rattle.lazy_cells.specs.declared.call.Call.{Call}
+use Rattle.lazy_cells.specs.declared.call.Call.TheVariants as call
 use Rattle.schedule_rules.specs.declared.step.Act.{Act}
 use Rattle.schedule_rules.specs.declared.step.Act.TheVariants as act
-use Rattle.schedule_text.specs.Lines.{Word}
-use Rattle.schedule_text.specs.ScheduleText.{call_name, ActFits}
+use Rattle.schedule_text.specs.Lines.{Word, line_rest}
+use Rattle.schedule_text.specs.ScheduleText.{call_name, left_words, LeftFits, ActFits}
 use Rattle.schedule_text.specs.ReadFields.{Field, ◌>>=◌, bytes_after, number_at, name_at}
-use Rattle.schedule_text.specs.ReadSteps.{act_text, last_number_at, last_name_at, call_at, call_table, word_else, first_word, call_else, called_at, called_or_release_at, release_at, made_failed_at, value_at, made_else, look_at, set_at, downgrade_at, clone_at, again_at, made_at, finish_failed_at, finished_else, finished_at, exit_at, act_at}
-use Rattle.schedule_text.proofs.ReadWords.{bind_some, carry, word_takes}
+use Rattle.schedule_text.specs.ReadSteps.{act_text, last_number_at, last_name_at, call_at, plain_calls, try_calls, fast_calls, phase_calls, first_word, call_else, called_at, called_or_release_at, called_or_finished_at, left_value_at, left_none_at, left_else, left_at, fine_at, release_at, made_failed_at, value_at, made_else, look_at, set_at, downgrade_at, clone_at, again_at, made_at, finish_failed_at, finished_else, finished_at, exit_at, act_at}
+use Rattle.schedule_text.proofs.ReadWords.{bind_some, carry, word_takes, IsTable, row_takes}
 use Rattle.schedule_text.proofs.ReadNumbers.{number_takes, number_again, name_takes, name_again}
 
 -- ---- a number that ends a line
@@ -77,36 +76,24 @@ named word make bytes a rest takes e =
     let t = last_name_takes s.0 n.0.0 n.0.1 n.1 in
     carry (TakesAct bytes) (make n.0.0) a n.0.1 rest n.2 (takes n.0.0 n.0.1 t.1 (behind word bytes s.0 (ended n.0.0 ++ n.0.1) w t.0))
 
--- each row of the table has the name of its call, and a space
-abbrev IsNamed : Word × Call → Type 0
-IsNamed row = row.0 ≡ call_name row.1 ++ (32 ∷ [])
-
--- the word that was found is that of the call
-call_found : (rows : List (Word × Call)) (bytes : List ℕ) (k : Call) (start : List ℕ) → AllByRecursion IsNamed rows → first_word rows bytes ≡ Some (k, start) → bytes ≡ call_name k ++ (32 ∷ start)
-call_found [] bytes k start names e = absurd cc
-call_found (row ∷ rows) bytes k start names e = by (bytes_after row.0 bytes) refl e (λ g. call_found rows bytes k start names.1 g)
-  where
-    by : (o : Option (List ℕ)) → bytes_after row.0 bytes ≡ o → word_else o row.1 (first_word rows bytes) ≡ Some (k, start) → (first_word rows bytes ≡ Some (k, start) → bytes ≡ call_name k ++ (32 ∷ start))
-        → bytes ≡ call_name k ++ (32 ∷ start)
-    by None f g rest = rest g
-    by (Some after) f g rest =
-        carry (λ (j : Call) (rest : List ℕ). bytes ≡ call_name j ++ (32 ∷ rest)) row.1 k after start g
-        (word_takes row.0 bytes after f ∙ ap (λ (w : List ℕ). w ++ after) names.0 ∙ append_assoc (call_name row.1) (32 ∷ []) after)
+-- the name of a call, and the space behind it
+abbrev call_text : Call → List ℕ
+call_text k = call_name k ++ (32 ∷ [])
 
 -- a call, and the number of its cell
-called_takes : (bytes : List ℕ) (k : Call) (start : List ℕ) (a : Act) (rest : List ℕ) → first_word call_table bytes ≡ Some (k, start) → call_at k start ≡ Some (a, rest) → TakesAct bytes a rest
+called_takes : (rows : List (Word × Call)) (bytes : List ℕ) (k : Call) (start : List ℕ) (a : Act) (rest : List ℕ) → IsTable call_text rows → first_word rows bytes ≡ Some (k, start) → call_at k start ≡ Some (a, rest) → TakesAct bytes a rest
 unfolding call_at act_text
-called_takes bytes k start a rest f e =
+called_takes rows bytes k start a rest named f e =
     let n = bind_some (last_name_at start) (found (λ c. act.Call c k)) (a, rest) e in
     let t = last_name_takes start n.0.0 n.0.1 n.1 in
-    let word : bytes ≡ call_name k ++ (32 ∷ start) = call_found call_table bytes k start (refl, (refl, (refl, (refl, tt)))) f in
+    let word : bytes ≡ call_name k ++ (32 ∷ start) = row_takes call_text rows bytes k start named f ∙ append_assoc (call_name k) (32 ∷ []) start in
     carry (TakesAct bytes) (act.Call n.0.0 k) a n.0.1 rest n.2
     (record { spelling = word ∙ ap (λ (x : List ℕ). call_name k ++ (32 ∷ x)) t.0 ∙ sym (append_assoc (call_name k) (32 ∷ ended n.0.0) n.0.1); fits = t.1 })
 
-call_takes : (bytes : List ℕ) (a : Act) (rest : List ℕ) → called_at bytes ≡ Some (a, rest) → TakesAct bytes a rest
+call_takes : (rows : List (Word × Call)) (bytes : List ℕ) (a : Act) (rest : List ℕ) → IsTable call_text rows → called_at rows bytes ≡ Some (a, rest) → TakesAct bytes a rest
 unfolding called_at
-call_takes bytes a rest e =
-    let k = bind_some (first_word call_table bytes) (λ k. call_at k.0 k.1) (a, rest) e in called_takes bytes k.0.0 k.0.1 a rest k.1 k.2
+call_takes rows bytes a rest named e =
+    let k = bind_some (first_word rows bytes) (λ k. call_at k.0 k.1) (a, rest) e in called_takes rows bytes k.0.0 k.0.1 a rest named k.1 k.2
 
 look_takes : (bytes : List ℕ) (a : Act) (rest : List ℕ) → look_at bytes ≡ Some (a, rest) → TakesAct bytes a rest
 unfolding look_at act_text
@@ -124,9 +111,10 @@ clone_takes : (bytes : List ℕ) (a : Act) (rest : List ℕ) → clone_at bytes 
 unfolding clone_at act_text
 clone_takes bytes a rest e = named (codes "clone ") (λ g. act.Clone g) bytes a rest (λ n rest lt e. record { spelling = e; fits = lt }) e
 
-call_or_release_takes : (bytes : List ℕ) (o : Field Call) (a : Act) (rest : List ℕ) → first_word call_table bytes ≡ o → call_else o bytes ≡ Some (a, rest) → TakesAct bytes a rest
-call_or_release_takes bytes None a rest at e = release_takes bytes a rest e
-call_or_release_takes bytes (Some k) a rest at e = called_takes bytes k.0 k.1 a rest at e
+-- a call, or else another act
+call_or_takes : (rows : List (Word × Call)) (bytes : List ℕ) (o : Field Call) (other : Field Act) (a : Act) (rest : List ℕ) → IsTable call_text rows → first_word rows bytes ≡ o → (other ≡ Some (a, rest) → TakesAct bytes a rest) → call_else o other ≡ Some (a, rest) → TakesAct bytes a rest
+call_or_takes rows bytes None other a rest named at takes e = takes e
+call_or_takes rows bytes (Some k) other a rest named at takes e = called_takes rows bytes k.0 k.1 a rest named at e
 
 abbrev just : Act → List ℕ → Field Act
 just made rest = Some (made, rest)
@@ -147,12 +135,48 @@ exit_takes : (bytes : List ℕ) (a : Act) (rest : List ℕ) → exit_at bytes �
 unfolding exit_at act_text
 exit_takes bytes a rest e = alone (codes "exit\n") act.Exit bytes a rest (λ rest e. record { spelling = e; fits = tt }) e
 
-finished_takes : (bytes : List ℕ) (o : Option (List ℕ)) (a : Act) (rest : List ℕ) → bytes_after (codes "finished\n") bytes ≡ o → finished_else o bytes ≡ Some (a, rest) → TakesAct bytes a rest
-unfolding finish_failed_at act_text
-finished_takes bytes None a rest at e =
-    alone (codes "finish_failed\n") act.FinishFailed bytes a rest (λ rest e. record { spelling = e; fits = tt }) e
-finished_takes bytes (Some start) a rest at e =
-    carry (TakesAct bytes) act.Finished a start rest e (record { spelling = word_takes (codes "finished\n") bytes start at; fits = tt })
+-- the text of what a finalizer left, up to the end of its line
+abbrev left_text : Option ℕ → List ℕ
+left_text left = line_rest (left_words left)
+
+left_takes : (bytes : List ℕ) (left : Option ℕ) (rest : List ℕ) → left_at bytes ≡ Some (left, rest) → (bytes ≡ left_text left ++ rest) × LeftFits left
+unfolding left_at left_value_at left_none_at
+left_takes bytes left rest e = by (bytes_after (codes " ") bytes) refl e
+  where
+    by : (o : Option (List ℕ)) → bytes_after (codes " ") bytes ≡ o → left_else o bytes ≡ Some (left, rest) → (bytes ≡ left_text left ++ rest) × LeftFits left
+    by None at e =
+        let s = bind_some (bytes_after (codes "\n") bytes) (λ rest. Some (None, rest)) (left, rest) e in
+        carry (λ (x : Option ℕ) (rest : List ℕ). (bytes ≡ left_text x ++ rest) × LeftFits x) None left s.0 rest s.2 (word_takes (codes "\n") bytes s.0 s.1, tt)
+    by (Some start) at e =
+        let v = bind_some (last_number_at start) (λ v. Some (Some v.0, v.1)) (left, rest) e in
+        let w = word_takes (codes " ") bytes start at in
+        let t = last_number_takes start v.0.0 v.0.1 v.1 in
+        carry (λ (x : Option ℕ) (rest : List ℕ). (bytes ≡ left_text x ++ rest) × LeftFits x) (Some v.0.0) left v.0.1 rest v.2
+        (behind (codes " ") bytes start (ended v.0.0 ++ v.0.1) w t.0, t.1)
+
+abbrev made_of : (Option ℕ → Act) → Option ℕ × List ℕ → Field Act
+made_of make left = Some (make left.0, left.1)
+
+-- a word, and what the finalizer left behind it
+finish_takes : (word : Word) (make : Option ℕ → Act) (bytes start : List ℕ) (a : Act) (rest : List ℕ)
+    → bytes_after word bytes ≡ Some start
+    → ((left : Option ℕ) (rest : List ℕ) → LeftFits left → bytes ≡ word ++ (left_text left ++ rest) → TakesAct bytes (make left) rest)
+    → (left_at start >>= made_of make) ≡ Some (a, rest) → TakesAct bytes a rest
+finish_takes word make bytes start a rest at takes e =
+    let l = bind_some (left_at start) (made_of make) (a, rest) e in
+    let w = word_takes word bytes start at in
+    let t = left_takes start l.0.0 l.0.1 l.1 in
+    carry (TakesAct bytes) (make l.0.0) a l.0.1 rest l.2 (takes l.0.0 l.0.1 t.1 (behind word bytes start (left_text l.0.0 ++ l.0.1) w t.0))
+
+finished_takes : (bytes : List ℕ) (a : Act) (rest : List ℕ) → finished_at bytes ≡ Some (a, rest) → TakesAct bytes a rest
+unfolding finished_at fine_at finish_failed_at act_text
+finished_takes bytes a rest e = by (bytes_after (codes "finished") bytes) refl e
+  where
+    by : (o : Option (List ℕ)) → bytes_after (codes "finished") bytes ≡ o → finished_else o bytes ≡ Some (a, rest) → TakesAct bytes a rest
+    by (Some start) at e = finish_takes (codes "finished") (λ left. act.Finished left) bytes start a rest at (λ left rest fits e. record { spelling = e; fits = fits }) e
+    by None at e =
+        let s = bind_some (bytes_after (codes "finish_failed") bytes) (λ start. left_at start >>= made_of (λ left. act.FinishFailed left)) (a, rest) e in
+        finish_takes (codes "finish_failed") (λ left. act.FinishFailed left) bytes s.0 a rest s.1 (λ left rest fits e. record { spelling = e; fits = fits }) s.2
 
 made_takes : (bytes : List ℕ) (o : Option (List ℕ)) (a : Act) (rest : List ℕ) → bytes_after (codes "made ") bytes ≡ o → made_else o bytes ≡ Some (a, rest) → TakesAct bytes a rest
 unfolding value_at made_failed_at act_text
@@ -190,12 +214,12 @@ pick true x y z P e f g = f e
 pick false x y z P e f g = g e
 
 pub act_takes : (bytes : List ℕ) (a : Act) (rest : List ℕ) → act_at bytes ≡ Some (a, rest) → TakesAct bytes a rest
-unfolding act_at called_or_release_at made_at finished_at
+unfolding act_at called_or_release_at called_or_finished_at made_at
 act_takes [] a rest e = absurd cc
 act_takes (b ∷ bs) a rest e =
     let bytes : List ℕ = b ∷ bs in
     let P : Type 0 = TakesAct bytes a rest in
-    pick (eqb b 114) (called_or_release_at bytes) _ (a, rest) P e (call_or_release_takes bytes (first_word call_table bytes) a rest refl) (λ e.
+    pick (eqb b 114) (called_or_release_at bytes) _ (a, rest) P e (call_or_takes plain_calls bytes (first_word plain_calls bytes) (release_at bytes) a rest (refl, (refl, (refl, (refl, tt)))) refl (release_takes bytes a rest)) (λ e.
     pick (eqb b 97) (again_at bytes) _ (a, rest) P e (again_takes bytes a rest) (λ e.
     pick (eqb b 109) (made_at bytes) _ (a, rest) P e (made_takes bytes (bytes_after (codes "made ") bytes) a rest refl) (λ e.
     pick (eqb b 108) (look_at bytes) _ (a, rest) P e (look_takes bytes a rest) (λ e.
@@ -203,16 +227,31 @@ act_takes (b ∷ bs) a rest e =
     pick (eqb b 100) (downgrade_at bytes) _ (a, rest) P e (downgrade_takes bytes a rest) (λ e.
     pick (eqb b 99) (clone_at bytes) _ (a, rest) P e (clone_takes bytes a rest) (λ e.
     pick (eqb b 101) (exit_at bytes) _ (a, rest) P e (exit_takes bytes a rest) (λ e.
-    pick (eqb b 102) (finished_at bytes) _ (a, rest) P e (finished_takes bytes (bytes_after (codes "finished\n") bytes) a rest refl) (call_takes bytes a rest)))))))))
+    pick (eqb b 102) (called_or_finished_at bytes) _ (a, rest) P e (call_or_takes fast_calls bytes (first_word fast_calls bytes) (finished_at bytes) a rest (refl, (refl, (refl, (refl, tt)))) refl (finished_takes bytes a rest)) (λ e.
+    pick (eqb b 116) (called_at try_calls bytes) _ (a, rest) P e (call_takes try_calls bytes a rest (refl, (refl, (refl, tt)))) (λ e.
+    pick (eqb b 112) (called_at phase_calls bytes) _ (a, rest) P e (call_takes phase_calls bytes a rest (refl, (refl, (refl, (refl, (refl, tt))))))
+    (call_takes plain_calls bytes a rest (refl, (refl, (refl, (refl, tt)))))))))))))))
 
 -- ---- what is spelled is read
 
 pub act_again : (a : Act) (more : List ℕ) → ActFits a → act_at (act_text a ++ more) ≡ Some (a, more)
-unfolding act_at act_text bytes_after called_at call_at called_or_release_at release_at again_at made_at value_at made_failed_at look_at set_at downgrade_at clone_at finished_at finish_failed_at exit_at
+unfolding act_at act_text bytes_after called_at call_at called_or_release_at release_at again_at made_at value_at made_failed_at look_at set_at downgrade_at clone_at called_or_finished_at finished_at fine_at finish_failed_at left_at left_value_at left_none_at exit_at
 act_again (act.Call c call.Phase) more fits = rw (last_name_again c more fits) refl
 act_again (act.Call c call.Read) more fits = rw (last_name_again c more fits) refl
 act_again (act.Call c call.Write) more fits = rw (last_name_again c more fits) refl
 act_again (act.Call c call.TryRead) more fits = rw (last_name_again c more fits) refl
+act_again (act.Call c call.TryWrite) more fits = rw (last_name_again c more fits) refl
+act_again (act.Call c call.FastRead) more fits = rw (last_name_again c more fits) refl
+act_again (act.Call c call.FastWrite) more fits = rw (last_name_again c more fits) refl
+act_again (act.Call c call.FastTryRead) more fits = rw (last_name_again c more fits) refl
+act_again (act.Call c call.FastTryWrite) more fits = rw (last_name_again c more fits) refl
+act_again (act.Call c call.Get) more fits = rw (last_name_again c more fits) refl
+act_again (act.Call c call.TryGet) more fits = rw (last_name_again c more fits) refl
+act_again (act.Call c call.Init) more fits = rw (last_name_again c more fits) refl
+act_again (act.Call c call.PrimedRead) more fits = rw (last_name_again c more fits) refl
+act_again (act.Call c call.PrimedWrite) more fits = rw (last_name_again c more fits) refl
+act_again (act.Call c call.PrimedReadNonInitializing) more fits = rw (last_name_again c more fits) refl
+act_again (act.Call c call.PrimedWriteNonInitializing) more fits = rw (last_name_again c more fits) refl
 act_again act.Again more fits = refl
 act_again (act.Made v) more fits = rw (last_number_again v more fits) refl
 act_again act.MadeFailed more fits = refl
@@ -224,6 +263,8 @@ act_again (act.Set g v) more fits =
 act_again (act.Release g) more fits = rw (last_name_again g more fits) refl
 act_again (act.Downgrade g) more fits = rw (last_name_again g more fits) refl
 act_again (act.Clone g) more fits = rw (last_name_again g more fits) refl
-act_again act.Finished more fits = refl
-act_again act.FinishFailed more fits = refl
+act_again (act.Finished None) more fits = refl
+act_again (act.Finished (Some v)) more fits = rw (last_number_again v more fits) refl
+act_again (act.FinishFailed None) more fits = refl
+act_again (act.FinishFailed (Some v)) more fits = rw (last_number_again v more fits) refl
 act_again act.Exit more fits = refl

@@ -1,12 +1,13 @@
 -- Steps and cells: what is read is spelled so, and what is spelled so is read as that one.
-use Rattle.std.proofs.Common.{◌≡◌, ℕ, ◌<◌, Bool, true, false, not, List, [], ◌∷◌, ◌++◌, length, Option, Some, None, refl, sym, ap, ◌∙◌, append_assoc, arith}
+use Rattle.std.proofs.Common.{◌≡◌, ℕ, ◌<◌, Bool, true, false, not, ◌^◌, ◌==◌, if◌then◌else◌, List, [], ◌∷◌, ◌++◌, length, Option, Some, None, refl, sym, ap, ◌∙◌, append_assoc, arith}
 use Rattle.std.specs.Prelude.{codes}
 use Rattle.std.specs.Fmt.{decimal}
 use Rattle.std.specs.List.{flat_map, AllByRecursion}
 use Rattle.std.proofs.lemmas.List.{length-append, flat_map_more}
+use Rattle.std.proofs.lemmas.Bool.{eqb-true}
 use Rattle.std.proofs.lemmas.Option.{some_pair_parts}
-use Rattle.schedule_rules.specs.declared.plan.Kind.{Kind}
-use Rattle.schedule_rules.specs.declared.plan.Kind.TheVariants as kind
+use Rattle.lazy_cells.specs.declared.kind.Kind.{Kind}
+use Rattle.lazy_cells.specs.declared.kind.Kind.TheVariants as kind
 use Rattle.schedule_rules.specs.declared.plan.Place.{Place}
 use Rattle.schedule_rules.specs.declared.plan.Place.TheVariants as place
 use Rattle.schedule_rules.specs.declared.plan.CellPlan.{CellPlan}
@@ -14,11 +15,11 @@ use Rattle.schedule_rules.specs.declared.step.Act.{Act}
 use Rattle.schedule_rules.specs.declared.step.Act.TheVariants as act
 use Rattle.schedule_rules.specs.declared.step.Step.{Step}
 use Rattle.schedule_text.specs.Lines.{Word, line_rest}
-use Rattle.schedule_text.specs.ScheduleText.{kind_name, place_words, once_words, leak_words, act_words, StepFits}
-use Rattle.schedule_text.specs.ReadFields.{◌>>=◌, bytes_after, name_at}
-use Rattle.schedule_text.specs.ReadSteps.{act_text, act_at, step_text, step_at, cell_text, lazy_at, finalize_else, kind_at, spin_at, park_else, place_at, option_else, option_at, options_at, cell_at}
-use Rattle.schedule_text.proofs.ReadWords.{bind_some, carry, word_takes, word_again}
-use Rattle.schedule_text.proofs.ReadNumbers.{name_takes, name_again}
+use Rattle.schedule_text.specs.ScheduleText.{kind_name, place_words, once_words, leak_words, prime_words, option_words, act_words, PlaceFits, CellFits, StepFits}
+use Rattle.schedule_text.specs.ReadFields.{Field, ◌>>=◌, bytes_after, number_at, name_at}
+use Rattle.schedule_text.specs.ReadSteps.{act_text, act_at, step_text, step_at, cell_text, kind_table, kind_at, place_table, own_at, place_else, place_at, option_else, option_at, prime_value_at, prime_else, prime_at, options_at, word_else, first_word, cell_at}
+use Rattle.schedule_text.proofs.ReadWords.{bind_some, carry, unchosen, word_takes, word_again, IsTable, row_takes}
+use Rattle.schedule_text.proofs.ReadNumbers.{number_takes, number_again, name_takes, name_again}
 use Rattle.schedule_text.proofs.ReadActs.{act_takes, act_again}
 
 -- ---- steps
@@ -34,8 +35,8 @@ rest_is (act.Set g v) = refl
 rest_is (act.Release g) = refl
 rest_is (act.Downgrade g) = refl
 rest_is (act.Clone g) = refl
-rest_is act.Finished = refl
-rest_is act.FinishFailed = refl
+rest_is (act.Finished left) = refl
+rest_is (act.FinishFailed left) = refl
 rest_is act.Exit = refl
 
 step_is : (s : Step) → step_text s ≡ decimal s.party ++ (32 ∷ act_text s.act)
@@ -92,36 +93,52 @@ kind_text k = kind_name k ++ (32 ∷ [])
 abbrev place_text : Place → List ℕ
 place_text place.Park = codes "park"
 place_text place.Spin = codes "spin"
+place_text (place.Own p) = codes "own " ++ decimal p
 
 -- the text of an option
 abbrev option_text : Word → Bool → List ℕ
 option_text word true = word
 option_text word false = []
 
--- the text of the options once and leak, up to the end of the line
-abbrev options_text : Bool × Bool → List ℕ
-options_text o = option_text (codes " once") o.0 ++ (option_text (codes " leak") o.1 ++ (10 ∷ []))
+-- the text of a value held from the start
+abbrev prime_text : ℕ → List ℕ
+prime_text v = if v == 0 then [] else codes " prime " ++ decimal v
+
+-- the options of a cell: once, leak, and the value held from the start
+abbrev Options : Type 0
+Options = (Bool × Bool) × ℕ
+
+-- the text of the options, up to the end of the line
+abbrev options_text : Options → List ℕ
+options_text o = option_text (codes " once") o.0.0 ++ (option_text (codes " leak") o.0.1 ++ (prime_text o.1 ++ (10 ∷ [])))
 
 -- a cell of this kind and place, with these options
-abbrev cell_with : Kind → Place → Bool × Bool → CellPlan
-cell_with k p o = record { kind = k; retry = not o.0; leak = o.1; place = p }
+abbrev cell_with : Kind → Place → Options → CellPlan
+cell_with k p o = record { kind = k; retry = not o.0.0; leak = o.0.1; place = p; prime = o.1 }
 
-options_are : (once leak : Bool) → line_rest (once_words (not once) ++ leak_words leak) ≡ options_text (once, leak)
-options_are true true = refl
-options_are true false = refl
-options_are false true = refl
-options_are false false = refl
+prime_is : (v : ℕ) → line_rest (prime_words v) ≡ prime_text v ++ (10 ∷ [])
+prime_is v = by (v == 0)
+  where
+    by : (b : Bool) → line_rest (if b then [] else codes "prime" ∷ decimal v ∷ []) ≡ (if b then [] else codes " prime " ++ decimal v) ++ (10 ∷ [])
+    by true = refl
+    by false = refl
+
+options_are : (once leak : Bool) (v : ℕ) → line_rest (once_words (not once) ++ (leak_words leak ++ prime_words v)) ≡ options_text ((once, leak), v)
+options_are true true v = ap (λ (x : List ℕ). codes " once leak" ++ x) (prime_is v)
+options_are true false v = ap (λ (x : List ℕ). codes " once" ++ x) (prime_is v)
+options_are false true v = ap (λ (x : List ℕ). codes " leak" ++ x) (prime_is v)
+options_are false false v = prime_is v
 
 place_is : (p : Place) (ws : List Word) → line_rest (place_words p ++ ws) ≡ 32 ∷ (place_text p ++ line_rest ws)
 place_is place.Park ws = refl
 place_is place.Spin ws = refl
+place_is (place.Own p) ws = refl
 
-cell_is : (k : Kind) (p : Place) (o : Bool × Bool) (more : List ℕ) → cell_text (cell_with k p o) ++ more ≡ codes "cell " ++ (kind_text k ++ (place_text p ++ (options_text o ++ more)))
+cell_is : (k : Kind) (p : Place) (o : Options) (more : List ℕ) → cell_text (cell_with k p o) ++ more ≡ codes "cell " ++ (kind_text k ++ (place_text p ++ (options_text o ++ more)))
 unfolding cell_text
 cell_is k p o more =
-    let options : List Word = once_words (not o.0) ++ leak_words o.1 in
-    let behind : line_rest (place_words p ++ options) ≡ 32 ∷ (place_text p ++ options_text o) =
-    place_is p options ∙ ap (λ (x : List ℕ). 32 ∷ (place_text p ++ x)) (options_are o.0 o.1) in
+    let behind : line_rest (place_words p ++ option_words (cell_with k p o)) ≡ 32 ∷ (place_text p ++ options_text o) =
+    place_is p (option_words (cell_with k p o)) ∙ ap (λ (x : List ℕ). 32 ∷ (place_text p ++ x)) (options_are o.0.0 o.0.1 o.1) in
     ap (λ (x : List ℕ). codes "cell " ++ ((kind_name k ++ x) ++ more)) behind
     ∙ ap (λ (x : List ℕ). codes "cell " ++ x)
     (append_assoc (kind_name k) (32 ∷ (place_text p ++ options_text o)) more
@@ -131,53 +148,120 @@ cell_is k p o more =
 -- ---- what is spelled is read
 
 kind_again : (k : Kind) (more : List ℕ) → kind_at (kind_text k ++ more) ≡ Some (k, more)
-unfolding kind_at lazy_at bytes_after
+unfolding bytes_after
+kind_again kind.Lazy more = refl
+kind_again kind.LazyFinalize more = refl
 kind_again kind.LockedLazy more = refl
 kind_again kind.LockedLazyFinalize more = refl
+kind_again kind.LockedLazyDroped more = refl
+kind_again kind.PrimedLockedLazy more = refl
+kind_again kind.PrimedLockedLazyDroped more = refl
 
-place_again : (p : Place) (more : List ℕ) → place_at (place_text p ++ more) ≡ Some (p, more)
-unfolding place_at spin_at bytes_after
-place_again place.Park more = refl
-place_again place.Spin more = refl
+-- a byte ends a number
+abbrev Ends : List ℕ → Type 0
+Ends more = (b : ℕ) × (rest : List ℕ) × (b < 48) × (more ≡ b ∷ rest)
 
-options_again : (once leak : Bool) (more : List ℕ) → options_at (options_text (once, leak) ++ more) ≡ Some ((once, leak), more)
+options_end : (o : Options) (more : List ℕ) → Ends (options_text o ++ more)
+options_end o more = by o.0.0 o.0.1 (o.1 == 0)
+  where
+    by : (once leak none : Bool) → Ends ((option_text (codes " once") once ++ (option_text (codes " leak") leak ++ ((if none then [] else codes " prime " ++ decimal o.1) ++ (10 ∷ [])))) ++ more)
+    by true leak none = (32, _, omega arith, refl)
+    by false true none = (32, _, omega arith, refl)
+    by false false true = (10, _, omega arith, refl)
+    by false false false = (32, _, omega arith, refl)
+
+place_again : (p : Place) (more : List ℕ) → PlaceFits p → Ends more → place_at (place_text p ++ more) ≡ Some (p, more)
+unfolding place_at own_at bytes_after
+place_again place.Park more fits ends = refl
+place_again place.Spin more fits ends = refl
+place_again (place.Own p) more fits ends =
+    rw ends.3 (rw (name_again p ends.0 ends.1 fits ends.2) refl)
+
+prime_again : (v : ℕ) (more : List ℕ) → v < 2 ^ 64 → prime_at (prime_text v ++ (10 ∷ more)) ≡ Some (v, 10 ∷ more)
+unfolding prime_at prime_value_at bytes_after
+prime_again v more fits = by (v == 0) refl
+  where
+    by : (none : Bool) → (v == 0) ≡ none → prime_at ((if none then [] else codes " prime " ++ decimal v) ++ (10 ∷ more)) ≡ Some (v, 10 ∷ more)
+    by true e = let z : v ≡ 0 = eqb-true v 0 e in rw z refl
+    by false e = let low : 10 < 48 = omega arith in rw (number_again v 10 more fits low, e) refl
+
+-- no option stands in front of the value
+no_option : (v : ℕ) (more : List ℕ) → (bytes_after (codes " once") (prime_text v ++ (10 ∷ more)) ≡ None) × (bytes_after (codes " leak") (prime_text v ++ (10 ∷ more)) ≡ None)
+unfolding bytes_after
+no_option v more = by (v == 0)
+  where
+    by : (none : Bool) → let text : List ℕ = (if none then [] else codes " prime " ++ decimal v) ++ (10 ∷ more) in (bytes_after (codes " once") text ≡ None) × (bytes_after (codes " leak") text ≡ None)
+    by true = (refl, refl)
+    by false = (refl, refl)
+
+flags_again : (once leak : Bool) (v : ℕ) (tail more : List ℕ) → (bytes_after (codes " once") tail ≡ None) × (bytes_after (codes " leak") tail ≡ None) → prime_at tail ≡ Some (v, 10 ∷ more)
+    → options_at (option_text (codes " once") once ++ (option_text (codes " leak") leak ++ tail)) ≡ Some (((once, leak), v), more)
 unfolding options_at option_at bytes_after
-options_again true true more = refl
-options_again true false more = refl
-options_again false true more = refl
-options_again false false more = refl
+flags_again true true v tail more absent prime = rw prime refl
+flags_again true false v tail more absent prime = rw (absent.1, prime) refl
+flags_again false true v tail more absent prime = rw prime refl
+flags_again false false v tail more absent prime = rw (absent.0, absent.1, prime) refl
 
-cell_with_again : (k : Kind) (p : Place) (o : Bool × Bool) (more : List ℕ) → cell_at (cell_text (cell_with k p o) ++ more) ≡ Some (cell_with k p o, more)
+options_again : (o : Options) (more : List ℕ) → o.1 < 2 ^ 64 → options_at (options_text o ++ more) ≡ Some (o, more)
+options_again o more fits =
+    let first : List ℕ = option_text (codes " once") o.0.0 in
+    let second : List ℕ = option_text (codes " leak") o.0.1 in
+    let third : List ℕ = prime_text o.1 in
+    let grouped : options_text o ++ more ≡ first ++ (second ++ (third ++ (10 ∷ more))) =
+    append_assoc first (second ++ (third ++ (10 ∷ []))) more
+    ∙ ap (λ (x : List ℕ). first ++ x) (append_assoc second (third ++ (10 ∷ [])) more ∙ ap (λ (x : List ℕ). second ++ x) (append_assoc third (10 ∷ []) more)) in
+    ap options_at grouped ∙ flags_again o.0.0 o.0.1 o.1 (third ++ (10 ∷ more)) more (no_option o.1 more) (prime_again o.1 more fits)
+
+cell_with_again : (k : Kind) (p : Place) (o : Options) (more : List ℕ) → PlaceFits p → o.1 < 2 ^ 64 → cell_at (cell_text (cell_with k p o) ++ more) ≡ Some (cell_with k p o, more)
 unfolding cell_at
-cell_with_again k p o more =
+cell_with_again k p o more place prime =
     let options : List ℕ = options_text o ++ more in
     ap cell_at (cell_is k p o more)
-    ∙ rw (word_again (codes "cell ") (kind_text k ++ (place_text p ++ options)), kind_again k (place_text p ++ options), place_again p options, options_again o.0 o.1 more) refl
+    ∙ rw (word_again (codes "cell ") (kind_text k ++ (place_text p ++ options)), kind_again k (place_text p ++ options), place_again p options place (options_end o more), options_again o more prime) refl
 
-pub cell_again : (c : CellPlan) (more : List ℕ) → cell_at (cell_text c ++ more) ≡ Some (c, more)
-cell_again c more = by c.retry
+pub cell_again : (c : CellPlan) (more : List ℕ) → CellFits c → cell_at (cell_text c ++ more) ≡ Some (c, more)
+cell_again c more fits = by c.retry
   where
-    by : (retry : Bool) → let x : CellPlan = record { kind = c.kind; retry = retry; leak = c.leak; place = c.place } in cell_at (cell_text x ++ more) ≡ Some (x, more)
-    by true = cell_with_again c.kind c.place (false, c.leak) more
-    by false = cell_with_again c.kind c.place (true, c.leak) more
+    by : (retry : Bool) → let x : CellPlan = record { kind = c.kind; retry = retry; leak = c.leak; place = c.place; prime = c.prime } in cell_at (cell_text x ++ more) ≡ Some (x, more)
+    by true = cell_with_again c.kind c.place ((false, c.leak), c.prime) more fits.place fits.prime
+    by false = cell_with_again c.kind c.place ((true, c.leak), c.prime) more fits.place fits.prime
 
 -- ---- what is read is spelled so
 
-kind_takes : (bytes : List ℕ) (o : Option (List ℕ)) (k : Kind) (rest : List ℕ) → bytes_after (codes "LockedLazyFinalize ") bytes ≡ o → finalize_else o bytes ≡ Some (k, rest) → bytes ≡ kind_text k ++ rest
-unfolding lazy_at
-kind_takes bytes (Some start) k rest at e =
-    carry (λ (x : Kind) (rest : List ℕ). bytes ≡ kind_text x ++ rest) kind.LockedLazyFinalize k start rest e (word_takes (codes "LockedLazyFinalize ") bytes start at)
-kind_takes bytes None k rest at e =
-    let s = bind_some (bytes_after (codes "LockedLazy ") bytes) (λ rest. Some (kind.LockedLazy, rest)) (k, rest) e in
-    carry (λ (x : Kind) (rest : List ℕ). bytes ≡ kind_text x ++ rest) kind.LockedLazy k s.0 rest s.2 (word_takes (codes "LockedLazy ") bytes s.0 s.1)
+kinds_named : IsTable kind_text kind_table
+kinds_named = (refl, (refl, (refl, (refl, (refl, (refl, (refl, tt)))))))
 
-place_takes : (bytes : List ℕ) (o : Option (List ℕ)) (p : Place) (rest : List ℕ) → bytes_after (codes "park") bytes ≡ o → park_else o bytes ≡ Some (p, rest) → bytes ≡ place_text p ++ rest
-unfolding spin_at
-place_takes bytes (Some start) p rest at e =
-    carry (λ (x : Place) (rest : List ℕ). bytes ≡ place_text x ++ rest) place.Park p start rest e (word_takes (codes "park") bytes start at)
-place_takes bytes None p rest at e =
-    let s = bind_some (bytes_after (codes "spin") bytes) (λ rest. Some (place.Spin, rest)) (p, rest) e in
-    carry (λ (x : Place) (rest : List ℕ). bytes ≡ place_text x ++ rest) place.Spin p s.0 rest s.2 (word_takes (codes "spin") bytes s.0 s.1)
+places_named : IsTable place_text place_table
+places_named = (refl, (refl, tt))
+
+-- what was read as a place
+pub record TakesPlace (bytes : List ℕ) (p : Place) (rest : List ℕ) : Type 0 where
+  pub spelling : bytes ≡ place_text p ++ rest
+  pub fits : PlaceFits p
+
+alone_fits : (rows : List (Word × Place)) (bytes : List ℕ) (p : Place) (rest : List ℕ) → AllByRecursion (λ row. PlaceFits row.1) rows → first_word rows bytes ≡ Some (p, rest) → PlaceFits p
+alone_fits [] bytes p rest all e = absurd cc
+alone_fits (row ∷ rows) bytes p rest all e = by (bytes_after row.0 bytes) e (λ e. alone_fits rows bytes p rest all.1 e)
+  where
+    by : (o : Option (List ℕ)) → word_else o row.1 (first_word rows bytes) ≡ Some (p, rest) → (first_word rows bytes ≡ Some (p, rest) → PlaceFits p) → PlaceFits p
+    by None e other = other e
+    by (Some after) e other = carry (λ (x : Place) (rest : List ℕ). PlaceFits x) row.1 p after rest e all.0
+
+place_takes : (bytes : List ℕ) (p : Place) (rest : List ℕ) → place_at bytes ≡ Some (p, rest) → TakesPlace bytes p rest
+unfolding place_at own_at
+place_takes bytes p rest e = by (first_word place_table bytes) refl e
+  where
+    by : (o : Field Place) → first_word place_table bytes ≡ o → place_else o bytes ≡ Some (p, rest) → TakesPlace bytes p rest
+    by (Some x) at e =
+        let f : first_word place_table bytes ≡ Some (p, rest) = at ∙ e in
+        record { spelling = row_takes place_text place_table bytes p rest places_named f; fits = alone_fits place_table bytes p rest (tt, (tt, tt)) f }
+    by None at e =
+        let s = bind_some (bytes_after (codes "own ") bytes) (λ rest. name_at rest >>= λ p. Some (place.Own p.0, p.1)) (p, rest) e in
+        let n = bind_some (name_at s.0) (λ p. Some (place.Own p.0, p.1)) (p, rest) s.2 in
+        let w = word_takes (codes "own ") bytes s.0 s.1 in
+        let t = name_takes s.0 n.0.0 n.0.1 n.1 in
+        carry (TakesPlace bytes) (place.Own n.0.0) p n.0.1 rest n.2
+        (record { spelling = w ∙ ap (λ (x : List ℕ). codes "own " ++ x) t.0; fits = t.1 })
 
 option_takes : (word : Word) (bytes : List ℕ) → bytes ≡ option_text word (option_at word bytes).0 ++ (option_at word bytes).1
 unfolding option_at
@@ -187,45 +271,70 @@ option_takes word bytes = by (bytes_after word bytes) refl
     by (Some rest) e = word_takes word bytes rest e
     by None e = refl
 
-options_take : (bytes : List ℕ) (o : Bool × Bool) (rest : List ℕ) → options_at bytes ≡ Some (o, rest) → bytes ≡ options_text o ++ rest
+prime_takes : (bytes : List ℕ) (v : ℕ) (rest : List ℕ) → prime_at bytes ≡ Some (v, rest) → (bytes ≡ prime_text v ++ rest) × (v < 2 ^ 64)
+unfolding prime_at prime_value_at
+prime_takes bytes v rest e = by (bytes_after (codes " prime ") bytes) refl e
+  where
+    by : (o : Option (List ℕ)) → bytes_after (codes " prime ") bytes ≡ o → prime_else o bytes ≡ Some (v, rest) → (bytes ≡ prime_text v ++ rest) × (v < 2 ^ 64)
+    by None at e = carry (λ (x : ℕ) (rest : List ℕ). (bytes ≡ prime_text x ++ rest) × (x < 2 ^ 64)) 0 v bytes rest e (refl, omega arith)
+    by (Some start) at e =
+        let n = bind_some (number_at start) (λ v. if v.0 == 0 then None else Some v) (v, rest) e in
+        let p = unchosen (n.0.0 == 0) n.0 (v, rest) n.2 in
+        let w = word_takes (codes " prime ") bytes start at in
+        let t = number_takes start n.0.0 n.0.1 n.1 in
+        let spelling : bytes ≡ prime_text n.0.0 ++ n.0.1 = rw p.0 (w ∙ ap (λ (x : List ℕ). codes " prime " ++ x) t.0) in
+        carry (λ (x : ℕ) (rest : List ℕ). (bytes ≡ prime_text x ++ rest) × (x < 2 ^ 64)) n.0.0 v n.0.1 rest p.1 (spelling, t.1)
+
+options_take : (bytes : List ℕ) (o : Options) (rest : List ℕ) → options_at bytes ≡ Some (o, rest) → (bytes ≡ options_text o ++ rest) × (o.1 < 2 ^ 64)
 unfolding options_at
 options_take bytes o rest e =
     let once : Bool × List ℕ = option_at (codes " once") bytes in
     let leak : Bool × List ℕ = option_at (codes " leak") once.1 in
-    let n = bind_some (bytes_after (codes "\n") leak.1) (λ rest. Some ((once.0, leak.0), rest)) (o, rest) e in
+    let v = bind_some (prime_at leak.1) (λ v. bytes_after (codes "\n") v.1 >>= λ rest. Some (((once.0, leak.0), v.0), rest)) (o, rest) e in
+    let n = bind_some (bytes_after (codes "\n") v.0.1) (λ rest. Some (((once.0, leak.0), v.0.0), rest)) (o, rest) v.2 in
+    let t = prime_takes leak.1 v.0.0 v.0.1 v.1 in
     let first : List ℕ = option_text (codes " once") once.0 in
     let second : List ℕ = option_text (codes " leak") leak.0 in
-    let spelling : bytes ≡ options_text (once.0, leak.0) ++ n.0 =
-    option_takes (codes " once") bytes
-    ∙ ap (λ (x : List ℕ). first ++ x)
-    (option_takes (codes " leak") once.1 ∙ ap (λ (x : List ℕ). second ++ x) (word_takes (codes "\n") leak.1 n.0 n.1)
-    ∙ sym (append_assoc second (10 ∷ []) n.0))
-    ∙ sym (append_assoc first (second ++ (10 ∷ [])) n.0) in
-    carry (λ (x : Bool × Bool) (rest : List ℕ). bytes ≡ options_text x ++ rest) (once.0, leak.0) o n.0 rest n.2 spelling
+    let third : List ℕ = prime_text v.0.0 in
+    let last : v.0.1 ≡ 10 ∷ n.0 = word_takes (codes "\n") v.0.1 n.0 n.1 in
+    let behind_leak : leak.1 ≡ (third ++ (10 ∷ [])) ++ n.0 = t.0 ∙ ap (λ (x : List ℕ). third ++ x) last ∙ sym (append_assoc third (10 ∷ []) n.0) in
+    let behind_once : once.1 ≡ (second ++ (third ++ (10 ∷ []))) ++ n.0 =
+    option_takes (codes " leak") once.1 ∙ ap (λ (x : List ℕ). second ++ x) behind_leak ∙ sym (append_assoc second (third ++ (10 ∷ [])) n.0) in
+    let spelling : bytes ≡ options_text ((once.0, leak.0), v.0.0) ++ n.0 =
+    option_takes (codes " once") bytes ∙ ap (λ (x : List ℕ). first ++ x) behind_once ∙ sym (append_assoc first (second ++ (third ++ (10 ∷ []))) n.0) in
+    carry (λ (x : Options) (rest : List ℕ). (bytes ≡ options_text x ++ rest) × (x.1 < 2 ^ 64)) ((once.0, leak.0), v.0.0) o n.0 rest n.2 (spelling, t.1)
 
 -- the parts of a cell's line, one after another
-cell_is_read : (bytes start after last rest : List ℕ) (k : Kind) (p : Place) (o : Bool × Bool) → bytes ≡ codes "cell " ++ start → start ≡ kind_text k ++ after → after ≡ place_text p ++ last → last ≡ options_text o ++ rest → bytes ≡ cell_text (cell_with k p o) ++ rest
+cell_is_read : (bytes start after last rest : List ℕ) (k : Kind) (p : Place) (o : Options) → bytes ≡ codes "cell " ++ start → start ≡ kind_text k ++ after → after ≡ place_text p ++ last → last ≡ options_text o ++ rest → bytes ≡ cell_text (cell_with k p o) ++ rest
 cell_is_read bytes start after last rest k p o word kind place options =
     let behind_kind : after ≡ place_text p ++ (options_text o ++ rest) = place ∙ ap (λ (x : List ℕ). place_text p ++ x) options in
     let behind_word : start ≡ kind_text k ++ (place_text p ++ (options_text o ++ rest)) = kind ∙ ap (λ (x : List ℕ). kind_text k ++ x) behind_kind in
     word ∙ ap (λ (x : List ℕ). codes "cell " ++ x) behind_word ∙ sym (cell_is k p o rest)
 
-abbrev planned : Kind → Place → (Bool × Bool) × List ℕ → Option (CellPlan × List ℕ)
+-- what was read as a cell
+pub record TakesCell (bytes : List ℕ) (c : CellPlan) (rest : List ℕ) : Type 0 where
+  pub spelling : bytes ≡ cell_text c ++ rest
+  pub fits : CellFits c
+
+abbrev planned : Kind → Place → Options × List ℕ → Option (CellPlan × List ℕ)
 planned k p o = Some (cell_with k p o.0, o.1)
 
-pub cell_takes : (bytes : List ℕ) (c : CellPlan) (rest : List ℕ) → cell_at bytes ≡ Some (c, rest) → bytes ≡ cell_text c ++ rest
-unfolding cell_at kind_at place_at
+pub cell_takes : (bytes : List ℕ) (c : CellPlan) (rest : List ℕ) → cell_at bytes ≡ Some (c, rest) → TakesCell bytes c rest
+unfolding cell_at
 cell_takes bytes c rest e =
     let s = bind_some (bytes_after (codes "cell ") bytes) (λ start. kind_at start >>= λ k. place_at k.1 >>= λ p. options_at p.1 >>= planned k.0 p.0) (c, rest) e in
     let k = bind_some (kind_at s.0) (λ k. place_at k.1 >>= λ p. options_at p.1 >>= planned k.0 p.0) (c, rest) s.2 in
     let p = bind_some (place_at k.0.1) (λ p. options_at p.1 >>= planned k.0.0 p.0) (c, rest) k.2 in
     let o = bind_some (options_at p.0.1) (planned k.0.0 p.0.0) (c, rest) p.2 in
     let word = word_takes (codes "cell ") bytes s.0 s.1 in
-    let kind = kind_takes s.0 (bytes_after (codes "LockedLazyFinalize ") s.0) k.0.0 k.0.1 refl k.1 in
-    let place = place_takes k.0.1 (bytes_after (codes "park") k.0.1) p.0.0 p.0.1 refl p.1 in
+    let kind = row_takes kind_text kind_table s.0 k.0.0 k.0.1 kinds_named k.1 in
+    let place = place_takes k.0.1 p.0.0 p.0.1 p.1 in
     let options = options_take p.0.1 o.0.0 o.0.1 o.1 in
-    carry (λ (x : CellPlan) (rest : List ℕ). bytes ≡ cell_text x ++ rest) (cell_with k.0.0 p.0.0 o.0.0) c o.0.1 rest o.2
-    (cell_is_read bytes s.0 k.0.1 p.0.1 o.0.1 k.0.0 p.0.0 o.0.0 word kind place options)
+    carry (TakesCell bytes) (cell_with k.0.0 p.0.0 o.0.0) c o.0.1 rest o.2
+    (record {
+      spelling = cell_is_read bytes s.0 k.0.1 p.0.1 o.0.1 k.0.0 p.0.0 o.0.0 word kind place.spelling options.0;
+      fits = record { place = place.fits; prime = options.1 };
+    })
 
 filled : (c : CellPlan) → 0 < length (cell_text c)
 unfolding cell_text

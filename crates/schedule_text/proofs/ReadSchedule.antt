@@ -9,7 +9,7 @@ use Rattle.schedule_rules.specs.declared.plan.CellPlan.{CellPlan}
 use Rattle.schedule_rules.specs.declared.step.Step.{Step}
 use Rattle.schedule_rules.specs.Transcripts.{Schedule}
 use Rattle.schedule_text.specs.Lines.{Word, line_text}
-use Rattle.schedule_text.specs.ScheduleText.{cell_words, step_words, schedule_text, StepFits, Spells}
+use Rattle.schedule_text.specs.ScheduleText.{cell_words, step_words, schedule_text, CellFits, StepFits, Spells}
 use Rattle.schedule_text.specs.ReadFields.{bytes_after, number_at, name_at}
 use Rattle.schedule_text.specs.ReadSteps.{last_name_at, parties_at, cell_text, cell_at, step_text, step_at}
 use Rattle.schedule_text.proofs.ReadWords.{bind_some, word_takes, word_again}
@@ -65,6 +65,7 @@ pub record HasCells (text : List ℕ) (p : ℕ) (cells : List CellPlan) (rest : 
   pub start : List ℕ
   pub parties : parties_at text ≡ Some (p, start)
   pub taken : start ≡ flat_map cell_text cells ++ rest
+  pub fit : AllByRecursion CellFits cells
   pub ended : cell_at rest ≡ None
 
 -- and the steps
@@ -82,10 +83,6 @@ no_parties text none x s =
     let read = ap parties_at (s.spelling ∙ spelled x) ∙ parties_again x.parties (cells_part x.cells x.steps) s.parties in
     absurd cc
 
-all_fit : (cells : List CellPlan) → AllByRecursion (λ _. Unit {0}) cells
-all_fit [] = tt
-all_fit (c ∷ cs) = (tt, all_fit cs)
-
 no_cell : (steps : List Step) → cell_at (steps_part steps) ≡ None
 unfolding cell_at bytes_after
 no_cell steps = refl
@@ -98,8 +95,8 @@ pub cells_are : (text : List ℕ) (p : ℕ) (cells : List CellPlan) (rest : List
 cells_are text p cells rest h x s =
     let read = ap parties_at (s.spelling ∙ spelled x) ∙ parties_again x.parties (cells_part x.cells x.steps) s.parties in
     let parts = some_pair_parts p x.parties h.start (cells_part x.cells x.steps) (sym h.parties ∙ read) in
-    let t = same cell_at cell_text (λ _. Unit {0}) (λ c more _. cell_again c more) cells x.cells rest (steps_part x.steps)
-    (all_fit cells) (all_fit x.cells) h.ended (no_cell x.steps) (sym h.taken ∙ parts.1) in
+    let t = same cell_at cell_text CellFits cell_again cells x.cells rest (steps_part x.steps)
+    h.fit s.cells h.ended (no_cell x.steps) (sym h.taken ∙ parts.1) in
     (parts.0, t.0, t.1)
 
 pub no_steps : (text : List ℕ) (p : ℕ) (cells : List CellPlan) (rest : List ℕ) → HasCells text p cells rest → bytes_after (codes "steps\n") rest ≡ None → (x : Schedule) → Spells text x → ⊥
@@ -134,4 +131,4 @@ is_found text p cells steps rest h ends =
     let last : h.start ≡ end_part steps = h.taken ∙ ap (λ (r : List ℕ). flat_map step_text steps ++ r) ends in
     let middle : h.before.start ≡ cells_part cells steps = h.before.taken ∙ ap (λ (r : List ℕ). flat_map cell_text cells ++ r) (w ∙ ap (λ (r : List ℕ). codes "steps\n" ++ r) last) in
     let all : text ≡ whole (made p cells steps) = t.0 ∙ ap (λ (r : List ℕ). codes "schedule 1\nparties " ++ ((decimal p ++ (10 ∷ [])) ++ r)) middle in
-    record { spelling = all ∙ sym (spelled (made p cells steps)); parties = t.1; steps = h.fit }
+    record { spelling = all ∙ sym (spelled (made p cells steps)); parties = t.1; cells = h.before.fit; steps = h.fit }

@@ -1,11 +1,11 @@
 -- What a reader of a text's front answers: acts, steps and cells, each up to the end of its line.
 use Rattle.std.specs.Prelude.{ℕ, Bool, true, false, not, List, [], ◌∷◌, Option, Some, None, ◌==◌, if◌then◌else◌, codes}
-use Rattle.schedule_rules.specs.declared.plan.Kind.{Kind}
-use Rattle.schedule_rules.specs.declared.plan.Kind.TheVariants as kind
+use Rattle.lazy_cells.specs.declared.kind.Kind.{Kind}
+use Rattle.lazy_cells.specs.declared.kind.Kind.TheVariants as kind
 use Rattle.schedule_rules.specs.declared.plan.Place.{Place}
 use Rattle.schedule_rules.specs.declared.plan.Place.TheVariants as place
-use Rattle.schedule_rules.specs.declared.plan.Call.{Call}
-use Rattle.schedule_rules.specs.declared.plan.Call.TheVariants as call
+use Rattle.lazy_cells.specs.declared.call.Call.{Call}
+use Rattle.lazy_cells.specs.declared.call.Call.TheVariants as call
 use Rattle.schedule_rules.specs.declared.plan.CellPlan.{CellPlan}
 use Rattle.schedule_rules.specs.declared.step.Act.{Act}
 use Rattle.schedule_rules.specs.declared.step.Act.TheVariants as act
@@ -40,9 +40,23 @@ last_name_at bytes = do
   rest ← bytes_after (codes "\n") n.1
   Some (n.0, rest)
 
--- the words of the calls, each with the space behind it, in the order in which they are tried
-abbrev pub call_table : List (Word × Call)
-call_table = (codes "phase ", call.Phase) ∷ (codes "read ", call.Read) ∷ (codes "write ", call.Write) ∷ (codes "try_read ", call.TryRead) ∷ []
+-- ---- the words of the calls, each with the space behind it, in the order in which they are tried
+
+-- those with a letter that no other table has
+abbrev pub plain_calls : List (Word × Call)
+plain_calls = (codes "read ", call.Read) ∷ (codes "write ", call.Write) ∷ (codes "get ", call.Get) ∷ (codes "init ", call.Init) ∷ []
+
+-- those that begin with a t
+abbrev pub try_calls : List (Word × Call)
+try_calls = (codes "try_read ", call.TryRead) ∷ (codes "try_write ", call.TryWrite) ∷ (codes "try_get ", call.TryGet) ∷ []
+
+-- those that begin with an f
+abbrev pub fast_calls : List (Word × Call)
+fast_calls = (codes "fast_read ", call.FastRead) ∷ (codes "fast_write ", call.FastWrite) ∷ (codes "fast_try_read ", call.FastTryRead) ∷ (codes "fast_try_write ", call.FastTryWrite) ∷ []
+
+-- those that begin with a p
+abbrev pub phase_calls : List (Word × Call)
+phase_calls = (codes "phase ", call.Phase) ∷ (codes "primed_read ", call.PrimedRead) ∷ (codes "primed_write ", call.PrimedWrite) ∷ (codes "primed_read_non_initializing ", call.PrimedReadNonInitializing) ∷ (codes "primed_write_non_initializing ", call.PrimedWriteNonInitializing) ∷ []
 
 -- this, where its word was found, and else the other
 abbrev pub word_else : {A : Type 0} → Option (List ℕ) → A → Field A → Field A
@@ -120,39 +134,71 @@ again_at bytes = do
   rest ← bytes_after (codes "again\n") bytes
   Some (act.Again, rest)
 
--- a call: its word and its cell
-unfoldable pub called_at : List ℕ → Field Act
-called_at bytes = do
-  k ← first_word call_table bytes
+-- a call of this table: its word and its cell
+unfoldable pub called_at : List (Word × Call) → List ℕ → Field Act
+called_at rows bytes = do
+  k ← first_word rows bytes
   call_at k.0 k.1
 
--- a call that was found, or else the release of a guard
-abbrev pub call_else : Field Call → List ℕ → Field Act
-call_else (Some k) bytes = call_at k.0 k.1
-call_else None bytes = release_at bytes
+-- a call that was found, or else another act
+abbrev pub call_else : Field Call → Field Act → Field Act
+call_else (Some k) other = call_at k.0 k.1
+call_else None other = other
 
 -- a call, or else the release of a guard, which begins with the letter of a call
 unfoldable pub called_or_release_at : List ℕ → Field Act
-called_or_release_at bytes = call_else (first_word call_table bytes) bytes
+called_or_release_at bytes = call_else (first_word plain_calls bytes) (release_at bytes)
 
 -- the outcome of a generator
 unfoldable pub made_at : List ℕ → Field Act
 made_at bytes = made_else (bytes_after (codes "made ") bytes) bytes
 
--- that the finalizer failed
+-- a value that a finalizer left
+unfoldable pub left_value_at : List ℕ → Field (Option ℕ)
+left_value_at bytes = do
+  v ← last_number_at bytes
+  Some (Some v.0, v.1)
+
+-- that it left none
+unfoldable pub left_none_at : List ℕ → Field (Option ℕ)
+left_none_at bytes = do
+  rest ← bytes_after (codes "\n") bytes
+  Some (None, rest)
+
+-- the one, or else the other
+abbrev pub left_else : Option (List ℕ) → List ℕ → Field (Option ℕ)
+left_else (Some rest) bytes = left_value_at rest
+left_else None bytes = left_none_at bytes
+
+-- what a finalizer left, up to the end of its line
+unfoldable pub left_at : List ℕ → Field (Option ℕ)
+left_at bytes = left_else (bytes_after (codes " ") bytes) bytes
+
+-- that the finalizer failed, and what it left
 unfoldable pub finish_failed_at : List ℕ → Field Act
 finish_failed_at bytes = do
-  rest ← bytes_after (codes "finish_failed\n") bytes
-  Some (act.FinishFailed, rest)
+  start ← bytes_after (codes "finish_failed") bytes
+  left ← left_at start
+  Some (act.FinishFailed left.0, left.1)
+
+-- that the finalizer succeeded, and what it left
+unfoldable pub fine_at : List ℕ → Field Act
+fine_at bytes = do
+  left ← left_at bytes
+  Some (act.Finished left.0, left.1)
 
 -- that the finalizer succeeded, or else that it failed
 abbrev pub finished_else : Option (List ℕ) → List ℕ → Field Act
-finished_else (Some rest) bytes = Some (act.Finished, rest)
+finished_else (Some rest) bytes = fine_at rest
 finished_else None bytes = finish_failed_at bytes
 
 -- the outcome of a finalizer
 unfoldable pub finished_at : List ℕ → Field Act
-finished_at bytes = finished_else (bytes_after (codes "finished\n") bytes) bytes
+finished_at bytes = finished_else (bytes_after (codes "finished") bytes) bytes
+
+-- a call, or else the outcome of a finalizer, which begins with the letter of a call
+unfoldable pub called_or_finished_at : List ℕ → Field Act
+called_or_finished_at bytes = call_else (first_word fast_calls bytes) (finished_at bytes)
 
 -- a step of the exit
 unfoldable pub exit_at : List ℕ → Field Act
@@ -160,7 +206,7 @@ exit_at bytes = do
   rest ← bytes_after (codes "exit\n") bytes
   Some (act.Exit, rest)
 
--- an act that is no call is told by its first letter
+-- what an act is, its first letter tells
 unfoldable pub act_at : List ℕ → Field Act
 act_at [] = None
 act_at (b ∷ bytes) =
@@ -172,8 +218,10 @@ act_at (b ∷ bytes) =
     else (if b == 100 then downgrade_at (b ∷ bytes)
     else (if b == 99 then clone_at (b ∷ bytes)
     else (if b == 101 then exit_at (b ∷ bytes)
-    else (if b == 102 then finished_at (b ∷ bytes)
-    else called_at (b ∷ bytes)))))))))
+    else (if b == 102 then called_or_finished_at (b ∷ bytes)
+    else (if b == 116 then called_at try_calls (b ∷ bytes)
+    else (if b == 112 then called_at phase_calls (b ∷ bytes)
+    else called_at plain_calls (b ∷ bytes)))))))))))
 
 -- a step: its party and its act
 unfoldable pub step_at : List ℕ → Field Step
@@ -183,35 +231,41 @@ step_at bytes = do
   a ← act_at rest
   Some (record { party = p.0; act = a.0 }, a.1)
 
--- the kind of a cell that is not registered for the exit
-unfoldable pub lazy_at : List ℕ → Field Kind
-lazy_at bytes = do
-  rest ← bytes_after (codes "LockedLazy ") bytes
-  Some (kind.LockedLazy, rest)
-
--- a kind that is registered for the exit, or else one that is not
-abbrev pub finalize_else : Option (List ℕ) → List ℕ → Field Kind
-finalize_else (Some rest) bytes = Some (kind.LockedLazyFinalize, rest)
-finalize_else None bytes = lazy_at bytes
+-- the names of the kinds, each with the space behind it, in the order in which they are tried
+abbrev pub kind_table : List (Word × Kind)
+kind_table =
+    (codes "Lazy ", kind.Lazy)
+    ∷ (codes "LazyFinalize ", kind.LazyFinalize)
+    ∷ (codes "LockedLazy ", kind.LockedLazy)
+    ∷ (codes "LockedLazyFinalize ", kind.LockedLazyFinalize)
+    ∷ (codes "LockedLazyDroped ", kind.LockedLazyDroped)
+    ∷ (codes "PrimedLockedLazy ", kind.PrimedLockedLazy)
+    ∷ (codes "PrimedLockedLazyDroped ", kind.PrimedLockedLazyDroped)
+    ∷ []
 
 -- the kind of a cell, and the space behind it
-unfoldable pub kind_at : List ℕ → Field Kind
-kind_at bytes = finalize_else (bytes_after (codes "LockedLazyFinalize ") bytes) bytes
+abbrev pub kind_at : List ℕ → Field Kind
+kind_at bytes = first_word kind_table bytes
 
--- the place of a cell that spins
-unfoldable pub spin_at : List ℕ → Field Place
-spin_at bytes = do
-  rest ← bytes_after (codes "spin") bytes
-  Some (place.Spin, rest)
+-- the words of the places that stand alone
+abbrev pub place_table : List (Word × Place)
+place_table = (codes "park", place.Park) ∷ (codes "spin", place.Spin) ∷ []
 
--- a cell that parks, or else one that spins
-abbrev pub park_else : Option (List ℕ) → List ℕ → Field Place
-park_else (Some rest) bytes = Some (place.Park, rest)
-park_else None bytes = spin_at bytes
+-- a party that the cell belongs to
+unfoldable pub own_at : List ℕ → Field Place
+own_at bytes = do
+  rest ← bytes_after (codes "own ") bytes
+  p ← name_at rest
+  Some (place.Own p.0, p.1)
+
+-- a place that was found, or else the party that the cell belongs to
+abbrev pub place_else : Field Place → List ℕ → Field Place
+place_else (Some p) bytes = Some p
+place_else None bytes = own_at bytes
 
 -- the place of a cell
 unfoldable pub place_at : List ℕ → Field Place
-place_at bytes = park_else (bytes_after (codes "park") bytes) bytes
+place_at bytes = place_else (first_word place_table bytes) bytes
 
 -- an option that stands at the front, or else none
 abbrev pub option_else : Option (List ℕ) → List ℕ → Bool × List ℕ
@@ -222,12 +276,25 @@ option_else None bytes = (false, bytes)
 unfoldable pub option_at : Word → List ℕ → Bool × List ℕ
 option_at word bytes = option_else (bytes_after word bytes) bytes
 
--- the options of a cell, once and leak, up to the end of its line
-unfoldable pub options_at : List ℕ → Field (Bool × Bool)
+-- a value that a cell holds from the start is not 0
+unfoldable pub prime_value_at : List ℕ → Field ℕ
+prime_value_at bytes = number_at bytes >>= λ v. if v.0 == 0 then None else Some v
+
+-- that value, or else 0, which has no spelling
+abbrev pub prime_else : Option (List ℕ) → List ℕ → Field ℕ
+prime_else (Some rest) bytes = prime_value_at rest
+prime_else None bytes = Some (0, bytes)
+
+-- the value that a cell holds from the start
+unfoldable pub prime_at : List ℕ → Field ℕ
+prime_at bytes = prime_else (bytes_after (codes " prime ") bytes) bytes
+
+-- the options of a cell, once, leak and prime, up to the end of its line
+unfoldable pub options_at : List ℕ → Field ((Bool × Bool) × ℕ)
 options_at bytes =
     let once = option_at (codes " once") bytes in
     let leak = option_at (codes " leak") once.1 in
-    bytes_after (codes "\n") leak.1 >>= λ rest. Some ((once.0, leak.0), rest)
+    prime_at leak.1 >>= λ v. bytes_after (codes "\n") v.1 >>= λ rest. Some (((once.0, leak.0), v.0), rest)
 
 -- a cell: its kind, its place and its options
 unfoldable pub cell_at : List ℕ → Field CellPlan
@@ -236,7 +303,7 @@ cell_at bytes = do
   k ← kind_at start
   p ← place_at k.1
   o ← options_at p.1
-  Some (record { kind = k.0; retry = not o.0.0; leak = o.0.1; place = p.0 }, o.1)
+  Some (record { kind = k.0; retry = not o.0.0.0; leak = o.0.0.1; place = p.0; prime = o.0.1 }, o.1)
 
 -- how many parties there are, behind the version of the text
 unfoldable pub parties_at : List ℕ → Field ℕ

@@ -32,6 +32,8 @@ way_name how.Drain = codes "drain"
 abbrev pub refusal_words : Refusal → List Word
 refusal_words refused.Waits = codes "1" ∷ codes "Waits" ∷ []
 refusal_words refused.NotWaiting = codes "2" ∷ codes "NotWaiting" ∷ []
+refusal_words refused.NotOwner = codes "3" ∷ codes "NotOwner" ∷ []
+refusal_words refused.NoSuchCall = codes "4" ∷ codes "NoSuchCall" ∷ []
 refusal_words refused.NoGuard = codes "5" ∷ codes "NoGuard" ∷ []
 refusal_words refused.NotWriter = codes "6" ∷ codes "NotWriter" ∷ []
 refusal_words refused.NoSection = codes "7" ∷ codes "NoSection" ∷ []
@@ -44,6 +46,7 @@ abbrev pub answer_words : Answer → List Word
 answer_words (answer.Phase p) = codes "phase" ∷ phase_text (number p) ∷ []
 answer_words (answer.Value v) = codes "value" ∷ decimal v ∷ []
 answer_words answer.ReadGuard = codes "read-guard" ∷ []
+answer_words answer.ErrGuard = codes "err-guard" ∷ []
 answer_words answer.WriteGuard = codes "write-guard" ∷ []
 answer_words answer.Running = codes "running" ∷ []
 answer_words (answer.Finalizing c) = codes "finalizing" ∷ decimal c ∷ []
@@ -55,6 +58,7 @@ answer_words (answer.Access p) = codes "access" ∷ phase_text (number p) ∷ []
 answer_words answer.Failed = codes "failed" ∷ []
 answer_words answer.Cyclic = codes "cyclic" ∷ []
 answer_words answer.Borrowed = codes "borrowed" ∷ []
+answer_words answer.Missed = codes "none" ∷ []
 answer_words (answer.Waiting w) = codes "waiting" ∷ way_name w ∷ []
 answer_words (answer.Refused r) = codes "refused" ∷ refusal_words r
 

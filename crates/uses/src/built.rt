@@ -16,6 +16,7 @@ const CELL: CellPlan = CellPlan {
     retry: true,
     leak: false,
     place: Place::Park,
+    prime: 0,
 };
 
 /// A plan of two parties and one cell.

@@ -204,6 +204,36 @@ fn the_exit_runs_over_boxed_lazies(rt: HostRuntime) -> Result<(), Fail> {
     Ok(())
 }
 
+/// The next look of an exit. The process ends where a cell is left of the last one.
+fn look(rt: &impl Abort, registry: &mut ExitRegistry) -> Look {
+    if registry.next_turn().is_some() {
+        rt.abort()
+    }
+    registry.look()
+}
+
+#[test]
+fn a_lazy_that_is_made_in_an_exit_has_its_turn(rt: HostRuntime) -> Result<(), Fail> {
+    let mut registry = ExitRegistry::new(rt.alloc(), 3)?;
+    let mut first = LazyFinalize::from_generator(0, Leaking(2));
+    let mut second = LazyFinalize::from_generator(1, Leaking(4));
+    let mut third = LazyFinalize::from_generator(2, Leaking(6));
+    assert_eq!(rt; get(&rt, &mut first, &mut registry), Ok(2));
+    assert_eq!(rt; get(&rt, &mut second, &mut registry), Ok(4));
+    assert_eq!(rt; look(&rt, &mut registry), Look::Round(2));
+    assert_eq!(rt; registry.next_turn(), Some(1));
+    assert_eq!(rt; second.execute(), Turn::Done);
+    assert_eq!(rt; get(&rt, &mut third, &mut registry), Ok(6));
+    assert_eq!(rt; registry.next_turn(), Some(0));
+    assert_eq!(rt; first.execute(), Turn::Done);
+    assert_eq!(rt; look(&rt, &mut registry), Look::Round(1));
+    assert_eq!(rt; registry.next_turn(), Some(2));
+    assert_eq!(rt; third.execute(), Turn::Done);
+    assert_eq!(rt; look(&rt, &mut registry), Look::Closed);
+    assert_eq!(rt; LazyFinalize::phase(&third).bits(), 73);
+    Ok(())
+}
+
 /// Writes one more item to a list. The process ends where there is no memory.
 fn push(rt: &impl Abort, list: &mut Vec<u64>, item: u64) {
     if list.push(item).is_err() {
@@ -231,10 +261,13 @@ fn a_list_is_changed_by_its_owner(rt: HostRuntime) -> Result<(), Fail> {
     if let Ok(list) = Lazy::try_get_mut(&mut lazy) {
         push(&rt, list, 4);
     }
-    let Ok(list) = Lazy::try_get(&lazy) else {
+    if let Ok(list) = Lazy::get_mut(&mut lazy) {
+        push(&rt, list, 5);
+    }
+    let Ok(list) = Lazy::get(&mut lazy) else {
         return Err("it is there".into());
     };
-    assert!(rt; list.as_slice() == [1, 2, 3, 4].as_slice());
+    assert!(rt; list.as_slice() == [1, 2, 3, 4, 5].as_slice());
     assert_eq!(rt; Lazy::phase(&lazy), Phase::INITIALIZED);
     Ok(())
 }

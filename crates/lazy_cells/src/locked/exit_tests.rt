@@ -86,6 +86,27 @@ fn primed<G>(rt: &impl Abort, lazy: &mut PrimedLockedLazyDroped<Back, G>) -> u64
     value
 }
 
+/// What a primed cell shows to a call that wants to write it after its end. The process ends where it may be written.
+fn written<G: Generator<Back>>(
+    rt: &impl Abort,
+    lazy: &mut PrimedLockedLazyDroped<Back, G>,
+    cell: u32,
+    registry: &mut ExitRegistry,
+) -> u64
+    requires callable { G.may_call lazy.old.generator }
+    requires cell { lazy.old.marker.cell ≡ cell }
+    ensures again { G.may_call lazy.new.generator }
+    ensures marker { lazy.new.marker ≡ lazy.old.marker }
+{
+    ready(rt, cell, lazy.phase(), registry);
+    let answer = lazy.primed_write(registry);
+    let Ok(held) = answer else { rt.abort() };
+    let Err(ticket) = held else { rt.abort() };
+    let value = lazy.look(&ticket).0;
+    lazy.release(ticket);
+    value
+}
+
 #[test]
 fn the_exit_puts_a_primed_value_back(rt: HostRuntime) -> Result<(), Fail> {
     let mut registry = ExitRegistry::new(rt.alloc(), 1)?;
@@ -100,6 +121,8 @@ fn the_exit_puts_a_primed_value_back(rt: HostRuntime) -> Result<(), Fail> {
     assert_eq!(rt; lazy.look(&ticket).0, 22);
     lazy.release(ticket);
     assert_eq!(rt; lazy.execute(), Turn::Done);
+    assert_eq!(rt; lazy.phase().bits(), 73);
+    assert_eq!(rt; written(&rt, &mut lazy, 0, &mut registry), 0);
     assert_eq!(rt; primed(&rt, &mut lazy), 0);
     let answer = read(&rt, &mut lazy, 0, &mut registry);
     let Err(error) = answer else { rt.abort() };

@@ -67,8 +67,12 @@ fn a_list_is_behind_its_lock(rt: HostRuntime) -> Result<(), Fail> {
     push(&rt, &mut lazy, ticket, 3);
     let ticket = got(&rt, lazy.try_write());
     push(&rt, &mut lazy, ticket, 4);
+    let answer = lazy.fast_try_write();
+    let Some(told) = answer else { rt.abort() };
+    let Ok(ticket) = told else { rt.abort() };
+    push(&rt, &mut lazy, ticket, 5);
     let ticket = got(&rt, lazy.read());
-    assert!(rt; lazy.look(&ticket).as_slice() == [1, 2, 3, 4].as_slice());
+    assert!(rt; lazy.look(&ticket).as_slice() == [1, 2, 3, 4, 5].as_slice());
     lazy.release(ticket);
     Ok(())
 }

@@ -1,14 +1,15 @@
 //! The attempt of a call, and what it begins.
 
 ghost use Rattle.std.specs.Prelude.{◌≡◌, true, false};
-ghost use Rattle.phase_locker.specs.Fits.{Fits, IsWriteOpen};
+ghost use Rattle.phase_locker.specs.Fits.{Fits};
 ghost use Rattle.phase_locker.specs.Others.{RowsStayBeside};
 ghost use Rattle.phase_locker.specs.Stands.{MayCall, MayCallAgain, Opens};
 ghost use Rattle.phase_locker.specs.Left.{Left};
 ghost use Rattle.phase_seq.specs.Asks.{nature_of};
 ghost use Rattle.phase_seq.specs.Begins.{Begins, Resumes, is_cyclic, begun_of, begun_by, begun_tried, running_after};
-ghost use Rattle.phase_seq.specs.Stands.{BegunStands, RunsAfter, reads_begun, opens_write};
-ghost use Rattle.phase_seq.specs.Exactly.{BeginsExactly, ResumesExactly, is_run};
+ghost use Rattle.phase_seq.specs.Registers.{RunsAlone};
+ghost use Rattle.phase_seq.specs.Stands.{BegunStands, RunsAfter, reads_begun, begins_write};
+ghost use Rattle.phase_seq.specs.Exactly.{BeginsExactly, ResumesExactly};
 
 use crate::ask::Ask;
 use crate::section::{Begun, section_by};
@@ -29,8 +30,8 @@ impl<L: PhaseLocker, G> LazySequentializer<L, G> {
         ensures running { RunsAfter who.cell result.0 self.old.running (L.held self.old.locker) parks.old self.new.running (L.held self.new.locker) parks.new }
         ensures rows { RowsStayBeside who.party who.cell parks.old parks.new }
         ensures stands { BegunStands who result.0 self.new.running (L.held self.new.locker) parks.new }
-        ensures opens { Opens who.cell (reads_begun result.0) (opens_write result.0) (L.held self.old.locker) parks.old (L.held self.new.locker) parks.new }
-        ensures fresh { IsWriteOpen (L.held self.old.locker) parks.old who.cell → is_run result.0 ≡ false }
+        ensures opens { Opens who.cell (reads_begun result.0) (begins_write result.0) (L.held self.old.locker) parks.old (L.held self.new.locker) parks.new }
+        ensures alone { RunsAlone who.cell (L.held self.old.locker) parks.old result.0 result.1 }
         ensures given { result.1 ≡ Given.Nobody }
         ensures left { Left L.held L.place who.cell self.old.locker self.new.locker parks.old parks.new }
     {
@@ -60,9 +61,8 @@ impl<L: PhaseLocker, G> LazySequentializer<L, G> {
         ensures running { RunsAfter who.cell result.0 self.old.running (L.held self.old.locker) parks.old self.new.running (L.held self.new.locker) parks.new }
         ensures rows { RowsStayBeside who.party who.cell parks.old parks.new }
         ensures stands { BegunStands who result.0 self.new.running (L.held self.new.locker) parks.new }
-        ensures opens { Opens who.cell (reads_begun result.0) (opens_write result.0) (L.held self.old.locker) parks.old (L.held self.new.locker) parks.new }
-        ensures fresh { IsWriteOpen (L.held self.old.locker) parks.old who.cell → is_run result.0 ≡ false }
-        ensures quiet { is_run result.0 ≡ true → result.1 ≡ Given.Nobody }
+        ensures opens { Opens who.cell (reads_begun result.0) (begins_write result.0) (L.held self.old.locker) parks.old (L.held self.new.locker) parks.new }
+        ensures alone { RunsAlone who.cell (L.held self.old.locker) parks.old result.0 result.1 }
         ensures left { Left L.held L.place who.cell self.old.locker self.new.locker parks.old parks.new }
     {
         if self.is_cyclic(who, ask) {

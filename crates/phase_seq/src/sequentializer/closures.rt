@@ -6,6 +6,7 @@ ghost use Rattle.std.specs.Option.{ForSome};
 ghost use Rattle.phase_locker.specs.Natures.{MayJudge, IsRule, Tries};
 ghost use Rattle.phase_locker.specs.Fits.{IsIdle};
 ghost use Rattle.phase_bits.specs.Records.{admit_write};
+ghost use Rattle.phase_seq.specs.Registers.{left_behind};
 ghost use Rattle.phase_seq.specs.Direct.{MayEnlist, tolerance, registry_in, registry_after, registry_left, enlisted, is_due_at, Calls, by_call, unless_borrowed, TriesCall, CallsUnique, Finalizes, told, told_read, told_write};
 
 use crate::ask::Want;
@@ -54,7 +55,7 @@ impl<G: GeneratorTolerance> LazySequentializer<UnSyncPhaseLocker, G> {
         requires callable { F.IsAlwaysCallable run }
         requires exit { ForSome exit (λ e. MayEnlist e.0 self.old.locker e.1.now) }
         ensures calls { Calls (by_call F.post) told Want.Init (tolerance G.INIT_FAILURE G.FINAL_REGISTRATION_FAILURE) (enlisted G.FINAL_REGISTRATION_FAILURE (registry_in exit.entry) self.old.locker.phase) self.old.locker run result self.new.locker run }
-        ensures registry { registry_left exit.exit ≡ registry_after (is_due_at Want.Init (tolerance G.INIT_FAILURE G.FINAL_REGISTRATION_FAILURE) self.old.locker) self.old.locker.phase exit.entry }
+        ensures registry { registry_left (left_behind exit.exit) ≡ registry_after (is_due_at Want.Init (tolerance G.INIT_FAILURE G.FINAL_REGISTRATION_FAILURE) self.old.locker) self.old.locker.phase exit.entry }
         ensures running { self.new.running ≡ self.old.running }
     {
         let mut once = OnceGenerator::new(run);
@@ -81,7 +82,7 @@ impl<G: GeneratorTolerance> LazySequentializer<UnSyncPhaseLocker, G> {
         requires callable { F.IsAlwaysCallable run }
         requires exit { ForSome exit (λ e. MayEnlist e.0 self.old.locker e.1.now) }
         ensures calls { Calls (by_call F.post) told_read Want.Read (tolerance G.INIT_FAILURE G.FINAL_REGISTRATION_FAILURE) (enlisted G.FINAL_REGISTRATION_FAILURE (registry_in exit.entry) self.old.locker.phase) self.old.locker run result self.new.locker run }
-        ensures registry { registry_left exit.exit ≡ registry_after (is_due_at Want.Read (tolerance G.INIT_FAILURE G.FINAL_REGISTRATION_FAILURE) self.old.locker) self.old.locker.phase exit.entry }
+        ensures registry { registry_left (left_behind exit.exit) ≡ registry_after (is_due_at Want.Read (tolerance G.INIT_FAILURE G.FINAL_REGISTRATION_FAILURE) self.old.locker) self.old.locker.phase exit.entry }
         ensures running { self.new.running ≡ self.old.running }
     {
         let mut once = OnceGenerator::new(run);
@@ -108,7 +109,7 @@ impl<G: GeneratorTolerance> LazySequentializer<UnSyncPhaseLocker, G> {
         requires callable { F.IsAlwaysCallable run }
         requires exit { ForSome exit (λ e. MayEnlist e.0 self.old.locker e.1.now) }
         ensures calls { Calls (by_call F.post) told_write Want.Write (tolerance G.INIT_FAILURE G.FINAL_REGISTRATION_FAILURE) (enlisted G.FINAL_REGISTRATION_FAILURE (registry_in exit.entry) self.old.locker.phase) self.old.locker run result self.new.locker run }
-        ensures registry { registry_left exit.exit ≡ registry_after (is_due_at Want.Write (tolerance G.INIT_FAILURE G.FINAL_REGISTRATION_FAILURE) self.old.locker) self.old.locker.phase exit.entry }
+        ensures registry { registry_left (left_behind exit.exit) ≡ registry_after (is_due_at Want.Write (tolerance G.INIT_FAILURE G.FINAL_REGISTRATION_FAILURE) self.old.locker) self.old.locker.phase exit.entry }
         ensures running { self.new.running ≡ self.old.running }
     {
         let mut once = OnceGenerator::new(run);
@@ -134,7 +135,7 @@ impl<G: GeneratorTolerance> LazySequentializer<UnSyncPhaseLocker, G> {
         requires callable { F.IsAlwaysCallable run }
         requires exit { ForSome exit (λ e. MayEnlist e.0 self.old.locker e.1.now) }
         ensures tries { TriesCall F.post told_read Want.Read (tolerance G.INIT_FAILURE G.FINAL_REGISTRATION_FAILURE) (enlisted G.FINAL_REGISTRATION_FAILURE (registry_in exit.entry) self.old.locker.phase) self.old.locker run result self.new.locker }
-        ensures registry { registry_left exit.exit ≡ registry_after (is_due_at Want.Read (tolerance G.INIT_FAILURE G.FINAL_REGISTRATION_FAILURE) self.old.locker) self.old.locker.phase exit.entry }
+        ensures registry { registry_left (left_behind exit.exit) ≡ registry_after (is_due_at Want.Read (tolerance G.INIT_FAILURE G.FINAL_REGISTRATION_FAILURE) self.old.locker) self.old.locker.phase exit.entry }
         ensures running { self.new.running ≡ self.old.running }
     {
         let mut once = OnceGenerator::new(run);
@@ -160,7 +161,7 @@ impl<G: GeneratorTolerance> LazySequentializer<UnSyncPhaseLocker, G> {
         requires callable { F.IsAlwaysCallable run }
         requires exit { ForSome exit (λ e. MayEnlist e.0 self.old.locker e.1.now) }
         ensures tries { TriesCall F.post told_write Want.Write (tolerance G.INIT_FAILURE G.FINAL_REGISTRATION_FAILURE) (enlisted G.FINAL_REGISTRATION_FAILURE (registry_in exit.entry) self.old.locker.phase) self.old.locker run result self.new.locker }
-        ensures registry { registry_left exit.exit ≡ registry_after (is_due_at Want.Write (tolerance G.INIT_FAILURE G.FINAL_REGISTRATION_FAILURE) self.old.locker) self.old.locker.phase exit.entry }
+        ensures registry { registry_left (left_behind exit.exit) ≡ registry_after (is_due_at Want.Write (tolerance G.INIT_FAILURE G.FINAL_REGISTRATION_FAILURE) self.old.locker) self.old.locker.phase exit.entry }
         ensures running { self.new.running ≡ self.old.running }
     {
         let mut once = OnceGenerator::new(run);

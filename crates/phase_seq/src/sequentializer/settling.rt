@@ -11,7 +11,7 @@ ghost use Rattle.phase_seq.specs.Begins.{running_after};
 ghost use Rattle.phase_seq.specs.Phases.{staying, refused};
 ghost use Rattle.phase_seq.specs.Finishes.{GoesOn};
 ghost use Rattle.phase_seq.specs.Registers.{IsEntered, MayTry, RunsOrNot, Settles, after_asking, is_refused};
-ghost use Rattle.phase_seq.specs.Stands.{BegunStands, FinishedStands, reads_begun, reads_finished, opens_write};
+ghost use Rattle.phase_seq.specs.Stands.{BegunStands, FinishedStands, reads_begun, reads_finished, begins_write};
 ghost use Rattle.phase_seq.specs.Exactly.{SettlesExactly, is_run};
 
 use crate::ask::Want;
@@ -63,16 +63,15 @@ impl<L: PhaseLocker, G> LazySequentializer<L, G> {
         ensures left { Left L.held L.place cell self.old.locker self.new.locker parks.old parks.new }
     {
         match want {
-            Want::Init => {
+            Want::Init | Want::Finalize => {
                 let given = self.locker.release_write(parks, cell, ticket, phase);
                 (Finished::Phase(phase), given)
             }
-            Want::Read => {
+            Want::Read | Want::ReadOnly => {
                 let (read, given) = self.locker.downgrade(parks, cell, ticket, phase);
                 (Finished::Read(read, phase), given)
             }
-            Want::Write => (Finished::Write(ticket, phase), Given::Nobody),
-            Want::ReadOnly | Want::WriteOnly | Want::Finalize => unreachable!(),
+            Want::Write | Want::WriteOnly => (Finished::Write(ticket, phase), Given::Nobody),
         }
     }
 
@@ -96,7 +95,7 @@ impl<L: PhaseLocker, G> LazySequentializer<L, G> {
         ensures rows { RowsStay section.who.cell parks.old parks.new }
         ensures stands { BegunStands section.who result.0 self.new.running (L.held self.new.locker) parks.new }
         ensures reads { open_reads (L.held self.new.locker) parks.new section.who.cell ≡ open_reads (L.held self.old.locker) parks.old section.who.cell + reads_begun result.0 }
-        ensures closes { opens_write result.0 ≡ false → ¬ IsWriteOpen (L.held self.new.locker) parks.new section.who.cell }
+        ensures closes { begins_write result.0 ≡ false → ¬ IsWriteOpen (L.held self.new.locker) parks.new section.who.cell }
         ensures left { Left L.held L.place section.who.cell self.old.locker self.new.locker parks.old parks.new }
     {
         let Section {
@@ -137,15 +136,14 @@ impl<L: PhaseLocker, G> LazySequentializer<L, G> {
         ensures rows { RowsStay who.cell parks.old parks.new }
         ensures stands { BegunStands who result.0 self.new.running (L.held self.new.locker) parks.new }
         ensures reads { open_reads (L.held self.new.locker) parks.new who.cell + reads_begun begun ≡ open_reads (L.held self.old.locker) parks.old who.cell + reads_begun result.0 }
-        ensures closes { is_run begun ≡ true → opens_write result.0 ≡ false → ¬ IsWriteOpen (L.held self.new.locker) parks.new who.cell }
+        ensures closes { is_run begun ≡ true → begins_write result.0 ≡ false → ¬ IsWriteOpen (L.held self.new.locker) parks.new who.cell }
         ensures left { Left L.held L.place who.cell self.old.locker self.new.locker parks.old parks.new }
     {
-        if !begun.is_run() {
-            return (begun, given);
+        match begun {
+            Begun::Run(section) => {
+                self.run_or_not(parks, section, leak, registry, phase, before)
+            }
+            settled => (settled, given),
         }
-        let Begun::Run(section) = begun else {
-            unreachable!()
-        };
-        self.run_or_not(parks, section, leak, registry, phase, before)
     }
 }

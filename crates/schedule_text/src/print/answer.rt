@@ -23,6 +23,7 @@ impl Page {
             Answer::Phase(phase) => self.put_phase_answer(phase),
             Answer::Value(value) => self.put_numbered(b"value ", value),
             Answer::ReadGuard => self.put(b"read-guard\n"),
+            Answer::ErrGuard => self.put(b"err-guard\n"),
             Answer::WriteGuard => self.put(b"write-guard\n"),
             Answer::Running => self.put(b"running\n"),
             Answer::Finalizing(cell) => self.put_numbered(b"finalizing ", u64::from(cell)),
@@ -34,6 +35,7 @@ impl Page {
             Answer::Failed => self.put(b"failed\n"),
             Answer::Cyclic => self.put(b"cyclic\n"),
             Answer::Borrowed => self.put(b"borrowed\n"),
+            Answer::Missed => self.put(b"none\n"),
             Answer::Waiting(way) => self.put_waiting(way),
             Answer::Refused(reason) => self.put_refusal(reason),
         }
@@ -95,6 +97,8 @@ impl Page {
         match reason {
             Refusal::Waits => self.put(b"refused 1 Waits\n"),
             Refusal::NotWaiting => self.put(b"refused 2 NotWaiting\n"),
+            Refusal::NotOwner => self.put(b"refused 3 NotOwner\n"),
+            Refusal::NoSuchCall => self.put(b"refused 4 NoSuchCall\n"),
             Refusal::NoGuard => self.put(b"refused 5 NoGuard\n"),
             Refusal::NotWriter => self.put(b"refused 6 NotWriter\n"),
             Refusal::NoSection => self.put(b"refused 7 NoSection\n"),

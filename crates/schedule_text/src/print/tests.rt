@@ -91,6 +91,10 @@ const OTHERS: &[u8] = b"transcript 1
 12 access Phase (Initialization panicked | Initialization skiped)
 13 access Phase (not initialized)
 14 access Phase (Initialized | Registered)
+15 err-guard
+16 none
+17 refused 3 NotOwner
+18 refused 4 NoSuchCall
 cell 0 Phase (not initialized) none
 cell 1 Phase (Initialization panicked | Initialization skiped) none
 end
@@ -183,6 +187,10 @@ fn transcripts_are_printed(rt: HostRuntime) -> Result<(), Fail> {
         Answer::Access(failed),
         Answer::Access(Phase::empty()),
         Answer::Access(Phase::INITIALIZED_AND_REGISTERED),
+        Answer::ErrGuard,
+        Answer::Missed,
+        Answer::Refused(Refusal::NotOwner),
+        Answer::Refused(Refusal::NoSuchCall),
     ];
     let left = |phase, value| Final { phase, value };
     let set = left(Phase::INITIALIZED, Some(33));

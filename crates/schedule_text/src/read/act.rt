@@ -2,7 +2,7 @@
 
 ghost use Rattle.std.specs.Prelude.{◌≡◌};
 ghost use Rattle.schedule_text.specs.ReadFields.{Gives};
-ghost use Rattle.schedule_text.specs.ReadSteps.{call_at, call_table, first_word, called_at, called_or_release_at, release_at, made_at, look_at, set_at, downgrade_at, clone_at, again_at, finished_at, exit_at, act_at};
+ghost use Rattle.schedule_text.specs.ReadSteps.{call_at, plain_calls, try_calls, fast_calls, phase_calls, first_word, called_at, called_or_release_at, release_at, made_at, look_at, set_at, downgrade_at, clone_at, again_at, left_at, finished_at, called_or_finished_at, exit_at, act_at};
 
 use super::field::{after_word, first_byte, last_u32, last_u64, number_u32};
 use schedule_rules::{Act, Call};
@@ -16,31 +16,107 @@ fn cell_of(call: Call, text: &[u8]) -> Option<(Act, &[u8])>
     Some((Act::Call { cell, call }, rest))
 }
 
-/// The call whose word stands at the front, and the bytes after it: a row for each call, tried in order.
-fn call_word(text: &[u8]) -> Option<(Call, &[u8])>
-    ensures { Gives (λ found. (found.0, found.1.now)) result (first_word call_table text.now) }
+/// The call whose word stands at the front, and the bytes after it: a row for each call, tried in order. Of those whose first
+/// letter no other call has.
+fn plain_call(text: &[u8]) -> Option<(Call, &[u8])>
+    ensures { Gives (λ found. (found.0, found.1.now)) result (first_word plain_calls text.now) }
 {
-    if let Some(rest) = after_word(text, b"phase ") {
-        return Some((Call::Phase, rest));
-    }
     if let Some(rest) = after_word(text, b"read ") {
         return Some((Call::Read, rest));
     }
     if let Some(rest) = after_word(text, b"write ") {
         return Some((Call::Write, rest));
     }
-    if let Some(rest) = after_word(text, b"try_read ") {
-        return Some((Call::TryRead, rest));
+    if let Some(rest) = after_word(text, b"get ") {
+        return Some((Call::Get, rest));
+    }
+    if let Some(rest) = after_word(text, b"init ") {
+        return Some((Call::Init, rest));
     }
     None
 }
 
-/// The word of a call and its cell, `read c` and the like.
+/// The same of those that begin with a `t`.
+fn try_call(text: &[u8]) -> Option<(Call, &[u8])>
+    ensures { Gives (λ found. (found.0, found.1.now)) result (first_word try_calls text.now) }
+{
+    if let Some(rest) = after_word(text, b"try_read ") {
+        return Some((Call::TryRead, rest));
+    }
+    if let Some(rest) = after_word(text, b"try_write ") {
+        return Some((Call::TryWrite, rest));
+    }
+    if let Some(rest) = after_word(text, b"try_get ") {
+        return Some((Call::TryGet, rest));
+    }
+    None
+}
+
+/// The same of those that begin with an `f`.
+fn fast_call(text: &[u8]) -> Option<(Call, &[u8])>
+    ensures { Gives (λ found. (found.0, found.1.now)) result (first_word fast_calls text.now) }
+{
+    if let Some(rest) = after_word(text, b"fast_read ") {
+        return Some((Call::FastRead, rest));
+    }
+    if let Some(rest) = after_word(text, b"fast_write ") {
+        return Some((Call::FastWrite, rest));
+    }
+    if let Some(rest) = after_word(text, b"fast_try_read ") {
+        return Some((Call::FastTryRead, rest));
+    }
+    if let Some(rest) = after_word(text, b"fast_try_write ") {
+        return Some((Call::FastTryWrite, rest));
+    }
+    None
+}
+
+/// The same of those that begin with a `p`.
+fn phase_call(text: &[u8]) -> Option<(Call, &[u8])>
+    ensures { Gives (λ found. (found.0, found.1.now)) result (first_word phase_calls text.now) }
+{
+    if let Some(rest) = after_word(text, b"phase ") {
+        return Some((Call::Phase, rest));
+    }
+    if let Some(rest) = after_word(text, b"primed_read ") {
+        return Some((Call::PrimedRead, rest));
+    }
+    if let Some(rest) = after_word(text, b"primed_write ") {
+        return Some((Call::PrimedWrite, rest));
+    }
+    if let Some(rest) = after_word(text, b"primed_read_non_initializing ") {
+        return Some((Call::PrimedReadNonInitializing, rest));
+    }
+    if let Some(rest) = after_word(text, b"primed_write_non_initializing ") {
+        return Some((Call::PrimedWriteNonInitializing, rest));
+    }
+    None
+}
+
+/// A call whose first letter no other call has, and its cell.
 #[tactic(auto, unfolding(crate::specs::ReadSteps::called_at))]
 fn called(text: &[u8]) -> Option<(Act, &[u8])>
-    ensures { Gives (λ found. (found.0, found.1.now)) result (called_at text.now) }
+    ensures { Gives (λ found. (found.0, found.1.now)) result (called_at plain_calls text.now) }
 {
-    let (call, rest) = call_word(text)?;
+    let (call, rest) = plain_call(text)?;
+    cell_of(call, rest)
+}
+
+/// A call that begins with a `t`, and its cell.
+#[tactic(auto, unfolding(crate::specs::ReadSteps::called_at))]
+fn tried(text: &[u8]) -> Option<(Act, &[u8])>
+    ensures { Gives (λ found. (found.0, found.1.now)) result (called_at try_calls text.now) }
+{
+    let (call, rest) = try_call(text)?;
+    cell_of(call, rest)
+}
+
+/// A call that begins with a `p`, and its cell.
+#[tactic(auto, unfolding(crate::specs::ReadSteps::called_at))]
+fn phase_or_primed(text: &[u8]) -> Option<(Act, &[u8])>
+    ensures { Gives (λ found. (found.0, found.1.now)) result (called_at phase_calls text.now) }
+{
+    let (call, rest) = phase_call(text)?;
     cell_of(call, rest)
 }
 
@@ -49,7 +125,7 @@ fn called(text: &[u8]) -> Option<(Act, &[u8])>
 fn called_or_release(text: &[u8]) -> Option<(Act, &[u8])>
     ensures { Gives (λ found. (found.0, found.1.now)) result (called_or_release_at text.now) }
 {
-    match call_word(text) {
+    match plain_call(text) {
         Some((call, rest)) => cell_of(call, rest),
         None => release(text),
     }
@@ -104,14 +180,45 @@ fn made(text: &[u8]) -> Option<(Act, &[u8])>
     }
 }
 
-/// `finished`, or else `finish_failed`.
-#[tactic(auto, unfolding(crate::specs::ReadSteps::finished_at, crate::specs::ReadSteps::finish_failed_at))]
+/// What a finalizer left, up to the end of its line: a value, or nothing.
+#[tactic(auto, unfolding(crate::specs::ReadSteps::left_at, crate::specs::ReadSteps::left_value_at, crate::specs::ReadSteps::left_none_at))]
+fn left(text: &[u8]) -> Option<(Option<u64>, &[u8])>
+    ensures { Gives (λ found. (found.0, found.1.now)) result (left_at text.now) }
+{
+    match after_word(text, b" ") {
+        Some(rest) => {
+            let (value, rest) = last_u64(rest)?;
+            Some((Some(value), rest))
+        }
+        None => Some((None, after_word(text, b"\n")?)),
+    }
+}
+
+/// `finished`, or else `finish_failed`, and what the finalizer left.
+#[tactic(auto, unfolding(crate::specs::ReadSteps::finished_at, crate::specs::ReadSteps::fine_at, crate::specs::ReadSteps::finish_failed_at))]
 fn finished(text: &[u8]) -> Option<(Act, &[u8])>
     ensures { Gives (λ found. (found.0, found.1.now)) result (finished_at text.now) }
 {
-    match after_word(text, b"finished\n") {
-        Some(rest) => Some((Act::Finished, rest)),
-        None => Some((Act::FinishFailed, after_word(text, b"finish_failed\n")?)),
+    match after_word(text, b"finished") {
+        Some(rest) => {
+            let (left, rest) = left(rest)?;
+            Some((Act::Finished { left }, rest))
+        }
+        None => {
+            let (left, rest) = left(after_word(text, b"finish_failed")?)?;
+            Some((Act::FinishFailed { left }, rest))
+        }
+    }
+}
+
+/// A call, or else the outcome of a finalizer, which begins with the letter of a call.
+#[tactic(auto, unfolding(crate::specs::ReadSteps::called_or_finished_at))]
+fn called_or_finished(text: &[u8]) -> Option<(Act, &[u8])>
+    ensures { Gives (λ found. (found.0, found.1.now)) result (called_or_finished_at text.now) }
+{
+    match fast_call(text) {
+        Some((call, rest)) => cell_of(call, rest),
+        None => finished(text),
     }
 }
 
@@ -142,7 +249,7 @@ fn set(text: &[u8]) -> Option<(Act, &[u8])>
     Some((Act::Set { guard, value }, rest))
 }
 
-/// An act, up to the end of its line: one that its first letter tells, and else a call.
+/// An act, up to the end of its line. Its first letter tells which acts it may be.
 #[tactic(auto, unfolding(crate::specs::ReadSteps::act_at))]
 pub(super) fn act(text: &[u8]) -> Option<(Act, &[u8])>
     ensures { Gives (λ found. (found.0, found.1.now)) result (act_at text.now) }
@@ -157,7 +264,9 @@ pub(super) fn act(text: &[u8]) -> Option<(Act, &[u8])>
         b'd' => downgrade(text),
         b'c' => clone(text),
         b'e' => exit(text),
-        b'f' => finished(text),
+        b'f' => called_or_finished(text),
+        b't' => tried(text),
+        b'p' => phase_or_primed(text),
         _ => called(text),
     }
 }

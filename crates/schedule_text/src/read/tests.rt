@@ -20,7 +20,7 @@ steps
 end
 ";
 
-/// Cells of both kinds and both places, with each option, and guards that are cloned and downgraded.
+/// Cells of each kind and place, with each option, and guards that are cloned and downgraded.
 const EACH_CELL: &[u8] = b"schedule 1
 parties 2
 cell LockedLazy park
@@ -32,11 +32,44 @@ cell LockedLazyFinalize park
 cell LockedLazyFinalize spin once
 cell LockedLazyFinalize park leak
 cell LockedLazyFinalize spin once leak
+cell Lazy own 0
+cell LazyFinalize spin
+cell LockedLazyDroped park leak
+cell PrimedLockedLazy park prime 1
+cell PrimedLockedLazyDroped spin once leak prime 18446744073709551615
+cell LockedLazy own 4294967295 once leak prime 7
 steps
 1 write 0
 1 made 5
 1 downgrade 1
 0 clone 4294967295
+end
+";
+
+/// Each call, and each way in which a finalizer ends.
+const EACH_CALL: &[u8] = b"schedule 1
+parties 1
+steps
+0 phase 0
+0 try_get 1
+0 get 2
+0 init 3
+0 read 4
+0 write 5
+0 fast_read 6
+0 fast_write 7
+0 try_read 8
+0 try_write 9
+0 fast_try_read 10
+0 fast_try_write 11
+0 primed_read 12
+0 primed_write 13
+0 primed_read_non_initializing 14
+0 primed_write_non_initializing 15
+0 finished
+0 finished 0
+0 finish_failed
+0 finish_failed 18446744073709551615
 end
 ";
 
@@ -63,7 +96,7 @@ steps
 end
 ";
 
-const BAD: [&[u8]; 73] = [
+const BAD: [&[u8]; 91] = [
     b"",
     b"schedule 2\nparties 0\nsteps\nend\n",
     b"schedule 01\nparties 0\nsteps\nend\n",
@@ -120,7 +153,7 @@ const BAD: [&[u8]; 73] = [
     b"schedule 1\nparties 1\ncell LockedLazyFinalize\nsteps\nend\n",
     b"schedule 1\nparties 1\ncell LockedLazyFinalizes spin\nsteps\nend\n",
     b"schedule 1\nparties 1\ncell LockedLazy Finalize spin\nsteps\nend\n",
-    b"schedule 1\nparties 1\ncell LazyFinalize spin\nsteps\nend\n",
+    b"schedule 1\nparties 1\ncell LazyDroped spin\nsteps\nend\n",
     b"schedule 1\nparties 1\ncell LockedLazyFinalize spin leak once\nsteps\nend\n",
     b"schedule 1\nparties 1\ncell LockedLazyFinalize spin leak leak\nsteps\nend\n",
     b"schedule 1\nparties 1\ncell LockedLazyFinalize leak spin\nsteps\nend\n",
@@ -131,11 +164,29 @@ const BAD: [&[u8]; 73] = [
     b"schedule 1\nparties 1\nsteps\n0 exit \nend\n",
     b"schedule 1\nparties 1\nsteps\n0 exits\nend\n",
     b"schedule 1\nparties 1\nsteps\nexit\nend\n",
-    b"schedule 1\nparties 1\nsteps\n0 finished 3\nend\n",
+    b"schedule 1\nparties 1\nsteps\n0 finished 03\nend\n",
     b"schedule 1\nparties 1\nsteps\n0 finished \nend\n",
     b"schedule 1\nparties 1\nsteps\n0 finish\nend\n",
     b"schedule 1\nparties 1\nsteps\n0 finish_failed \nend\n",
-    b"schedule 1\nparties 1\nsteps\n0 finish_failed 3\nend\n",
+    b"schedule 1\nparties 1\nsteps\n0 finish_failed  3\nend\n",
+    b"schedule 1\nparties 1\nsteps\n0 finish_failed 3 \nend\n",
+    b"schedule 1\nparties 1\nsteps\n0 finished3\nend\n",
+    b"schedule 1\nparties 1\nsteps\n0 finished 18446744073709551616\nend\n",
+    b"schedule 1\nparties 1\ncell LockedLazy own\nsteps\nend\n",
+    b"schedule 1\nparties 1\ncell LockedLazy own once\nsteps\nend\n",
+    b"schedule 1\nparties 1\ncell LockedLazy own 4294967296\nsteps\nend\n",
+    b"schedule 1\nparties 1\ncell LockedLazy park 0\nsteps\nend\n",
+    b"schedule 1\nparties 1\ncell PrimedLockedLazy park prime\nsteps\nend\n",
+    b"schedule 1\nparties 1\ncell PrimedLockedLazy park prime 0\nsteps\nend\n",
+    b"schedule 1\nparties 1\ncell PrimedLockedLazy park prime 18446744073709551616\nsteps\nend\n",
+    b"schedule 1\nparties 1\ncell PrimedLockedLazy park prime 1 once\nsteps\nend\n",
+    b"schedule 1\nparties 1\ncell PrimedLockedLazy park prime 1 leak\nsteps\nend\n",
+    b"schedule 1\nparties 1\ncell PrimedLockedLazy prime 1 park\nsteps\nend\n",
+    b"schedule 1\nparties 1\nsteps\n0 primed_get 0\nend\n",
+    b"schedule 1\nparties 1\nsteps\n0 try_init 0\nend\n",
+    b"schedule 1\nparties 1\nsteps\n0 fast_get 0\nend\n",
+    b"schedule 1\nparties 1\nsteps\n0 phase\nend\n",
+    b"schedule 1\nparties 1\nsteps\n0 get_mut 0 1 2\nend\n",
     b"schedule 1\nparties 1\nsteps\n0 finished_failed\nend\n",
 ];
 
@@ -155,6 +206,7 @@ fn reads_nine_steps(rt: HostRuntime) -> Result<(), Fail> {
         retry: true,
         leak: false,
         place: Place::Spin,
+        prime: 0,
     };
     let call = |call| Act::Call { cell: 0, call };
     let acts = [
@@ -184,12 +236,14 @@ fn reads_nine_steps(rt: HostRuntime) -> Result<(), Fail> {
 #[test]
 fn reads_cells_and_acts_on_guards(rt: HostRuntime) -> Result<(), Fail> {
     let (plan, steps) = read(rt.alloc(), EACH_CELL)?;
-    let cell = |kind, place, retry, leak| CellPlan {
+    let primed = |kind, place, retry, leak, prime| CellPlan {
         kind,
         retry,
         leak,
         place,
+        prime,
     };
+    let cell = |kind, place, retry, leak| primed(kind, place, retry, leak, 0);
     let cells = [
         cell(Kind::LockedLazy, Place::Park, true, false),
         cell(Kind::LockedLazy, Place::Spin, true, false),
@@ -200,6 +254,18 @@ fn reads_cells_and_acts_on_guards(rt: HostRuntime) -> Result<(), Fail> {
         cell(Kind::LockedLazyFinalize, Place::Spin, false, false),
         cell(Kind::LockedLazyFinalize, Place::Park, true, true),
         cell(Kind::LockedLazyFinalize, Place::Spin, false, true),
+        cell(Kind::Lazy, Place::Own(0), true, false),
+        cell(Kind::LazyFinalize, Place::Spin, true, false),
+        cell(Kind::LockedLazyDroped, Place::Park, true, true),
+        primed(Kind::PrimedLockedLazy, Place::Park, true, false, 1),
+        primed(
+            Kind::PrimedLockedLazyDroped,
+            Place::Spin,
+            false,
+            true,
+            u64::MAX,
+        ),
+        primed(Kind::LockedLazy, Place::Own(u32::MAX), false, true, 7),
     ];
     let step = |party, act| Step { party, act };
     let write = Act::Call {
@@ -250,8 +316,8 @@ fn reads_an_exit(rt: HostRuntime) -> Result<(), Fail> {
     let step = |party, act| Step { party, act };
     let expected = [
         step(1, Act::Exit),
-        step(1, Act::Finished),
-        step(0, Act::FinishFailed),
+        step(1, Act::Finished { left: None }),
+        step(0, Act::FinishFailed { left: None }),
     ];
     assert_eq!(rt; plan.parties, 2);
     assert_eq!(rt; steps.as_slice(), expected.as_slice());
@@ -259,8 +325,51 @@ fn reads_an_exit(rt: HostRuntime) -> Result<(), Fail> {
 }
 
 #[test]
+fn reads_each_call(rt: HostRuntime) -> Result<(), Fail> {
+    let (_plan, steps) = read(rt.alloc(), EACH_CALL)?;
+    let calls = [
+        Call::Phase,
+        Call::TryGet,
+        Call::Get,
+        Call::Init,
+        Call::Read,
+        Call::Write,
+        Call::FastRead,
+        Call::FastWrite,
+        Call::TryRead,
+        Call::TryWrite,
+        Call::FastTryRead,
+        Call::FastTryWrite,
+        Call::PrimedRead,
+        Call::PrimedWrite,
+        Call::PrimedReadNonInitializing,
+        Call::PrimedWriteNonInitializing,
+    ];
+    let ends = [
+        Act::Finished { left: None },
+        Act::Finished { left: Some(0) },
+        Act::FinishFailed { left: None },
+        Act::FinishFailed {
+            left: Some(u64::MAX),
+        },
+    ];
+    assert_eq!(rt; steps.len(), calls.len() + ends.len());
+    for (i, (step, call)) in steps.iter().zip(calls.iter()).enumerate() {
+        let act = Act::Call {
+            cell: i as u32,
+            call: *call,
+        };
+        assert_eq!(rt; step.act, act);
+    }
+    for (step, end) in steps.iter().skip(calls.len()).zip(ends.iter()) {
+        assert_eq!(rt; step.act, *end);
+    }
+    Ok(())
+}
+
+#[test]
 fn refuses_each_part_of_a_text(rt: HostRuntime) -> Result<(), Fail> {
-    for text in [NOTHING, NINE_STEPS, EACH_CELL, LARGEST, EXIT] {
+    for text in [NOTHING, NINE_STEPS, EACH_CELL, EACH_CALL, LARGEST, EXIT] {
         let _read = read(rt.alloc(), text)?;
         for end in 0..text.len() {
             let part = read(rt.alloc(), &text[..end]);

@@ -1,6 +1,5 @@
-use Rattle.std.proofs.Common.{◌≡◌, ◌∙◌, ◌-◌, ℕ, refl, arith, sym, ap}
+use Rattle.std.proofs.Common.{◌≡◌, ◌∙◌, ◌-◌, refl, arith, sym, ap}
 use Rattle.phase_locker.specs.Rows.{shared}
-use Rattle.phase_locker.specs.Links.{listed}
 use Rattle.phase_locker.proofs.Sharing.{walk_end, shared_none, shared_more, below_first, below_rest}
 use Rattle.phase_locker.proofs.links.share.Goals as goal
 

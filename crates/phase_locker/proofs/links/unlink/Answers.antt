@@ -1,5 +1,4 @@
-use Rattle.std.proofs.Common.{◌<◌, inl, inr, arith}
-use Rattle.phase_locker.specs.Rows.{occurs}
+use Rattle.std.proofs.Common.{inl, inr, arith}
 use Rattle.phase_locker.specs.Links.{listed}
 use Rattle.phase_locker.proofs.Unlinked.{LedPast, LedBack, neighbours, passed_last, unlinked, unlinked_others}
 use Rattle.phase_locker.specs.Links.{link_of}

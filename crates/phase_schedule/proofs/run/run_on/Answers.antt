@@ -4,7 +4,7 @@ use Rattle.phase_schedule.specs.Progress.{HasMade}
 use Rattle.phase_schedule.specs.Running.{frame_of}
 use Rattle.phase_schedule.proofs.Runs.{all_told, can_step, few_told, made_none, one_more, step_at, steps_on, whole}
 use Rattle.phase_schedule.proofs.Made.{same_room}
-use Rattle.phase_schedule.proofs.Valid.{valid}
+use Rattle.phase_schedule.proofs.Valid.{shared_cells, valid}
 use Rattle.phase_schedule.proofs.run.run_on.Goals as goal
 
 pub loop-step-init : goal.loop-step-init
@@ -45,3 +45,6 @@ returns-clause-legal g c =
 pub returns-clause-known : goal.returns-clause-known
 returns-clause-known g c =
     (c.finish-finals.ensures (frame_of (schedule_of c.args.plan.now c.args.steps.now)) (told [] c.args.steps.now c.loop-step.lines.items) c.loop-step.invariant.made).known
+
+pub new-requires-clause-shared : goal.new-requires-clause-shared
+new-requires-clause-shared g c = shared_cells (schedule_of c.args.plan.now c.args.steps.now) c.requires.runs

@@ -1,4 +1,4 @@
-use Rattle.schedule_rules.proofs.Beyond.{downgrade-opens, downgrade-keeps-out}
+use Rattle.schedule_rules.proofs.Opening.{downgrade-opens, downgrade-keeps-out}
 use Rattle.schedule_rules.proofs.laws.downgrades_keep_sections_out.Goals as goal
 
 pub returns-clause-opens : goal.returns-clause-opens

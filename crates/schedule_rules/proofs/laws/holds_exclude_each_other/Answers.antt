@@ -1,4 +1,4 @@
-use Rattle.schedule_rules.proofs.Alone.{alone}
+use Rattle.schedule_rules.proofs.Exclusion.{alone}
 use Rattle.schedule_rules.proofs.laws.holds_exclude_each_other.Goals as goal
 
 pub returns : goal.returns

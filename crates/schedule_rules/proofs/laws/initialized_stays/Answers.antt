@@ -1,4 +1,4 @@
-use Rattle.schedule_rules.proofs.Initialized.{initialized-stays}
+use Rattle.schedule_rules.proofs.Grows.{initialized-stays}
 use Rattle.schedule_rules.proofs.laws.initialized_stays.Goals as goal
 
 pub returns : goal.returns

@@ -1,5 +1,7 @@
-use Rattle.schedule_rules.proofs.Waiting.{refused_gives_nothing}
+use Rattle.std.proofs.Common.{refl}
+use Rattle.schedule_rules.specs.declared.line.Answer.TheVariants as answer
+use Rattle.schedule_rules.proofs.Causes.{refused_gives_nothing}
 use Rattle.schedule_rules.proofs.laws.refused_steps_change_nothing.Goals as goal
 
 pub returns-clause-gives : goal.returns-clause-gives
-returns-clause-gives c = refused_gives_nothing
+returns-clause-gives c = λ cells h s r g k. refused_gives_nothing cells h s (record { answer = answer.Refused r; given = g }) k r refl

@@ -8,7 +8,7 @@ returns-in_default-clause-only c = no_parties c.args.text.now c.in_default.ensur
 pub returns-in_default-after_word-clause-only : goal.returns-in_default-after_word-clause-only
 returns-in_default-after_word-clause-only c =
     no_steps c.args.text.now c.in-Some.parties c.in_ok-cells.cells.items c.in_ok-cells.rest.now
-    (record { start = c.in-Some.rest.now; parties = c.in-Some.ensures; taken = c.in_ok-cells.ensures.taken; ended = c.in_ok-cells.ensures.ended })
+    (record { start = c.in-Some.rest.now; parties = c.in-Some.ensures; taken = c.in_ok-cells.ensures.taken; fit = c.in_ok-cells.ensures.fit; ended = c.in_ok-cells.ensures.ended })
     c.in_default-after_word.ensures
 
 pub returns-then-not-is_end-clause-only : goal.returns-then-not-is_end-clause-only
@@ -17,7 +17,7 @@ returns-then-not-is_end-clause-only c =
     (record {
       middle = c.in_ok-cells.rest.now;
       start = c.in-Some-after_word.rest.now;
-      before = record { start = c.in-Some.rest.now; parties = c.in-Some.ensures; taken = c.in_ok-cells.ensures.taken; ended = c.in_ok-cells.ensures.ended };
+      before = record { start = c.in-Some.rest.now; parties = c.in-Some.ensures; taken = c.in_ok-cells.ensures.taken; fit = c.in_ok-cells.ensures.fit; ended = c.in_ok-cells.ensures.ended };
       word = c.in-Some-after_word.ensures;
       taken = c.in_ok-steps.ensures.taken;
       fit = c.in_ok-steps.ensures.fit;
@@ -30,7 +30,7 @@ returns c =
     let h : HasSteps c.args.text.now c.in-Some.parties c.in_ok-cells.cells.items c.in_ok-steps.steps.items c.in_ok-steps.rest.now = record {
       middle = c.in_ok-cells.rest.now;
       start = c.in-Some-after_word.rest.now;
-      before = record { start = c.in-Some.rest.now; parties = c.in-Some.ensures; taken = c.in_ok-cells.ensures.taken; ended = c.in_ok-cells.ensures.ended };
+      before = record { start = c.in-Some.rest.now; parties = c.in-Some.ensures; taken = c.in_ok-cells.ensures.taken; fit = c.in_ok-cells.ensures.fit; ended = c.in_ok-cells.ensures.ended };
       word = c.in-Some-after_word.ensures;
       taken = c.in_ok-steps.ensures.taken;
       fit = c.in_ok-steps.ensures.fit;

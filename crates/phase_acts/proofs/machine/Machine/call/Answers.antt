@@ -1,48 +1,27 @@
-use Rattle.std.proofs.Common.{◌≡◌, ap, sym, ◌∙◌}
 use Rattle.phase_moves.specs.Histories.{standing}
-use Rattle.schedule_rules.specs.declared.plan.Call.TheVariants as call
+use Rattle.phase_acts.proofs.Calling.{call_allowed, call_not_had, call_not_owner}
 use Rattle.phase_acts.proofs.Causes.{call_trying, call_steps}
-use Rattle.phase_acts.proofs.Telling.{tells_phase}
 use Rattle.phase_acts.proofs.machine.Machine.call.Goals as goal
+
+pub returns-then-is_of_other : goal.returns-then-is_of_other
+returns-then-is_of_other g c = λ cells h is. c.refuse.ensures cells h _ is.next (call_not_owner g.L.PhaseLocker.held g.L.PhaseLocker.place cells h c.args.self.now.rows c.args.party c.args.cell c.args.call is c.index.result.now c.index.ensures c.is_of_other.result c.is_of_other.ensures c.if-is_of_other.true)
+
+pub returns-then-not-has_call : goal.returns-then-not-has_call
+returns-then-not-has_call g c = λ cells h is.
+    c.refuse-then-not-has_call.ensures cells h _ is.next
+    (call_not_had g.L.PhaseLocker.held g.L.PhaseLocker.place cells h c.args.self.now.rows c.args.party c.args.cell c.args.call is c.index.result.now c.index.ensures c.is_of_other.result c.has_call.result c.is_of_other.ensures c.if-is_of_other.false c.has_call.ensures c.if-not-has_call.true)
 
 pub tries-requires : goal.tries-requires
 tries-requires g c =
     record {
       m = standing c.requires.cells c.requires.h;
-      is = call_trying g.L.PhaseLocker.held g.L.PhaseLocker.place c.requires.cells c.requires.h c.args.self.now.rows c.args.party c.args.cell c.args.call c.requires.is (λ e. (let f : call.Read ≡ call.Phase = sym c.in-Read.is ∙ e in cc));
+      is = call_trying g.L.PhaseLocker.held g.L.PhaseLocker.place c.requires.cells c.requires.h c.args.self.now.rows c.args.party c.args.cell c.args.call c.requires.is (call_allowed g.L.PhaseLocker.held g.L.PhaseLocker.place c.requires.cells c.requires.h c.args.self.now.rows c.args.party c.args.cell c.args.call c.requires.is c.index.result.now c.index.ensures c.is_of_other.result c.has_call.result c.is_of_other.ensures c.if-is_of_other.false c.has_call.ensures c.if-not-has_call.false);
       room = c.requires.is.next.room;
     }
 
-pub tries-requires-in-Write : goal.tries-requires-in-Write
-tries-requires-in-Write g c =
-    record {
-      m = standing c.requires.cells c.requires.h;
-      is = call_trying g.L.PhaseLocker.held g.L.PhaseLocker.place c.requires.cells c.requires.h c.args.self.now.rows c.args.party c.args.cell c.args.call c.requires.is (λ e. (let f : call.Write ≡ call.Phase = sym c.in-Write.is ∙ e in cc));
-      room = c.requires.is.next.room;
-    }
-
-pub tries-requires-in-TryRead : goal.tries-requires-in-TryRead
-tries-requires-in-TryRead g c =
-    record {
-      m = standing c.requires.cells c.requires.h;
-      is = call_trying g.L.PhaseLocker.held g.L.PhaseLocker.place c.requires.cells c.requires.h c.args.self.now.rows c.args.party c.args.cell c.args.call c.requires.is (λ e. (let f : call.TryRead ≡ call.Phase = sym c.in-TryRead.is ∙ e in cc));
-      room = c.requires.is.next.room;
-    }
-
-pub returns-in-Phase : goal.returns-in-Phase
-returns-in-Phase g c = λ cells h is. tells_phase g.L.PhaseLocker.held g.L.PhaseLocker.place cells h c.args.self.now.rows _ c.args.party c.args.cell c.args.call is c.in-Phase.is c.index.result.now c.index.ensures c.phase-phase.result (c.phase-phase.ensures.phase ∙ ap (λ l. (g.L.PhaseLocker.held l).phase) c.locker.ensures) c.end_step.result c.end_step.ensures.line c.end_step.ensures.pushes c.end_step.ensures.kept
-
-pub returns-in-Read : goal.returns-in-Read
-returns-in-Read g c = λ cells h is.
-    call_steps g.L.PhaseLocker.held g.L.PhaseLocker.place cells h c.args.self.now.rows c.args.party c.args.cell c.args.call is c.tries.result c.tries.new.self.rows
-    (c.tries.ensures.tries (standing cells h) (call_trying g.L.PhaseLocker.held g.L.PhaseLocker.place cells h c.args.self.now.rows c.args.party c.args.cell c.args.call is (λ e. (let f : call.Read ≡ call.Phase = sym c.in-Read.is ∙ e in cc)))) c.tries.ensures.kept
-
-pub returns-in-Write : goal.returns-in-Write
-returns-in-Write g c = λ cells h is.
-    call_steps g.L.PhaseLocker.held g.L.PhaseLocker.place cells h c.args.self.now.rows c.args.party c.args.cell c.args.call is c.tries-in-Write.result c.tries-in-Write.new.self.rows
-    (c.tries-in-Write.ensures.tries (standing cells h) (call_trying g.L.PhaseLocker.held g.L.PhaseLocker.place cells h c.args.self.now.rows c.args.party c.args.cell c.args.call is (λ e. (let f : call.Write ≡ call.Phase = sym c.in-Write.is ∙ e in cc)))) c.tries-in-Write.ensures.kept
-
-pub returns-in-TryRead : goal.returns-in-TryRead
-returns-in-TryRead g c = λ cells h is.
-    call_steps g.L.PhaseLocker.held g.L.PhaseLocker.place cells h c.args.self.now.rows c.args.party c.args.cell c.args.call is c.tries-in-TryRead.result c.tries-in-TryRead.new.self.rows
-    (c.tries-in-TryRead.ensures.tries (standing cells h) (call_trying g.L.PhaseLocker.held g.L.PhaseLocker.place cells h c.args.self.now.rows c.args.party c.args.cell c.args.call is (λ e. (let f : call.TryRead ≡ call.Phase = sym c.in-TryRead.is ∙ e in cc)))) c.tries-in-TryRead.ensures.kept
+pub returns : goal.returns
+returns g c = λ cells h is.
+    call_steps g.L.PhaseLocker.held g.L.PhaseLocker.place cells h c.args.self.now.rows c.args.party c.args.cell c.args.call is
+    (call_allowed g.L.PhaseLocker.held g.L.PhaseLocker.place cells h c.args.self.now.rows c.args.party c.args.cell c.args.call is c.index.result.now c.index.ensures c.is_of_other.result c.has_call.result c.is_of_other.ensures c.if-is_of_other.false c.has_call.ensures c.if-not-has_call.false) c.tries.result c.tries.new.self.rows
+    (c.tries.ensures.tries (standing cells h)
+    (call_trying g.L.PhaseLocker.held g.L.PhaseLocker.place cells h c.args.self.now.rows c.args.party c.args.cell c.args.call is (call_allowed g.L.PhaseLocker.held g.L.PhaseLocker.place cells h c.args.self.now.rows c.args.party c.args.cell c.args.call is c.index.result.now c.index.ensures c.is_of_other.result c.has_call.result c.is_of_other.ensures c.if-is_of_other.false c.has_call.ensures c.if-not-has_call.false))) c.tries.ensures.kept

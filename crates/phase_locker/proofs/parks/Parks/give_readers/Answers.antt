@@ -4,7 +4,7 @@ use Rattle.std.proofs.lemmas.List.{take_at}
 use Rattle.phase_locker.specs.declared.ways.Row.{Row}
 use Rattle.phase_locker.specs.Rows.{Rows, readers_of, shared, rows_to_readers}
 use Rattle.phase_locker.specs.Links.{IsShown}
-use Rattle.phase_locker.proofs.Shown.{shown_value, shown_kept, shown_seen, lent_readers, readers_given, as_many}
+use Rattle.phase_locker.proofs.Shown.{shown_kept, shown_seen, lent_readers, readers_given, as_many}
 use Rattle.phase_locker.proofs.parks.Parks.give_readers.Goals as goal
 
 pub share-requires-clause-same : goal.share-requires-clause-same

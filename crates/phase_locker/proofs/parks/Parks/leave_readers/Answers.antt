@@ -3,8 +3,8 @@ use Rattle.std.proofs.Math.ListN.{set}
 use Rattle.std.proofs.lemmas.List.{take_at}
 use Rattle.phase_locker.specs.declared.ways.Waiting.TheVariants as way
 use Rattle.phase_locker.specs.Rows.{Rows, left}
-use Rattle.phase_locker.specs.Links.{IsShown, writer_left}
-use Rattle.phase_locker.proofs.Shown.{shown_value, shown_kept, shown_seen, lent_readers, reader_gone, reader_inside}
+use Rattle.phase_locker.specs.Links.{IsShown}
+use Rattle.phase_locker.proofs.Shown.{shown_kept, shown_seen, lent_readers, reader_gone, reader_inside}
 use Rattle.phase_locker.proofs.parks.Parks.leave_readers.Goals as goal
 
 pub index_mut-requires : goal.index_mut-requires

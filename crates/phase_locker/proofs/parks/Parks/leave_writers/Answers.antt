@@ -1,10 +1,9 @@
 use Rattle.std.proofs.Common.{◌≡◌, ◌++◌, arith, ap, take, drop, length}
 use Rattle.std.proofs.Math.ListN.{set}
 use Rattle.std.proofs.lemmas.List.{take_at}
-use Rattle.phase_locker.specs.declared.ways.Waiting.TheVariants as way
-use Rattle.phase_locker.specs.Rows.{Rows, left}
+use Rattle.phase_locker.specs.Rows.{Rows}
 use Rattle.phase_locker.specs.Links.{IsShown, writer_left}
-use Rattle.phase_locker.proofs.Shown.{shown_value, shown_kept, shown_seen, lent_writers, writer_gone, writer_inside}
+use Rattle.phase_locker.proofs.Shown.{shown_kept, shown_seen, lent_writers, writer_gone, writer_inside}
 use Rattle.phase_locker.proofs.parks.Parks.leave_writers.Goals as goal
 
 pub index_mut-requires : goal.index_mut-requires

@@ -1,6 +1,5 @@
-use Rattle.std.proofs.Common.{◌≡◌, rules, replicate}
-use Rattle.phase_locker.specs.Rows.{no_rows, free_row}
-use Rattle.phase_locker.specs.Links.{IsShown}
+use Rattle.std.proofs.Common.{rules}
+use Rattle.phase_locker.specs.Rows.{no_rows}
 use Rattle.phase_locker.proofs.Shown.{shown_kept, shown_seen, shown_made}
 use Rattle.phase_locker.proofs.parks.Parks.new.Goals as goal
 

@@ -45,7 +45,7 @@ returns-in-Phase-clause-ends g c = λ m s is.
     let r = c.finish-finished.ensures in
     let e = c.take_run.ensures.row in
     ends_phase g.L.PhaseLocker.held g.L.PhaseLocker.place m c.args.self.now c.args.party c.args.cell c.args.made s is c.index_mut-row.result.now c.index_mut-row.ensures.value _ _ c.index_mut.result.now _ c.index_mut.ensures.value c.in-Some.open (sym c.take_run.ensures.run ∙ c.in-Some.is) refl refl refl refl refl
-    (ap (λ (x : CellRow _). x.plan) e) (ap (λ (x : CellRow _). x.run) e) r.running c.is_some.result (is_made c.args.made c.is_some.result c.is_some.ensures) c.finish-finished.result (rw e at r.finishes) r.stands r.reads (rw e at r.left) c.in-Phase.phase c.in-Phase.is
+    (ap (λ (x : CellRow _). x.plan) e) (ap (λ (x : CellRow _). x.run) e) r.running c.is_some.result (is_made c.args.made c.is_some.result c.is_some.ensures) c.finish-finished.result (rw e at r.finishes) r.stands r.reads (rw e at r.left) c.in-Phase.phase c.in-Phase.is refl
 
 pub returns-in_default-clause-ends : goal.returns-in_default-clause-ends
 returns-in_default-clause-ends g c = λ m s is. has_run g.L.PhaseLocker.held g.L.PhaseLocker.place m c.args.self.now c.args.party c.args.cell s is.inner c.index_mut-row.result.now c.index_mut-row.ensures.value (sym c.take_run.ensures.run ∙ c.in_default.is)

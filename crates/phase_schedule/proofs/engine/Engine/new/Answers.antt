@@ -1,7 +1,8 @@
-use Rattle.std.proofs.Common.{[]}
+use Rattle.std.proofs.Common.{[], sym, ◌∙◌}
 use Rattle.phase_schedule.specs.Progress.{frame_of_plan}
 use Rattle.phase_schedule.proofs.Made.{same_room, stands_new}
 use Rattle.phase_schedule.proofs.Rows.{plans_are}
+use Rattle.phase_schedule.proofs.Valid.{shared}
 use Rattle.phase_schedule.proofs.engine.Engine.new.Goals as goal
 
 pub invariant_of-result : goal.invariant_of-result
@@ -11,3 +12,6 @@ invariant_of-result g c =
 pub returns-clause-cells : goal.returns-clause-cells
 returns-clause-cells g c =
     plans_are g.L.PhaseLocker.held g.L.PhaseLocker.place c.args.plan.now.cells.items [] c.in_ok-progress.progress.machine.rows c.in_ok-progress.ensures.follows
+
+pub new-requires-clause-shared : goal.new-requires-clause-shared
+new-requires-clause-shared g c = shared c.args.plan.now.parties c.args.plan.now.cells.items (sym c.plan_cause.ensures ∙ c.in_default.is)

@@ -6,7 +6,7 @@ use Rattle.phase_schedule.specs.Progress as progress
 use Rattle.phase_schedule.specs.Progress.{frame_of_plan}
 use Rattle.phase_schedule.specs.Running.{held_by, place_by}
 use Rattle.phase_schedule.proofs.Runs.{has_none}
-use Rattle.phase_schedule.proofs.Valid.{no_cause, valid}
+use Rattle.phase_schedule.proofs.Valid.{no_cause, shared_cells, valid}
 use Rattle.phase_schedule.proofs.running.Run.new.Goals as goal
 
 clash : (e : RunError) → Some e ≡ None → ⊥
@@ -15,6 +15,10 @@ clash e same = cc
 pub returns-in-Some-clause-complete : goal.returns-in-Some-clause-complete
 returns-in-Some-clause-complete c =
     λ v. absurd (clash c.in-Some.error (sym c.in-Some.is ∙ c.cause.ensures ∙ ap (λ ss. cause_of (schedule_of c.args.plan.now ss)) c.deref.ensures.value ∙ no_cause (schedule_of c.args.plan.now c.args.steps.items) v))
+
+pub new-requires-clause-shared : goal.new-requires-clause-shared
+new-requires-clause-shared c =
+    shared_cells (schedule_of c.args.plan.now c.args.steps.items) (ap (λ ss. cause_of (schedule_of c.args.plan.now ss)) (sym c.deref.ensures.value) ∙ sym c.cause.ensures ∙ c.in_default.is)
 
 pub returns-clause-made : goal.returns-clause-made
 returns-clause-made c =

@@ -35,7 +35,7 @@ pub returns-in-Some-clause-running : goal.returns-in-Some-clause-running
 returns-in-Some-clause-running g c = record {
   running = c.settle.ensures.running;
   sections = λ o here was.
-      let none : is_run c.enter-begun.result.0 ≡ false = c.enter-begun.ensures.fresh (rw here at was.locked) in
+      let none : is_run c.enter-begun.result.0 ≡ false = c.enter-begun.ensures.alone.fresh (rw here at was.locked) in
       let still = c.settle.ensures.still none in
       rw (still.1, still.2, still.3) (c.enter-begun.ensures.running.sections o here was);
 }
@@ -43,5 +43,5 @@ returns-in-Some-clause-running g c = record {
 pub returns-in-Some-clause-opens : goal.returns-in-Some-clause-opens
 returns-in-Some-clause-opens g c =
     let e = c.enter-begun in
-    settled_opens (is_run e.result.0) e.result.0 c.settle.result.0 c.args.who.cell (g.L.PhaseLocker.held c.args.self.now.locker) c.args.parks.now (g.L.PhaseLocker.held e.new.self.locker) e.new.parks (g.L.PhaseLocker.held c.settle.new.self.locker) c.settle.new.parks refl e.ensures.opens e.ensures.fresh
+    settled_opens (is_run e.result.0) e.result.0 c.settle.result.0 c.args.who.cell (g.L.PhaseLocker.held c.args.self.now.locker) c.args.parks.now (g.L.PhaseLocker.held e.new.self.locker) e.new.parks (g.L.PhaseLocker.held c.settle.new.self.locker) c.settle.new.parks refl e.ensures.opens e.ensures.alone.fresh
     (λ none. let still = c.settle.ensures.still none in (ap (λ r. r.0) still.0, still.1, still.2)) c.settle.ensures.reads c.settle.ensures.closes

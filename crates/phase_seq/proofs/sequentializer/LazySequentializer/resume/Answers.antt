@@ -18,15 +18,15 @@ returns-clause-stands g c =
     rw (c.begun_by.ensures.running, c.begun_by.ensures.locker, c.begun_by.ensures.begun)
     (begun_by_stands c.args.who c.args.ask c.phase-phase.result c.again-attempt.result.0 c.args.self.now.running _ _ c.phase-phase.ensures.known c.again-attempt.ensures.stands)
 
-pub returns-clause-fresh : goal.returns-clause-fresh
-returns-clause-fresh g c = λ held.
-    rw (c.begun_by.ensures.begun, c.phase-phase.ensures.phase) (again_apart _ (g.L.PhaseLocker.place c.args.self.now.locker) c.args.who c.args.ask _ _ c.args.parks.now c.again-attempt.result _ _ (λ n e. search rules)
-    c.requires.calls.party c.requires.calls.here c.requires.fits c.again-attempt.ensures.again held)
-
-pub returns-clause-quiet : goal.returns-clause-quiet
-returns-clause-quiet g c = λ run.
-    again_quiet _ (g.L.PhaseLocker.place c.args.self.now.locker) c.args.who c.args.ask _ _ c.args.parks.now c.again-attempt.result _ _ (λ n e. search rules) c.again-attempt.ensures.again
-    (rw (c.begun_by.ensures.begun, c.phase-phase.ensures.phase) at run)
+pub returns-clause-alone : goal.returns-clause-alone
+returns-clause-alone g c = record {
+  fresh = λ held.
+      rw (c.begun_by.ensures.begun, c.phase-phase.ensures.phase) (again_apart _ (g.L.PhaseLocker.place c.args.self.now.locker) c.args.who c.args.ask _ _ c.args.parks.now c.again-attempt.result _ _ (λ n e. search rules)
+      c.requires.calls.party c.requires.calls.here c.requires.fits c.again-attempt.ensures.again held);
+  quiet = λ run.
+      again_quiet _ (g.L.PhaseLocker.place c.args.self.now.locker) c.args.who c.args.ask _ _ c.args.parks.now c.again-attempt.result _ _ (λ n e. search rules) c.again-attempt.ensures.again
+      (rw (c.begun_by.ensures.begun, c.phase-phase.ensures.phase) at run);
+}
 
 pub returns-clause-exactly : goal.returns-clause-exactly
 returns-clause-exactly g c =
@@ -46,6 +46,6 @@ pub returns-clause-running : goal.returns-clause-running
 returns-clause-running g c = record {
   running = c.begun_by.ensures.running;
   sections = λ o here was.
-      let none : is_run c.begun_by.result ≡ false = returns-clause-fresh g c (rw here at was.locked) in
+      let none : is_run c.begun_by.result ≡ false = (returns-clause-alone g c).fresh (rw here at was.locked) in
       rw c.begun_by.ensures.locker (section_stays o c.begun_by.result c.args.self.now.running _ _ _ c.args.parks.now _ none c.begun_by.ensures.running (rw here c.again-attempt.ensures.opens.writes) was);
 }

@@ -8,3 +8,6 @@ returns-in-NoSection-clause-text c = rw c.in-NoSection.is c.put-in-NoSection.ens
 
 pub returns-in-ExitBegun-clause-text : goal.returns-in-ExitBegun-clause-text
 returns-in-ExitBegun-clause-text c = rw c.in-ExitBegun.is c.put-in-ExitBegun.ensures
+
+pub returns-in-NoSuchCall-clause-text : goal.returns-in-NoSuchCall-clause-text
+returns-in-NoSuchCall-clause-text c = rw c.in-NoSuchCall.is c.put-in-NoSuchCall.ensures

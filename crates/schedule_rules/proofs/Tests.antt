@@ -1,0 +1,228 @@
+-- Tests of answers, and which answers of what is admitted pass them.
+use Rattle.std.proofs.Common.{◌≡◌, ℕ, Bool, true, false, not, ◌&&◌, ◌||◌, refl, sym}
+use Rattle.std.specs.Prelude.{◌==◌, if◌then◌else◌}
+use Rattle.phase_bits.specs.Flags.{has, initialized}
+use Rattle.phase_locker.specs.declared.tickets.LockNature.{LockNature}
+use Rattle.phase_locker.specs.declared.tickets.LockNature.TheVariants as nature
+use Rattle.phase_seq.specs.Phases.{flags_refused}
+use Rattle.phase_seq.specs.declared.tolerance.Tolerance.{Tolerance}
+use Rattle.lazy_cells.specs.declared.kind.Kind.{Kind}
+use Rattle.schedule_rules.specs.declared.form.Form.{Form}
+use Rattle.schedule_rules.specs.declared.form.Form.TheVariants.{Told, Shown, Held}
+use Rattle.schedule_rules.specs.declared.step.Want.{Want}
+use Rattle.schedule_rules.specs.declared.step.Want.TheVariants.{Calls, Turns}
+use Rattle.schedule_rules.specs.declared.line.Answer.{Answer}
+use Rattle.schedule_rules.specs.declared.line.Answer.TheVariants as answer
+use Rattle.schedule_rules.specs.Forms.{form_of, denies}
+use Rattle.schedule_rules.specs.Phases.{is_accessible, runs_generator}
+use Rattle.schedule_rules.specs.Calls.{lock_wanted, asks}
+use Rattle.schedule_rules.specs.Changes.{Content}
+use Rattle.schedule_rules.specs.Sections.{is_turn}
+use Rattle.schedule_rules.specs.Answers.{answer_at, turn_answer_admitted, answer_admitted, answer_barred}
+use Rattle.schedule_rules.specs.Causes.{is_waiting, is_borrowed, is_missed, is_running, is_access, is_cyclic, is_finalizing, is_skipped, is_round, is_closing, want_denies}
+use Rattle.schedule_rules.proofs.Answered.{IsShown, IsTold, admitted}
+use Rattle.phase_locker.specs.declared.ways.How.{How}
+use Rattle.lazy_cells.specs.declared.call.Call.{Call}
+use Rattle.lazy_cells.specs.declared.call.Call.TheVariants as call
+use Rattle.schedule_rules.specs.declared.plan.Place.{Place}
+use Rattle.schedule_rules.specs.declared.plan.Place.TheVariants as place
+use Rattle.schedule_rules.specs.Laws.{is_initializing}
+
+-- a test that no answer passes of a step that attempts nothing, but a clone that is barred
+pub record IsOfTries (t : Answer → Bool) : Type 0 where
+  pub shown : IsShown (λ a. t a ≡ false)
+  pub done : t answer.Done ≡ false
+  pub failed : t answer.Failed ≡ false
+
+-- one that no answer passes of a step that is neither refused nor barred, nor begins a run, is told that it may not access the
+-- value, or is a turn
+pub record IsBeyond (t : Answer → Bool) : Type 0 where
+  pub told : IsTold (λ a. t a ≡ false)
+  pub running : t answer.Running ≡ false
+  pub finalizing : (c : ℕ) → t (answer.Finalizing c) ≡ false
+  pub skipped : (c : ℕ) → t (answer.Skipped c) ≡ false
+
+-- the answer says that the step is refused
+abbrev pub is_refused : Answer → Bool
+is_refused (answer.Refused r) = true
+is_refused _ = false
+
+pub of_running : IsOfTries is_running
+of_running = record { shown = record { phase = λ p. refl; value = λ v. refl; read_guard = refl; write_guard = refl }; done = refl; failed = refl }
+
+pub of_access : IsOfTries is_access
+of_access = record { shown = record { phase = λ p. refl; value = λ v. refl; read_guard = refl; write_guard = refl }; done = refl; failed = refl }
+
+pub of_cyclic : IsOfTries is_cyclic
+of_cyclic = record { shown = record { phase = λ p. refl; value = λ v. refl; read_guard = refl; write_guard = refl }; done = refl; failed = refl }
+
+pub of_finalizing : (c : ℕ) → IsOfTries (is_finalizing c)
+of_finalizing c = record { shown = record { phase = λ p. refl; value = λ v. refl; read_guard = refl; write_guard = refl }; done = refl; failed = refl }
+
+pub of_skipped : (c : ℕ) → IsOfTries (is_skipped c)
+of_skipped c = record { shown = record { phase = λ p. refl; value = λ v. refl; read_guard = refl; write_guard = refl }; done = refl; failed = refl }
+
+pub of_round : (n : ℕ) → IsOfTries (is_round n)
+of_round n = record { shown = record { phase = λ p. refl; value = λ v. refl; read_guard = refl; write_guard = refl }; done = refl; failed = refl }
+
+pub of_closing : IsOfTries is_closing
+of_closing = record { shown = record { phase = λ p. refl; value = λ v. refl; read_guard = refl; write_guard = refl }; done = refl; failed = refl }
+
+pub of_waiting : IsOfTries is_waiting
+of_waiting = record { shown = record { phase = λ p. refl; value = λ v. refl; read_guard = refl; write_guard = refl }; done = refl; failed = refl }
+
+pub of_missed : IsOfTries is_missed
+of_missed = record { shown = record { phase = λ p. refl; value = λ v. refl; read_guard = refl; write_guard = refl }; done = refl; failed = refl }
+
+pub of_borrowed : IsOfTries is_borrowed
+of_borrowed = record { shown = record { phase = λ p. refl; value = λ v. refl; read_guard = refl; write_guard = refl }; done = refl; failed = refl }
+
+pub of_refused : IsOfTries is_refused
+of_refused = record { shown = record { phase = λ p. refl; value = λ v. refl; read_guard = refl; write_guard = refl }; done = refl; failed = refl }
+
+-- those that look at the ways of being barred, and so on
+pub beyond_waiting : IsBeyond is_waiting
+beyond_waiting = record { told = record { shown = of_waiting.shown; access = λ p. refl; err_guard = refl }; running = refl; finalizing = λ c. refl; skipped = λ c. refl }
+
+pub beyond_missed : IsBeyond is_missed
+beyond_missed = record { told = record { shown = of_missed.shown; access = λ p. refl; err_guard = refl }; running = refl; finalizing = λ c. refl; skipped = λ c. refl }
+
+pub beyond_borrowed : IsBeyond is_borrowed
+beyond_borrowed = record { told = record { shown = of_borrowed.shown; access = λ p. refl; err_guard = refl }; running = refl; finalizing = λ c. refl; skipped = λ c. refl }
+
+pub beyond_refused : IsBeyond is_refused
+beyond_refused = record { told = record { shown = of_refused.shown; access = λ p. refl; err_guard = refl }; running = refl; finalizing = λ c. refl; skipped = λ c. refl }
+
+pub beyond_cyclic : IsBeyond is_cyclic
+beyond_cyclic = record { told = record { shown = of_cyclic.shown; access = λ p. refl; err_guard = refl }; running = refl; finalizing = λ c. refl; skipped = λ c. refl }
+
+pub beyond_round : (n : ℕ) → IsBeyond (is_round n)
+beyond_round n = let is : _ = of_round n in record { told = record { shown = is.shown; access = λ p. refl; err_guard = refl }; running = refl; finalizing = λ c. refl; skipped = λ c. refl }
+
+pub beyond_closing : IsBeyond is_closing
+beyond_closing = record { told = record { shown = of_closing.shown; access = λ p. refl; err_guard = refl }; running = refl; finalizing = λ c. refl; skipped = λ c. refl }
+
+pub no_more : (b : Bool) → (b && false) ≡ false
+no_more true = refl
+no_more false = refl
+
+pub same_both : (b : Bool) → b ≡ (b && true)
+same_both true = refl
+same_both false = refl
+
+pub nothing_else : (b : Bool) → (b || false) ≡ b
+nothing_else true = refl
+nothing_else false = refl
+
+-- ---- what is admitted
+
+-- the answer of a call that runs nothing says that the value may not be accessed, where it may not be and the call is told so
+at_denies : (f : Form) (b : Bool) (y : Content) → is_access (answer_at f b y) ≡ (denies f && not b)
+at_denies (Told tests) true y = sym (no_more tests)
+at_denies (Told true) false y = refl
+at_denies (Told false) false y = refl
+at_denies Shown true y = refl
+at_denies Shown false y = refl
+at_denies (Held true falls_back) true y = sym (no_more (not falls_back))
+at_denies (Held false falls_back) true y = sym (no_more (not falls_back))
+at_denies (Held writes true) false y = refl
+at_denies (Held writes false) false y = refl
+
+module _ (q : Kind) (t : Tolerance) (c : ℕ) (o : Bool) (y : Content) where
+  -- what it holds where a run is asked, and its generator runs
+  abbrev content : Bool → Bool → Content
+  content b g = if b && not g then record { phase = flags_refused; value = y.value } else y
+
+  -- a call or a turn begins a run exactly where it asks for one, and its generator runs
+  pub admitted_runs : (w : Want) → is_running (answer_admitted q t c o w y) ≡ (asks q t w y.phase && runs_generator q t o y.phase)
+  admitted_runs (Calls k) = by (asks q t (Calls k) y.phase) (runs_generator q t o y.phase)
+    where
+      shows : (f : Form) (b : Bool) (z : Content) → is_running (answer_at f b z) ≡ false
+      shows (Told tests) true z = refl
+      shows (Told true) false z = refl
+      shows (Told false) false z = refl
+      shows Shown true z = refl
+      shows Shown false z = refl
+      shows (Held true falls_back) true z = refl
+      shows (Held false falls_back) true z = refl
+      shows (Held writes true) false z = refl
+      shows (Held writes false) false z = refl
+
+      by : (b g : Bool) → is_running (if b && g then answer.Running else answer_at (form_of q k) (is_accessible q (content b g).phase) (content b g)) ≡ (b && g)
+      by true true = refl
+      by true false = shows (form_of q k) false (content true false)
+      by false g = shows (form_of q k) (is_accessible q y.phase) y
+  admitted_runs Turns = by (has y.phase initialized)
+    where
+      by : (b : Bool) → is_running (turn_answer_admitted (if b then nature.Write else nature.None) c) ≡ false
+      by true = refl
+      by false = refl
+
+  -- it is turned away exactly where it runs nothing, is a call that is told where the value may not be accessed, and it may
+  -- not be at the phase that it leaves
+  pub admitted_away : (w : Want) → is_access (answer_admitted q t c o w y)
+      ≡ (not (asks q t w y.phase && runs_generator q t o y.phase) && (want_denies q w && not (is_accessible q (if asks q t w y.phase then flags_refused else y.phase))))
+  admitted_away (Calls k) = by (asks q t (Calls k) y.phase) (runs_generator q t o y.phase)
+    where
+      by : (b g : Bool) → is_access (if b && g then answer.Running else answer_at (form_of q k) (is_accessible q (content b g).phase) (content b g))
+          ≡ (not (b && g) && (denies (form_of q k) && not (is_accessible q (if b then flags_refused else y.phase))))
+      by true true = refl
+      by true false = at_denies (form_of q k) false (content true false)
+      by false g = at_denies (form_of q k) (is_accessible q y.phase) y
+  admitted_away Turns = by (has y.phase initialized)
+    where
+      by : (b : Bool) → is_access (turn_answer_admitted (if b then nature.Write else nature.None) c) ≡ false
+      by true = refl
+      by false = refl
+
+  -- a turn finalizes exactly where the value is there
+  pub admitted_finalizes : (d : ℕ) (w : Want) → is_finalizing d (answer_admitted q t c o w y) ≡ (is_turn w && ((c == d) && has y.phase initialized))
+  admitted_finalizes d (Calls k) = admitted (λ a. is_finalizing d a ≡ false) (record { shown = (of_finalizing d).shown; access = λ p. refl; err_guard = refl }) refl q t o k y
+  admitted_finalizes d Turns = by (has y.phase initialized)
+    where
+      by : (b : Bool) → is_finalizing d (turn_answer_admitted (if b then nature.Write else nature.None) c) ≡ ((c == d) && b)
+      by true = same_both (c == d)
+      by false = sym (no_more (c == d))
+
+  -- and is skipped exactly where it is not
+  pub admitted_skips : (d : ℕ) (w : Want) → is_skipped d (answer_admitted q t c o w y) ≡ (is_turn w && ((c == d) && not (has y.phase initialized)))
+  admitted_skips d (Calls k) = admitted (λ a. is_skipped d a ≡ false) (record { shown = (of_skipped d).shown; access = λ p. refl; err_guard = refl }) refl q t o k y
+  admitted_skips d Turns = by (has y.phase initialized)
+    where
+      by : (b : Bool) → is_skipped d (turn_answer_admitted (if b then nature.Write else nature.None) c) ≡ ((c == d) && not b)
+      by true = sym (no_more (c == d))
+      by false = same_both (c == d)
+
+  -- nothing that is admitted passes a test of what is not
+  pub admitted_fails : (f : Answer → Bool) → IsBeyond f → (w : Want) → f (answer_admitted q t c o w y) ≡ false
+  admitted_fails f is (Calls k) = admitted (λ a. f a ≡ false) is.told is.running q t o k y
+  admitted_fails f is Turns = by (lock_wanted q t Turns y.phase)
+    where
+      by : (n : LockNature) → f (turn_answer_admitted n c) ≡ false
+      by nature.None = is.skipped c
+      by nature.Read = is.finalizing c
+      by nature.Write = is.finalizing c
+
+-- a test that fails on what is barred
+pub record FailsBarred (t : Answer → Bool) : Type 0 where
+  pub missed : t answer.Missed ≡ false
+  pub borrowed : t answer.Borrowed ≡ false
+  pub waiting : (w : How) → t (answer.Waiting w) ≡ false
+
+pub fails_barred : (t : Answer → Bool) → FailsBarred t → (fast : Bool) (x : Place) (w : How) → t (answer_barred fast x w) ≡ false
+fails_barred t k true x w = k.missed
+fails_barred t k false place.Park w = k.waiting _
+fails_barred t k false place.Spin w = k.waiting _
+fails_barred t k false (place.Own p) w = k.borrowed
+
+-- a call that does not initialize asks for no run
+pub calls_not : (q : Kind) (t : Tolerance) (k : Call) (p : ℕ) → is_initializing k ≡ false → asks q t (Calls k) p ≡ false
+calls_not q t call.Phase p e = refl
+calls_not q t call.TryGet p e = refl
+calls_not q t call.TryRead p e = refl
+calls_not q t call.TryWrite p e = refl
+calls_not q t call.FastTryRead p e = refl
+calls_not q t call.FastTryWrite p e = refl
+calls_not q t call.PrimedReadNonInitializing p e = refl
+calls_not q t call.PrimedWriteNonInitializing p e = refl
+calls_not q t _ p e = absurd (cc)

@@ -1,5 +1,0 @@
-use Rattle.schedule_rules.proofs.Told.{phase-tells}
-use Rattle.schedule_rules.proofs.laws.phases_tell_registration.Goals as goal
-
-pub returns : goal.returns
-returns g = phase-tells

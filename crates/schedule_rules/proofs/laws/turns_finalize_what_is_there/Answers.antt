@@ -1,8 +1,0 @@
-use Rattle.schedule_rules.proofs.Turning.{finalizes-value, skips-nothing}
-use Rattle.schedule_rules.proofs.laws.turns_finalize_what_is_there.Goals as goal
-
-pub returns-clause-finalizes : goal.returns-clause-finalizes
-returns-clause-finalizes g = finalizes-value
-
-pub returns-clause-skips : goal.returns-clause-skips
-returns-clause-skips g = skips-nothing
