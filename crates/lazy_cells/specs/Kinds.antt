@@ -47,6 +47,16 @@ is_hard LockedLazyDroped = true
 is_hard PrimedLockedLazy = false
 is_hard PrimedLockedLazyDroped = true
 
+-- the value of a cell of this kind that nobody else uses is lent to its user
+abbrev pub lends_value : Kind → Bool
+lends_value Lazy = true
+lends_value LazyFinalize = false
+lends_value LockedLazy = true
+lends_value LockedLazyFinalize = false
+lends_value LockedLazyDroped = false
+lends_value PrimedLockedLazy = false
+lends_value PrimedLockedLazyDroped = false
+
 -- a finalizer ran at some time before this phase
 abbrev pub is_finalized : Phase → Bool
 is_finalized p = has (number p) finalized_flag || has (number p) finalization_panicked

@@ -1,7 +1,15 @@
 //! The kinds of cells.
 
 ghost use Rattle.std.specs.Prelude.{◌≡◌};
-ghost use Rattle.lazy_cells.specs.Kinds.{is_plain, is_primed, is_hard, is_finalizable, is_within_reach, is_accessible};
+ghost use Rattle.lazy_cells.specs.Kinds.{
+  is_plain,
+  is_primed,
+  is_hard,
+  is_finalizable,
+  lends_value,
+  is_within_reach,
+  is_accessible,
+};
 
 use phase_bits::Phase;
 
@@ -34,6 +42,20 @@ impl Kind {
         match self {
             Kind::Lazy | Kind::LazyFinalize => true,
             Kind::LockedLazy
+            | Kind::LockedLazyFinalize
+            | Kind::LockedLazyDroped
+            | Kind::PrimedLockedLazy
+            | Kind::PrimedLockedLazyDroped => false,
+        }
+    }
+
+    /// Whether the value of a cell of this kind that nobody else uses is lent, by `get_mut` and `try_get_mut`.
+    pub fn lends_value(self) -> bool
+        ensures { result ≡ lends_value self }
+    {
+        match self {
+            Kind::Lazy | Kind::LockedLazy => true,
+            Kind::LazyFinalize
             | Kind::LockedLazyFinalize
             | Kind::LockedLazyDroped
             | Kind::PrimedLockedLazy

@@ -1,5 +1,6 @@
 -- The answers of calls and turns, by what they meet at the cell.
-use Rattle.std.specs.Prelude.{ℕ, Bool, true, false, not, ◌&&◌, if◌then◌else◌}
+use Rattle.std.specs.Prelude.{ℕ, Bool, true, false, not, ◌&&◌, is_none, if◌then◌else◌}
+use Rattle.std.specs.declared.option.Option.{Option}
 use Rattle.std.specs.Option.{unwrap_or}
 use Rattle.phase_bits.specs.Number.{phase_of}
 use Rattle.phase_locker.specs.declared.tickets.LockNature.{LockNature}
@@ -22,7 +23,7 @@ use Rattle.schedule_rules.specs.declared.form.Form.TheVariants.{Told, Shown, Hel
 use Rattle.schedule_rules.specs.Forms.{form_of}
 use Rattle.schedule_rules.specs.Phases.{is_accessible, runs_generator}
 use Rattle.schedule_rules.specs.Calls.{lock_wanted, asks, initializes, is_fast, wakes_as, way_of_nature}
-use Rattle.schedule_rules.specs.Changes.{Content, content_asked}
+use Rattle.schedule_rules.specs.Changes.{Content, content_asked, asks_to_lend, content_to_lend}
 use Rattle.schedule_rules.specs.Holds.{Holding, is_barred, is_barred_by_readers}
 
 -- the value. Every cell has one that answers by it, so that the 0 is never shown
@@ -69,6 +70,15 @@ abbrev pub call_answer_admitted : Kind → Tolerance → Bool → Call → Conte
 call_answer_admitted q t is_open k y =
     if begins_run q t is_open k y.phase then answer.Running
     else answer_at (form_of q k) (is_accessible q (content_asked q t is_open k y).phase) (content_asked q t is_open k y)
+
+-- of a value that is lent, where it may be accessed: what is found
+abbrev pub answer_lent : Kind → Content → Answer
+answer_lent q y = answer_at Shown (is_accessible q y.phase) y
+
+-- the same, of a cell whose generator ends so, where a run is asked
+abbrev pub answer_made_to_lend : Kind → Tolerance → Bool → Option ℕ → Content → Answer
+answer_made_to_lend q t is_open made y =
+    if asks_to_lend q t y.phase && is_none made then answer.Failed else answer_lent q (content_to_lend q t is_open made y)
 
 -- of the turn of the cell: it finalizes where it wants a lock, and else the cell is skipped
 abbrev pub turn_answer_admitted : LockNature → ℕ → Answer

@@ -4,6 +4,7 @@ use Rattle.std.specs.declared.option.Option.{Option}
 use Rattle.std.specs.declared.option.Option.TheVariants.{None, Some}
 use Rattle.phase_seq.specs.declared.tolerance.Tolerance.{Tolerance}
 use Rattle.lazy_cells.specs.declared.call.Call.{Call}
+use Rattle.lazy_cells.specs.declared.call.Call.TheVariants as call
 use Rattle.lazy_cells.specs.declared.kind.Kind.{Kind}
 use Rattle.schedule_rules.specs.declared.plan.CellPlan.{CellPlan}
 use Rattle.schedule_rules.specs.declared.step.Want.TheVariants.{Calls}
@@ -26,6 +27,7 @@ pub data Change : Type 0 where
   Ran : (is_open : Bool) (made : Option ℕ) → Change  -- its generator ended, with a value or failing
   Asked : (is_open : Bool) (k : Call) → Change  -- its call was admitted, and left nothing open
   Put : (value : ℕ) → Change  -- a value was set
+  RanIfAsked : (is_open : Bool) (made : Option ℕ) → Change  -- its value is to be lent: where a run was asked, its generator ended so
   Ended : (fine : Bool) (left : Option ℕ) → Change  -- its finalizer ended, and left a value or none
 
 -- a successful run sets the value, a failed one leaves it
@@ -42,11 +44,20 @@ abbrev pub content_asked : Kind → Tolerance → Bool → Call → Content → 
 content_asked q t is_open k y =
     if is_declined q t k is_open y.phase then record { phase = phase_reached q is_open y.phase NoRun; value = y.value } else y
 
+-- a run is asked of a cell whose value is to be lent, as a call to initialize it asks
+abbrev pub asks_to_lend : Kind → Tolerance → ℕ → Bool
+asks_to_lend q t p = asks q t (Calls call.Init) p
+
+-- where a run is asked, the generator ends so
+abbrev pub content_to_lend : Kind → Tolerance → Bool → Option ℕ → Content → Content
+content_to_lend q t is_open made y = if asks_to_lend q t y.phase then content_of_run q is_open made y else y
+
 -- what one change makes of a content
 abbrev pub content_after : CellPlan → Change → Content → Content
 content_after x (Ran is_open made) y = content_of_run x.kind is_open made y
 content_after x (Asked is_open k) y = content_asked x.kind (tolerance_of x) is_open k y
 content_after x (Put v) y = record { phase = y.phase; value = Some v }
+content_after x (RanIfAsked is_open made) y = content_to_lend x.kind (tolerance_of x) is_open made y
 content_after x (Ended fine left) y = record { phase = phase_finalized y.phase fine; value = value_finalized x.kind left y.value }
 
 -- the effect of changes, the latest of which stands first

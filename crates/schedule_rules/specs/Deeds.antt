@@ -9,7 +9,7 @@ use Rattle.schedule_rules.specs.declared.step.Want.{Want}
 use Rattle.schedule_rules.specs.declared.step.Want.TheVariants.{Calls, Turns}
 use Rattle.schedule_rules.specs.declared.line.Answer.{Answer}
 use Rattle.schedule_rules.specs.declared.line.Answer.TheVariants as answer
-use Rattle.schedule_rules.specs.Changes.{Change, Asked}
+use Rattle.schedule_rules.specs.Changes.{Change, Ran, Asked, Put, RanIfAsked}
 
 -- how a section ends
 pub data Ending : Type 0 where
@@ -29,6 +29,7 @@ pub data Deed : Type 0 where
   Beside : (g : ℕ) → Deed  -- one more guard to read, beside this one
   Puts : (g v : ℕ) → Deed  -- the holder of the guard sets this value
   Visits : (c : ℕ) (chs : List Change) (reads : Bool) → Deed  -- a section that opens and closes at once, with what happened in it. A guard may read on
+  Lends : (c : ℕ) (chs : List Change) → Deed  -- the value of the cell is lent and given back at once, with what happened
   Skips : (c : ℕ) (taken : Bool) → Deed  -- the turn of the cell ends without a section. It may be taken now
   Takes : Deed  -- the turn of the first cell left is taken, and waits
   Looks : (closes : Bool) → Deed  -- the cells registered since the last look are taken; there is none, and the exit closes
@@ -46,18 +47,21 @@ deed_phased o (act.Finished left) = Ends (Finishes true left)
 deed_phased o (act.FinishFailed left) = Ends (Finishes false left)
 deed_phased o _ = Quiet
 
-abbrev pub deed_shown : Act → Deed
-deed_shown (act.Made v) = Ends (Makes (Some v))
-deed_shown _ = Quiet
+abbrev pub deed_shown : Bool → Act → Deed
+deed_shown o (act.Made v) = Ends (Makes (Some v))
+deed_shown o (act.GetMut c made left) = Lends c (Put left ∷ RanIfAsked o made ∷ [])
+deed_shown o (act.TryGetMut c left) = Lends c (Put left ∷ [])
+deed_shown o _ = Quiet
 
 -- a call that left nothing open, or a guard to read
 abbrev pub deed_visited : Bool → Bool → Act → Deed
 deed_visited o reads (act.Call c k) = Visits c (Asked o k ∷ []) reads
 deed_visited o reads _ = Quiet
 
-abbrev pub deed_failed : Act → Deed
-deed_failed act.MadeFailed = Ends (Makes None)
-deed_failed _ = Quiet
+abbrev pub deed_failed : Bool → Act → Deed
+deed_failed o act.MadeFailed = Ends (Makes None)
+deed_failed o (act.GetMut c made left) = Lends c (Ran o None ∷ [])
+deed_failed o _ = Quiet
 
 abbrev pub deed_read : Act → Deed
 deed_read (act.Call c k) = Holds c false
@@ -91,13 +95,13 @@ deed_by o e a (answer.Skipped c) = Skips c e
 deed_by o e a (answer.Round n) = Looks false
 deed_by o e a answer.Closed = Looks true
 deed_by o e a (answer.Phase p) = deed_phased o a
-deed_by o e a (answer.Value v) = deed_shown a
+deed_by o e a (answer.Value v) = deed_shown o a
 deed_by o e a answer.ReadGuard = deed_read a
 deed_by o e a answer.ErrGuard = deed_visited o true a
 deed_by o e a answer.WriteGuard = deed_written a
 deed_by o e a answer.Done = deed_done a
 deed_by o e a (answer.Access p) = deed_visited o false a
-deed_by o e a answer.Failed = deed_failed a
+deed_by o e a answer.Failed = deed_failed o a
 deed_by o e a answer.Cyclic = Quiet
 deed_by o e a answer.Borrowed = Quiet
 deed_by o e a answer.Missed = Quiet

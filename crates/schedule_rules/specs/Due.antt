@@ -23,7 +23,7 @@ use Rattle.schedule_rules.specs.Replay.{replay, phase_at, inside}
 use Rattle.schedule_rules.specs.Exits.{registry}
 use Rattle.schedule_rules.specs.Waits.{Attempt, attempt, Wait, wait_of, waits}
 use Rattle.schedule_rules.specs.Holds.{is_barred, keeps, readers, holding_with}
-use Rattle.schedule_rules.specs.Answers.{answer_of_value, answer_of_made, Meeting, answer_of_attempt}
+use Rattle.schedule_rules.specs.Answers.{answer_of_value, answer_of_made, answer_lent, answer_made_to_lend, Meeting, answer_of_attempt}
 
 -- what a look for registered cells answers
 abbrev pub answer_of_look : Look → Answer
@@ -92,6 +92,9 @@ module _ (cells : List CellPlan) where
   due_act h s ws chosen act.MadeFailed = answer.Failed
   due_act h s ws chosen (act.Finished left) = due_finished h true (innermost s.party (sections h))
   due_act h s ws chosen (act.FinishFailed left) = due_finished h false (innermost s.party (sections h))
+  due_act h s ws chosen (act.GetMut c made left) =
+      answer_made_to_lend (cell_at cells c).kind (tolerance_at cells c) (accepts h) made (replay cells c h)
+  due_act h s ws chosen (act.TryGetMut c left) = answer_lent (cell_at cells c).kind (replay cells c h)
   due_act h s ws chosen act.Exit = due_tried h s.party (attempt cells h s) ws chosen
   due_act h s ws chosen (act.Look g) = due_look h (numbered g (guards h))
   due_act h s ws chosen (act.Set g v) = answer.Done

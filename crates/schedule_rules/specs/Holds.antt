@@ -11,7 +11,7 @@ use Rattle.schedule_rules.specs.declared.plan.CellPlan.{CellPlan}
 use Rattle.schedule_rules.specs.History.{Event, count}
 use Rattle.schedule_rules.specs.Sections.{runs_in, sections}
 use Rattle.schedule_rules.specs.Guards.{Guard, guards}
-use Rattle.schedule_rules.specs.Waits.{Wait, shares_read, shares_write, drains_on, is_drain, waits}
+use Rattle.schedule_rules.specs.Waits.{Wait, waits_at, shares_read, shares_write, drains_on, is_drain, waits}
 
 -- a read guard of the cell
 abbrev pub reads_cell : ℕ → Guard → Bool
@@ -75,6 +75,10 @@ module _ (cells : List CellPlan) where
   -- nothing stands on the cell
   abbrev pub is_free : ℕ → List Event → Bool
   is_free c h = is_free_with c h (waits cells h)
+
+  -- a guard of the cell is open, a section of it goes on, or a call waits at it
+  abbrev pub is_in_use : ℕ → List Event → Bool
+  is_in_use c h = not (read_guards c h + write_holds c h + count (waits_at c) (waits cells h) == 0)
 
   -- what stands on the cell
   abbrev pub holding : ℕ → List Event → Holding

@@ -9,6 +9,7 @@ use Rattle.schedule_rules.specs.declared.line.Refusal.TheVariants as refused
 use Rattle.schedule_rules.specs.declared.step.Step.{Step}
 use Rattle.schedule_rules.specs.declared.plan.CellPlan.{CellPlan}
 use Rattle.lazy_cells.specs.Calls.{has_call}
+use Rattle.lazy_cells.specs.Kinds.{lends_value}
 use Rattle.schedule_rules.specs.Kinds.{cell_at, is_of_other}
 use Rattle.schedule_rules.specs.Phases.{finishes_so}
 use Rattle.schedule_rules.specs.History.{Event, is_closed}
@@ -16,6 +17,7 @@ use Rattle.schedule_rules.specs.Sections.{Section, innermost, is_turn, sections}
 use Rattle.schedule_rules.specs.Guards.{Guard, guard_of, guards}
 use Rattle.schedule_rules.specs.Exits.{owner}
 use Rattle.schedule_rules.specs.Waits.{wait_of, waits}
+use Rattle.schedule_rules.specs.Holds.{is_in_use}
 
 -- a party that waits may only go on
 abbrev pub refusal_waiting : Act → Option Refusal
@@ -32,6 +34,12 @@ abbrev pub no_call : Bool → Bool → Option Refusal
 no_call true has = Some refused.NotOwner
 no_call false false = Some refused.NoSuchCall
 no_call false true = None
+
+-- the cell is as a call needs it, and is not in use
+abbrev pub no_lending : Option Refusal → Bool → Option Refusal
+no_lending (Some r) used = Some r
+no_lending None true = Some refused.InUse
+no_lending None false = None
 
 -- a guard is needed
 abbrev pub no_guard : Option Bool → Option Refusal
@@ -78,6 +86,11 @@ module _ (cells : List CellPlan) where
   ends_turn fine left None = None
   ends_turn fine left (Some s) = Some (is_turn s.want && finishes_so (cell_at cells s.cell).kind fine left)
 
+  -- the cell is the party's own or nobody's, its kind lends its value, and it is not in use
+  abbrev pub refusal_to_lend : List Event → ℕ → ℕ → Option Refusal
+  refusal_to_lend h p c =
+      no_lending (no_call (is_of_other (cell_at cells c).place p) (lends_value (cell_at cells c).kind)) (is_in_use cells c h)
+
   -- the reason to refuse the act of a party that does not wait
   abbrev pub refusal_free : List Event → ℕ → Act → Option Refusal
   refusal_free h p (act.Call c k) = no_call (is_of_other (cell_at cells c).place p) (has_call (cell_at cells c).kind k)
@@ -91,6 +104,8 @@ module _ (cells : List CellPlan) where
   refusal_free h p (act.Release g) = no_guard (writes_of (guard_of g p (guards h)))
   refusal_free h p (act.Downgrade g) = no_writer (writes_of (guard_of g p (guards h)))
   refusal_free h p (act.Clone g) = no_reader (writes_of (guard_of g p (guards h)))
+  refusal_free h p (act.GetMut c made left) = refusal_to_lend h p c
+  refusal_free h p (act.TryGetMut c left) = refusal_to_lend h p c
   refusal_free h p act.Exit = no_exit (is_other (owner h) p || is_closed h) (is_some (innermost p (sections h)))
 
   -- the reason to refuse the act, by whether the party waits

@@ -7,7 +7,7 @@ use Rattle.schedule_rules.specs.declared.step.Step.{Step}
 use Rattle.schedule_rules.specs.declared.plan.CellPlan.{CellPlan}
 use Rattle.schedule_rules.specs.Kinds.{cell_at}
 use Rattle.schedule_rules.specs.Changes.{Content, opening_content, Change, Ran, Ended, effect}
-use Rattle.schedule_rules.specs.Deeds.{Ending, Makes, Finishes, Deed, Ends, EndsToRead, Drops, DropsToRead, Visits}
+use Rattle.schedule_rules.specs.Deeds.{Ending, Makes, Finishes, Deed, Ends, EndsToRead, Drops, DropsToRead, Visits, Lends}
 use Rattle.schedule_rules.specs.History.{Event, before, deed_of}
 use Rattle.schedule_rules.specs.Sections.{Section, innermost, sections}
 use Rattle.schedule_rules.specs.Guards.{Guard, numbered, guards}
@@ -39,6 +39,7 @@ back_by p (EndsToRead v) ss gs = back_of_section (Makes (Some v)) (innermost p s
 back_by p (Drops g) ss gs = back_of_guard (numbered g gs)
 back_by p (DropsToRead g) ss gs = back_of_guard (numbered g gs)
 back_by p (Visits c chs reads) ss gs = Some (record { cell = c; changes = chs })
+back_by p (Lends c chs) ss gs = Some (record { cell = c; changes = chs })
 back_by p _ ss gs = None
 
 -- the section that a step with this answer gives back

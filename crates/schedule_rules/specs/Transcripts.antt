@@ -50,6 +50,8 @@ names_known_cell cells (act.Downgrade g) = true
 names_known_cell cells (act.Clone g) = true
 names_known_cell cells (act.Finished left) = true
 names_known_cell cells (act.FinishFailed left) = true
+names_known_cell cells (act.GetMut c made left) = nat_lt c cells
+names_known_cell cells (act.TryGetMut c left) = nat_lt c cells
 names_known_cell cells act.Exit = true
 
 -- the party and the cell that a step names are among so many

@@ -108,6 +108,10 @@ shares_read c w = if is_read_share w.way w.woken then (w.cell == c) else false
 abbrev pub shares_write : ℕ → Wait → Bool
 shares_write c w = if is_write_share w.way w.woken then (w.cell == c) else false
 
+-- the call waits at the cell
+abbrev pub waits_at : ℕ → Wait → Bool
+waits_at c w = w.cell == c
+
 -- the call drains the cell
 abbrev pub drains_on : ℕ → Wait → Bool
 drains_on c w = if is_drain w.way then (w.cell == c) else false
@@ -184,6 +188,8 @@ module _ (cells : List CellPlan) where
   cell_concerned_with ws h p (act.Release g) = cell_of_guard (numbered g (guards h))
   cell_concerned_with ws h p (act.Downgrade g) = cell_of_guard (numbered g (guards h))
   cell_concerned_with ws h p (act.Clone g) = cell_of_guard (numbered g (guards h))
+  cell_concerned_with ws h p (act.GetMut c made left) = Some c
+  cell_concerned_with ws h p (act.TryGetMut c left) = Some c
   cell_concerned_with ws h p act.Exit = first_of (registry cells h).left
 
   -- these waits after what a step gave, where all those calls waited

@@ -11,9 +11,9 @@ pub enum Refusal {
     Waits,
     /// 2: the act is `Again`, and the party does not wait.
     NotWaiting,
-    /// 3: a call on a cell that belongs to another party.
+    /// 3: a call on a cell that belongs to another party, also one that is to lend its value.
     NotOwner,
-    /// 4: cells of this kind do not have the call.
+    /// 4: cells of this kind do not have the call, or do not lend their value.
     NoSuchCall,
     /// 5: no open guard of the party has this number, or a clone names a write guard.
     NoGuard,
@@ -25,6 +25,8 @@ pub enum Refusal {
     /// finalizer's a generator; a finalizer of `PrimedLockedLazyDroped` leaves a value, and no other does; that of
     /// `LockedLazyDroped` does not fail.
     NoOutcome,
+    /// 9: a cell that is to lend its value is in use: a guard of it is open, a section of it runs, or a call waits at it.
+    InUse,
     /// 10: an exit, and another party owns the exit, or registration is closed.
     ExitBegun,
     /// 11: an exit by a party that runs a section.
@@ -36,7 +38,7 @@ pub enum Refusal {
 pub enum Answer {
     /// The published phase: of a call for it, of an `init`, or of a finalizer that ended.
     Phase(Phase),
-    /// The value that the holder of a guard sees, or that a call shows.
+    /// The value that the holder of a guard sees, that a call shows, or that is found where it is lent.
     Value(u64),
     /// A guard to read. It has the number of this step.
     ReadGuard,
@@ -60,7 +62,7 @@ pub enum Answer {
     /// The call was not barred, and at this phase, which is published, the value may not be accessed: the
     /// `AccessError` of static_init. Nothing is left open.
     Access(Phase),
-    /// The generator that this step ended failed.
+    /// The generator that this step ended failed, or that ran in it.
     Failed,
     /// The party asked for a run of the generator that it is running, and nothing is left open. static_init panics or
     /// deadlocks there.

@@ -29,6 +29,16 @@ pub enum Act {
     Downgrade { guard: u32 },
     /// One more read guard, beside this one.
     Clone { guard: u32 },
+    /// The value of a cell that is not in use is lent for this step, and `left` is what the party leaves there. Where the
+    /// cell asks for a run, its generator runs first, and `made` is its outcome: a value, or none where it failed. Then
+    /// nothing is lent, and nothing left.
+    GetMut {
+        cell: u32,
+        made: Option<u64>,
+        left: u64,
+    },
+    /// The same without a run: the value is lent where it is there.
+    TryGetMut { cell: u32, left: u64 },
     /// One step of the exit: the turn of the next cell of the round, or, where none is left, a look for the cells that
     /// were registered since the last one.
     Exit,
