@@ -24,14 +24,14 @@ use Rattle.schedule_rules.specs.declared.line.Answer.{Answer}
 use Rattle.schedule_rules.specs.declared.line.Answer.TheVariants as answer
 use Rattle.schedule_rules.specs.Forms.{form_of}
 use Rattle.schedule_rules.specs.Phases.{is_accessible}
-use Rattle.schedule_rules.specs.Changes.{Content, content_asked}
+use Rattle.schedule_rules.specs.Changes.{Content, content_asked, asks_to_lend, content_to_lend}
 use Rattle.schedule_rules.specs.History.{Event}
 use Rattle.schedule_rules.specs.Sections.{Section}
 use Rattle.schedule_rules.specs.Guards.{Guard}
 use Rattle.schedule_rules.specs.Waits.{Wait}
 use Rattle.schedule_rules.specs.Holds.{is_barred, holding_with}
 use Rattle.schedule_rules.specs.Refusals.{refusal}
-use Rattle.schedule_rules.specs.Answers.{answer_opened, answer_denied, answer_made, answer_of_made, answer_barred, begins_run, call_answer_admitted}
+use Rattle.schedule_rules.specs.Answers.{answer_opened, answer_denied, answer_made, answer_of_made, answer_barred, begins_run, call_answer_admitted, answer_lent, answer_made_to_lend}
 use Rattle.schedule_rules.specs.Kinds.{cell_at, is_owned}
 use Rattle.schedule_rules.specs.Due.{phase_made, due_finished, due_made, due_look, due_clone, due_answer}
 use Rattle.schedule_rules.specs.Legal.{Moment, First, Last, IsLegalLine, answer_of, due_at}
@@ -82,6 +82,14 @@ module _ (P : Answer → Type 0) where
   admitted k r q t o c y =
       either (begins_run q t o c y.phase) answer.Running _ r
       (either (is_accessible q (content_asked q t o c y).phase) _ _ (opened k.shown (form_of q c) (content_asked q t o c y)) (denied k (form_of q c) (content_asked q t o c y).phase))
+
+  -- of a value that is lent
+  pub lent : IsTold → (q : Kind) (y : Content) → P (answer_lent q y)
+  lent k q y = either (is_accessible q y.phase) _ _ (k.shown.value _) (k.access _)
+
+  -- of one that a run makes first where it is asked
+  pub made_to_lend : IsTold → P answer.Failed → (q : Kind) (t : Tolerance) (o : Bool) (made : Option ℕ) (y : Content) → P (answer_made_to_lend q t o made y)
+  made_to_lend k f q t o made y = either (asks_to_lend q t y.phase && is_none made) answer.Failed _ f (lent k q (content_to_lend q t o made y))
 
   -- of one that is barred
   pub barred : (fast : Bool) (x : Place) (way : How) → (fast ≡ true → P answer.Missed) → ((w : How) → P (answer.Waiting w)) → (is_owned x ≡ true → P answer.Borrowed)

@@ -1,5 +1,5 @@
 -- What a legal step may be, case by case.
-use Rattle.std.proofs.Common.{◌≡◌, ℕ, List, [], ◌∷◌, Bool, true, false, Some}
+use Rattle.std.proofs.Common.{◌≡◌, ℕ, List, [], ◌∷◌, Bool, true, false, Some, None}
 use Rattle.std.specs.Prelude.{length, if◌then◌else◌}
 use Rattle.std.specs.declared.option.Option.{Option}
 use Rattle.phase_bits.specs.Number.{phase_of}
@@ -7,6 +7,7 @@ use Rattle.phase_bits.specs.Flags.{has, initialized}
 use Rattle.phase_locker.specs.declared.ways.How.{How}
 use Rattle.phase_seq.specs.Phases.{flags_refused}
 use Rattle.phase_seq.specs.Asks.{shall_init}
+use Rattle.lazy_cells.specs.Kinds.{lends_value}
 use Rattle.lazy_cells.specs.declared.call.Call.{Call}
 use Rattle.schedule_rules.specs.declared.form.Form.{Form}
 use Rattle.schedule_rules.specs.declared.plan.CellPlan.{CellPlan}
@@ -21,12 +22,13 @@ use Rattle.schedule_rules.specs.Kinds.{cell_at, tolerance_at, is_owned}
 use Rattle.schedule_rules.specs.Forms.{form_of}
 use Rattle.schedule_rules.specs.Phases.{is_accessible, runs_generator, phase_finalized, finishes_so}
 use Rattle.schedule_rules.specs.Calls.{asks, initializes, is_fast}
-use Rattle.schedule_rules.specs.History.{Event, act_of, accepts}
+use Rattle.schedule_rules.specs.Changes.{asks_to_lend}
+use Rattle.schedule_rules.specs.History.{Event, act_of, accepts, count}
 use Rattle.schedule_rules.specs.Sections.{Section, innermost, is_turn, sections}
 use Rattle.schedule_rules.specs.Guards.{Guard, numbered, guards}
 use Rattle.schedule_rules.specs.Replay.{replay, phase_at, inside}
 use Rattle.schedule_rules.specs.Exits.{registry, finishing}
-use Rattle.schedule_rules.specs.Waits.{attempt}
+use Rattle.schedule_rules.specs.Waits.{waits_at, attempt, waits}
 use Rattle.schedule_rules.specs.Holds.{read_guards, write_holds}
 use Rattle.schedule_rules.specs.Answers.{answer_of_value, answer_opened, answer_denied, answer_made}
 use Rattle.schedule_rules.specs.Due.{phase_made}
@@ -101,6 +103,17 @@ module _ (cells : List CellPlan) (h : List Event) (p : ℕ) where
     pub unasked : asks (cell_at cells c).kind (tolerance_at cells c) (Calls k) (phase_at cells c h) ≡ false
     pub unwanted : initializes (cell_at cells c).kind (Calls k) ≡ true → shall_init (tolerance_at cells c) (phase_of (phase_at cells c h)) ≡ false
 
+  -- the kind of the cell lends its value, no guard and no section of the cell is open, and no call waits at it
+  pub record Lendable (c : ℕ) : Type 0 where
+    pub lends : lends_value (cell_at cells c).kind ≡ true
+    pub unread : read_guards c h ≡ 0
+    pub unheld : write_holds c h ≡ 0
+    pub unwaited : count (waits_at c) (waits cells h) ≡ 0
+
+  -- a run is asked of the cell before its value is lent, or not
+  abbrev pub AsksToLend : ℕ → Bool → Type 0
+  AsksToLend c asked = asks_to_lend (cell_at cells c).kind (tolerance_at cells c) (phase_at cells c h) ≡ asked
+
   -- the value of the cell may be accessed, or not
   abbrev pub Reach : ℕ → Bool → Type 0
   Reach c accessible = is_accessible (cell_at cells c).kind (phase_at cells c h) ≡ accessible
@@ -144,3 +157,9 @@ module _ (cells : List CellPlan) (h : List Event) (p : ℕ) where
     pub downgraded : (g : ℕ) (x : Guard) → numbered g (guards h) ≡ Some x → x.writes ≡ true → P (act.Downgrade g) answer.ReadGuard
     pub borrowed : (g : ℕ) (x : Guard) → numbered g (guards h) ≡ Some x → x.writes ≡ false → P (act.Clone g) answer.Borrowed
     pub cloned : (g : ℕ) (x : Guard) → numbered g (guards h) ≡ Some x → x.writes ≡ false → P (act.Clone g) answer.ReadGuard
+    pub lent_made : (c v left : ℕ) → Lendable c → AsksToLend c true → P (act.GetMut c (Some v) left) (answer.Value v)
+    pub lent_failed : (c left : ℕ) → Lendable c → AsksToLend c true → P (act.GetMut c None left) answer.Failed
+    pub lent_rested : (c : ℕ) (made : Option ℕ) (left : ℕ) → Lendable c → AsksToLend c false → Reach c true → P (act.GetMut c made left) (answer_of_value (replay cells c h))
+    pub lent_denied : (c : ℕ) (made : Option ℕ) (left : ℕ) → Lendable c → AsksToLend c false → Reach c false → P (act.GetMut c made left) (answer.Access (phase_of (phase_at cells c h)))
+    pub lent : (c left : ℕ) → Lendable c → Reach c true → P (act.TryGetMut c left) (answer_of_value (replay cells c h))
+    pub unlent : (c left : ℕ) → Lendable c → Reach c false → P (act.TryGetMut c left) (answer.Access (phase_of (phase_at cells c h)))

@@ -35,11 +35,11 @@ use Rattle.schedule_rules.specs.Refusals.{refusal, refusal_by}
 use Rattle.schedule_rules.specs.Answers.{way_parked, drains_by, answer_barred, answer_admitted}
 use Rattle.schedule_rules.specs.Due.{answer_of_look, keeps_own, due_attempt, due_tried, due_clone, due_answer}
 use Rattle.schedule_rules.specs.Legal.{Moment, IsLegalLine, answer_of, due_at, may_give}
-use Rattle.schedule_rules.specs.Causes.{is_waiting, is_borrowed, is_missed, is_running, is_access, is_cyclic, is_finalizing, is_skipped, is_round, is_closing, is_attempted, waits_judged, is_step_of, is_of_own_run, asks_run, generates, phase_met, is_kept_out, is_barred_attempt, is_admitted, is_barred_clone, is_barred_step, is_missing_step, is_borrowing_step, is_running_step, is_access_step, is_turn_step, is_cyclic_step, looks, is_round_step, is_closing_step}
+use Rattle.schedule_rules.specs.Causes.{is_waiting, is_borrowed, is_missed, is_running, is_access, is_cyclic, is_finalizing, is_skipped, is_round, is_closing, is_attempted, waits_judged, is_step_of, is_of_own_run, asks_run, generates, phase_met, is_kept_out, is_barred_attempt, is_admitted, is_barred_clone, is_denied_to_lend, is_barred_step, is_missing_step, is_borrowing_step, is_running_step, is_access_step, is_turn_step, is_cyclic_step, looks, is_round_step, is_closing_step}
 use Rattle.schedule_rules.specs.Laws.{is_initializing}
-use Rattle.schedule_rules.proofs.Answered.{due_at-judged, made, finished, looked, cloned, legal_by}
+use Rattle.schedule_rules.proofs.Answered.{due_at-judged, lent, made_to_lend, made, finished, looked, cloned, legal_by}
 use Rattle.schedule_rules.proofs.Facts.{apart}
-use Rattle.schedule_rules.proofs.Tests.{is_refused, IsBeyond, IsOfTries, of_running, of_access, of_cyclic, of_finalizing, of_skipped, of_round, of_closing, of_waiting, of_missed, of_borrowed, of_refused, beyond_waiting, beyond_missed, beyond_borrowed, beyond_refused, beyond_cyclic, beyond_round, beyond_closing, no_more, same_both, nothing_else, admitted_runs, admitted_away, admitted_finalizes, admitted_skips, admitted_fails, FailsBarred, fails_barred, calls_not}
+use Rattle.schedule_rules.proofs.Tests.{is_refused, IsBeyond, IsOfTries, of_running, of_access, of_cyclic, of_finalizing, of_skipped, of_round, of_closing, of_waiting, of_missed, of_borrowed, of_refused, beyond_waiting, beyond_missed, beyond_borrowed, beyond_refused, beyond_cyclic, beyond_round, beyond_closing, no_more, same_both, nothing_else, neither, unless_first, is_unlent, unlent_where_denied, shows, makes, admitted_runs, admitted_away, admitted_finalizes, admitted_skips, admitted_fails, FailsBarred, fails_barred, calls_not}
 
 -- ---- attempts, by whether they are cyclic, barred or admitted
 
@@ -119,7 +119,7 @@ module _ (t : Answer → Bool) (cells : List CellPlan) (h : List Event) (p : ℕ
 
 -- ---- legal lines
 
-module _ (t : Answer → Bool) (is : IsOfTries t) (cells : List CellPlan) (cause : Attempt → Bool) (h : List Event) (ws : List Wait) (chosen : Bool) where
+module _ (t : Answer → Bool) {denies : Bool} (is : IsOfTries t denies) (cells : List CellPlan) (cause : Attempt → Bool) (h : List Event) (ws : List Wait) (chosen : Bool) where
   -- a clone is answered so where it is barred, and Borrowed is
   clones : (g : ℕ) (o : Option Guard) → numbered g (guards h) ≡ o → t (due_clone cells h ws o) ≡ (is_barred_clone cells h (act.Clone g) ws && t answer.Borrowed)
   clones g None e = rw e is.done
@@ -132,7 +132,7 @@ module _ (t : Answer → Bool) (is : IsOfTries t) (cells : List CellPlan) (cause
   -- each act, where what is attempted is answered so exactly by this cause
   due : (p : ℕ) → ((o : Option Attempt) → t (due_tried cells h p o ws chosen) ≡ is_attempted cause o) → (a : Act)
       → t (due_answer cells h (record { party = p; act = a }) ws chosen)
-      ≡ (is_attempted cause (attempt cells h (record { party = p; act = a })) || (is_barred_clone cells h a ws && t answer.Borrowed))
+      ≡ (is_attempted cause (attempt cells h (record { party = p; act = a })) || ((is_barred_clone cells h a ws && t answer.Borrowed) || (is_unlent cells h a && denies)))
   due p f (act.Call c k) = f (Some (record { cell = c; want = Calls k })) ∙ sym (nothing_else _)
   due p f act.Again = f (attempt_of_wait (wait_of p (waits cells h))) ∙ sym (nothing_else _)
   due p f act.Exit = f (attempt_of_turn (first_of (registry cells h).left)) ∙ sym (nothing_else _)
@@ -144,15 +144,17 @@ module _ (t : Answer → Bool) (is : IsOfTries t) (cells : List CellPlan) (cause
   due p f (act.Set g v) = is.done
   due p f (act.Release g) = is.done
   due p f (act.Downgrade g) = is.shown.read_guard
-  due p f (act.Clone g) = clones g (numbered g (guards h)) refl
+  due p f (act.Clone g) = clones g (numbered g (guards h)) refl ∙ sym (nothing_else _)
+  due p f (act.GetMut c made left) = makes t is (cell_at cells c).kind (tolerance_at cells c) (accepts h) made (replay cells c h)
+  due p f (act.TryGetMut c left) = shows t is (cell_at cells c).kind (replay cells c h)
 
-module _ (t : Answer → Bool) (is : IsOfTries t) (refused : (q : Refusal) → t (answer.Refused q) ≡ false) (cells : List CellPlan) (h : List Event) (s : Step) (l : Line) (k : IsLegalLine cells h s l) where
+module _ (t : Answer → Bool) {denies : Bool} (is : IsOfTries t denies) (refused : (q : Refusal) → t (answer.Refused q) ≡ false) (cells : List CellPlan) (h : List Event) (s : Step) (l : Line) (k : IsLegalLine cells h s l) where
   abbrev judged : List Wait
   judged = waits_judged cells k.moment h s l.given
 
   -- so it is of a legal line
   legal : (cause : Attempt → Bool) → ((o : Option Attempt) → t (due_tried cells h s.party o judged k.chosen) ≡ is_attempted cause o)
-      → t l.answer ≡ (is_none (refusal cells h s) && (is_attempted cause (attempt cells h s) || (is_barred_clone cells h s.act judged && t answer.Borrowed)))
+      → t l.answer ≡ (is_none (refusal cells h s) && (is_attempted cause (attempt cells h s) || ((is_barred_clone cells h s.act judged && t answer.Borrowed) || (is_unlent cells h s.act && denies))))
   legal cause f = legal_by t refused cells h s l k ∙ ap (λ b. is_none (refusal cells h s) && b) (due t is cells cause h judged k.chosen s.party f s.act)
 
   -- where no look is answered so
@@ -165,15 +167,12 @@ module _ (t : Answer → Bool) (is : IsOfTries t) (refused : (q : Refusal) → t
     tried None = told (look_at (registry cells h).pending)
     tried (Some a) = each a
 
-    -- nor a clone
-    legal_alone : t answer.Borrowed ≡ false → t l.answer ≡ is_step_of cells cause h s
-    legal_alone e = legal cause tried ∙ by (is_none (refusal cells h s)) _ _ (t answer.Borrowed) e
-      where
-        by : (n x y b : Bool) → b ≡ false → (n && (x || (y && b))) ≡ (n && x)
-        by false x y b e = refl
-        by true x y true e = absurd (apart e)
-        by true x true false e = nothing_else x
-        by true x false false e = nothing_else x
+    -- nor a clone, nor a value that is to be lent
+    legal_alone : t answer.Borrowed ≡ false → denies ≡ false → t l.answer ≡ is_step_of cells cause h s
+    legal_alone e f =
+        legal cause tried
+        ∙ ap (λ b. is_none (refusal cells h s) && (is_attempted cause (attempt cells h s) || b)) (neither (is_barred_clone cells h s.act judged) (is_unlent cells h s.act) _ _ e f)
+        ∙ ap (λ b. is_none (refusal cells h s) && b) (nothing_else _)
 
 module _ (cells : List CellPlan) (h : List Event) (s : Step) (l : Line) (k : IsLegalLine cells h s l) where
   abbrev ws : List Wait
@@ -181,7 +180,7 @@ module _ (cells : List CellPlan) (h : List Event) (s : Step) (l : Line) (k : IsL
 
   -- a legal line waits exactly where the step is barred, and neither fast nor at a cell of the party's own
   pub waits_where_barred : is_waiting l.answer ≡ is_barred_step cells h s l.given k.moment
-  waits_where_barred = legal_alone is_waiting of_waiting (λ q. refl) cells h s l k (λ n. refl) refl _ (λ a. barred_alone is_waiting cells h s.party ws k.chosen refl beyond_waiting (λ f o. not f && not o) by a) refl
+  waits_where_barred = legal_alone is_waiting of_waiting (λ q. refl) cells h s l k (λ n. refl) refl _ (λ a. barred_alone is_waiting cells h s.party ws k.chosen refl beyond_waiting (λ f o. not f && not o) by a) refl refl
     where
       by : (fast : Bool) (x : Place) (w : How) → is_waiting (answer_barred fast x w) ≡ (not fast && not (is_owned x))
       by true x w = refl
@@ -191,7 +190,7 @@ module _ (cells : List CellPlan) (h : List Event) (s : Step) (l : Line) (k : IsL
 
   -- misses exactly where it is barred and fast
   pub misses_where_barred : is_missed l.answer ≡ is_missing_step cells h s l.given k.moment
-  misses_where_barred = legal_alone is_missed of_missed (λ q. refl) cells h s l k (λ n. refl) refl _ (λ a. barred_alone is_missed cells h s.party ws k.chosen refl beyond_missed (λ f o. f) by a) refl
+  misses_where_barred = legal_alone is_missed of_missed (λ q. refl) cells h s l k (λ n. refl) refl _ (λ a. barred_alone is_missed cells h s.party ws k.chosen refl beyond_missed (λ f o. f) by a) refl refl
     where
       by : (fast : Bool) (x : Place) (w : How) → is_missed (answer_barred fast x w) ≡ fast
       by true x w = refl
@@ -204,7 +203,7 @@ module _ (cells : List CellPlan) (h : List Event) (s : Step) (l : Line) (k : IsL
   borrows_where_barred =
       legal is_borrowed of_borrowed (λ q. refl) cells h s l k _
       (tried is_borrowed of_borrowed (λ q. refl) cells h s l k (λ n. refl) refl _ (λ a. barred_alone is_borrowed cells h s.party ws k.chosen refl beyond_borrowed (λ f o. not f && o) by a))
-      ∙ parts (is_none (refusal cells h s)) _ _
+      ∙ parts (is_none (refusal cells h s)) _ _ (is_unlent cells h s.act)
     where
       by : (fast : Bool) (x : Place) (w : How) → is_borrowed (answer_barred fast x w) ≡ (not fast && is_owned x)
       by true x w = refl
@@ -212,51 +211,58 @@ module _ (cells : List CellPlan) (h : List Event) (s : Step) (l : Line) (k : IsL
       by false place.Spin w = refl
       by false (place.Own p) w = refl
 
-      parts : (n x y : Bool) → (n && (x || (y && true))) ≡ ((n && y) || (n && x))
-      parts false x y = refl
-      parts true true true = refl
-      parts true true false = refl
-      parts true false true = refl
-      parts true false false = refl
+      parts : (n x y u : Bool) → (n && (x || ((y && true) || (u && false)))) ≡ ((n && y) || (n && x))
+      parts false x y u = refl
+      parts true true true u = refl
+      parts true true false u = refl
+      parts true false true u = refl
+      parts true false false u = no_more u
 
   -- a run begins
   pub runs_where_asked : is_running l.answer ≡ is_running_step cells h s l.given k.moment
   runs_where_asked =
       legal_alone is_running of_running (λ q. refl) cells h s l k (λ n. refl) refl _
       (λ a. admitted_alone is_running cells h s.party ws k.chosen refl (fails_barred is_running (record { missed = refl; borrowed = refl; waiting = λ w. refl })) (λ a. asks_run cells h s.party a && generates cells h s.party a) a
-      (admitted_runs (cell_at cells a.cell).kind (tolerance_at cells a.cell) a.cell (accepts h) (replay cells a.cell h) a.want)) refl
+      (admitted_runs (cell_at cells a.cell).kind (tolerance_at cells a.cell) a.cell (accepts h) (replay cells a.cell h) a.want)) refl refl
 
   -- the value may not be accessed
   pub accesses_where_turned_away : is_access l.answer ≡ is_access_step cells h s l.given k.moment
   accesses_where_turned_away =
-      legal_alone is_access of_access (λ q. refl) cells h s l k (λ n. refl) refl _
+      legal is_access of_access (λ q. refl) cells h s l k _
+      (tried is_access of_access (λ q. refl) cells h s l k (λ n. refl) refl _
       (λ a. admitted_alone is_access cells h s.party ws k.chosen refl (fails_barred is_access (record { missed = refl; borrowed = refl; waiting = λ w. refl })) (λ a. not (asks_run cells h s.party a && generates cells h s.party a) && is_kept_out cells h s.party a) a
-      (admitted_away (cell_at cells a.cell).kind (tolerance_at cells a.cell) a.cell (accepts h) (replay cells a.cell h) a.want)) refl
+      (admitted_away (cell_at cells a.cell).kind (tolerance_at cells a.cell) a.cell (accepts h) (replay cells a.cell h) a.want)))
+      ∙ parts (refusal cells h s) refl _ (is_barred_clone cells h s.act ws)
+    where
+      parts : (o : Option Refusal) → refusal cells h s ≡ o → (x y : Bool)
+          → (is_none o && (x || ((y && false) || (is_unlent cells h s.act && true)))) ≡ ((is_none o && x) || (is_none o && is_denied_to_lend cells h s.act))
+      parts None n x y = unless_first x y (is_unlent cells h s.act) (is_denied_to_lend cells h s.act) (unlent_where_denied cells h s.party s.act n)
+      parts (Some r) n x y = refl
 
   -- a finalizer begins
   pub finalizes_where_ready : (c : ℕ) → is_finalizing c l.answer ≡ is_turn_step cells c true h s l.given k.moment
   finalizes_where_ready c =
       legal_alone (is_finalizing c) (of_finalizing c) (λ q. refl) cells h s l k (λ n. refl) refl _
       (λ a. admitted_alone (is_finalizing c) cells h s.party ws k.chosen refl (fails_barred (is_finalizing c) (record { missed = refl; borrowed = refl; waiting = λ w. refl })) (λ a. is_turn a.want && ((a.cell == c) && has (phase_met cells h s.party a) initialized)) a
-      (admitted_finalizes (cell_at cells a.cell).kind (tolerance_at cells a.cell) a.cell (accepts h) (replay cells a.cell h) c a.want)) refl
+      (admitted_finalizes (cell_at cells a.cell).kind (tolerance_at cells a.cell) a.cell (accepts h) (replay cells a.cell h) c a.want)) refl refl
 
   -- a turn is skipped
   pub skips_where_unready : (c : ℕ) → is_skipped c l.answer ≡ is_turn_step cells c false h s l.given k.moment
   skips_where_unready c =
       legal_alone (is_skipped c) (of_skipped c) (λ q. refl) cells h s l k (λ n. refl) refl _
       (λ a. admitted_alone (is_skipped c) cells h s.party ws k.chosen refl (fails_barred (is_skipped c) (record { missed = refl; borrowed = refl; waiting = λ w. refl })) (λ a. is_turn a.want && ((a.cell == c) && not (has (phase_met cells h s.party a) initialized))) a
-      (admitted_skips (cell_at cells a.cell).kind (tolerance_at cells a.cell) a.cell (accepts h) (replay cells a.cell h) c a.want)) refl
+      (admitted_skips (cell_at cells a.cell).kind (tolerance_at cells a.cell) a.cell (accepts h) (replay cells a.cell h) c a.want)) refl refl
 
   -- a call is cyclic
   pub cyclic_where_own : is_cyclic l.answer ≡ is_cyclic_step cells h s
   cyclic_where_own =
       legal_alone is_cyclic of_cyclic (λ q. refl) cells h s l k (λ n. refl) refl _
-      (λ a. cyclic_alone is_cyclic cells h s.party ws k.chosen true refl (fails_barred is_cyclic (record { missed = refl; borrowed = refl; waiting = λ w. refl })) beyond_cyclic a ∙ sym (same_both _)) refl
+      (λ a. cyclic_alone is_cyclic cells h s.party ws k.chosen true refl (fails_barred is_cyclic (record { missed = refl; borrowed = refl; waiting = λ w. refl })) beyond_cyclic a ∙ sym (same_both _)) refl refl
 
   -- no answer that is due is a refusal
   due_is_answered : (m : Moment) (g : Given) (chosen : Bool) → is_refused (due_at cells m h s g chosen) ≡ false
   due_is_answered m g chosen =
-      ap is_refused (due_at-judged cells m h s g chosen) ∙ due is_refused of_refused cells (λ a. false) h (waits_judged cells m h s g) chosen s.party tried s.act ∙ none (attempt cells h s) _
+      ap is_refused (due_at-judged cells m h s g chosen) ∙ due is_refused of_refused cells (λ a. false) h (waits_judged cells m h s g) chosen s.party tried s.act ∙ none (attempt cells h s) _ _
     where
       told : (l : _) → is_refused (answer_of_look l) ≡ false
       told (look.Round n) = refl
@@ -267,9 +273,9 @@ module _ (cells : List CellPlan) (h : List Event) (s : Step) (l : Line) (k : IsL
       tried (Some a) =
           cyclic_alone is_refused cells h s.party (waits_judged cells m h s g) chosen false refl (fails_barred is_refused (record { missed = refl; borrowed = refl; waiting = λ w. refl })) beyond_refused a ∙ no_more _
 
-      none : (o : Option Attempt) (b : Bool) → (is_attempted (λ a. false) o || (b && false)) ≡ false
-      none None b = no_more b
-      none (Some a) b = no_more b
+      none : (o : Option Attempt) (b d : Bool) → (is_attempted (λ a. false) o || ((b && false) || (d && false))) ≡ false
+      none None b d = neither b d false false refl refl
+      none (Some a) b d = neither b d false false refl refl
 
   -- a line that is refused gives nothing
   pub refused_gives_nothing : (r : Refusal) → l.answer ≡ answer.Refused r → l.given ≡ given.Nobody
@@ -302,7 +308,7 @@ kept_is_answered cells h p a ws chosen keeps =
 
 -- ---- looks
 
-module _ (t : Answer → Bool) (is : IsOfTries t) (beyond : IsBeyond t) (fails : FailsBarred t) (cyclic : t answer.Cyclic ≡ false) (cells : List CellPlan) (h : List Event) (ws : List Wait) (chosen : Bool) (p : ℕ) where
+module _ (t : Answer → Bool) {denies : Bool} (is : IsOfTries t denies) (beyond : IsBeyond t) (fails : FailsBarred t) (cyclic : t answer.Cyclic ≡ false) (cells : List CellPlan) (h : List Event) (ws : List Wait) (chosen : Bool) (p : ℕ) where
   -- the answer of a look
   abbrev passes : Bool
   passes = t (answer_of_look (look_at (registry cells h).pending))
@@ -337,13 +343,16 @@ module _ (t : Answer → Bool) (is : IsOfTries t) (beyond : IsBeyond t) (fails :
   looked_so (act.Set g v) = ap (λ b. free (act.Set g v) && b) is.done
   looked_so (act.Release g) = ap (λ b. free (act.Release g) && b) is.done
   looked_so (act.Downgrade g) = ap (λ b. free (act.Downgrade g) && b) is.shown.read_guard
+  looked_so (act.GetMut c made left) =
+      ap (λ b. free (act.GetMut c made left) && b) (made_to_lend (λ a. t a ≡ false) beyond.told is.failed (cell_at cells c).kind (tolerance_at cells c) (accepts h) made (replay cells c h))
+  looked_so (act.TryGetMut c left) = ap (λ b. free (act.TryGetMut c left) && b) (lent (λ a. t a ≡ false) beyond.told (cell_at cells c).kind (replay cells c h))
   looked_so (act.Clone g) = ap (λ b. free (act.Clone g) && b) (cloned (λ a. t a ≡ false) cells h ws (numbered g (guards h)) is.done fails.borrowed is.shown.read_guard)
 
 module _ (cells : List CellPlan) (h : List Event) (s : Step) (l : Line) (k : IsLegalLine cells h s l) where
   -- it is passed exactly where the step looks, and the look passes it
-  looked_where : (t : Answer → Bool) → IsOfTries t → IsBeyond t → FailsBarred t → t answer.Cyclic ≡ false → ((q : Refusal) → t (answer.Refused q) ≡ false)
+  looked_where : (t : Answer → Bool) {denies : Bool} → IsOfTries t denies → IsBeyond t → FailsBarred t → t answer.Cyclic ≡ false → ((q : Refusal) → t (answer.Refused q) ≡ false)
       → t l.answer ≡ (looks cells h s && t (answer_of_look (look_at (registry cells h).pending)))
-  looked_where t is beyond fails cyclic refused =
+  looked_where t {denies} is beyond fails cyclic refused =
       legal_by t refused cells h s l k ∙ looked_so t is beyond fails cyclic cells h (waits_judged cells k.moment h s l.given) k.chosen s.party s.act
       ∙ three (is_none (refusal cells h s)) (is_exit s.act) _ _
     where

@@ -1,5 +1,6 @@
 -- What a legal step finds, deed by deed.
-use Rattle.std.proofs.Common.{◌≡◌, ℕ, List, [], ◌∷◌, Bool, true, false, Some, refl, sym, ap, subst, ◌⊎◌, inl, inr}
+use Rattle.std.proofs.Common.{◌≡◌, ℕ, List, [], ◌∷◌, Bool, true, false, Some, None, refl, sym, ap, subst, ◌⊎◌, inl, inr}
+use Rattle.std.specs.Prelude.{if◌then◌else◌}
 use Rattle.std.specs.declared.option.Option.{Option}
 use Rattle.phase_bits.specs.declared.phase.Phase.{Phase}
 use Rattle.phase_bits.specs.Flags.{has, initialized}
@@ -17,8 +18,8 @@ use Rattle.schedule_rules.specs.declared.line.Answer.{Answer}
 use Rattle.schedule_rules.specs.declared.line.Answer.TheVariants as answer
 use Rattle.schedule_rules.specs.Kinds.{cell_at}
 use Rattle.schedule_rules.specs.Phases.{is_accessible, finishes_so}
-use Rattle.schedule_rules.specs.Changes.{Change, Asked}
-use Rattle.schedule_rules.specs.Deeds.{Makes, Finishes, Deed, Quiet, Opens, Holds, Ends, EndsToRead, EndsToWrite, Drops, DropsToRead, Beside, Puts, Visits, Skips, Takes, Looks, deed_waiting, deed_by}
+use Rattle.schedule_rules.specs.Changes.{Change, Ran, Asked, Put, RanIfAsked, content_of_run, content_after, effect}
+use Rattle.schedule_rules.specs.Deeds.{Makes, Finishes, Deed, Quiet, Opens, Holds, Ends, EndsToRead, EndsToWrite, Drops, DropsToRead, Beside, Puts, Visits, Lends, Skips, Takes, Looks, deed_waiting, deed_by}
 use Rattle.schedule_rules.specs.History.{Event, act_of, accepts, is_exit, deed_of}
 use Rattle.schedule_rules.specs.Sections.{Section, innermost, is_turn, sections}
 use Rattle.schedule_rules.specs.Guards.{Guard, numbered, guards}
@@ -28,8 +29,10 @@ use Rattle.schedule_rules.specs.Holds.{write_holds}
 use Rattle.schedule_rules.specs.Answers.{answer_opened, answer_denied, answer_made}
 use Rattle.schedule_rules.specs.Due.{phase_made}
 use Rattle.schedule_rules.specs.Legal.{IsLegalLine, IsExclusive}
-use Rattle.schedule_rules.proofs.Cases.{Calling, step, Asking, Resting, Reach, form_at, Generating, Finalizing, Cases}
-use Rattle.schedule_rules.proofs.Facts.{first}
+use Rattle.schedule_rules.specs.Causes.{lends_at}
+use Rattle.schedule_rules.specs.Laws.{is_lent}
+use Rattle.schedule_rules.proofs.Cases.{Calling, step, Asking, Resting, Lendable, AsksToLend, Reach, form_at, Generating, Finalizing, Cases}
+use Rattle.schedule_rules.proofs.Facts.{first, same_number}
 use Rattle.schedule_rules.proofs.Steps.{of_legal}
 
 -- a call of this form gets a guard to read where the value may not be accessed
@@ -79,6 +82,17 @@ module _ (cells : List CellPlan) (h : List Event) (p : ℕ) where
     pub finds : Asking cells h p c asked false ⊎ Resting cells h p c asked
     pub falls : reads ≡ true → errs (form_at cells h p c asked) ≡ true
 
+  -- the changes of a section at once are as this one
+  abbrev pub Comes : ℕ → List Change → Change → Type 0
+  Comes c chs d = effect (cell_at cells c) chs (replay cells c h) ≡ content_after (cell_at cells c) d (replay cells c h)
+
+  -- the value of the cell is lent. Where a run is asked, that is as its run, and where none is, as a set of a value that may be
+  -- accessed
+  pub record Lending (c : ℕ) (chs : List Change) : Type 0 where
+    pub free : Lendable cells h p c
+    pub does : (AsksToLend cells h p c true × ((made : Option ℕ) × Comes c chs (Ran (accepts h) made)))
+        ⊎ (Reach cells h p c true × ((left : ℕ) × Comes c chs (Put left)))
+
   -- no cell is left, and one was registered since the last look, or none was
   abbrev pub Looking : Bool → Type 0
   Looking true = ((registry cells h).left ≡ []) × ((registry cells h).pending ≡ [])
@@ -99,13 +113,16 @@ module _ (cells : List CellPlan) (h : List Event) (p : ℕ) where
   Finds (Beside g) = NamedTo g false
   Finds (Puts g v) = NamedTo g true
   Finds (Visits c chs reads) = Visit c chs reads
+  Finds (Lends c chs) = Lending c chs
   Finds (Skips c taken) = has (phase_at cells c h) initialized ≡ false
   Finds Takes = Unit {0}
   Finds (Looks closes) = Looking closes
 
-  -- how a finalizer ends is told by the act, and a phase is shown; and a call that leaves nothing open is the act's
+  -- how a finalizer ends is told by the act, and a phase is shown; a call that leaves nothing open is the act's, and it is the
+  -- act that is to lend a value
   abbrev pub Tells : Act → Answer → Deed → Type 0
   Tells a r (Visits c chs reads) = (v : Visit c chs reads) × Calling cells h p a c v.asked
+  Tells a r (Lends c chs) = (lends_at c a ≡ true) × (is_lent r ≡ true)
   Tells a r (Ends (Finishes fine left)) = (a ≡ finishing fine left) × ((q : Phase) × (r ≡ answer.Phase q))
   Tells a r _ = Unit {0}
 
@@ -160,6 +177,20 @@ module _ (cells : List CellPlan) (h : List Event) (p : ℕ) where
   finished true left t g q = (record { section = t; found = g.found; kind = g.kind; so = g.so }, (refl, (q, refl)))
   finished false left t g q = (record { section = t; found = g.found; kind = g.kind; so = g.so }, (refl, (q, refl)))
 
+  -- a value that is lent as it is
+  rested : (c : ℕ) (made : Option ℕ) (left : ℕ) → Lendable cells h p c → AsksToLend cells h p c false → Reach cells h p c true → Lending c (Put left ∷ RanIfAsked (accepts h) made ∷ [])
+  rested c made left u e f = record {
+    free = u;
+    does = inr (f, (left, ap (λ (b : Bool). content_after (cell_at cells c) (Put left) (if b then content_of_run (cell_at cells c).kind (accepts h) made (replay cells c h) else replay cells c h)) e));
+  }
+
+  -- one that is made to be lent
+  makes : (c v left : ℕ) → Lendable cells h p c → AsksToLend cells h p c true → Lending c (Put left ∷ RanIfAsked (accepts h) (Some v) ∷ [])
+  makes c v left u e = record {
+    free = u;
+    does = inl (e, (Some left, ap (λ (b : Bool). content_after (cell_at cells c) (Put left) (if b then content_of_run (cell_at cells c).kind (accepts h) (Some v) (replay cells c h) else replay cells c h)) e));
+  }
+
   cases : Cases cells h p (λ a r. Both a r (deed_of h (step cells h p a) r))
   cases = record {
     cyclic = λ a c k t. (tt, tt);
@@ -183,6 +214,12 @@ module _ (cells : List CellPlan) (h : List Event) (p : ℕ) where
     downgraded = λ g x f w. (record { guard = x; found = f; way = w }, tt);
     borrowed = λ g x f w. (tt, tt);
     cloned = λ g x f w. (record { guard = x; found = f; way = w }, tt);
+    lent_made = λ c v left u e. (makes c v left u e, (same_number c c refl, refl));
+    lent_failed = λ c left u e. (record { free = u; does = inl (e, (None, refl)) }, (same_number c c refl, refl));
+    lent_rested = λ c made left u e f. (rested c made left u e f, (same_number c c refl, refl));
+    lent_denied = λ c made left u e f. (tt, tt);
+    lent = λ c left u f. (record { free = u; does = inr (f, (left, refl)) }, (same_number c c refl, refl));
+    unlent = λ c left u f. (tt, tt);
   }
 
 module _ (cells : List CellPlan) (h : List Event) (s : Step) (l : Line) (m : IsLegalLine cells h s l) where

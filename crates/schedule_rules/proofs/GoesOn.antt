@@ -137,6 +137,8 @@ module _ (cells : List CellPlan) where
       by (act.Clone g) = tt
       by (act.Finished left) = tt
       by (act.FinishFailed left) = tt
+      by (act.GetMut c made left) = tt
+      by (act.TryGetMut c left) = tt
 
   -- a party's wait and its latest act say the same call
   abbrev Says : List Event → ℕ → Attempt → Type 0

@@ -8,12 +8,12 @@ use Rattle.std.specs.declared.option.Option.{Option}
 use Rattle.schedule_rules.specs.declared.plan.CellPlan.{CellPlan}
 use Rattle.schedule_rules.specs.Kinds.{cell_at, tolerance_of}
 use Rattle.schedule_rules.specs.Phases.{flags_kept}
-use Rattle.schedule_rules.specs.Changes.{Content, Change, Ran, Asked, Put, Ended, is_declined, content_after, effect}
+use Rattle.schedule_rules.specs.Changes.{Content, Change, Ran, Asked, Put, RanIfAsked, Ended, is_declined, content_of_run, asks_to_lend, content_after, effect}
 use Rattle.schedule_rules.specs.History.{Event, deed_of}
 use Rattle.schedule_rules.specs.Replay.{Back, back_of_step, replay, phase_at, content_after_back}
 use Rattle.std.specs.List.{AllByRecursion}
 use Rattle.phase_bits.specs.Flags.{has, initialized}
-use Rattle.schedule_rules.specs.Deeds.{Makes, Finishes, Deed, Holds, Ends, EndsToRead, EndsToWrite, Drops, DropsToRead, Visits}
+use Rattle.schedule_rules.specs.Deeds.{Makes, Finishes, Deed, Holds, Ends, EndsToRead, EndsToWrite, Drops, DropsToRead, Visits, Lends}
 use Rattle.schedule_rules.specs.Sections.{Section, sections}
 use Rattle.schedule_rules.specs.Guards.{Guard, numbered, guards}
 use Rattle.schedule_rules.specs.Holds.{write_holds}
@@ -35,6 +35,7 @@ HasEnded (Ran o m ∷ chs) = Unit {0}
 HasEnded (Ended fine left ∷ chs) = Unit {0}
 HasEnded (Asked o k ∷ chs) = HasEnded chs
 HasEnded (Put v ∷ chs) = HasEnded chs
+HasEnded (RanIfAsked o m ∷ chs) = HasEnded chs
 
 module _ (x : CellPlan) where
   ran_touches : (o : Bool) (made : Option ℕ) (y : Content) → (content_after x (Ran o made) y).phase ≢ 0
@@ -52,6 +53,13 @@ module _ (x : CellPlan) where
       by true = λ e. cc
       by false = ne
 
+  lent_keeps : (o : Bool) (made : Option ℕ) (y : Content) → y.phase ≢ 0 → (content_after x (RanIfAsked o made) y).phase ≢ 0
+  lent_keeps o made y ne = by (asks_to_lend x.kind (tolerance_of x) y.phase)
+    where
+      by : (b : Bool) → (cond b (content_of_run x.kind o made y) y).phase ≢ 0
+      by true = ran_touches o made y
+      by false = ne
+
   -- what happens in a section keeps a phase that is not 0
   pub effect_keeps : (chs : List Change) (y : Content) → y.phase ≢ 0 → (effect x chs y).phase ≢ 0
   effect_keeps [] y ne = ne
@@ -59,6 +67,7 @@ module _ (x : CellPlan) where
   effect_keeps (Ended fine left ∷ chs) y ne = ended_touches fine left (effect x chs y)
   effect_keeps (Asked o k ∷ chs) y ne = asked_keeps o k (effect x chs y) (effect_keeps chs y ne)
   effect_keeps (Put v ∷ chs) y ne = effect_keeps chs y ne
+  effect_keeps (RanIfAsked o m ∷ chs) y ne = lent_keeps o m (effect x chs y) (effect_keeps chs y ne)
 
   -- and whatever it was, it is not 0 after a generator or a finalizer
   pub effect_touches : (chs : List Change) (y : Content) → HasEnded chs → (effect x chs y).phase ≢ 0
@@ -67,6 +76,7 @@ module _ (x : CellPlan) where
   effect_touches (Ended fine left ∷ chs) y r = ended_touches fine left (effect x chs y)
   effect_touches (Asked o k ∷ chs) y r = asked_keeps o k (effect x chs y) (effect_touches chs y r)
   effect_touches (Put v ∷ chs) y r = effect_touches chs y r
+  effect_touches (RanIfAsked o m ∷ chs) y r = lent_keeps o m (effect x chs y) (effect_touches chs y r)
 
 -- what is given back keeps a phase that is not 0
 back_keeps : (cells : List CellPlan) (c : ℕ) (b : Option Back) (y : Content) → y.phase ≢ 0 → (content_after_back cells c b y).phase ≢ 0
@@ -142,6 +152,7 @@ module _ (cells : List CellPlan) where
     gives (DropsToRead g) f k = dropped (DropsToRead g) g f.guard f.found k f.way
     gives (Visits c chs true) f k = λ n. inr (omega (arith, n))
     gives (Visits c chs false) f k = λ n. inr (omega (arith, n))
+    gives (Lends c chs) f k = λ n. inr (omega (arith, n))
     gives _ f k = tt
 
     held-after : (d : Deed) (f : Finds cells h p d) → AllGood h → (c : ℕ) → Touches d c (replay cells c h) (left_at cells h p d c)

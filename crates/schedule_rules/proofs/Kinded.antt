@@ -158,6 +158,12 @@ module _ (cells : List CellPlan) where
       downgraded = λ g x f w n. tt;
       borrowed = λ g x f w n. tt;
       cloned = λ g x f w n. tt;
+      lent_made = λ c v left u e n. tt;
+      lent_failed = λ c left u e n. tt;
+      lent_rested = λ c made left u e f n. tt;
+      lent_denied = λ c made left u e f n. tt;
+      lent = λ c left u f n. tt;
+      unlent = λ c left u f n. tt;
     }
 
     -- ---- what is open after the deed

@@ -10,7 +10,7 @@ use Rattle.schedule_rules.specs.Changes.{Content, Asked, is_declined, content_af
 use Rattle.schedule_rules.specs.Replay.{Back, content_after_back, change_of, back_of_section, back_of_guard, back_by, replay}
 use Rattle.std.specs.List.{AllByRecursion}
 use Rattle.schedule_rules.specs.Phases.{runs_generator}
-use Rattle.schedule_rules.specs.Deeds.{Ending, Makes, Finishes, Deed, Opens, Holds, Ends, EndsToRead, EndsToWrite, Drops, DropsToRead, Beside, Puts, Visits}
+use Rattle.schedule_rules.specs.Deeds.{Ending, Makes, Finishes, Deed, Opens, Holds, Ends, EndsToRead, EndsToWrite, Drops, DropsToRead, Beside, Puts, Visits, Lends}
 use Rattle.schedule_rules.specs.History.{Event, accepts, count}
 use Rattle.schedule_rules.specs.Sections.{Section, innermost, without_innermost, runs_in, sections_by, sections}
 use Rattle.schedule_rules.specs.Guards.{Guard, numbered, without_guard, reader, writer, carrier, reader_made, writer_made, reader_beside, guards_by, guards}
@@ -138,6 +138,7 @@ module _ (cells : List CellPlan) (h : List Event) (p : ℕ) where
     settles (Drops g) f c = drops (Drops g) g f.guard c f.found refl refl (λ z. refl)
     settles (DropsToRead g) f c = drops (DropsToRead g) g f.guard c f.found refl refl (λ z. let e : _ = f.found in rw e refl)
     settles (Visits c chs reads) f z = visits c z chs reads f
+    settles (Lends c chs) f z = let u : _ = f.free.unheld in gives (Lends c chs) (record { cell = c; changes = chs }) z refl (omega (arith, u), omega (arith, u))
     settles d f z = inl refl
 
     -- ---- what holds a cell to write stays, or is given back
@@ -218,6 +219,7 @@ module _ (cells : List CellPlan) (h : List Event) (p : ℕ) where
       GivesOf (Drops g) f = f.guard.writes ≡ true → R f.guard.cell (replay cells f.guard.cell h) (effect (cell_at cells f.guard.cell) f.guard.changes (replay cells f.guard.cell h))
       GivesOf (DropsToRead g) f = R f.guard.cell (replay cells f.guard.cell h) (effect (cell_at cells f.guard.cell) f.guard.changes (replay cells f.guard.cell h))
       GivesOf (Visits c chs reads) f = R c (replay cells c h) (effect (cell_at cells c) chs (replay cells c h))
+      GivesOf (Lends c chs) f = R c (replay cells c h) (effect (cell_at cells c) chs (replay cells c h))
       GivesOf _ f = Unit {0}
 
       module _ (d : Deed) (same : (c : ℕ) → (GivenAt d c → ⊥) → R c (replay cells c h) (replay cells c h)) where
@@ -262,6 +264,7 @@ module _ (cells : List CellPlan) (h : List Event) (p : ℕ) where
       moves (Drops g) f same r c = dropped (Drops g) same g f.guard c f.found refl r
       moves (DropsToRead g) f same r c = dropped (DropsToRead g) same g f.guard c f.found refl (λ w. r)
       moves (Visits z chs reads) f same r c = back (Visits z chs reads) same (record { cell = z; changes = chs }) c refl r
+      moves (Lends z chs) f same r c = back (Lends z chs) same (record { cell = z; changes = chs }) c refl r
       moves d f same r c = nothing d same c refl
 
     -- ---- what is said of what stands open, by what is published at its cell

@@ -26,7 +26,9 @@ use Rattle.schedule_rules.specs.Due.{phase_made}
 use Rattle.schedule_rules.specs.Legal.{IsLegalLine}
 use Rattle.schedule_rules.proofs.Cases.{IsCalling, Calling, Turning, Asking, Resting, Reach, form_at, Finalizing, Cases}
 use Rattle.schedule_rules.proofs.Steps.{of_legal}
+use Rattle.schedule_rules.specs.Causes.{lends_at, runs_to_lend}
 use Rattle.schedule_rules.specs.Laws.{IsWithoutEffect, TurnsWhere}
+use Rattle.schedule_rules.proofs.Facts.{same_number}
 
 module _ (cells : List CellPlan) (h : List Event) (p : ℕ) where
   -- the call begins a run
@@ -43,6 +45,14 @@ module _ (cells : List CellPlan) (h : List Event) (p : ℕ) where
     pub calls : Calling cells h p a cell asked
     pub reason : (Asking cells h p cell asked false × (q ≡ phase_of flags_refused))
         ⊎ (Resting cells h p cell asked × (Reach cells h p cell false × (q ≡ phase_of (phase_at cells cell h))))
+
+  -- the act is to lend the value of the cell as it is, which may not be accessed
+  pub record Unlent (a : Act) (q : Phase) : Type 0 where
+    pub cell : ℕ
+    pub lends : lends_at cell a ≡ true
+    pub unasked : runs_to_lend cells h a ≡ false
+    pub lacks : Reach cells h p cell false
+    pub shown : q ≡ phase_of (phase_at cells cell h)
 
   -- the turn of the cell, whose value is there or not
   pub record AtTurn (a : Act) (c : ℕ) (ready : Bool) : Type 0 where
@@ -73,7 +83,7 @@ module _ (cells : List CellPlan) (h : List Event) (p : ℕ) where
   -- what is known of the act by these answers
   abbrev pub Means : Act → Answer → Type 0
   Means a answer.Running = Began a
-  Means a (answer.Access q) = Away a q
+  Means a (answer.Access q) = Away a q ⊎ Unlent a q
   Means a (answer.Finalizing c) = AtTurn a c true
   Means a (answer.Skipped c) = AtTurn a c false
   Means a (answer.Phase q) = Finished a q ⊎ EndsNone a
@@ -86,11 +96,11 @@ module _ (cells : List CellPlan) (h : List Event) (p : ℕ) where
   opened a t (Held false falls_back) y = tt
 
   denied : (a : Act) → IsCalling a → (f : Form) (q : ℕ) → Away a (phase_of q) → Means a (answer_denied f q)
-  denied a t (Told true) q w = w
+  denied a t (Told true) q w = inl w
   denied a t (Told false) q w = inr (call_ends_none a t)
-  denied a t Shown q w = w
+  denied a t Shown q w = inl w
   denied a t (Held writes true) q w = tt
-  denied a t (Held writes false) q w = w
+  denied a t (Held writes false) q w = inl w
 
   made : (v : ℕ) (f : Form) (q : ℕ) → Means (act.Made v) (answer_made f v q)
   made v (Told tests) q = inr (made_ends_none v)
@@ -121,6 +131,12 @@ module _ (cells : List CellPlan) (h : List Event) (p : ℕ) where
     downgraded = λ g x f w. tt;
     borrowed = λ g x f w. tt;
     cloned = λ g x f w. tt;
+    lent_made = λ c v left u e. tt;
+    lent_failed = λ c left u e. tt;
+    lent_rested = λ c made left u e f. tt;
+    lent_denied = λ c made left u e f. inr (record { cell = c; lends = same_number c c refl; unasked = e; lacks = f; shown = refl });
+    lent = λ c left u f. tt;
+    unlent = λ c left u f. inr (record { cell = c; lends = same_number c c refl; unasked = refl; lacks = f; shown = refl });
   }
 
 pub means : (cells : List CellPlan) (h : List Event) (s : Step) (l : Line) → IsLegalLine cells h s l → Means cells h s.party s.act l.answer

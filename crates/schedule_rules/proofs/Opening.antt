@@ -3,7 +3,7 @@
 use Rattle.std.proofs.Common.{◌≡◌, ℕ, List, [], ◌∷◌, length, refl, None, Some, true, false, sym, ◌∙◌, ap, Bool, ◌<◌, ◌++◌, arith}
 use Rattle.std.specs.List.{AllByRecursion}
 use Rattle.std.specs.declared.option.Option.{Option}
-use Rattle.schedule_rules.specs.Changes.{Change, Ran, Asked, Put, Ended, Content, is_declined, effect}
+use Rattle.schedule_rules.specs.Changes.{Change, Ran, Asked, Put, RanIfAsked, Ended, Content, is_declined, effect}
 use Rattle.schedule_rules.specs.Deeds.{Deed, Holds, EndsToRead, EndsToWrite, Drops, DropsToRead, Beside, Puts, Visits, deed_read}
 use Rattle.schedule_rules.specs.History.{Event, deed_of, act_by}
 use Rattle.schedule_rules.specs.Sections.{Section, innermost, sections}
@@ -37,6 +37,7 @@ IsOfRun [] = Unit {0}
 IsOfRun (Ran o m ∷ chs) = IsOfRun chs
 IsOfRun (Put v ∷ chs) = IsOfRun chs
 IsOfRun (Asked o k ∷ chs) = ⊥
+IsOfRun (RanIfAsked o m ∷ chs) = ⊥
 IsOfRun (Ended fine left ∷ chs) = ⊥
 
 -- a guard that the step with this number opens
@@ -119,6 +120,7 @@ module _ (f : ℕ) (is : IsBeside f) where
       run_before x chs y r (kept_before x o p (sym (ap (λ z. z == f) (and_or_apart f (flags_kept x.kind o p) 6 is.failed)) ∙ e))
   run_before x (Put v ∷ chs) y r e = run_before x chs y r e
   run_before x (Asked o k ∷ chs) y r e = absurd r
+  run_before x (RanIfAsked o m ∷ chs) y r e = absurd r
   run_before x (Ended fine left ∷ chs) y r e = absurd r
 
   -- so it is with a call that leaves nothing open

@@ -1,10 +1,15 @@
 -- What holds in each case, holds of each legal step.
-use Rattle.std.proofs.Common.{◌≡◌, ℕ, List, refl, sym, ◌∙◌, ap, subst, Bool, true, false, not, ◌&&◌, None, Some}
-use Rattle.std.specs.Prelude.{◌==◌, if◌then◌else◌}
+use Rattle.std.proofs.Common.{◌≡◌, ◌+◌, ℕ, List, refl, sym, ◌∙◌, ap, subst, arith, Bool, true, false, not, ◌&&◌, None, Some}
+use Rattle.std.specs.Prelude.{◌==◌, is_none, if◌then◌else◌}
 use Rattle.std.specs.declared.option.Option.{Option}
 use Rattle.exit_registry.specs.Registry.{first_of}
 use Rattle.phase_locker.specs.declared.tickets.LockNature.TheVariants as nature
+use Rattle.phase_bits.specs.Number.{phase_of}
+use Rattle.lazy_cells.specs.Kinds.{lends_value}
 use Rattle.lazy_cells.specs.declared.call.Call.{Call}
+use Rattle.lazy_cells.specs.declared.kind.Kind.{Kind}
+use Rattle.lazy_cells.specs.declared.kind.Kind.TheVariants as kind
+use Rattle.schedule_rules.specs.declared.form.Form.TheVariants.{Shown}
 use Rattle.schedule_rules.specs.declared.plan.CellPlan.{CellPlan}
 use Rattle.schedule_rules.specs.declared.step.Act.{Act}
 use Rattle.schedule_rules.specs.declared.step.Act.TheVariants as act
@@ -15,20 +20,22 @@ use Rattle.schedule_rules.specs.declared.line.Line.{Line}
 use Rattle.schedule_rules.specs.declared.line.Answer.{Answer}
 use Rattle.schedule_rules.specs.declared.line.Answer.TheVariants as answer
 use Rattle.schedule_rules.specs.declared.line.Refusal.{Refusal}
-use Rattle.schedule_rules.specs.Kinds.{cell_at}
-use Rattle.schedule_rules.specs.Phases.{finishes_so}
-use Rattle.schedule_rules.specs.History.{Event}
+use Rattle.schedule_rules.specs.Kinds.{cell_at, tolerance_at, is_of_other}
+use Rattle.schedule_rules.specs.Phases.{Success, is_accessible, phase_reached, finishes_so}
+use Rattle.schedule_rules.specs.Changes.{content_of_run, asks_to_lend}
+use Rattle.schedule_rules.specs.History.{Event, accepts, count}
 use Rattle.schedule_rules.specs.Sections.{Section, innermost, is_turn, sections}
 use Rattle.schedule_rules.specs.Guards.{Guard, numbered, own, guards}
 use Rattle.schedule_rules.specs.Exits.{registry, finishing}
-use Rattle.schedule_rules.specs.Waits.{Wait, wait_of, waits}
-use Rattle.schedule_rules.specs.Holds.{is_barred, holding_with}
-use Rattle.schedule_rules.specs.Refusals.{refusal, no_guard, no_writer, no_reader, writes_of, no_outcome, ends_run, ends_turn}
-use Rattle.schedule_rules.specs.Answers.{answer_of_made}
+use Rattle.schedule_rules.specs.Replay.{replay, phase_at}
+use Rattle.schedule_rules.specs.Waits.{Wait, wait_of, waits_at, waits}
+use Rattle.schedule_rules.specs.Holds.{is_barred, read_guards, write_holds, is_in_use, holding_with}
+use Rattle.schedule_rules.specs.Refusals.{refusal, no_guard, no_writer, no_reader, writes_of, no_outcome, ends_run, ends_turn, no_call, no_lending, refusal_to_lend}
+use Rattle.schedule_rules.specs.Answers.{answer_of_value, answer_at, answer_of_made, answer_lent, answer_made_to_lend}
 use Rattle.schedule_rules.specs.Due.{phase_made, due_made, due_finished, due_clone, due_answer}
 use Rattle.schedule_rules.specs.Legal.{IsLegalLine, answer_of, due_at}
 use Rattle.schedule_rules.specs.Causes.{waits_judged}
-use Rattle.schedule_rules.proofs.Cases.{step, Cases, Generating}
+use Rattle.schedule_rules.proofs.Cases.{step, Cases, Generating, Lendable, AsksToLend, Reach}
 use Rattle.schedule_rules.proofs.Attempts.{rests, mine_where_none, attempted, again, exits}
 use Rattle.schedule_rules.proofs.Answered.{due_at-judged}
 use Rattle.schedule_rules.proofs.Facts.{first, second}
@@ -61,6 +68,37 @@ is_reader false e = refl
 no_refusal : (r : Refusal) → Some r ≡ None → ⊥
 no_refusal r e = cc
 
+-- a cell whose value is lent is of a kind that lends it, and not in use
+is_lendable : (other has used : Bool) → no_lending (no_call other has) used ≡ None → (has ≡ true) × (used ≡ false)
+is_lendable true has used e = absurd (cc)
+is_lendable false false used e = absurd (cc)
+is_lendable false true true e = absurd (cc)
+is_lendable false true false e = (refl, refl)
+
+-- a value that is made to be lent may be accessed
+pub made_accessible : (q : Kind) (o : Bool) (p : ℕ) → lends_value q ≡ true → is_accessible q (phase_reached q o p Success) ≡ true
+made_accessible kind.Lazy o p e = refl
+made_accessible kind.LockedLazy o p e = refl
+made_accessible _ o p e = absurd (cc)
+
+module _ (cells : List CellPlan) (h : List Event) (p : ℕ) where
+  -- nobody uses a cell whose value is lent
+  free_to_lend : (c : ℕ) → refusal_to_lend cells h p c ≡ None → Lendable cells h p c
+  free_to_lend c e =
+      let is : _ = is_lendable (is_of_other (cell_at cells c).place p) (lends_value (cell_at cells c).kind) (is_in_use cells c h) e in
+      let none : _ = unused (read_guards c h + write_holds c h + count (waits_at c) (waits cells h)) is.1 in
+      record { lends = is.0; unread = omega (arith, none); unheld = omega (arith, none); unwaited = omega (arith, none) }
+    where
+      unused : (n : ℕ) → not (n == 0) ≡ false → n ≡ 0
+      unused n f = grind arith
+
+  -- so it is with an act that is to lend it, and is not refused
+  pub lendable : (c : ℕ) (made : Option ℕ) (left : ℕ) → refusal cells h (step cells h p (act.GetMut c made left)) ≡ None → Lendable cells h p c
+  lendable c made left f = free_to_lend c (rests cells h p (act.GetMut c made left) (no_refusal _) f).1
+
+  pub lendable_so : (c left : ℕ) → refusal cells h (step cells h p (act.TryGetMut c left)) ≡ None → Lendable cells h p c
+  lendable_so c left f = free_to_lend c (rests cells h p (act.TryGetMut c left) (no_refusal _) f).1
+
 module _ (cells : List CellPlan) (h : List Event) (p : ℕ) (P : Act → Answer → Type 0) (k : Cases cells h p P) where
   -- the section of a generator
   generates : (o : Option Section) → innermost p (sections h) ≡ o → no_outcome (ends_run o) ≡ None
@@ -92,6 +130,28 @@ module _ (cells : List CellPlan) (h : List Event) (p : ℕ) (P : Act → Answer 
       by true = k.borrowed g x e d
       by false = k.cloned g x e d
 
+  -- the value of the cell is lent as it is, where it may be accessed
+  found : (a : Act) (c : ℕ) → (Reach cells h p c true → P a (answer_of_value (replay cells c h))) → (Reach cells h p c false → P a (answer.Access (phase_of (phase_at cells c h))))
+      → P a (answer_lent (cell_at cells c).kind (replay cells c h))
+  found a c shows denies = by (is_accessible (cell_at cells c).kind (phase_at cells c h)) refl
+    where
+      by : (b : Bool) → is_accessible (cell_at cells c).kind (phase_at cells c h) ≡ b → P a (answer_at Shown b (replay cells c h))
+      by true e = shows e
+      by false e = denies e
+
+  -- or as a run makes it that is asked
+  lends : (c : ℕ) (made : Option ℕ) (left : ℕ) → Lendable cells h p c
+      → P (act.GetMut c made left) (answer_made_to_lend (cell_at cells c).kind (tolerance_at cells c) (accepts h) made (replay cells c h))
+  lends c made left u = by (asks_to_lend (cell_at cells c).kind (tolerance_at cells c) (phase_at cells c h)) made refl
+    where
+      by : (b : Bool) (m : Option ℕ) → AsksToLend cells h p c b
+          → P (act.GetMut c m left) (if b && is_none m then answer.Failed else answer_lent (cell_at cells c).kind (if b then content_of_run (cell_at cells c).kind (accepts h) m (replay cells c h) else replay cells c h))
+      by true None e = k.lent_failed c left u e
+      by true (Some v) e =
+          subst (λ b. P (act.GetMut c (Some v) left) (answer_at Shown b (content_of_run (cell_at cells c).kind (accepts h) (Some v) (replay cells c h))))
+          (sym (made_accessible (cell_at cells c).kind (accepts h) (phase_at cells c h) u.lends)) (k.lent_made c v left u e)
+      by false m e = found (act.GetMut c m left) c (k.lent_rested c m left u e) (k.lent_denied c m left u e)
+
   -- a step that is not refused
   pub allowed : (a : Act) (ws : List Wait) (chosen : Bool) → refusal cells h (step cells h p a) ≡ None → P a (due_answer cells h (step cells h p a) ws chosen)
   allowed (act.Call c j) ws chosen f =
@@ -117,6 +177,8 @@ module _ (cells : List CellPlan) (h : List Event) (p : ℕ) (P : Act → Answer 
   allowed (act.Clone g) ws chosen f =
       let x : _ = is_opened no_reader p (numbered g (guards h)) (no_refusal _) (rests cells h p (act.Clone g) (no_refusal _) f).1 in
       rw x.1 (clones g ws x.0 x.1 (is_reader x.0.writes x.2))
+  allowed (act.GetMut c made left) ws chosen f = lends c made left (lendable cells h p c made left f)
+  allowed (act.TryGetMut c left) ws chosen f = let u : _ = lendable_so cells h p c left f in found (act.TryGetMut c left) c (k.lent c left u) (k.unlent c left u)
   allowed act.Exit ws chosen f = exits cells h p P k (first_of (registry cells h).left) refl (rests cells h p act.Exit (no_refusal _) f).0 ws chosen
 
 -- what holds in each case of a step that is not refused, and of a refused step, holds of a legal line

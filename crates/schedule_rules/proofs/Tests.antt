@@ -1,6 +1,8 @@
 -- Tests of answers, and which answers of what is admitted pass them.
-use Rattle.std.proofs.Common.{◌≡◌, ℕ, Bool, true, false, not, ◌&&◌, ◌||◌, refl, sym}
-use Rattle.std.specs.Prelude.{◌==◌, if◌then◌else◌}
+use Rattle.std.proofs.Common.{◌≡◌, ℕ, List, Bool, true, false, not, ◌&&◌, ◌||◌, None, Some, refl, sym, ◌∙◌, ap}
+use Rattle.std.specs.Prelude.{◌==◌, is_none, if◌then◌else◌}
+use Rattle.std.specs.declared.option.Option.{Option}
+use Rattle.phase_bits.specs.declared.phase.Phase.{Phase}
 use Rattle.phase_bits.specs.Flags.{has, initialized}
 use Rattle.phase_locker.specs.declared.tickets.LockNature.{LockNature}
 use Rattle.phase_locker.specs.declared.tickets.LockNature.TheVariants as nature
@@ -9,18 +11,26 @@ use Rattle.phase_seq.specs.declared.tolerance.Tolerance.{Tolerance}
 use Rattle.lazy_cells.specs.declared.kind.Kind.{Kind}
 use Rattle.schedule_rules.specs.declared.form.Form.{Form}
 use Rattle.schedule_rules.specs.declared.form.Form.TheVariants.{Told, Shown, Held}
+use Rattle.schedule_rules.specs.declared.plan.CellPlan.{CellPlan}
+use Rattle.schedule_rules.specs.declared.step.Act.{Act}
+use Rattle.schedule_rules.specs.declared.step.Act.TheVariants as act
 use Rattle.schedule_rules.specs.declared.step.Want.{Want}
 use Rattle.schedule_rules.specs.declared.step.Want.TheVariants.{Calls, Turns}
 use Rattle.schedule_rules.specs.declared.line.Answer.{Answer}
 use Rattle.schedule_rules.specs.declared.line.Answer.TheVariants as answer
+use Rattle.schedule_rules.specs.Kinds.{cell_at, tolerance_at}
 use Rattle.schedule_rules.specs.Forms.{form_of, denies}
 use Rattle.schedule_rules.specs.Phases.{is_accessible, runs_generator}
 use Rattle.schedule_rules.specs.Calls.{lock_wanted, asks}
-use Rattle.schedule_rules.specs.Changes.{Content}
+use Rattle.schedule_rules.specs.Changes.{Content, content_of_run, asks_to_lend, content_to_lend}
+use Rattle.schedule_rules.specs.History.{Event, accepts}
+use Rattle.schedule_rules.specs.Replay.{replay, phase_at}
+use Rattle.schedule_rules.specs.Refusals.{refusal}
 use Rattle.schedule_rules.specs.Sections.{is_turn}
-use Rattle.schedule_rules.specs.Answers.{answer_at, turn_answer_admitted, answer_admitted, answer_barred}
-use Rattle.schedule_rules.specs.Causes.{is_waiting, is_borrowed, is_missed, is_running, is_access, is_cyclic, is_finalizing, is_skipped, is_round, is_closing, want_denies}
-use Rattle.schedule_rules.proofs.Answered.{IsShown, IsTold, admitted}
+use Rattle.schedule_rules.specs.Answers.{answer_at, answer_lent, answer_made_to_lend, turn_answer_admitted, answer_admitted, answer_barred}
+use Rattle.schedule_rules.specs.Causes.{is_waiting, is_borrowed, is_missed, is_running, is_access, is_cyclic, is_finalizing, is_skipped, is_round, is_closing, want_denies, is_denied_to_lend}
+use Rattle.schedule_rules.proofs.Answered.{IsShown, IsTold, either, admitted}
+use Rattle.schedule_rules.proofs.Steps.{made_accessible, lendable}
 use Rattle.phase_locker.specs.declared.ways.How.{How}
 use Rattle.lazy_cells.specs.declared.call.Call.{Call}
 use Rattle.lazy_cells.specs.declared.call.Call.TheVariants as call
@@ -28,9 +38,11 @@ use Rattle.schedule_rules.specs.declared.plan.Place.{Place}
 use Rattle.schedule_rules.specs.declared.plan.Place.TheVariants as place
 use Rattle.schedule_rules.specs.Laws.{is_initializing}
 
--- a test that no answer passes of a step that attempts nothing, but a clone that is barred
-pub record IsOfTries (t : Answer → Bool) : Type 0 where
+-- a test that no answer passes of a step that attempts nothing, but a clone that is barred, and one that is to lend a value which
+-- may not be accessed, where the test is passed by that
+pub record IsOfTries (t : Answer → Bool) (denies : Bool) : Type 0 where
   pub shown : IsShown (λ a. t a ≡ false)
+  pub access : (p : Phase) → t (answer.Access p) ≡ denies
   pub done : t answer.Done ≡ false
   pub failed : t answer.Failed ≡ false
 
@@ -47,38 +59,38 @@ abbrev pub is_refused : Answer → Bool
 is_refused (answer.Refused r) = true
 is_refused _ = false
 
-pub of_running : IsOfTries is_running
-of_running = record { shown = record { phase = λ p. refl; value = λ v. refl; read_guard = refl; write_guard = refl }; done = refl; failed = refl }
+pub of_running : IsOfTries is_running false
+of_running = record { shown = record { phase = λ p. refl; value = λ v. refl; read_guard = refl; write_guard = refl }; access = λ p. refl; done = refl; failed = refl }
 
-pub of_access : IsOfTries is_access
-of_access = record { shown = record { phase = λ p. refl; value = λ v. refl; read_guard = refl; write_guard = refl }; done = refl; failed = refl }
+pub of_access : IsOfTries is_access true
+of_access = record { shown = record { phase = λ p. refl; value = λ v. refl; read_guard = refl; write_guard = refl }; access = λ p. refl; done = refl; failed = refl }
 
-pub of_cyclic : IsOfTries is_cyclic
-of_cyclic = record { shown = record { phase = λ p. refl; value = λ v. refl; read_guard = refl; write_guard = refl }; done = refl; failed = refl }
+pub of_cyclic : IsOfTries is_cyclic false
+of_cyclic = record { shown = record { phase = λ p. refl; value = λ v. refl; read_guard = refl; write_guard = refl }; access = λ p. refl; done = refl; failed = refl }
 
-pub of_finalizing : (c : ℕ) → IsOfTries (is_finalizing c)
-of_finalizing c = record { shown = record { phase = λ p. refl; value = λ v. refl; read_guard = refl; write_guard = refl }; done = refl; failed = refl }
+pub of_finalizing : (c : ℕ) → IsOfTries (is_finalizing c) false
+of_finalizing c = record { shown = record { phase = λ p. refl; value = λ v. refl; read_guard = refl; write_guard = refl }; access = λ p. refl; done = refl; failed = refl }
 
-pub of_skipped : (c : ℕ) → IsOfTries (is_skipped c)
-of_skipped c = record { shown = record { phase = λ p. refl; value = λ v. refl; read_guard = refl; write_guard = refl }; done = refl; failed = refl }
+pub of_skipped : (c : ℕ) → IsOfTries (is_skipped c) false
+of_skipped c = record { shown = record { phase = λ p. refl; value = λ v. refl; read_guard = refl; write_guard = refl }; access = λ p. refl; done = refl; failed = refl }
 
-pub of_round : (n : ℕ) → IsOfTries (is_round n)
-of_round n = record { shown = record { phase = λ p. refl; value = λ v. refl; read_guard = refl; write_guard = refl }; done = refl; failed = refl }
+pub of_round : (n : ℕ) → IsOfTries (is_round n) false
+of_round n = record { shown = record { phase = λ p. refl; value = λ v. refl; read_guard = refl; write_guard = refl }; access = λ p. refl; done = refl; failed = refl }
 
-pub of_closing : IsOfTries is_closing
-of_closing = record { shown = record { phase = λ p. refl; value = λ v. refl; read_guard = refl; write_guard = refl }; done = refl; failed = refl }
+pub of_closing : IsOfTries is_closing false
+of_closing = record { shown = record { phase = λ p. refl; value = λ v. refl; read_guard = refl; write_guard = refl }; access = λ p. refl; done = refl; failed = refl }
 
-pub of_waiting : IsOfTries is_waiting
-of_waiting = record { shown = record { phase = λ p. refl; value = λ v. refl; read_guard = refl; write_guard = refl }; done = refl; failed = refl }
+pub of_waiting : IsOfTries is_waiting false
+of_waiting = record { shown = record { phase = λ p. refl; value = λ v. refl; read_guard = refl; write_guard = refl }; access = λ p. refl; done = refl; failed = refl }
 
-pub of_missed : IsOfTries is_missed
-of_missed = record { shown = record { phase = λ p. refl; value = λ v. refl; read_guard = refl; write_guard = refl }; done = refl; failed = refl }
+pub of_missed : IsOfTries is_missed false
+of_missed = record { shown = record { phase = λ p. refl; value = λ v. refl; read_guard = refl; write_guard = refl }; access = λ p. refl; done = refl; failed = refl }
 
-pub of_borrowed : IsOfTries is_borrowed
-of_borrowed = record { shown = record { phase = λ p. refl; value = λ v. refl; read_guard = refl; write_guard = refl }; done = refl; failed = refl }
+pub of_borrowed : IsOfTries is_borrowed false
+of_borrowed = record { shown = record { phase = λ p. refl; value = λ v. refl; read_guard = refl; write_guard = refl }; access = λ p. refl; done = refl; failed = refl }
 
-pub of_refused : IsOfTries is_refused
-of_refused = record { shown = record { phase = λ p. refl; value = λ v. refl; read_guard = refl; write_guard = refl }; done = refl; failed = refl }
+pub of_refused : IsOfTries is_refused false
+of_refused = record { shown = record { phase = λ p. refl; value = λ v. refl; read_guard = refl; write_guard = refl }; access = λ p. refl; done = refl; failed = refl }
 
 -- those that look at the ways of being barred, and so on
 pub beyond_waiting : IsBeyond is_waiting
@@ -114,10 +126,21 @@ pub nothing_else : (b : Bool) → (b || false) ≡ b
 nothing_else true = refl
 nothing_else false = refl
 
+pub neither : (x y b d : Bool) → b ≡ false → d ≡ false → ((x && b) || (y && d)) ≡ false
+neither true true b d e f = rw (e, f) refl
+neither true false b d e f = rw e refl
+neither false true b d e f = f
+neither false false b d e f = refl
+
+pub unless_first : (x y u v : Bool) → u ≡ v → (x || ((y && false) || (u && true))) ≡ (x || v)
+unless_first true y u v e = refl
+unless_first false true u v e = sym (same_both u) ∙ e
+unless_first false false u v e = sym (same_both u) ∙ e
+
 -- ---- what is admitted
 
 -- the answer of a call that runs nothing says that the value may not be accessed, where it may not be and the call is told so
-at_denies : (f : Form) (b : Bool) (y : Content) → is_access (answer_at f b y) ≡ (denies f && not b)
+pub at_denies : (f : Form) (b : Bool) (y : Content) → is_access (answer_at f b y) ≡ (denies f && not b)
 at_denies (Told tests) true y = sym (no_more tests)
 at_denies (Told true) false y = refl
 at_denies (Told false) false y = refl
@@ -226,3 +249,40 @@ calls_not q t call.FastTryWrite p e = refl
 calls_not q t call.PrimedReadNonInitializing p e = refl
 calls_not q t call.PrimedWriteNonInitializing p e = refl
 calls_not q t _ p e = absurd (cc)
+
+-- ---- a value that is lent
+
+-- the answer of a step that is to lend a value says that it may not be accessed
+abbrev pub is_unlent : List CellPlan → List Event → Act → Bool
+is_unlent cells h (act.GetMut c made left) = is_access (answer_made_to_lend (cell_at cells c).kind (tolerance_at cells c) (accepts h) made (replay cells c h))
+is_unlent cells h (act.TryGetMut c left) = is_access (answer_lent (cell_at cells c).kind (replay cells c h))
+is_unlent cells h _ = false
+
+-- where it is not refused, exactly where that is so
+pub unlent_where_denied : (cells : List CellPlan) (h : List Event) (p : ℕ) (a : Act) → refusal cells h (record { party = p; act = a }) ≡ None → is_unlent cells h a ≡ is_denied_to_lend cells h a
+unlent_where_denied cells h p (act.TryGetMut c left) n = at_denies Shown (is_accessible (cell_at cells c).kind (phase_at cells c h)) (replay cells c h)
+unlent_where_denied cells h p (act.GetMut c made left) n = by (asks_to_lend q (tolerance_at cells c) (phase_at cells c h)) made
+  where
+    q : Kind
+    q = (cell_at cells c).kind
+
+    by : (b : Bool) (m : Option ℕ)
+        → is_access (if b && is_none m then answer.Failed else answer_lent q (if b then content_of_run q (accepts h) m (replay cells c h) else replay cells c h)) ≡ (not b && not (is_accessible q (phase_at cells c h)))
+    by true None = refl
+    by true (Some v) =
+        ap (λ b. is_access (answer_at Shown b (content_of_run q (accepts h) (Some v) (replay cells c h)))) (made_accessible q (accepts h) (phase_at cells c h) (lendable cells h p c made left n).lends)
+    by false m = at_denies Shown (is_accessible q (phase_at cells c h)) (replay cells c h)
+unlent_where_denied cells h p _ n = refl
+
+module _ (t : Answer → Bool) {denies : Bool} (is : IsOfTries t denies) where
+  -- of a value that is lent
+  pub shows : (q : Kind) (y : Content) → t (answer_lent q y) ≡ (is_access (answer_lent q y) && denies)
+  shows q y = by (is_accessible q y.phase)
+    where
+      by : (b : Bool) → t (answer_at Shown b y) ≡ (is_access (answer_at Shown b y) && denies)
+      by true = is.shown.value _
+      by false = is.access _
+
+  pub makes : (q : Kind) (u : Tolerance) (o : Bool) (made : Option ℕ) (y : Content) → t (answer_made_to_lend q u o made y) ≡ (is_access (answer_made_to_lend q u o made y) && denies)
+  makes q u o made y =
+      either (λ r. t r ≡ (is_access r && denies)) (asks_to_lend q u y.phase && is_none made) answer.Failed (answer_lent q (content_to_lend q u o made y)) is.failed (shows q (content_to_lend q u o made y))

@@ -166,6 +166,12 @@ module _ (cells : List CellPlan) (c : ℕ) where
       downgraded = λ g x f w. record { same = refl; answers = λ e. absurd (cc) };
       borrowed = λ g x f w. record { same = refl; answers = λ e. absurd (cc) };
       cloned = λ g x f w. record { same = refl; answers = λ e. absurd (cc) };
+      lent_made = λ d v left u e. record { same = refl; answers = λ f. absurd (cc) };
+      lent_failed = λ d left u e. record { same = refl; answers = λ f. absurd (cc) };
+      lent_rested = λ d made left u e f. record { same = refl; answers = λ g. absurd (cc) };
+      lent_denied = λ d made left u e f. record { same = refl; answers = λ g. absurd (cc) };
+      lent = λ d left u f. record { same = refl; answers = λ g. absurd (cc) };
+      unlent = λ d left u f. record { same = refl; answers = λ g. absurd (cc) };
     }
 
   module _ (h : List Event) (s : Step) (l : Line) (k : IsLegalLine cells h s l) where

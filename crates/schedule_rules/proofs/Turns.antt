@@ -161,8 +161,8 @@ module _ (cells : List CellPlan) (c : ℕ) where
     resting a n f = rests_count a (rests cells h p a n f).0
 
     -- a turn that is barred at a cell of the party's own does not wait: the act is an Exit
-    lent : (a : Act) (d : ℕ) → is_owned (cell_at cells d).place ≡ true → Turning cells h p a d → IsAllowed a → count (waits_to_turn c) (others a) ≡ waiting
-    lent a d o t f = by a t.acts t.tried f
+    borrowing : (a : Act) (d : ℕ) → is_owned (cell_at cells d).place ≡ true → Turning cells h p a d → IsAllowed a → count (waits_to_turn c) (others a) ≡ waiting
+    borrowing a d o t f = by a t.acts t.tried f
       where
         by : (a : Act) → IsTurning a → attempt_with cells (waits cells h) h p a ≡ Some (record { cell = d; want = Turns }) → IsAllowed a → count (waits_to_turn c) (others a) ≡ waiting
         by act.Exit t e f = resting act.Exit (waits_for _) f
@@ -212,7 +212,7 @@ module _ (cells : List CellPlan) (c : ℕ) where
 
     borrows : (a : Act) (d : ℕ) (w : Want) → is_owned (cell_at cells d).place ≡ true → Tries cells h p a d w → Allowed a answer.Borrowed
     borrows a d (Calls j) o t f = called_count a d j t f
-    borrows a d Turns o t f = lent a d o t f
+    borrows a d Turns o t f = borrowing a d o t f
 
     cases : Cases cells h p Allowed
     cases = record {
@@ -237,6 +237,12 @@ module _ (cells : List CellPlan) (c : ℕ) where
       downgraded = λ g x e w f. resting (act.Downgrade g) (waits_for _) f;
       borrowed = λ g x e w f. resting (act.Clone g) (waits_for _) f;
       cloned = λ g x e w f. resting (act.Clone g) (waits_for _) f;
+      lent_made = λ d v left u e f. resting (act.GetMut d (Some v) left) (waits_for _) f;
+      lent_failed = λ d left u e f. resting (act.GetMut d None left) (waits_for _) f;
+      lent_rested = λ d made left u e r f. resting (act.GetMut d made left) (waits_for _) f;
+      lent_denied = λ d made left u e r f. resting (act.GetMut d made left) (waits_for _) f;
+      lent = λ d left u r f. resting (act.TryGetMut d left) (waits_for _) f;
+      unlent = λ d left u r f. resting (act.TryGetMut d left) (waits_for _) f;
     }
 
   -- ---- each deed

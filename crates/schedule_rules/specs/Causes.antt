@@ -13,21 +13,24 @@ use Rattle.schedule_rules.specs.declared.step.Act.TheVariants as act
 use Rattle.schedule_rules.specs.declared.step.Step.{Step}
 use Rattle.schedule_rules.specs.declared.line.Answer.{Answer}
 use Rattle.schedule_rules.specs.declared.line.Answer.TheVariants as answer
-use Rattle.schedule_rules.specs.Kinds.{cell_at, tolerance_at, is_owned}
+use Rattle.schedule_rules.specs.declared.line.Refusal.TheVariants as refused
+use Rattle.schedule_rules.specs.Kinds.{cell_at, tolerance_at, is_owned, is_of_other}
 use Rattle.schedule_rules.specs.Phases.{is_accessible, runs_generator}
 use Rattle.phase_seq.specs.Phases.{flags_refused}
 use Rattle.lazy_cells.specs.declared.kind.Kind.{Kind}
+use Rattle.lazy_cells.specs.Kinds.{lends_value}
 use Rattle.schedule_rules.specs.declared.step.Want.{Want}
 use Rattle.schedule_rules.specs.declared.step.Want.TheVariants.{Calls, Turns}
 use Rattle.schedule_rules.specs.Forms.{form_of, denies}
 use Rattle.schedule_rules.specs.Calls.{lock_wanted, asks, initializes, is_fast}
+use Rattle.schedule_rules.specs.Changes.{asks_to_lend}
 use Rattle.schedule_rules.specs.History.{Event, is_exit, accepts}
 use Rattle.schedule_rules.specs.Sections.{is_turn, runs}
 use Rattle.schedule_rules.specs.Guards.{Guard, numbered, guards}
 use Rattle.schedule_rules.specs.Replay.{phase_at}
 use Rattle.schedule_rules.specs.Exits.{registry}
-use Rattle.schedule_rules.specs.Waits.{Attempt, attempt, Wait, waits_given, other_waits}
-use Rattle.schedule_rules.specs.Holds.{holding_with, is_barred}
+use Rattle.schedule_rules.specs.Waits.{Attempt, attempt, Wait, wait_of, waits, waits_given, other_waits}
+use Rattle.schedule_rules.specs.Holds.{holding_with, is_barred, is_in_use}
 use Rattle.schedule_rules.specs.Refusals.{refusal}
 use Rattle.schedule_rules.specs.Due.{keeps_own}
 use Rattle.schedule_rules.specs.Legal.{Moment, First, Last}
@@ -64,6 +67,11 @@ abbrev pub is_access : Answer → Bool
 is_access (answer.Access p) = true
 is_access _ = false
 
+-- the step is refused, since the cell whose value it is to lend is in use
+abbrev pub is_refused_in_use : Answer → Bool
+is_refused_in_use (answer.Refused refused.InUse) = true
+is_refused_in_use _ = false
+
 -- the call is turned back as cyclic
 abbrev pub is_cyclic : Answer → Bool
 is_cyclic answer.Cyclic = true
@@ -89,10 +97,11 @@ abbrev pub is_closing : Answer → Bool
 is_closing answer.Closed = true
 is_closing _ = false
 
--- the act ends a generator by a failure
-abbrev pub is_failure : Act → Bool
-is_failure act.MadeFailed = true
-is_failure _ = false
+-- the act is to lend the value of the cell
+abbrev pub lends_at : ℕ → Act → Bool
+lends_at c (act.GetMut d made left) = d == c
+lends_at c (act.TryGetMut d left) = d == c
+lends_at c _ = false
 
 -- ---- what is attempted
 
@@ -111,6 +120,39 @@ module _ (cells : List CellPlan) where
   abbrev pub waits_judged : Moment → List Event → Step → Given → List Wait
   waits_judged First h s g = waits_given cells h s g (other_waits cells h s)
   waits_judged Last h s g = other_waits cells h s
+
+  -- the act is to lend the value of a cell that asks for a run, and runs its generator
+  abbrev pub runs_to_lend : List Event → Act → Bool
+  runs_to_lend h (act.GetMut c made left) = asks_to_lend (cell_at cells c).kind (tolerance_at cells c) (phase_at cells c h)
+  runs_to_lend h _ = false
+
+  -- the act ends a generator by a failure
+  abbrev pub is_failure : List Event → Act → Bool
+  is_failure h act.MadeFailed = true
+  is_failure h (act.GetMut c made left) = runs_to_lend h (act.GetMut c made left) && is_none made
+  is_failure h _ = false
+
+  -- the act is to lend the value of the cell as it is, which may not be accessed
+  abbrev pub is_denied_to_lend : List Event → Act → Bool
+  is_denied_to_lend h (act.GetMut c made left) =
+      not (runs_to_lend h (act.GetMut c made left)) && not (is_accessible (cell_at cells c).kind (phase_at cells c h))
+  is_denied_to_lend h (act.TryGetMut c left) = not (is_accessible (cell_at cells c).kind (phase_at cells c h))
+  is_denied_to_lend h _ = false
+
+  -- the cell is the party's own or nobody's, its kind lends its value, and it is in use
+  abbrev pub is_used_where_lent : List Event → ℕ → ℕ → Bool
+  is_used_where_lent h p c =
+      not (is_of_other (cell_at cells c).place p) && (lends_value (cell_at cells c).kind && is_in_use cells c h)
+
+  -- the act is to lend the value of such a cell
+  abbrev pub lends_in_use : List Event → ℕ → Act → Bool
+  lends_in_use h p (act.GetMut c made left) = is_used_where_lent h p c
+  lends_in_use h p (act.TryGetMut c left) = is_used_where_lent h p c
+  lends_in_use h p _ = false
+
+  -- the party does not wait, and its act is to lend the value of such a cell
+  abbrev pub is_step_in_use : List Event → Step → Bool
+  is_step_in_use h s = is_none (wait_of s.party (waits cells h)) && lends_in_use h s.party s.act
 
   -- the step is not refused, and what it attempts passes this test
   abbrev pub is_step_of : (Attempt → Bool) → List Event → Step → Bool
@@ -197,9 +239,10 @@ module _ (cells : List CellPlan) where
   abbrev pub is_running_step : List Event → Step → Given → Moment → Bool
   is_running_step h s g m = is_step_of (is_run h s.party (waits_judged m h s g)) h s
 
-  -- its call may not access the value
+  -- its call may not access the value, or it is not refused, and may not access the value that it is to lend
   abbrev pub is_access_step : List Event → Step → Given → Moment → Bool
-  is_access_step h s g m = is_step_of (is_turned_away h s.party (waits_judged m h s g)) h s
+  is_access_step h s g m =
+      is_step_of (is_turned_away h s.party (waits_judged m h s g)) h s || (is_none (refusal cells h s) && is_denied_to_lend h s.act)
 
   -- it is the turn of this cell, whose value is there, or is not
   abbrev pub is_turn_step : ℕ → Bool → List Event → Step → Given → Moment → Bool

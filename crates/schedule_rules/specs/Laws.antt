@@ -1,8 +1,9 @@
 -- What laws about all histories say.
-use Rattle.std.specs.Prelude.{ℕ, Bool, true, false, not, List, [], ◌∷◌, ◌≡◌, ◌≢◌, ◌==◌, ◌<◌, ◌+◌, ◌&&◌, ◌⊎◌, All, length, if◌then◌else◌}
+use Rattle.std.specs.Prelude.{ℕ, Bool, true, false, not, List, [], ◌∷◌, ◌≡◌, ◌≢◌, ◌==◌, ◌<◌, ◌+◌, ◌&&◌, ◌||◌, ◌⊎◌, All, length, if◌then◌else◌}
 use Rattle.std.specs.declared.option.Option.{Option}
-use Rattle.std.specs.declared.option.Option.TheVariants.{Some}
+use Rattle.std.specs.declared.option.Option.TheVariants.{None, Some}
 use Rattle.schedule_rules.specs.declared.line.Answer.TheVariants as answer
+use Rattle.schedule_rules.specs.declared.step.Act.{Act}
 use Rattle.schedule_rules.specs.declared.step.Act.TheVariants as act
 use Rattle.schedule_rules.specs.declared.step.Step.{Step}
 use Rattle.schedule_rules.specs.declared.plan.CellPlan.{CellPlan}
@@ -10,6 +11,7 @@ use Rattle.phase_bits.specs.declared.phase.Phase.{Phase}
 use Rattle.phase_bits.specs.Number.{phase_of}
 use Rattle.phase_bits.specs.Flags.{has, initialized}
 use Rattle.phase_locker.specs.declared.ways.Given.{Given}
+use Rattle.phase_locker.specs.declared.ways.Given.TheVariants as given
 use Rattle.exit_registry.specs.Registry.{occurs, due}
 use Rattle.exit_registry.specs.Exits.{cells_of_turns}
 use Rattle.phase_seq.specs.Phases.{registered, registration_refused, flags_refused}
@@ -27,10 +29,10 @@ use Rattle.schedule_rules.specs.Sections.{Section, innermost, is_turn, sections}
 use Rattle.schedule_rules.specs.Guards.{Guard, numbered, guards}
 use Rattle.schedule_rules.specs.Replay.{replay, phase_at, inside}
 use Rattle.schedule_rules.specs.Exits.{finishing, owner, ended_turns, registry}
-use Rattle.schedule_rules.specs.Waits.{Attempt, attempt, Wait, waits}
-use Rattle.schedule_rules.specs.Holds.{write_holds}
+use Rattle.schedule_rules.specs.Waits.{Attempt, attempt, Wait, waits_at, waits}
+use Rattle.schedule_rules.specs.Holds.{read_guards, write_holds}
 use Rattle.schedule_rules.specs.Legal.{Moment, IsLegal}
-use Rattle.schedule_rules.specs.Causes.{is_step_of, waits_judged, is_admitted}
+use Rattle.schedule_rules.specs.Causes.{lends_at, runs_to_lend, is_step_of, waits_judged, is_admitted}
 
 -- the event leaves what is open, who waits and with which shares and drains, what is published, and all of the exit: the
 -- registry, whether it was closed, who owns the exit, and the turns that ended
@@ -66,16 +68,34 @@ pub record KeepsValues (cells : List CellPlan) (h : List Event) (e : Event) : Ty
   pub guards_stay : guards (e ∷ h) ≡ guards h
   pub values_stay : (c : ℕ) → (replay cells c (e ∷ h)).value ≡ (replay cells c h).value
 
+-- this phase is shown, and it is published and the value of the cell, which the step was to lend as it is, may not be accessed
+pub record IsUnlent (cells : List CellPlan) (h : List Event) (s : Step) (c : ℕ) (shows : Phase) : Type 0 where
+  pub lends : lends_at c s.act ≡ true
+  pub unasked : runs_to_lend cells h s.act ≡ false
+  pub shown : shows ≡ phase_of (phase_at cells c h)
+  pub lacks : is_accessible (cell_at cells c).kind (phase_at cells c h) ≡ false
+
 -- a call of the step asked for a run at the cell, and no generator ran: that is a section at once
 pub record DeclinesAt (cells : List CellPlan) (h : List Event) (s : Step) (c : ℕ) : Type 0 where
   pub call : Call
   pub tried : attempt cells h s ≡ Some (record { cell = c; want = Calls call })
   pub declines : is_declined (cell_at cells c).kind (tolerance_at cells c) call (accepts h) (phase_at cells c h) ≡ true
 
+-- the answer of a value that is lent, or of a generator that was to make it and failed
+abbrev pub is_lent : Answer → Bool
+is_lent (answer.Value v) = true
+is_lent answer.Failed = true
+is_lent _ = false
+
+-- the step lent the value of the cell, or ran its generator to lend it: that is a section at once
+pub record LendsAt (e : Event) (c : ℕ) : Type 0 where
+  pub lends : lends_at c e.step.act ≡ true
+  pub answered : is_lent e.line.answer ≡ true
+
 -- the event gives a section of the cell back: there are fewer write holds of the cell afterwards, or it was a section at
 -- once
 abbrev pub GivesBack : List CellPlan → List Event → Event → ℕ → Type 0
-GivesBack cells h e c = (write_holds c (e ∷ h) < write_holds c h) ⊎ DeclinesAt cells h e.step c
+GivesBack cells h e c = (write_holds c (e ∷ h) < write_holds c h) ⊎ (DeclinesAt cells h e.step c ⊎ LendsAt e c)
 
 -- the step gets a guard to read, and gives this
 abbrev pub read_at : Step → Given → Event
@@ -90,19 +110,32 @@ pub record IsDeclined (cells : List CellPlan) (h : List Event) (e : Event) (c : 
   pub left : phase_at cells c (e ∷ h) ≡ flags_refused
 
 -- this phase is shown, and it is published after the event, which leaves every other cell: the event leaves the cell too,
--- whose value may not be accessed, or its call was declined
+-- whose value may not be accessed by its call, or to be lent, or its call was declined
 pub record IsTurnedAway (cells : List CellPlan) (h : List Event) (e : Event) (c : ℕ) (shows : Phase) : Type 0 where
   pub shown : shows ≡ phase_of (phase_at cells c (e ∷ h))
   pub others_stay : (d : ℕ) → c ≢ d → replay cells d (e ∷ h) ≡ replay cells d h
-  pub reason : ((replay cells c (e ∷ h) ≡ replay cells c h) × IsDenied cells h e.step c shows) ⊎ IsDeclined cells h e c shows
+  pub reason : ((replay cells c (e ∷ h) ≡ replay cells c h) × (IsDenied cells h e.step c shows ⊎ IsUnlent cells h e.step c shows)) ⊎ IsDeclined cells h e c shows
+
+-- the party's innermost section is a run of the cell, of which this is told: whether the registry was open when it began
+pub record EndsRun (h : List Event) (s : Step) (c : ℕ) (is_open : Bool) : Type 0 where
+  pub section : Section
+  pub found : innermost s.party (sections h) ≡ Some section
+  pub here : section.cell ≡ c
+  pub noted : section.is_open ≡ is_open
+
+-- the step runs the generator of the cell at once, to lend its value, and whether the registry is open is told
+pub record RunsAtOnce (cells : List CellPlan) (h : List Event) (s : Step) (c : ℕ) (is_open : Bool) : Type 0 where
+  pub lends : lends_at c s.act ≡ true
+  pub asked : runs_to_lend cells h s.act ≡ true
+  pub now : accepts h ≡ is_open
 
 -- the event leaves the value of the cell and gives it the phase of a run that failed, which is the innermost of its
--- party, and it leaves every other cell
+-- party or that of this step, and it leaves every other cell
 pub record IsFailedRun (cells : List CellPlan) (h : List Event) (e : Event) (c : ℕ) : Type 0 where
-  pub section : Section
-  pub found : innermost e.step.party (sections h) ≡ Some section
+  pub is_open : Bool
+  pub run : EndsRun h e.step c is_open ⊎ RunsAtOnce cells h e.step c is_open
   pub value_stays : (replay cells c (e ∷ h)).value ≡ (replay cells c h).value
-  pub fails : phase_at cells c (e ∷ h) ≡ phase_reached (cell_at cells c).kind section.is_open (phase_at cells c h) Failure
+  pub fails : phase_at cells c (e ∷ h) ≡ phase_reached (cell_at cells c).kind is_open (phase_at cells c h) Failure
   pub others_stay : (d : ℕ) → c ≢ d → replay cells d (e ∷ h) ≡ replay cells d h
 
 -- a call that asks for a run where one is due
@@ -135,11 +168,18 @@ is_success c (EndsToWrite v) (Some s) = s.cell == c
 is_success c (Ends (Makes (Some v))) (Some s) = s.cell == c
 is_success c _ s = false
 
--- how many generators of the cell ended by a value
-abbrev pub successes : ℕ → List Event → ℕ
-successes c [] = 0
-successes c (e ∷ h) =
-    if is_success c (deed_of h e.step e.line.answer) (innermost e.step.party (sections h)) then successes c h + 1 else successes c h
+-- the value of the cell was lent
+abbrev pub is_lent_at : ℕ → Act → Answer → Bool
+is_lent_at c a (answer.Value v) = lends_at c a
+is_lent_at c a _ = false
+
+-- how many generators of the cell ended by a value: in a section, or in the step that lends it
+abbrev pub successes : List CellPlan → ℕ → List Event → ℕ
+successes cells c [] = 0
+successes cells c (e ∷ h) =
+    if is_success c (deed_of h e.step e.line.answer) (innermost e.step.party (sections h)) || (is_lent_at c e.step.act e.line.answer && runs_to_lend cells h e.step.act)
+    then successes cells c h + 1
+    else successes cells c h
 
 -- ---- registration
 
@@ -227,9 +267,47 @@ pub record ShowsGuarded (cells : List CellPlan) (h : List Event) (s : Step) (v :
   pub found : numbered number (guards h) ≡ Some guard
   pub value : (if guard.writes then inside cells h guard else replay cells guard.cell h).value ≡ Some v
 
+-- the step is to lend the value of a cell, and runs no generator: this value is published there, and may be accessed
+pub record ShowsLent (cells : List CellPlan) (h : List Event) (s : Step) (v : ℕ) : Type 0 where
+  pub cell : ℕ
+  pub lends : lends_at cell s.act ≡ true
+  pub unasked : runs_to_lend cells h s.act ≡ false
+  pub reached : is_accessible (cell_at cells cell).kind (phase_at cells cell h) ≡ true
+  pub value : (replay cells cell h).value ≡ Some v
+
+-- the step runs the generator of a cell to lend the value that it makes, which is this
+pub record ShowsMade (cells : List CellPlan) (h : List Event) (s : Step) (v : ℕ) : Type 0 where
+  pub cell : ℕ
+  pub left : ℕ
+  pub acts : s.act ≡ act.GetMut cell (Some v) left
+  pub asked : runs_to_lend cells h s.act ≡ true
+
 -- the step shows a value that is there: a published one, one that the holder of a guard sees, or one that a generator made
 abbrev pub ShowsValue : List CellPlan → List Event → Step → ℕ → Type 0
-ShowsValue cells h s v = ShowsPublished cells h s v ⊎ (ShowsGuarded cells h s v ⊎ (s.act ≡ act.Made v))
+ShowsValue cells h s v =
+    ShowsPublished cells h s v ⊎ (ShowsGuarded cells h s v ⊎ ((s.act ≡ act.Made v) ⊎ (ShowsLent cells h s v ⊎ ShowsMade cells h s v)))
+
+-- ---- values that are lent
+
+-- nobody uses the cell: no guard of it is open, no section of it goes on, and no call waits at it
+pub record IsUnused (cells : List CellPlan) (h : List Event) (c : ℕ) : Type 0 where
+  pub unread : read_guards c h ≡ 0
+  pub unheld : write_holds c h ≡ 0
+  pub unwaited : count (waits_at c) (waits cells h) ≡ 0
+
+-- the event leaves what is open and who waits, gives nothing, and leaves what is published of every other cell
+pub record ChangesCellAlone (cells : List CellPlan) (h : List Event) (e : Event) (c : ℕ) : Type 0 where
+  pub sections_stay : sections (e ∷ h) ≡ sections h
+  pub guards_stay : guards (e ∷ h) ≡ guards h
+  pub waits_stay : waits cells (e ∷ h) ≡ waits cells h
+  pub nobody : e.line.given ≡ given.Nobody
+  pub others_stay : (d : ℕ) → c ≢ d → replay cells d (e ∷ h) ≡ replay cells d h
+
+-- the value that the party leaves where one is lent to it
+abbrev pub value_left : Act → Option ℕ
+value_left (act.GetMut c made left) = Some left
+value_left (act.TryGetMut c left) = Some left
+value_left _ = None
 
 -- ---- what is open
 

@@ -6,29 +6,49 @@ use lazy_cells::Call;
 #[derive(Clone, Copy, PartialEq, Eq, Debug)]
 pub enum Act {
     /// One attempt of a call at a cell.
-    Call { cell: u32, call: Call },
+    Call {
+        cell: u32,
+        call: Call,
+    },
     /// One more attempt of the call that waits.
     Again,
     /// The generator of the party's innermost section made this value.
-    Made { value: u64 },
+    Made {
+        value: u64,
+    },
     /// The generator of the party's innermost section failed.
     MadeFailed,
     /// The finalizer of the party's innermost section succeeded, and left this value, where the cell's kind is
     /// `PrimedLockedLazyDroped`. Any other finalizer leaves none.
-    Finished { left: Option<u64> },
+    Finished {
+        left: Option<u64>,
+    },
     /// The finalizer of the party's innermost section failed, and left this value, as above. That of
     /// `LockedLazyDroped` drops the value, and can't fail.
-    FinishFailed { left: Option<u64> },
+    FinishFailed {
+        left: Option<u64>,
+    },
     /// The value that the holder of the guard sees.
-    Look { guard: u32 },
+    Look {
+        guard: u32,
+    },
     /// The holder of a write guard sets the value.
-    Set { guard: u32, value: u64 },
+    Set {
+        guard: u32,
+        value: u64,
+    },
     /// The guard is given back.
-    Release { guard: u32 },
+    Release {
+        guard: u32,
+    },
     /// The write guard is given back, and its holder reads on.
-    Downgrade { guard: u32 },
+    Downgrade {
+        guard: u32,
+    },
     /// One more read guard, beside this one.
-    Clone { guard: u32 },
+    Clone {
+        guard: u32,
+    },
     /// The value of a cell that is not in use is lent for this step, and `left` is what the party leaves there. Where the
     /// cell asks for a run, its generator runs first, and `made` is its outcome: a value, or none where it failed. Then
     /// nothing is lent, and nothing left.
@@ -38,7 +58,10 @@ pub enum Act {
         left: u64,
     },
     /// The same without a run: the value is lent where it is there.
-    TryGetMut { cell: u32, left: u64 },
+    TryGetMut {
+        cell: u32,
+        left: u64,
+    },
     /// One step of the exit: the turn of the next cell of the round, or, where none is left, a look for the cells that
     /// were registered since the last one.
     Exit,
