@@ -32,11 +32,12 @@ use Rattle.schedule_rules.specs.Exits.{registry}
 use Rattle.schedule_rules.specs.Replay.{Back, back_by, back_of_step, replay, phase_at, content_after_back}
 use Rattle.schedule_rules.specs.Waits.{attempt, cell_of_attempt, attempt_of_turn, cell_concerned}
 use Rattle.schedule_rules.specs.Legal.{IsLegal, IsLegalLine}
+use Rattle.schedule_rules.specs.Causes.{lends_at}
 use Rattle.schedule_rules.specs.Laws.{IsTurnedAway, KeepsValues}
 use Rattle.schedule_rules.proofs.Found.{found_passes, each_found}
 use Rattle.schedule_rules.proofs.Leaves.{back_here, back_elsewhere, asked_value}
 use Rattle.schedule_rules.proofs.Cases.{IsTrying, Calling, Asking, Resting, Reach, calling-tries}
-use Rattle.schedule_rules.proofs.Means.{Began, Away, Means, means}
+use Rattle.schedule_rules.proofs.Means.{Began, Away, Unlent, Means, means}
 use Rattle.schedule_rules.proofs.Grows.{Needs, IsStanding, sound}
 use Rattle.schedule_rules.proofs.Facts.{apart, same_number}
 
@@ -122,14 +123,14 @@ module _ (cells : List CellPlan) where
           others_stay = others;
           reason = inl (
             stays,
-            record {
+            inl (record {
               call = j;
               tried = t.tried;
               shown = e;
               lacks = lacks;
               once = λ u none. once-where-unwanted (tolerance_at cells c) (phase_at cells c h) (r.unwanted u) none;
               ended = λ u. ended-where-unwanted (tolerance_at cells c) (phase_at cells c h) (r.unwanted u);
-            },
+            }),
           );
         }
           where
@@ -149,13 +150,34 @@ module _ (cells : List CellPlan) where
             left : replay cells c (event a (answer.Access q) ∷ h) ≡ record { phase = 36; value = (replay cells c h).value }
             left = chosen true declined
 
+  -- a value that is to be lent, and may not be accessed, stays
+  module _ (h : List Event) (p : ℕ) (i : Given) (q : Phase) where
+    lent_here : (a : Act) (c d : ℕ) → lends_at c a ≡ true → cell_concerned cells h (record { party = p; act = a }) ≡ Some d → c ≡ d
+    lent_here (act.GetMut b made left) c d e n = let at : b ≡ d = cc in let same : b ≡ c = grind arith in sym same ∙ at
+    lent_here (act.TryGetMut b left) c d e n = let at : b ≡ d = cc in let same : b ≡ c = grind arith in sym same ∙ at
+    lent_here _ c d e n = absurd (apart (sym e))
+
+    unlent_stays : (a : Act) (c d : ℕ) → lends_at c a ≡ true → replay cells d (event h p i a (answer.Access q) ∷ h) ≡ replay cells d h
+    unlent_stays (act.GetMut b made left) c d e = refl
+    unlent_stays (act.TryGetMut b left) c d e = refl
+    unlent_stays _ c d e = absurd (apart (sym e))
+
+    unlent : (a : Act) (c : ℕ) → Unlent cells h p a q → cell_concerned cells h (record { party = p; act = a }) ≡ Some c → IsTurnedAway cells h (event h p i a (answer.Access q)) c q
+    unlent a c m n =
+        subst (λ z. IsTurnedAway cells h (event h p i a (answer.Access q)) z q) (lent_here a m.cell c m.lends n) (record {
+          shown = m.shown ∙ ap (λ y. phase_of y.phase) (sym (unlent_stays a m.cell m.cell m.lends));
+          others_stay = λ d ne. unlent_stays a m.cell d m.lends;
+          reason = inl (unlent_stays a m.cell m.cell m.lends, inr (record { lends = m.lends; unasked = m.unasked; shown = m.shown; lacks = m.lacks }));
+        })
+
   -- a legal line that says that the value may not be accessed
   pub turned_away : (h : List Event) (s : Step) (l : Line) (c : ℕ) (q : Phase) → IsLegalLine cells h s l → l.answer ≡ answer.Access q → cell_concerned cells h s ≡ Some c
       → IsTurnedAway cells h (record { step = s; line = l }) c q
   turned_away h s l c q k e n = by (subst (Means cells h s.party s.act) e (means cells h s l k))
     where
-      by : Away cells h s.party s.act q → IsTurnedAway cells h (record { step = s; line = l }) c q
-      by m =
+      by : Away cells h s.party s.act q ⊎ Unlent cells h s.party s.act q → IsTurnedAway cells h (record { step = s; line = l }) c q
+      by (inr m) = subst (λ r. IsTurnedAway cells h (record { step = s; line = record { answer = r; given = l.given } }) c q) (sym e) (unlent h s.party l.given q s.act c m n)
+      by (inl m) =
           subst (λ r. IsTurnedAway cells h (record { step = s; line = record { answer = r; given = l.given } }) c q) (sym e)
           (subst (λ z. IsTurnedAway cells h (record { step = s; line = record { answer = answer.Access q; given = l.given } }) z q) (called_at h s.party s.act m.cell c m.asked m.calls n) (reasoned m.reason))
         where

@@ -84,12 +84,12 @@ module _ (P : Answer → Type 0) where
       (either (is_accessible q (content_asked q t o c y).phase) _ _ (opened k.shown (form_of q c) (content_asked q t o c y)) (denied k (form_of q c) (content_asked q t o c y).phase))
 
   -- of a value that is lent
-  pub lent : IsTold → (q : Kind) (y : Content) → P (answer_lent q y)
-  lent k q y = either (is_accessible q y.phase) _ _ (k.shown.value _) (k.access _)
+  pub lent : ((v : ℕ) → P (answer.Value v)) → ((p : Phase) → P (answer.Access p)) → (q : Kind) (y : Content) → P (answer_lent q y)
+  lent value access q y = either (is_accessible q y.phase) _ _ (value _) (access _)
 
   -- of one that a run makes first where it is asked
-  pub made_to_lend : IsTold → P answer.Failed → (q : Kind) (t : Tolerance) (o : Bool) (made : Option ℕ) (y : Content) → P (answer_made_to_lend q t o made y)
-  made_to_lend k f q t o made y = either (asks_to_lend q t y.phase && is_none made) answer.Failed _ f (lent k q (content_to_lend q t o made y))
+  pub made_to_lend : ((v : ℕ) → P (answer.Value v)) → ((p : Phase) → P (answer.Access p)) → P answer.Failed → (q : Kind) (t : Tolerance) (o : Bool) (made : Option ℕ) (y : Content) → P (answer_made_to_lend q t o made y)
+  made_to_lend value access f q t o made y = either (asks_to_lend q t y.phase && is_none made) answer.Failed _ f (lent value access q (content_to_lend q t o made y))
 
   -- of one that is barred
   pub barred : (fast : Bool) (x : Place) (way : How) → (fast ≡ true → P answer.Missed) → ((w : How) → P (answer.Waiting w)) → (is_owned x ≡ true → P answer.Borrowed)

@@ -260,7 +260,7 @@ module _ (cells : List CellPlan) (h : List Event) (s : Step) (l : Line) (k : IsL
       (λ a. cyclic_alone is_cyclic cells h s.party ws k.chosen true refl (fails_barred is_cyclic (record { missed = refl; borrowed = refl; waiting = λ w. refl })) beyond_cyclic a ∙ sym (same_both _)) refl refl
 
   -- no answer that is due is a refusal
-  due_is_answered : (m : Moment) (g : Given) (chosen : Bool) → is_refused (due_at cells m h s g chosen) ≡ false
+  pub due_is_answered : (m : Moment) (g : Given) (chosen : Bool) → is_refused (due_at cells m h s g chosen) ≡ false
   due_is_answered m g chosen =
       ap is_refused (due_at-judged cells m h s g chosen) ∙ due is_refused of_refused cells (λ a. false) h (waits_judged cells m h s g) chosen s.party tried s.act ∙ none (attempt cells h s) _ _
     where
@@ -344,8 +344,8 @@ module _ (t : Answer → Bool) {denies : Bool} (is : IsOfTries t denies) (beyond
   looked_so (act.Release g) = ap (λ b. free (act.Release g) && b) is.done
   looked_so (act.Downgrade g) = ap (λ b. free (act.Downgrade g) && b) is.shown.read_guard
   looked_so (act.GetMut c made left) =
-      ap (λ b. free (act.GetMut c made left) && b) (made_to_lend (λ a. t a ≡ false) beyond.told is.failed (cell_at cells c).kind (tolerance_at cells c) (accepts h) made (replay cells c h))
-  looked_so (act.TryGetMut c left) = ap (λ b. free (act.TryGetMut c left) && b) (lent (λ a. t a ≡ false) beyond.told (cell_at cells c).kind (replay cells c h))
+      ap (λ b. free (act.GetMut c made left) && b) (made_to_lend (λ a. t a ≡ false) is.shown.value beyond.told.access is.failed (cell_at cells c).kind (tolerance_at cells c) (accepts h) made (replay cells c h))
+  looked_so (act.TryGetMut c left) = ap (λ b. free (act.TryGetMut c left) && b) (lent (λ a. t a ≡ false) is.shown.value beyond.told.access (cell_at cells c).kind (replay cells c h))
   looked_so (act.Clone g) = ap (λ b. free (act.Clone g) && b) (cloned (λ a. t a ≡ false) cells h ws (numbered g (guards h)) is.done fails.borrowed is.shown.read_guard)
 
 module _ (cells : List CellPlan) (h : List Event) (s : Step) (l : Line) (k : IsLegalLine cells h s l) where

@@ -1,5 +1,5 @@
 -- Small facts of truth values and numbers.
-use Rattle.std.proofs.Common.{◌≡◌, ◌≢◌, ◌≤◌, ◌+◌, ℕ, refl, arith, Bool, true, false, ◌&&◌, cond}
+use Rattle.std.proofs.Common.{◌≡◌, ◌≢◌, ◌≤◌, ◌+◌, ℕ, refl, arith, Bool, true, false, ◌&&◌, ◌||◌, cond, ◌⊎◌, inl, inr}
 use Rattle.std.specs.Prelude.{◌==◌}
 
 pub apart : true ≡ false → ⊥
@@ -15,9 +15,18 @@ pub second : (x y : Bool) → (x && y) ≡ true → y ≡ true
 second true y e = e
 second false y e = absurd (cc)
 
+-- one of two holds
+pub one_of : (x y : Bool) → (x || y) ≡ true → (x ≡ true) ⊎ (y ≡ true)
+one_of true y e = inl refl
+one_of false y e = inr e
+
 -- the same number
 pub same_number : (m n : ℕ) → m ≡ n → (m == n) ≡ true
 same_number m n e = grind arith
+
+-- a number that is found equal is the same
+pub number_found : (m n : ℕ) → (m == n) ≡ true → m ≡ n
+number_found m n e = grind arith
 
 -- a number that another is not
 pub other_number : (m n k : ℕ) → m ≡ n → n ≢ k → (m == k) ≡ false

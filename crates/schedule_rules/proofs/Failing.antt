@@ -1,46 +1,60 @@
--- What a generator's failure leaves.
-use Rattle.std.proofs.Common.{ap, Bool, ◌≡◌, ℕ, List, [], ◌∷◌, true, false, ◌&&◌, refl, sym, ◌∙◌}
-use Rattle.std.specs.Prelude.{is_none}
+-- What a failed run leaves; and of a value that is lent, that nobody uses its cell, and what the step leaves.
+use Rattle.std.proofs.Common.{ap, subst, arith, Bool, ◌≡◌, ◌≢◌, ◌+◌, ◌⊎◌, inl, inr, ℕ, List, [], ◌∷◌, length, true, false, not, ◌&&◌, ◌||◌, cond, refl, sym, ◌∙◌}
+use Rattle.std.specs.Prelude.{◌==◌, is_none, is_some, if◌then◌else◌}
+use Rattle.std.specs.List.{list_any}
 use Rattle.std.specs.declared.option.Option.{Option}
 use Rattle.std.specs.declared.option.Option.TheVariants.{None, Some}
 use Rattle.phase_locker.specs.declared.ways.Given.{Given}
+use Rattle.phase_locker.specs.declared.ways.Given.TheVariants as given
+use Rattle.phase_seq.specs.Phases.{flags_refused}
+use Rattle.lazy_cells.specs.Kinds.{lends_value}
 use Rattle.schedule_rules.specs.declared.plan.CellPlan.{CellPlan}
 use Rattle.schedule_rules.specs.declared.step.Act.{Act}
 use Rattle.schedule_rules.specs.declared.step.Act.TheVariants as act
 use Rattle.schedule_rules.specs.declared.step.Step.{Step}
 use Rattle.schedule_rules.specs.declared.line.Line.{Line}
+use Rattle.schedule_rules.specs.declared.line.Answer.{Answer}
 use Rattle.schedule_rules.specs.declared.line.Answer.TheVariants as answer
-use Rattle.schedule_rules.specs.Changes.{Ran, effect}
-use Rattle.schedule_rules.specs.History.{Event}
-use Rattle.schedule_rules.specs.Sections.{Section, innermost, sections}
-use Rattle.schedule_rules.specs.Kinds.{cell_at}
-use Rattle.schedule_rules.specs.Deeds.{Makes}
-use Rattle.schedule_rules.specs.Replay.{Back, back_of_section, back_of_step, replay, phase_at, content_after_back}
-use Rattle.schedule_rules.proofs.Leaves.{back_here, back_elsewhere}
-use Rattle.schedule_rules.specs.Waits.{Wait, cell_of_section, cell_concerned}
-use Rattle.phase_seq.specs.Phases.{flags_refused}
-use Rattle.schedule_rules.specs.Exits.{finishing}
-use Rattle.schedule_rules.specs.Refusals.{refusal}
-use Rattle.schedule_rules.specs.Due.{phase_made, due_answer}
-use Rattle.schedule_rules.specs.Legal.{IsLegalLine}
-use Rattle.schedule_rules.specs.Causes.{is_failed, is_failure, waits_judged}
-use Rattle.schedule_rules.specs.Laws.{IsFailedRun}
-use Rattle.schedule_rules.proofs.Cases.{IsTrying, trying, form_at, Cases, calling-tries, turning-tries}
-use Rattle.schedule_rules.proofs.Steps.{allowed}
 use Rattle.schedule_rules.specs.declared.line.Refusal.{Refusal}
-use Rattle.schedule_rules.proofs.Answered.{IsShown, IsTold, opened, denied, made_so, legal_by}
-use Rattle.schedule_rules.proofs.Facts.{second, same_number, other_number}
-
--- what attempts something ends no generator
-no_failure : (a : Act) → IsTrying a → false ≡ is_failure a
-no_failure (act.Call c k) t = refl
-no_failure act.Again t = refl
-no_failure act.Exit t = refl
-no_failure _ t = absurd t
+use Rattle.schedule_rules.specs.declared.line.Refusal.TheVariants as refused
+use Rattle.schedule_rules.specs.Kinds.{cell_at, tolerance_at, is_parking, is_of_other}
+use Rattle.schedule_rules.specs.Phases.{is_accessible}
+use Rattle.schedule_rules.specs.Changes.{Content, Change, Ran, Put, RanIfAsked, effect}
+use Rattle.schedule_rules.specs.Deeds.{Makes}
+use Rattle.schedule_rules.specs.History.{Event, accepts, deed_of, count}
+use Rattle.schedule_rules.specs.Sections.{Section, innermost, sections_by, sections}
+use Rattle.schedule_rules.specs.Guards.{guards_by, guards}
+use Rattle.schedule_rules.specs.Replay.{Back, back_of_section, back_of_step, replay, phase_at, content_after_back}
+use Rattle.schedule_rules.specs.Exits.{finishing}
+use Rattle.schedule_rules.specs.Waits.{Wait, wait_of, without_wait, waits_at, waits, waits_given_with, waits_answered, other_waits, parks_to_read, parks_to_write, attempt_with, cell_of_section, cell_concerned_with, cell_concerned}
+use Rattle.schedule_rules.specs.Holds.{is_in_use}
+use Rattle.schedule_rules.specs.Refusals.{refusal, refusal_by, refusal_free, refusal_waiting, no_call, no_lending, no_outcome, no_guard, no_writer, no_reader, no_exit}
+use Rattle.schedule_rules.specs.Due.{phase_made, due_answer}
+use Rattle.schedule_rules.specs.Gifts.{reaches, may_give_first, may_give_on, may_give_last}
+use Rattle.schedule_rules.specs.Legal.{Moment, First, Last, IsLegalLine, answer_of, due_at, may_give}
+use Rattle.schedule_rules.specs.Causes.{is_failed, is_refused_in_use, lends_at, is_failure, lends_in_use, is_step_in_use, waits_judged}
+use Rattle.schedule_rules.specs.Laws.{is_lent, EndsRun, RunsAtOnce, IsFailedRun, IsUnused, ChangesCellAlone, Leaves}
+use Rattle.schedule_rules.proofs.Cases.{step, IsTrying, trying, form_at, Lendable, Cases, calling-tries, turning-tries}
+use Rattle.schedule_rules.proofs.Attempts.{rests}
+use Rattle.schedule_rules.proofs.Steps.{lendable, lendable_so, allowed}
+use Rattle.schedule_rules.proofs.Finds.{LendsSo, Both, finds, tells}
+use Rattle.schedule_rules.proofs.Leaves.{back_here, back_elsewhere}
+use Rattle.schedule_rules.proofs.Counts.{without_none}
+use Rattle.schedule_rules.proofs.Answered.{due_at-judged, IsShown, IsTold, opened, denied, lent, made_to_lend, made_so, legal_by}
+use Rattle.schedule_rules.proofs.Tests.{is_refused, no_more}
+use Rattle.schedule_rules.proofs.Causes.{due_is_answered}
+use Rattle.schedule_rules.proofs.Facts.{apart, first, second, same_number, number_found, other_number}
 
 module _ (cells : List CellPlan) (h : List Event) where
+  -- what attempts something ends no generator
+  no_failure : (a : Act) → IsTrying a → false ≡ is_failure cells h a
+  no_failure (act.Call c k) t = refl
+  no_failure act.Again t = refl
+  no_failure act.Exit t = refl
+  no_failure _ t = absurd t
+
   -- of the steps that are not refused a failure fails, and no other
-  fails : (p : ℕ) → Cases cells h p (λ a r. is_failed r ≡ is_failure a)
+  fails : (p : ℕ) → Cases cells h p (λ a r. is_failed r ≡ is_failure cells h a)
   fails p = record {
     cyclic = λ a c j t. no_failure a (calling-tries a t.acts);
     waiting = λ a c w way t. no_failure a (trying cells h p a c w t);
@@ -63,6 +77,12 @@ module _ (cells : List CellPlan) (h : List Event) where
     downgraded = λ g x f w. refl;
     borrowed = λ g x f w. refl;
     cloned = λ g x f w. refl;
+    lent_made = λ c v left u e. sym (ap (λ b. b && false) e);
+    lent_failed = λ c left u e. sym (ap (λ b. b && true) e);
+    lent_rested = λ c made left u e f. sym (ap (λ b. b && is_none made) e);
+    lent_denied = λ c made left u e f. sym (ap (λ b. b && is_none made) e);
+    lent = λ c left u f. refl;
+    unlent = λ c left u f. refl;
   }
     where
       shown : IsShown (λ r. is_failed r ≡ false)
@@ -71,55 +91,290 @@ module _ (cells : List CellPlan) (h : List Event) where
       told : IsTold (λ r. is_failed r ≡ false)
       told = record { shown = shown; access = λ q. refl; err_guard = refl }
 
-      finished : (fine : Bool) (left : Option ℕ) → false ≡ is_failure (finishing fine left)
+      finished : (fine : Bool) (left : Option ℕ) → false ≡ is_failure cells h (finishing fine left)
       finished true left = refl
       finished false left = refl
 
   -- a legal line says Failed exactly where a failure is not refused
-  pub fails_where_ended : (s : Step) (l : Line) → IsLegalLine cells h s l → is_failed l.answer ≡ (is_none (refusal cells h s) && is_failure s.act)
+  pub fails_where_ended : (s : Step) (l : Line) → IsLegalLine cells h s l → is_failed l.answer ≡ (is_none (refusal cells h s) && is_failure cells h s.act)
   fails_where_ended s l k =
       legal_by is_failed (λ q. refl) cells h s l k ∙ by (refusal cells h s) refl
     where
       ws : List Wait
       ws = waits_judged cells k.moment h s l.given
 
-      by : (o : Option Refusal) → refusal cells h s ≡ o → (is_none o && is_failed (due_answer cells h s ws k.chosen)) ≡ (is_none o && is_failure s.act)
-      by None e = allowed cells h s.party (λ a r. is_failed r ≡ is_failure a) (fails s.party) s.act ws k.chosen e
+      by : (o : Option Refusal) → refusal cells h s ≡ o → (is_none o && is_failed (due_answer cells h s ws k.chosen)) ≡ (is_none o && is_failure cells h s.act)
+      by None e = allowed cells h s.party (λ a r. is_failed r ≡ is_failure cells h a) (fails s.party) s.act ws k.chosen e
       by (Some r) e = refl
 
   -- a legal line that says Failed ends a run of the cell that its step concerns
   module _ (s : Step) (g : Given) (c : ℕ) (k : IsLegalLine cells h s (record { answer = answer.Failed; given = g })) (e : cell_concerned cells h s ≡ Some c) where
     -- its step is a failure
-    ends : is_failure s.act ≡ true
-    ends = second (is_none (refusal cells h s)) (is_failure s.act) (sym (fails_where_ended s (record { answer = answer.Failed; given = g }) k))
+    ends : is_failure cells h s.act ≡ true
+    ends = second (is_none (refusal cells h s)) (is_failure cells h s.act) (sym (fails_where_ended s (record { answer = answer.Failed; given = g }) k))
 
-    -- the step ends a section of this cell
-    ended : (t : Section) × (innermost s.party (sections h) ≡ Some t) × (t.cell ≡ c) × (back_of_step h s answer.Failed ≡ Some (record { cell = t.cell; changes = Ran t.is_open None ∷ [] }))
+    -- a run of this cell that fails is given back, of which this is told
+    abbrev Gives : Step → Type 0
+    Gives s = (o : Bool) × (d : ℕ) × (d ≡ c) × (EndsRun h s c o ⊎ RunsAtOnce cells h s c o) × (back_of_step h s answer.Failed ≡ Some (record { cell = d; changes = Ran o None ∷ [] }))
+
+    ended : Gives s
     ended = by s.act ends e
       where
-        found : (o : Option Section) → cell_of_section o ≡ Some c → (t : Section) × (o ≡ Some t) × (t.cell ≡ c) × (back_of_section (Makes None) o ≡ Some (record { cell = t.cell; changes = Ran t.is_open None ∷ [] }))
-        found None d = absurd (cc)
-        found (Some t) d = (t, refl, cc, refl)
+        found : (o : Option Section) → innermost s.party (sections h) ≡ o → cell_of_section o ≡ Some c → Gives (record { party = s.party; act = act.MadeFailed })
+        found None f d = absurd (cc)
+        found (Some t) f d = let here : t.cell ≡ c = cc in (t.is_open, t.cell, here, inl (record { section = t; found = f; here = here; noted = refl }), ap (back_of_section (Makes None)) f)
 
-        by : (a : Act) → is_failure a ≡ true → cell_concerned cells h (record { party = s.party; act = a }) ≡ Some c
-            → (t : Section) × (innermost s.party (sections h) ≡ Some t) × (t.cell ≡ c) × (back_of_step h (record { party = s.party; act = a }) answer.Failed ≡ Some (record { cell = t.cell; changes = Ran t.is_open None ∷ [] }))
-        by act.MadeFailed f d = found (innermost s.party (sections h)) d
+        by : (a : Act) → is_failure cells h a ≡ true → cell_concerned cells h (record { party = s.party; act = a }) ≡ Some c → Gives (record { party = s.party; act = a })
+        by act.MadeFailed f d = found (innermost s.party (sections h)) refl d
+        by (act.GetMut z made left) f d =
+            let here : z ≡ c = cc in (accepts h, z, here, inr (record { lends = same_number z c here; asked = first _ _ f; now = refl }), refl)
         by _ f d = absurd (cc)
 
     -- it leaves the value there and reaches the phase of a failed run, and changes no other cell
     pub fails_in : IsFailedRun cells h (record { step = s; line = record { answer = answer.Failed; given = g } }) c
     fails_in = by ended
       where
-        by : (t : Section) × (innermost s.party (sections h) ≡ Some t) × (t.cell ≡ c) × (back_of_step h s answer.Failed ≡ Some (record { cell = t.cell; changes = Ran t.is_open None ∷ [] }))
-            → IsFailedRun cells h (record { step = s; line = record { answer = answer.Failed; given = g } }) c
-        by (t, f, here, back) =
-            let b : Back = record { cell = t.cell; changes = Ran t.is_open None ∷ [] } in
+        by : Gives s → IsFailedRun cells h (record { step = s; line = record { answer = answer.Failed; given = g } }) c
+        by (o, d, here, run, back) =
+            let b : Back = record { cell = d; changes = Ran o None ∷ [] } in
             let changed : content_after_back cells c (back_of_step h s answer.Failed) (replay cells c h) ≡ effect (cell_at cells c) b.changes (replay cells c h) =
-            back_here cells c (back_of_step h s answer.Failed) b (replay cells c h) back (same_number t.cell c here) in
+            back_here cells c (back_of_step h s answer.Failed) b (replay cells c h) back (same_number d c here) in
             record {
-              section = t;
-              found = f;
+              is_open = o;
+              run = run;
               value_stays = ap (λ y. y.value) changed;
               fails = ap (λ y. y.phase) changed;
-              others_stay = λ d apart. back_elsewhere cells d (back_of_step h s answer.Failed) b (replay cells d h) back (other_number t.cell c d here apart);
+              others_stay = λ z apart. back_elsewhere cells z (back_of_step h s answer.Failed) b (replay cells z h) back (other_number d c z here apart);
             }
+
+-- ---- a value that is lent
+
+-- what is not refused has no reason to be
+none_where : (o : Option Refusal) → is_none o ≡ true → o ≡ None
+none_where None e = refl
+none_where (Some r) e = absurd (apart (sym e))
+
+-- where no call waits at the cell, none is reached by a gift
+module _ (c : ℕ) where
+  none_any : (t : Wait → Bool) → ((w : Wait) → (w.cell == c) ≡ false → t w ≡ false) → (ws : List Wait) → count (waits_at c) ws ≡ 0 → list_any t ws ≡ false
+  none_any t f [] n = refl
+  none_any t f (w ∷ ws) n = by (w.cell == c) refl n (none_any t f ws)
+    where
+      by : (b : Bool) → (w.cell == c) ≡ b → cond b (count (waits_at c) ws + 1) (count (waits_at c) ws) ≡ 0 → (count (waits_at c) ws ≡ 0 → list_any t ws ≡ false) → (t w || list_any t ws) ≡ false
+      by true e n rest = absurd (omega (arith, n))
+      by false e n rest = rw (f w e) (rest n)
+
+  elsewhere : (b d : Bool) → d ≡ false → (if b then d else false) ≡ false
+  elsewhere true d e = e
+  elsewhere false d e = refl
+
+  pub none_reached : (g : Given) (ws : List Wait) → count (waits_at c) ws ≡ 0 → reaches c g ws ≡ true → g ≡ given.Nobody
+  none_reached given.Nobody ws n e = refl
+  none_reached given.Readers ws n e = absurd (apart (sym e ∙ none_any (parks_to_read c) (λ w f. elsewhere _ _ f) ws n))
+  none_reached (given.Writer q) ws n e =
+      absurd (apart (sym e ∙ none_any (λ w. (w.party == q) && parks_to_write c w) (λ w f. ap (λ b. (w.party == q) && b) (elsewhere _ _ f) ∙ no_more (w.party == q)) ws n))
+
+module _ (cells : List CellPlan) (h : List Event) (s : Step) (c : ℕ) (lends : lends_at c s.act ≡ true) (free : is_none (refusal cells h s) ≡ true) where
+  -- its cell is of a kind that lends, and nobody uses it
+  lends_free : Lendable cells h s.party c
+  lends_free = by s.act lends (none_where (refusal cells h s) free)
+    where
+      by : (a : Act) → lends_at c a ≡ true → refusal cells h (record { party = s.party; act = a }) ≡ None → Lendable cells h s.party c
+      by (act.GetMut z made left) e n = let at : z ≡ c = number_found z c e in subst (Lendable cells h s.party) at (lendable cells h s.party z made left n)
+      by (act.TryGetMut z left) e n = let at : z ≡ c = number_found z c e in subst (Lendable cells h s.party) at (lendable_so cells h s.party z left n)
+      by _ e n = absurd (apart (sym e))
+
+  pub lent-unused : IsUnused cells h c
+  lent-unused = record { unread = lends_free.unread; unheld = lends_free.unheld; unwaited = lends_free.unwaited }
+
+  -- the party does not wait
+  rested : wait_of s.party (waits cells h) ≡ None
+  rested = by s.act lends (none_where (refusal cells h s) free)
+    where
+      waits_for : (r : Refusal) → Some r ≡ None → ⊥
+      waits_for r e = cc
+
+      by : (a : Act) → lends_at c a ≡ true → refusal cells h (record { party = s.party; act = a }) ≡ None → wait_of s.party (waits cells h) ≡ None
+      by (act.GetMut z made left) e n = (rests cells h s.party (act.GetMut z made left) (waits_for _) n).0
+      by (act.TryGetMut z left) e n = (rests cells h s.party (act.TryGetMut z left) (waits_for _) n).0
+      by _ e n = absurd (apart (sym e))
+
+  others_wait : other_waits cells h s ≡ waits cells h
+  others_wait = without_none s.party (waits cells h) rested
+
+  module _ (l : Line) (k : IsLegalLine cells h s l) where
+    answered : l.answer ≡ due_answer cells h s (waits_judged cells k.moment h s l.given) k.chosen
+    answered = k.answered ∙ ap (λ o. answer_of o (due_at cells k.moment h s l.given k.chosen)) (none_where (refusal cells h s) free) ∙ due_at-judged cells k.moment h s l.given k.chosen
+
+    -- it gives nothing
+    nobody : l.given ≡ given.Nobody
+    nobody = by k.moment (subst (λ o. may_give cells o k.moment h s l ≡ true) (none_where (refusal cells h s) free) k.gave)
+      where
+        first_never : (a : Act) → lends_at c a ≡ true → may_give_first cells h s (attempt_with cells (waits cells h) h s.party a) l.given ≡ false
+        first_never (act.GetMut z made left) e = refl
+        first_never (act.TryGetMut z left) e = refl
+        first_never _ e = absurd (apart (sym e))
+
+        concerned : (a : Act) → lends_at c a ≡ true → cell_concerned_with cells (waits cells h) h s.party a ≡ Some c
+        concerned (act.GetMut z made left) e = let at : z ≡ c = number_found z c e in ap (λ y. Some y) at
+        concerned (act.TryGetMut z left) e = let at : z ≡ c = number_found z c e in ap (λ y. Some y) at
+        concerned _ e = absurd (apart (sym e))
+
+        reached : (g : Given) → may_give_on cells h s (cell_concerned cells h s) l.answer g ≡ true → g ≡ given.Nobody
+        reached g e =
+            none_reached c g (waits cells h) lends_free.unwaited
+            (subst (λ ws. reaches c g ws ≡ true) others_wait (first (reaches c g (other_waits cells h s)) _ (second (is_parking (cell_at cells c).place) _ (subst (λ o. may_give_on cells h s o l.answer g ≡ true) (concerned s.act lends) e))))
+
+        last : (g : Given) → may_give_last cells h s l.answer g ≡ true → g ≡ given.Nobody
+        last given.Nobody e = refl
+        last given.Readers e = reached given.Readers e
+        last (given.Writer q) e = reached (given.Writer q) e
+
+        by : (m : Moment) → may_give cells None m h s l ≡ true → l.given ≡ given.Nobody
+        by First e = absurd (apart (sym e ∙ first_never s.act lends))
+        by Last e = last l.given e
+
+    -- what an answer leaves, where the act is to lend the value of the cell
+    record Alone (a : Act) (r : Answer) : Type 0 where
+      pub in_sections : sections_by h s.party (deed_of h (step cells h s.party a) r) (sections h) ≡ sections h
+      pub in_guards : guards_by (length h) s.party (deed_of h (step cells h s.party a) r) (sections h) (guards h) ≡ guards h
+      pub in_waits : waits_answered cells h (step cells h s.party a) l.given r (waits cells h) ≡ waits_given_with cells (waits cells h) h (step cells h s.party a) l.given (without_wait s.party (waits cells h))
+      pub elsewhere : (d : ℕ) → c ≢ d → content_after_back cells d (back_of_step h (step cells h s.party a) r) (replay cells d h) ≡ replay cells d h
+
+    alone : (a : Act) → lends_at c a ≡ true → (ws : List Wait) (chosen : Bool) → Alone a (due_answer cells h (step cells h s.party a) ws chosen)
+    alone (act.GetMut z made left) e ws chosen =
+        made_to_lend (Alone (act.GetMut z made left))
+        (λ v. record { in_sections = refl; in_guards = refl; in_waits = refl; elsewhere = λ d ne. back_elsewhere cells d _ (record { cell = z; changes = Put left ∷ RanIfAsked (accepts h) made ∷ [] }) (replay cells d h) refl (other_cell ne) })
+        (λ q. record { in_sections = refl; in_guards = refl; in_waits = refl; elsewhere = λ d ne. refl })
+        (record { in_sections = refl; in_guards = refl; in_waits = refl; elsewhere = λ d ne. back_elsewhere cells d _ (record { cell = z; changes = Ran (accepts h) None ∷ [] }) (replay cells d h) refl (other_cell ne) })
+        (cell_at cells z).kind (tolerance_at cells z) (accepts h) made (replay cells z h)
+      where
+        other_cell : {d : ℕ} → c ≢ d → (z == d) ≡ false
+        other_cell {d} ne = let at : z ≡ c = number_found z c e in other_number z c d at ne
+    alone (act.TryGetMut z left) e ws chosen =
+        lent (Alone (act.TryGetMut z left))
+        (λ v. record { in_sections = refl; in_guards = refl; in_waits = refl; elsewhere = λ d ne. back_elsewhere cells d _ (record { cell = z; changes = Put left ∷ [] }) (replay cells d h) refl (other_cell ne) })
+        (λ q. record { in_sections = refl; in_guards = refl; in_waits = refl; elsewhere = λ d ne. refl })
+        (cell_at cells z).kind (replay cells z h)
+      where
+        other_cell : {d : ℕ} → c ≢ d → (z == d) ≡ false
+        other_cell {d} ne = let at : z ≡ c = number_found z c e in other_number z c d at ne
+    alone _ e ws chosen = absurd (apart (sym e))
+
+    -- it leaves what is open and who waits, and changes its cell alone
+    pub lent-alone : ChangesCellAlone cells h (record { step = s; line = l }) c
+    lent-alone = record { sections_stay = is.in_sections; guards_stay = is.in_guards; waits_stay = is.in_waits ∙ same; nobody = nobody; others_stay = is.elsewhere }
+      where
+        is : Alone s.act l.answer
+        is = subst (Alone s.act) (sym answered) (alone s.act lends (waits_judged cells k.moment h s l.given) k.chosen)
+
+        same : waits_given_with cells (waits cells h) h s l.given (without_wait s.party (waits cells h)) ≡ waits cells h
+        same = ap (λ g. waits_given_with cells (waits cells h) h s g (without_wait s.party (waits cells h))) nobody ∙ others_wait
+
+    -- where a value is lent, that which is left is published afterwards, and may be accessed
+    leaves-so : (v : ℕ) → l.answer ≡ answer.Value v → Leaves cells (record { step = s; line = l } ∷ h) c s.act
+    leaves-so v e = subst (λ r. Leaves cells (record { step = s; line = record { answer = r; given = l.given } } ∷ h) c s.act) (sym e) (by s.act lends (subst (λ r. Both cells h s.party s.act r (deed_of h s r)) e (finds cells h s l k, tells cells h s l k)))
+      where
+        leaves : (z : ℕ) (chs : List Change) (left : ℕ) (a : Act) (r : Answer) → z ≡ c → (effect (cell_at cells z) chs (replay cells z h)).value ≡ Some left → is_failed r ≡ false → LendsSo cells h s.party a r z chs
+            → (content : Content) → content ≡ effect (cell_at cells c) chs (replay cells c h) → (content.value ≡ Some left) × (is_accessible (cell_at cells c).kind content.phase ≡ true)
+        leaves z chs left a r at is fine t content e = (
+          ap (λ y. y.value) e ∙ subst (λ y. (effect (cell_at cells y) chs (replay cells y h)).value ≡ Some left) at is,
+          ap (λ y. is_accessible (cell_at cells c).kind y.phase) e ∙ subst (λ y. is_accessible (cell_at cells y).kind (effect (cell_at cells y) chs (replay cells y h)).phase ≡ true) at (t.leaves fine),
+        )
+
+        by : (a : Act) → lends_at c a ≡ true → Both cells h s.party a (answer.Value v) (deed_of h (step cells h s.party a) (answer.Value v))
+            → Leaves cells (record { step = step cells h s.party a; line = record { answer = answer.Value v; given = l.given } } ∷ h) c a
+        by (act.GetMut z made left) is b =
+            let at : z ≡ c = number_found z c is in
+            leaves z _ left (act.GetMut z made left) (answer.Value v) at refl refl b.1 _ (back_here cells c _ (record { cell = z; changes = Put left ∷ RanIfAsked (accepts h) made ∷ [] }) (replay cells c h) refl is)
+        by (act.TryGetMut z left) is b =
+            let at : z ≡ c = number_found z c is in
+            leaves z _ left (act.TryGetMut z left) (answer.Value v) at refl refl b.1 _ (back_here cells c _ (record { cell = z; changes = Put left ∷ [] }) (replay cells c h) refl is)
+        by _ is b = absurd (apart (sym is))
+
+-- a value that is shown was not refused
+pub lent-leaves : (cells : List CellPlan) (h : List Event) (s : Step) (l : Line) (c v : ℕ) → IsLegalLine cells h s l → lends_at c s.act ≡ true → l.answer ≡ answer.Value v
+    → Leaves cells (record { step = s; line = l } ∷ h) c s.act
+lent-leaves cells h s l c v k lends e = leaves-so cells h s c lends (first _ _ (sym (legal_by is_lent (λ q. refl) cells h s l k) ∙ ap is_lent e)) l k v e
+
+-- ---- which steps are refused since the cell is in use
+
+-- the reason is that the cell is in use
+abbrev is_in_use_reason : Option Refusal → Bool
+is_in_use_reason (Some refused.InUse) = true
+is_in_use_reason _ = false
+
+module _ (cells : List CellPlan) (h : List Event) where
+  lends_used : (other has used : Bool) → is_in_use_reason (no_lending (no_call other has) used) ≡ (not other && (has && used))
+  lends_used true has used = refl
+  lends_used false false used = refl
+  lends_used false true true = refl
+  lends_used false true false = refl
+
+  outcome : (o : Option Bool) → is_in_use_reason (no_outcome o) ≡ false
+  outcome None = refl
+  outcome (Some true) = refl
+  outcome (Some false) = refl
+
+  guard : (o : Option Bool) → is_in_use_reason (no_guard o) ≡ false
+  guard None = refl
+  guard (Some w) = refl
+
+  writer : (o : Option Bool) → is_in_use_reason (no_writer o) ≡ false
+  writer None = refl
+  writer (Some true) = refl
+  writer (Some false) = refl
+
+  reader : (o : Option Bool) → is_in_use_reason (no_reader o) ≡ false
+  reader None = refl
+  reader (Some true) = refl
+  reader (Some false) = refl
+
+  called : (other has : Bool) → is_in_use_reason (no_call other has) ≡ false
+  called true has = refl
+  called false true = refl
+  called false false = refl
+
+  exits : (other inside : Bool) → is_in_use_reason (no_exit other inside) ≡ false
+  exits true inside = refl
+  exits false true = refl
+  exits false false = refl
+
+  used_free : (p : ℕ) (a : Act) → is_in_use_reason (refusal_free cells h p a) ≡ lends_in_use cells h p a
+  used_free p (act.GetMut c made left) = lends_used (is_of_other (cell_at cells c).place p) (lends_value (cell_at cells c).kind) (is_in_use cells c h)
+  used_free p (act.TryGetMut c left) = lends_used (is_of_other (cell_at cells c).place p) (lends_value (cell_at cells c).kind) (is_in_use cells c h)
+  used_free p (act.Call c k) = called _ _
+  used_free p act.Again = refl
+  used_free p (act.Made v) = outcome _
+  used_free p act.MadeFailed = outcome _
+  used_free p (act.Finished left) = outcome _
+  used_free p (act.FinishFailed left) = outcome _
+  used_free p (act.Look g) = guard _
+  used_free p (act.Set g v) = writer _
+  used_free p (act.Release g) = guard _
+  used_free p (act.Downgrade g) = writer _
+  used_free p (act.Clone g) = reader _
+  used_free p act.Exit = exits _ _
+
+  waits_first : (a : Act) → is_in_use_reason (refusal_waiting a) ≡ false
+  waits_first act.Again = refl
+  waits_first _ = refl
+
+  used_by : (p : ℕ) (a : Act) (o : Option Wait) → is_in_use_reason (refusal_by cells (is_some o) h p a) ≡ (is_none o && lends_in_use cells h p a)
+  used_by p a None = used_free p a
+  used_by p a (Some w) = waits_first a
+
+  unrefused : (r : Answer) → is_refused r ≡ false → is_refused_in_use r ≡ false
+  unrefused (answer.Refused q) e = absurd (apart e)
+  unrefused _ e = refl
+
+  pub refused-in-use : (s : Step) (l : Line) → IsLegalLine cells h s l → is_refused_in_use l.answer ≡ is_step_in_use cells h s
+  refused-in-use s l k = ap is_refused_in_use k.answered ∙ by (refusal cells h s) ∙ used_by s.party s.act (wait_of s.party (waits cells h))
+    where
+      reason : (q : Refusal) → is_refused_in_use (answer.Refused q) ≡ is_in_use_reason (Some q)
+      reason refused.InUse = refl
+      reason _ = refl
+
+      by : (o : Option Refusal) → is_refused_in_use (answer_of o (due_at cells k.moment h s l.given k.chosen)) ≡ is_in_use_reason o
+      by (Some q) = reason q
+      by None = unrefused _ (due_is_answered cells h s l k k.moment l.given k.chosen)

@@ -1,5 +1,5 @@
 -- What a legal step finds, deed by deed.
-use Rattle.std.proofs.Common.{◌≡◌, ℕ, List, [], ◌∷◌, Bool, true, false, Some, None, refl, sym, ap, subst, ◌⊎◌, inl, inr}
+use Rattle.std.proofs.Common.{◌≡◌, ℕ, List, [], ◌∷◌, Bool, true, false, Some, None, refl, sym, ◌∙◌, ap, subst, ◌⊎◌, inl, inr}
 use Rattle.std.specs.Prelude.{if◌then◌else◌}
 use Rattle.std.specs.declared.option.Option.{Option}
 use Rattle.phase_bits.specs.declared.phase.Phase.{Phase}
@@ -29,11 +29,11 @@ use Rattle.schedule_rules.specs.Holds.{write_holds}
 use Rattle.schedule_rules.specs.Answers.{answer_opened, answer_denied, answer_made}
 use Rattle.schedule_rules.specs.Due.{phase_made}
 use Rattle.schedule_rules.specs.Legal.{IsLegalLine, IsExclusive}
-use Rattle.schedule_rules.specs.Causes.{lends_at}
+use Rattle.schedule_rules.specs.Causes.{is_failed, lends_at}
 use Rattle.schedule_rules.specs.Laws.{is_lent}
 use Rattle.schedule_rules.proofs.Cases.{Calling, step, Asking, Resting, Lendable, AsksToLend, Reach, form_at, Generating, Finalizing, Cases}
 use Rattle.schedule_rules.proofs.Facts.{first, same_number}
-use Rattle.schedule_rules.proofs.Steps.{of_legal}
+use Rattle.schedule_rules.proofs.Steps.{made_accessible, of_legal}
 
 -- a call of this form gets a guard to read where the value may not be accessed
 abbrev pub errs : Form → Bool
@@ -93,6 +93,12 @@ module _ (cells : List CellPlan) (h : List Event) (p : ℕ) where
     pub does : (AsksToLend cells h p c true × ((made : Option ℕ) × Comes c chs (Ran (accepts h) made)))
         ⊎ (Reach cells h p c true × ((left : ℕ) × Comes c chs (Put left)))
 
+  -- the act is to lend the value of the cell, and where that was lent, one may be accessed afterwards
+  pub record LendsSo (a : Act) (r : Answer) (c : ℕ) (chs : List Change) : Type 0 where
+    pub lends : lends_at c a ≡ true
+    pub answered : is_lent r ≡ true
+    pub leaves : is_failed r ≡ false → is_accessible (cell_at cells c).kind (effect (cell_at cells c) chs (replay cells c h)).phase ≡ true
+
   -- no cell is left, and one was registered since the last look, or none was
   abbrev pub Looking : Bool → Type 0
   Looking true = ((registry cells h).left ≡ []) × ((registry cells h).pending ≡ [])
@@ -122,11 +128,11 @@ module _ (cells : List CellPlan) (h : List Event) (p : ℕ) where
   -- act that is to lend a value
   abbrev pub Tells : Act → Answer → Deed → Type 0
   Tells a r (Visits c chs reads) = (v : Visit c chs reads) × Calling cells h p a c v.asked
-  Tells a r (Lends c chs) = (lends_at c a ≡ true) × (is_lent r ≡ true)
+  Tells a r (Lends c chs) = LendsSo a r c chs
   Tells a r (Ends (Finishes fine left)) = (a ≡ finishing fine left) × ((q : Phase) × (r ≡ answer.Phase q))
   Tells a r _ = Unit {0}
 
-  abbrev Both : Act → Answer → Deed → Type 0
+  abbrev pub Both : Act → Answer → Deed → Type 0
   Both a r d = Finds d × Tells a r d
 
   -- what a step with this answer does, where its party asked this last
@@ -177,19 +183,24 @@ module _ (cells : List CellPlan) (h : List Event) (p : ℕ) where
   finished true left t g q = (record { section = t; found = g.found; kind = g.kind; so = g.so }, (refl, (q, refl)))
   finished false left t g q = (record { section = t; found = g.found; kind = g.kind; so = g.so }, (refl, (q, refl)))
 
-  -- a value that is lent as it is
-  rested : (c : ℕ) (made : Option ℕ) (left : ℕ) → Lendable cells h p c → AsksToLend cells h p c false → Reach cells h p c true → Lending c (Put left ∷ RanIfAsked (accepts h) made ∷ [])
-  rested c made left u e f = record {
-    free = u;
-    does = inr (f, (left, ap (λ (b : Bool). content_after (cell_at cells c) (Put left) (if b then content_of_run (cell_at cells c).kind (accepts h) made (replay cells c h) else replay cells c h)) e));
-  }
+  -- what a get_mut makes of the cell, where a run is asked or not
+  module _ (c : ℕ) (made : Option ℕ) (left : ℕ) (b : Bool) (e : AsksToLend cells h p c b) where
+    left_so : effect (cell_at cells c) (Put left ∷ RanIfAsked (accepts h) made ∷ []) (replay cells c h)
+        ≡ content_after (cell_at cells c) (Put left) (if b then content_of_run (cell_at cells c).kind (accepts h) made (replay cells c h) else replay cells c h)
+    left_so = ap (λ (d : Bool). content_after (cell_at cells c) (Put left) (if d then content_of_run (cell_at cells c).kind (accepts h) made (replay cells c h) else replay cells c h)) e
 
-  -- one that is made to be lent
+    lends_so : (r : Answer) → is_lent r ≡ true
+        → is_accessible (cell_at cells c).kind (if b then content_of_run (cell_at cells c).kind (accepts h) made (replay cells c h) else replay cells c h).phase ≡ true
+        → LendsSo (act.GetMut c made left) r c (Put left ∷ RanIfAsked (accepts h) made ∷ [])
+    lends_so r is f = record { lends = same_number c c refl; answered = is; leaves = λ n. ap (λ y. is_accessible (cell_at cells c).kind y.phase) left_so ∙ f }
+
+  -- a value that is made to be lent
   makes : (c v left : ℕ) → Lendable cells h p c → AsksToLend cells h p c true → Lending c (Put left ∷ RanIfAsked (accepts h) (Some v) ∷ [])
-  makes c v left u e = record {
-    free = u;
-    does = inl (e, (Some left, ap (λ (b : Bool). content_after (cell_at cells c) (Put left) (if b then content_of_run (cell_at cells c).kind (accepts h) (Some v) (replay cells c h) else replay cells c h)) e));
-  }
+  makes c v left u e = record { free = u; does = inl (e, (Some left, left_so c (Some v) left true e)) }
+
+  -- one that is lent as it is
+  rested : (c : ℕ) (made : Option ℕ) (left : ℕ) → Lendable cells h p c → AsksToLend cells h p c false → Reach cells h p c true → Lending c (Put left ∷ RanIfAsked (accepts h) made ∷ [])
+  rested c made left u e f = record { free = u; does = inr (f, (left, left_so c made left false e)) }
 
   cases : Cases cells h p (λ a r. Both a r (deed_of h (step cells h p a) r))
   cases = record {
@@ -214,11 +225,11 @@ module _ (cells : List CellPlan) (h : List Event) (p : ℕ) where
     downgraded = λ g x f w. (record { guard = x; found = f; way = w }, tt);
     borrowed = λ g x f w. (tt, tt);
     cloned = λ g x f w. (record { guard = x; found = f; way = w }, tt);
-    lent_made = λ c v left u e. (makes c v left u e, (same_number c c refl, refl));
-    lent_failed = λ c left u e. (record { free = u; does = inl (e, (None, refl)) }, (same_number c c refl, refl));
-    lent_rested = λ c made left u e f. (rested c made left u e f, (same_number c c refl, refl));
+    lent_made = λ c v left u e. (makes c v left u e, lends_so c (Some v) left true e _ refl (made_accessible (cell_at cells c).kind (accepts h) (phase_at cells c h) u.lends));
+    lent_failed = λ c left u e. (record { free = u; does = inl (e, (None, refl)) }, record { lends = same_number c c refl; answered = refl; leaves = λ n. absurd (cc) });
+    lent_rested = λ c made left u e f. (rested c made left u e f, lends_so c made left false e _ refl f);
     lent_denied = λ c made left u e f. (tt, tt);
-    lent = λ c left u f. (record { free = u; does = inr (f, (left, refl)) }, (same_number c c refl, refl));
+    lent = λ c left u f. (record { free = u; does = inr (f, (left, refl)) }, record { lends = same_number c c refl; answered = refl; leaves = λ n. f });
     unlent = λ c left u f. (tt, tt);
   }
 

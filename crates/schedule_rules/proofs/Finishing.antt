@@ -19,8 +19,8 @@ use Rattle.schedule_rules.specs.declared.line.Answer.{Answer}
 use Rattle.schedule_rules.specs.declared.line.Answer.TheVariants as answer
 use Rattle.schedule_rules.specs.Kinds.{cell_at}
 use Rattle.schedule_rules.specs.Phases.{phase_finalized}
-use Rattle.schedule_rules.specs.Changes.{Content, Change, Ran, Ended, effect}
-use Rattle.schedule_rules.specs.Deeds.{Makes, Finishes, Deed, Ends, EndsToRead, Drops, DropsToRead, Visits}
+use Rattle.schedule_rules.specs.Changes.{Content, Change, Ran, Put, Ended, effect}
+use Rattle.schedule_rules.specs.Deeds.{Makes, Finishes, Deed, Ends, EndsToRead, Drops, DropsToRead, Visits, Lends}
 use Rattle.schedule_rules.specs.History.{Event, accepts, deed_of}
 use Rattle.schedule_rules.specs.Sections.{Section, innermost, is_turn, sections}
 use Rattle.schedule_rules.specs.Guards.{Guard, numbered, guards}
@@ -32,7 +32,8 @@ use Rattle.schedule_rules.specs.Exits.{finishing}
 use Rattle.schedule_rules.proofs.Exclusion.{alone}
 use Rattle.schedule_rules.proofs.Found.{each_found}
 use Rattle.schedule_rules.proofs.Leaves.{back_here, back_elsewhere, left_at, GivenAt, GivesOf, moves}
-use Rattle.schedule_rules.proofs.Finds.{Finds, Tells, finds, tells}
+use Rattle.schedule_rules.proofs.Cases.{AsksToLend, Reach}
+use Rattle.schedule_rules.proofs.Finds.{Comes, Lending, Finds, Tells, finds, tells}
 use Rattle.schedule_rules.proofs.Means.{Finished, EndsNone, Means, means}
 use Rattle.schedule_rules.proofs.Grows.{Needs, IsStanding, sound}
 use Rattle.schedule_rules.proofs.Opening.{IsOfRun, IsRunning, guards-run, beside, run_before, asked_before}
@@ -151,6 +152,13 @@ module _ (cells : List CellPlan) (c : ℕ) where
     dropped : (g : ℕ) (x : Guard) → numbered g (guards h) ≡ Some x → IsOfRun x.changes
     dropped g x f = each_found (λ y. y.number == g) IsRunning (guards h) x f (guards-run h)
 
+    lends : (z : ℕ) (chs : List Change) → Lending cells h p z chs → has (phase_at cells z h) (final_outcome fine) ≡ false → has (effect (cell_at cells z) chs (replay cells z h)).phase (final_outcome fine) ≡ true → ⊥
+    lends z chs f was is = by f.does
+      where
+        by : (AsksToLend cells h p z true × ((made : Option ℕ) × Comes cells h p z chs (Ran (accepts h) made))) ⊎ (Reach cells h p z true × ((left : ℕ) × Comes cells h p z chs (Put left))) → ⊥
+        by (inl a) = ran z (Ran (accepts h) a.1.0 ∷ []) tt was (subst (λ y. has y.phase (final_outcome fine) ≡ true) a.1.1 is)
+        by (inr a) = ran z (Put a.1.0 ∷ []) tt was (subst (λ y. has y.phase (final_outcome fine) ≡ true) a.1.1 is)
+
     gives : (d : Deed) (f : Finds cells h p d) → GivesOf cells h p (alone cells h legal) (Marks d) d f
     gives (Ends (Makes made)) f = ran f.section.cell (Ran f.section.is_open made ∷ []) tt
     gives (Ends (Finishes b left)) f = λ was is. (same_outcome b fine (phase_at cells f.section.cell h) was is, ap cell_of_section f.found)
@@ -159,6 +167,7 @@ module _ (cells : List CellPlan) (c : ℕ) where
     gives (DropsToRead g) f = ran f.guard.cell f.guard.changes (dropped g f.guard f.found)
     gives (Visits z chs reads) f = λ was is.
         apart (sym (asked_before (final_outcome fine) (beside fine) (cell_at cells z) (accepts h) f.asked (replay cells z h) (subst (λ l. has (effect (cell_at cells z) l (replay cells z h)).phase (final_outcome fine) ≡ true) f.does is)) ∙ was)
+    gives (Lends z chs) f = lends z chs f
     gives _ f = tt
 
     marks : (d : Deed) → Finds cells h p d → Marks d c (replay cells c h) (left_at cells h p d c)

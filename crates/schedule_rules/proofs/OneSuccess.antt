@@ -1,25 +1,31 @@
 -- A generator of a cell succeeds at most once.
-use Rattle.std.proofs.Common.{◌≡◌, ◌<◌, ◌≤◌, ◌+◌, ℕ, List, [], ◌∷◌, refl, sym, ◌∙◌, ap, subst, arith, Bool, true, false, cond, ◌⊎◌, inl, inr, None, Some}
+use Rattle.std.proofs.Common.{◌≡◌, ◌<◌, ◌≤◌, ◌+◌, ℕ, List, [], ◌∷◌, refl, sym, ◌∙◌, ap, subst, arith, Bool, true, false, ◌&&◌, ◌||◌, cond, ◌⊎◌, inl, inr, None, Some}
 use Rattle.std.specs.Prelude.{◌==◌}
 use Rattle.phase_bits.specs.Flags.{has, initialized}
 use Rattle.schedule_rules.specs.declared.plan.CellPlan.{CellPlan}
-use Rattle.schedule_rules.specs.Kinds.{cell_at}
+use Rattle.schedule_rules.specs.declared.step.Act.{Act}
+use Rattle.schedule_rules.specs.declared.step.Act.TheVariants as act
+use Rattle.schedule_rules.specs.declared.line.Answer.{Answer}
+use Rattle.schedule_rules.specs.declared.line.Answer.TheVariants as answer
+use Rattle.schedule_rules.specs.Kinds.{cell_at, tolerance_at}
 use Rattle.schedule_rules.specs.Phases.{flags_kept}
-use Rattle.schedule_rules.specs.Changes.{Content, Ran, effect}
-use Rattle.schedule_rules.specs.Deeds.{Makes, Finishes, Deed, EndsToRead, EndsToWrite, Ends, Drops, DropsToRead, Visits}
+use Rattle.schedule_rules.specs.Changes.{Content, Change, Ran, effect}
+use Rattle.schedule_rules.specs.Deeds.{Makes, Finishes, Deed, EndsToRead, EndsToWrite, Ends, Drops, DropsToRead, Visits, Lends}
 use Rattle.schedule_rules.specs.History.{Event, deed_of, count}
 use Rattle.schedule_rules.specs.Sections.{Section, innermost, is_turn, runs_in, sections}
 use Rattle.schedule_rules.specs.Guards.{Guard, numbered, guards}
 use Rattle.schedule_rules.specs.Replay.{back_of_section, back_by, replay, phase_at}
-use Rattle.schedule_rules.specs.Holds.{writes_cell}
+use Rattle.schedule_rules.specs.Holds.{writes_cell, write_holds}
 use Rattle.schedule_rules.specs.Legal.{IsLegal}
-use Rattle.schedule_rules.specs.Laws.{successes, is_success}
+use Rattle.schedule_rules.specs.Causes.{is_failed, lends_at, runs_to_lend}
+use Rattle.schedule_rules.specs.Laws.{successes, is_success, is_lent_at}
 use Rattle.schedule_rules.proofs.Exclusion.{alone}
 use Rattle.schedule_rules.proofs.Found.{found_counts, each_found}
 use Rattle.schedule_rules.proofs.Leaves.{back_here, left_at, guards_left, GivenAt, Writing, writing, GivesOf, moves}
-use Rattle.schedule_rules.proofs.Finds.{Inside, Finds, finds}
-use Rattle.schedule_rules.proofs.Grows.{IsReady, IsStanding, has_made, needs-lacks, sound, initialized-stays}
-use Rattle.schedule_rules.proofs.Facts.{apart}
+use Rattle.schedule_rules.proofs.Cases.{step, AsksToLend}
+use Rattle.schedule_rules.proofs.Finds.{Inside, Lending, LendsSo, Both, Finds, finds, tells}
+use Rattle.schedule_rules.proofs.Grows.{IsReady, IsStanding, has_made, asked-lacks, needs-lacks, sound, initialized-stays}
+use Rattle.schedule_rules.proofs.Facts.{apart, first, second, one_of}
 
 module _ (cells : List CellPlan) (c : ℕ) where
   -- a value is published in the cell, or a guard to write it is open
@@ -53,6 +59,7 @@ module _ (cells : List CellPlan) (c : ℕ) where
     gives (DropsToRead g) f = λ n. inl (seen g f.guard f.found f.way)
     gives (Visits z chs true) f = λ n. inr (omega (arith, n))
     gives (Visits z chs false) f = λ n. inr n
+    gives (Lends z chs) f = λ n. inr n
     gives _ f = tt
 
     keeps : (d : Deed) (f : Finds cells h p d) → 0 < count (writes_cell c) (guards h) → MadeBy d
@@ -95,13 +102,44 @@ module _ (cells : List CellPlan) (c : ℕ) where
         let runs : 0 < count (runs_in c) (sections h) = found_counts (λ s. s.party == p) (runs_in c) (sections h) t f same in
         omega (arith, (alone cells h legal c).one_writer, w, runs)
 
+    -- a success makes a value where none was
+    abbrev Makes_one : Deed → Type 0
+    Makes_one d = (IsMade h → ⊥) × MadeBy d
+
+    in_section : (d : Deed) → Finds cells h p d → is_success c d (innermost p (sections h)) ≡ true → Makes_one d
+    in_section d f s = let t : _ = succeeds d f s in ((λ m. made_rests m t.0.section t.0.found t.1 t.0.kind), t.2)
+
+    -- one that is made to be lent
+    lent_here : (z : ℕ) (chs : List Change) (a : Act) (r : Answer) → Lending cells h p z chs → LendsSo cells h p a r z chs → (z == c) ≡ true → AsksToLend cells h p z true → is_failed r ≡ false → Makes_one (Lends z chs)
+    lent_here z chs a r f t same e fine = (never, inl made)
+      where
+        at : z ≡ c
+        at = grind arith
+
+        never : IsMade h → ⊥
+        never (inl is) = apart (sym (subst (λ y. has (phase_at cells y h) initialized ≡ true) (sym at) is) ∙ asked-lacks (cell_at cells z).kind (tolerance_at cells z) (phase_at cells z h) e)
+        never (inr w) = let none : write_holds c h ≡ 0 = subst (λ y. write_holds y h ≡ 0) at f.free.unheld in omega (arith, w, none)
+
+        made : has (left_at cells h p (Lends z chs) c).phase initialized ≡ true
+        made =
+            ap (λ y. has y.phase initialized) (back_here cells c (Some (record { cell = z; changes = chs })) (record { cell = z; changes = chs }) (replay cells c h) refl same)
+            ∙ subst (λ y. has (effect (cell_at cells y) chs (replay cells y h)).phase initialized ≡ true) at (first _ _ (t.leaves fine))
+
+    at_once : (a : Act) (r : Answer) → Both cells h p a r (deed_of h (step cells h p a) r) → is_lent_at c a r ≡ true → runs_to_lend cells h a ≡ true → Makes_one (deed_of h (step cells h p a) r)
+    at_once a (answer.Value v) = by a
+      where
+        by : (a : Act) → Both cells h p a (answer.Value v) (deed_of h (step cells h p a) (answer.Value v)) → lends_at c a ≡ true → runs_to_lend cells h a ≡ true → Makes_one (deed_of h (step cells h p a) (answer.Value v))
+        by (act.GetMut z made left) b same e = lent_here z _ (act.GetMut z made left) (answer.Value v) b.0 b.1 same e refl
+        by _ b same e = absurd (apart (sym e))
+    at_once a _ = λ b same e. absurd (apart (sym same))
+
   -- no value was made in the cell, or one was, and it stays
   abbrev IsCounted : List Event → Type 0
-  IsCounted h = (successes c h ≡ 0) ⊎ ((successes c h ≡ 1) × IsMade h)
+  IsCounted h = (successes cells c h ≡ 0) ⊎ ((successes cells c h ≡ 1) × IsMade h)
 
   counted : (h : List Event) → IsLegal cells h → IsCounted h
   counted [] k = inl refl
-  counted (e ∷ h) k = by (is_success c d (innermost e.step.party (sections h))) refl (counted h k.2)
+  counted (e ∷ h) k = by (is_success c d (innermost e.step.party (sections h)) || (is_lent_at c e.step.act e.line.answer && runs_to_lend cells h e.step.act)) refl (counted h k.2)
     where
       d : Deed
       d = deed_of h e.step e.line.answer
@@ -109,21 +147,25 @@ module _ (cells : List CellPlan) (c : ℕ) where
       f : Finds cells h e.step.party d
       f = finds cells h e.step e.line k.0
 
+      makes : (is_success c d (innermost e.step.party (sections h)) ≡ true) ⊎ ((is_lent_at c e.step.act e.line.answer && runs_to_lend cells h e.step.act) ≡ true) → Makes_one h e.step.party k.2 d
+      makes (inl s) = in_section h e.step.party k.2 d f s
+      makes (inr s) = at_once h e.step.party k.2 e.step.act e.line.answer (f, tells cells h e.step e.line k.0) (first _ _ s) (second (is_lent_at c e.step.act e.line.answer) _ s)
+
       made_stays : IsMade h → IsMade (e ∷ h)
       made_stays (inl r) = inl (initialized-stays cells h e c k r)
       made_stays (inr w) = keeps h e.step.party k.2 d f w
 
-      by : (b : Bool) → is_success c d (innermost e.step.party (sections h)) ≡ b → IsCounted h
-          → (cond b (successes c h + 1) (successes c h) ≡ 0) ⊎ ((cond b (successes c h + 1) (successes c h) ≡ 1) × IsMade (e ∷ h))
-      by true ok (inl none) = inr (omega (arith, none), (succeeds h e.step.party k.2 d f ok).2)
-      by true ok (inr one) = let t : _ = succeeds h e.step.party k.2 d f ok in absurd (made_rests h e.step.party k.2 one.1 t.0.section t.0.found t.1 t.0.kind)
+      by : (b : Bool) → (is_success c d (innermost e.step.party (sections h)) || (is_lent_at c e.step.act e.line.answer && runs_to_lend cells h e.step.act)) ≡ b → IsCounted h
+          → (cond b (successes cells c h + 1) (successes cells c h) ≡ 0) ⊎ ((cond b (successes cells c h + 1) (successes cells c h) ≡ 1) × IsMade (e ∷ h))
+      by true ok (inl none) = inr (omega (arith, none), (makes (one_of _ _ ok)).1)
+      by true ok (inr one) = absurd ((makes (one_of _ _ ok)).0 one.1)
       by false ok (inl none) = inl none
       by false ok (inr one) = inr (one.0, made_stays one.1)
 
   -- at most one generator of the cell ends by a value
-  pub one-success : (h : List Event) → IsLegal cells h → successes c h ≤ 1
+  pub one-success : (h : List Event) → IsLegal cells h → successes cells c h ≤ 1
   one-success h k = by (counted h k)
     where
-      by : IsCounted h → successes c h ≤ 1
+      by : IsCounted h → successes cells c h ≤ 1
       by (inl none) = omega (arith, none)
       by (inr one) = omega (arith, one.0)

@@ -7,32 +7,30 @@ use Rattle.schedule_rules.specs.declared.step.Want.TheVariants.{Calls}
 use Rattle.schedule_rules.specs.declared.line.Answer.{Answer}
 use Rattle.schedule_rules.specs.Kinds.{cell_at, tolerance_at}
 use Rattle.schedule_rules.specs.Changes.{Content, Change, is_declined, effect}
-use Rattle.schedule_rules.specs.Deeds.{Makes, Finishes, Deed, Ends, EndsToRead, Drops, DropsToRead, Visits}
+use Rattle.schedule_rules.specs.Deeds.{Makes, Finishes, Deed, Ends, EndsToRead, Drops, DropsToRead, Visits, Lends}
 use Rattle.schedule_rules.specs.History.{Event, accepts, deed_of, count}
 use Rattle.schedule_rules.specs.Sections.{Section, innermost, runs_in, sections}
 use Rattle.schedule_rules.specs.Guards.{Guard, numbered, guards}
 use Rattle.schedule_rules.specs.Replay.{replay, phase_at}
 use Rattle.schedule_rules.specs.Holds.{writes_cell, read_guards, write_holds}
 use Rattle.schedule_rules.specs.Legal.{IsLegal}
-use Rattle.schedule_rules.specs.Laws.{GivesBack, DeclinesAt}
+use Rattle.schedule_rules.specs.Causes.{lends_at}
+use Rattle.schedule_rules.specs.Laws.{GivesBack, DeclinesAt, LendsAt}
 use Rattle.schedule_rules.proofs.Exclusion.{alone}
 use Rattle.schedule_rules.proofs.Found.{found_counts}
 use Rattle.schedule_rules.proofs.Cases.{Asking, Resting}
-use Rattle.schedule_rules.proofs.Finds.{Finds, Tells, finds, tells}
+use Rattle.schedule_rules.proofs.Finds.{Lending, LendsSo, Finds, Tells, finds, tells}
 use Rattle.schedule_rules.proofs.Leaves.{left_at, holds_left, Settles, settles, rests, GivesOf, moves}
-use Rattle.schedule_rules.proofs.Facts.{same_number}
-
--- a number that is found equal is the same
-number_found : (z c : ℕ) → (z == c) ≡ true → z ≡ c
-number_found z c e = grind arith
+use Rattle.schedule_rules.proofs.Facts.{same_number, number_found}
 
 module _ (cells : List CellPlan) (h : List Event) (s : Step) (r : Answer) (legal : IsLegal cells h) where
-  -- it is a call that leaves nothing open
+  -- it is a section at once: a call that leaves nothing open, or a value that is lent
   abbrev IsVisit : Deed → Type 0
   IsVisit (Visits c chs reads) = Unit {0}
+  IsVisit (Lends c chs) = Unit {0}
   IsVisit d = ⊥
 
-  -- where a phase changes that is given back, the cell was held to write, or the deed is such a call
+  -- where a phase changes that is given back, the cell was held to write, or the deed is such a section
   abbrev WasHeld : Deed → ℕ → Content → Content → Type 0
   WasHeld d z y w = w.phase ≢ y.phase → (0 < write_holds z h) ⊎ IsVisit d
 
@@ -61,6 +59,7 @@ module _ (cells : List CellPlan) (h : List Event) (s : Step) (r : Answer) (legal
       by : Asking cells h s.party c f.asked false ⊎ Resting cells h s.party c f.asked → Stays c (replay cells c h) (effect (cell_at cells c) chs (replay cells c h))
       by (inl q) = inr (q.unread (alone cells h legal c))
       by (inr q) = inl (rests cells h s.party (alone cells h legal) c chs f.asked f.does q)
+  untouches (Lends c chs) f = inr f.free.unread
   untouches _ f = tt
 
   pub untouched : (d : Deed) (f : Finds cells h s.party d) (c : ℕ) → Stays c (replay cells c h) (left_at cells h s.party d c)
@@ -73,6 +72,7 @@ module _ (cells : List CellPlan) (h : List Event) (s : Step) (r : Answer) (legal
   gives (Drops g) f = λ w ne. inl (wrote g f.guard f.found w)
   gives (DropsToRead g) f = λ ne. inl (wrote g f.guard f.found f.way)
   gives (Visits c chs reads) f = λ ne. inr tt
+  gives (Lends c chs) f = λ ne. inr tt
   gives _ f = tt
 
   held : (d : Deed) (f : Finds cells h s.party d) (c : ℕ) → WasHeld d c (replay cells c h) (left_at cells h s.party d c)
@@ -81,12 +81,12 @@ module _ (cells : List CellPlan) (h : List Event) (s : Step) (r : Answer) (legal
   module _ (c : ℕ) where
     -- a section of the cell is given back, and no guard reads it
     abbrev IsGiven : Deed → Type 0
-    IsGiven d = ((holds_left cells h s.party d c < write_holds c h) ⊎ DeclinesAt cells h s c) × (read_guards c h ≡ 0)
+    IsGiven d = ((holds_left cells h s.party d c < write_holds c h) ⊎ (DeclinesAt cells h s c ⊎ LendsAt s r c)) × (read_guards c h ≡ 0)
 
     one_less : (d : Deed) (f : Finds cells h s.party d) → (left_at cells h s.party d c).phase ≢ phase_at cells c h → 0 < write_holds c h → IsGiven d
     one_less d f ne was = (by (settles cells h s.party (alone cells h legal) d f c), unread c was)
       where
-        by : Settles cells h s.party d c → (holds_left cells h s.party d c < write_holds c h) ⊎ DeclinesAt cells h s c
+        by : Settles cells h s.party d c → (holds_left cells h s.party d c < write_holds c h) ⊎ (DeclinesAt cells h s c ⊎ LendsAt s r c)
         by (inl same) = absurd (ne (ap (λ y. y.phase) same))
         by (inr none) = let a : _ = none.0 in let b : _ = none.1 in inl (omega (arith, a, b, was))
 
@@ -96,11 +96,11 @@ module _ (cells : List CellPlan) (h : List Event) (s : Step) (r : Answer) (legal
       where
         declined : (z == c) ≡ true → Asking cells h s.party z v.asked false → IsGiven (Visits z chs reads)
         declined same q = (
-          inr (record {
+          inr (inl (record {
             call = v.asked;
             tried = t.tried ∙ ap (λ y. Some (record { cell = y; want = Calls v.asked })) at;
             declines = subst (λ y. is_declined (cell_at cells y).kind (tolerance_at cells y) v.asked (accepts h) (phase_at cells y h) ≡ true) at declines;
-          }),
+          })),
           subst (λ y. read_guards y h ≡ 0) at (q.unread (alone cells h legal z)),
         )
           where
@@ -121,8 +121,19 @@ module _ (cells : List CellPlan) (h : List Event) (s : Step) (r : Answer) (legal
         by true same (inr q) = absurd (ne (still same q))
         by false other q = absurd (ne (ap (λ (b : Bool). (if b then effect (cell_at cells c) chs (replay cells c h) else replay cells c h).phase) other))
 
+    -- a value that is lent
+    lends : (z : ℕ) (chs : List Change) → Lending cells h s.party z chs → LendsSo cells h s.party s.act r z chs → (left_at cells h s.party (Lends z chs) c).phase ≢ phase_at cells c h → IsGiven (Lends z chs)
+    lends z chs f t ne = by (z == c) refl
+      where
+        by : (b : Bool) → (z == c) ≡ b → IsGiven (Lends z chs)
+        by true same =
+            let at : z ≡ c = number_found z c same in
+            (inr (inr (record { lends = subst (λ y. lends_at y s.act ≡ true) at t.lends; answered = t.answered })), subst (λ y. read_guards y h ≡ 0) at f.free.unread)
+        by false other = absurd (ne (ap (λ (b : Bool). (if b then effect (cell_at cells c) chs (replay cells c h) else replay cells c h).phase) other))
+
     published : (d : Deed) → Finds cells h s.party d → Tells cells h s.party s.act r d → (left_at cells h s.party d c).phase ≢ phase_at cells c h → IsGiven d
     published (Visits z chs reads) f t ne = visits z chs reads t ne
+    published (Lends z chs) f t ne = lends z chs f t ne
     published d f t ne = by (held d f c ne)
       where
         by : (0 < write_holds c h) ⊎ ⊥ → IsGiven d

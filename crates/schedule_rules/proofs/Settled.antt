@@ -1,31 +1,36 @@
 -- A phase that has INITIALIZED changes only where a finalizer of its cell ends, and of a plain cell the value stays.
-use Rattle.std.proofs.Common.{◌≡◌, ◌≢◌, ◌⊎◌, inl, inr, ℕ, List, [], ◌∷◌, ◌++◌, refl, sym, ◌∙◌, ap, Bool, true, false, Some}
+use Rattle.std.proofs.Common.{◌≡◌, ◌≢◌, ◌⊎◌, inl, inr, ℕ, List, [], ◌∷◌, ◌++◌, refl, sym, ◌∙◌, ap, subst, arith, Bool, true, false, Some, All}
 use Rattle.std.specs.Prelude.{◌==◌, if◌then◌else◌}
+use Rattle.std.specs.declared.option.Option.{Option}
+use Rattle.std.proofs.lemmas.List.Elements.{All-head, All-tail}
 use Rattle.phase_bits.specs.Flags.{has, initialized}
 use Rattle.lazy_cells.specs.Kinds.{is_plain, is_hard}
 use Rattle.lazy_cells.specs.declared.kind.Kind.{Kind}
 use Rattle.lazy_cells.specs.declared.kind.Kind.TheVariants as kind
 use Rattle.schedule_rules.specs.declared.plan.CellPlan.{CellPlan}
+use Rattle.schedule_rules.specs.declared.step.Act.{Act}
+use Rattle.schedule_rules.specs.declared.line.Answer.{Answer}
 use Rattle.schedule_rules.specs.Kinds.{cell_at, tolerance_at}
-use Rattle.schedule_rules.specs.Changes.{Content, Change, Ran, Asked, Put, Ended, effect}
-use Rattle.schedule_rules.specs.Deeds.{Makes, Finishes, Deed, Ends, EndsToRead, Drops, DropsToRead, Visits}
-use Rattle.schedule_rules.specs.History.{Event, deed_of}
+use Rattle.schedule_rules.specs.Changes.{Content, Change, Ran, Asked, Put, RanIfAsked, Ended, effect}
+use Rattle.schedule_rules.specs.Deeds.{Makes, Finishes, Deed, Ends, EndsToRead, Drops, DropsToRead, Visits, Lends}
+use Rattle.schedule_rules.specs.History.{Event, accepts, deed_of}
 use Rattle.schedule_rules.specs.Sections.{innermost, sections}
 use Rattle.schedule_rules.specs.Guards.{Guard, numbered, guards}
 use Rattle.schedule_rules.specs.Replay.{replay, phase_at}
 use Rattle.schedule_rules.specs.Waits.{cell_of_section}
 use Rattle.schedule_rules.specs.Legal.{IsLegal}
+use Rattle.schedule_rules.specs.Causes.{lends_at}
 use Rattle.schedule_rules.specs.Laws.{IsEndedTurn}
 use Rattle.schedule_rules.proofs.Exclusion.{alone}
 use Rattle.schedule_rules.proofs.Found.{each_found}
-use Rattle.schedule_rules.proofs.Cases.{Asking, Resting}
-use Rattle.schedule_rules.proofs.Finds.{Visit, Finds, Tells, finds, tells}
+use Rattle.schedule_rules.proofs.Cases.{Asking, Resting, AsksToLend, Reach}
+use Rattle.schedule_rules.proofs.Finds.{Visit, Comes, Lending, Finds, Tells, finds, tells}
 use Rattle.schedule_rules.proofs.Leaves.{left_at, GivesOf, moves, rests, asked_value}
-use Rattle.schedule_rules.proofs.Grows.{HasRun, IsReady, wanted-lacks, lacks, sound, initialized-stays}
+use Rattle.schedule_rules.proofs.Grows.{HasRun, IsReady, wanted-lacks, asked-lacks, lacks, sound, initialized-stays}
 use Rattle.schedule_rules.proofs.Opening.{IsOfRun, IsRunning, guards-run}
 use Rattle.schedule_rules.proofs.Kinded.{IsUnplain, unplain}
 use Rattle.schedule_rules.proofs.Finishing.{ended-turn}
-use Rattle.schedule_rules.proofs.Facts.{apart}
+use Rattle.schedule_rules.proofs.Facts.{apart, same_number}
 
 -- a section of sets alone keeps the phase
 puts_keep : (q : CellPlan) (chs : List Change) (y : Content) → IsOfRun chs → HasRun chs ⊎ ((effect q chs y).phase ≡ y.phase)
@@ -33,6 +38,7 @@ puts_keep q [] y r = inr refl
 puts_keep q (Ran o m ∷ chs) y r = inl tt
 puts_keep q (Put v ∷ chs) y r = puts_keep q chs y r
 puts_keep q (Asked o k ∷ chs) y r = absurd r
+puts_keep q (RanIfAsked o m ∷ chs) y r = absurd r
 puts_keep q (Ended fine left ∷ chs) y r = absurd r
 
 -- a plain kind is soft
@@ -58,6 +64,15 @@ module _ (cells : List CellPlan) (h : List Event) (p : ℕ) (legal : IsLegal cel
       by (inl q) = absurd (apart (sym r ∙ wanted-lacks (tolerance_at cells c) (phase_at cells c h) q.wanted))
       by (inr q) = ap (λ y. y.phase) (rests cells h p (alone cells h legal) c chs v.asked v.does q)
 
+  -- no run is asked to lend a value that is there
+  lends : (c : ℕ) (chs : List Change) → Lending cells h p c chs → has (phase_at cells c h) initialized ≡ true → (effect (cell_at cells c) chs (replay cells c h)).phase ≡ phase_at cells c h
+  lends c chs f r = by f.does
+    where
+      by : (AsksToLend cells h p c true × ((made : Option ℕ) × Comes cells h p c chs (Ran (accepts h) made))) ⊎ (Reach cells h p c true × ((left : ℕ) × Comes cells h p c chs (Put left)))
+          → (effect (cell_at cells c) chs (replay cells c h)).phase ≡ phase_at cells c h
+      by (inl a) = absurd (apart (sym r ∙ asked-lacks (cell_at cells c).kind (tolerance_at cells c) (phase_at cells c h) a.0))
+      by (inr a) = ap (λ y. y.phase) a.1.1
+
   -- no generator ended in the section of a guard that stands on a value
   dropped : (g : ℕ) (x : Guard) → numbered g (guards h) ≡ Some x → x.writes ≡ true → has (phase_at cells x.cell h) initialized ≡ true
       → (effect (cell_at cells x.cell) x.changes (replay cells x.cell h)).phase ≡ phase_at cells x.cell h
@@ -74,40 +89,57 @@ module _ (cells : List CellPlan) (h : List Event) (p : ℕ) (legal : IsLegal cel
   gives (Drops g) f = λ w r. inl (dropped g f.guard f.found w r)
   gives (DropsToRead g) f = λ r. inl (dropped g f.guard f.found f.way r)
   gives (Visits z chs reads) f = λ r. inl (visits z chs reads f r)
+  gives (Lends z chs) f = λ r. inl (lends z chs f r)
   gives _ f = tt
 
   settles : (d : Deed) → Finds cells h p d → (c : ℕ) → Settles d c (replay cells c h) (left_at cells h p d c)
   settles d f c = moves cells h p (alone cells h legal) (Settles d) d f (λ z n r. inl refl) (gives d f) c
 
-  -- ---- of a plain cell the value stays too
+  -- ---- of a plain cell the value stays too, where the deed does not lend it
 
-  abbrev KeepsPlain : ℕ → Content → Content → Type 0
-  KeepsPlain z y w = is_plain (cell_at cells z).kind ≡ true → has y.phase initialized ≡ true → w.value ≡ y.value
+  abbrev lends_to : ℕ → Deed → Bool
+  lends_to z (Lends c chs) = c == z
+  lends_to z _ = false
+
+  abbrev KeepsPlain : Deed → ℕ → Content → Content → Type 0
+  KeepsPlain d z y w = lends_to z d ≡ false → is_plain (cell_at cells z).kind ≡ true → has y.phase initialized ≡ true → w.value ≡ y.value
 
   -- no guard writes it
   never : (g : ℕ) (x : Guard) → numbered g (guards h) ≡ Some x → x.writes ≡ true → is_plain (cell_at cells x.cell).kind ≡ true → ⊥
   never g x f w q = apart (sym q ∙ each_found (λ y. y.number == g) (IsUnplain cells) (guards h) x f (unplain cells h legal) w)
 
-  keeps_plain : (d : Deed) (f : Finds cells h p d) → GivesOf cells h p (alone cells h legal) KeepsPlain d f
-  keeps_plain (Ends (Makes made)) f = λ q r. absurd (apart (sym r ∙ lacks cells h p (alone cells h legal) (sound cells h legal) f))
-  keeps_plain (Ends (Finishes b left)) f = λ q r. ap (λ (x : Bool). if x then left else (replay cells f.section.cell h).value) (plain_soft (cell_at cells f.section.cell).kind q)
-  keeps_plain (EndsToRead v) f = λ q r. absurd (apart (sym r ∙ lacks cells h p (alone cells h legal) (sound cells h legal) f))
-  keeps_plain (Drops g) f = λ w q r. absurd (never g f.guard f.found w q)
-  keeps_plain (DropsToRead g) f = λ q r. absurd (never g f.guard f.found f.way q)
-  keeps_plain (Visits z chs reads) f = λ q r. ap (λ l. (effect (cell_at cells z) l (replay cells z h)).value) f.does ∙ asked_value (cell_at cells z) _ f.asked (replay cells z h)
+  keeps_plain : (d : Deed) (f : Finds cells h p d) → GivesOf cells h p (alone cells h legal) (KeepsPlain d) d f
+  keeps_plain (Ends (Makes made)) f = λ n q r. absurd (apart (sym r ∙ lacks cells h p (alone cells h legal) (sound cells h legal) f))
+  keeps_plain (Ends (Finishes b left)) f = λ n q r. ap (λ (x : Bool). if x then left else (replay cells f.section.cell h).value) (plain_soft (cell_at cells f.section.cell).kind q)
+  keeps_plain (EndsToRead v) f = λ n q r. absurd (apart (sym r ∙ lacks cells h p (alone cells h legal) (sound cells h legal) f))
+  keeps_plain (Drops g) f = λ w n q r. absurd (never g f.guard f.found w q)
+  keeps_plain (DropsToRead g) f = λ n q r. absurd (never g f.guard f.found f.way q)
+  keeps_plain (Visits z chs reads) f = λ n q r. ap (λ l. (effect (cell_at cells z) l (replay cells z h)).value) f.does ∙ asked_value (cell_at cells z) _ f.asked (replay cells z h)
+  keeps_plain (Lends z chs) f = λ n q r. absurd (apart (sym (same_number z z refl) ∙ n))
   keeps_plain _ f = tt
 
-  kept_plain : (d : Deed) → Finds cells h p d → (c : ℕ) → KeepsPlain c (replay cells c h) (left_at cells h p d c)
-  kept_plain d f c = moves cells h p (alone cells h legal) KeepsPlain d f (λ z n q r. refl) (keeps_plain d f) c
+  kept_plain : (d : Deed) → Finds cells h p d → (c : ℕ) → KeepsPlain d c (replay cells c h) (left_at cells h p d c)
+  kept_plain d f c = moves cells h p (alone cells h legal) (KeepsPlain d) d f (λ z n m q r. refl) (keeps_plain d f) c
 
--- the value of a plain cell stays once its phase has INITIALIZED
-pub plain-stays : (cells : List CellPlan) (h later : List Event) (c : ℕ) → IsLegal cells (later ++ h) → is_plain (cell_at cells c).kind ≡ true → has (phase_at cells c h) initialized ≡ true
+  -- a deed lends a value by an act that is to lend it
+  lent_by : (a : Act) (r : Answer) (d : Deed) (c : ℕ) → Tells cells h p a r d → lends_at c a ≡ false → lends_to c d ≡ false
+  lent_by a r (Lends z chs) c t n = by (z == c) refl
+    where
+      by : (b : Bool) → (z == c) ≡ b → (z == c) ≡ false
+      by false e = e
+      by true e = let at : z ≡ c = grind arith in absurd (apart (sym (subst (λ y. lends_at y a ≡ true) at t.lends) ∙ n))
+  lent_by a r _ c t n = refl
+
+-- the value of a plain cell stays once its phase has INITIALIZED, while no step is to lend it
+pub plain-stays : (cells : List CellPlan) (h later : List Event) (c : ℕ) → IsLegal cells (later ++ h) → All (λ e. lends_at c e.step.act ≡ false) later → is_plain (cell_at cells c).kind ≡ true → has (phase_at cells c h) initialized ≡ true
     → (has (phase_at cells c (later ++ h)) initialized ≡ true) × ((replay cells c (later ++ h)).value ≡ (replay cells c h).value)
-plain-stays cells h [] c k q r = (r, refl)
-plain-stays cells h (e ∷ later) c k q r =
-    let before : _ = plain-stays cells h later c k.2 q r in (
+plain-stays cells h [] c k n q r = (r, refl)
+plain-stays cells h (e ∷ later) c k n q r =
+    let unlent : _ = All-head (λ e. lends_at c e.step.act ≡ false) e later n in
+    let before : _ = plain-stays cells h later c k.2 (All-tail (λ e. lends_at c e.step.act ≡ false) e later n) q r in (
       initialized-stays cells (later ++ h) e c k before.0,
-      kept_plain cells (later ++ h) e.step.party k.2 (deed_of (later ++ h) e.step e.line.answer) (finds cells (later ++ h) e.step e.line k.0) c q before.0 ∙ before.1,
+      kept_plain cells (later ++ h) e.step.party k.2 (deed_of (later ++ h) e.step e.line.answer) (finds cells (later ++ h) e.step e.line k.0) c
+          (lent_by cells (later ++ h) e.step.party k.2 e.step.act e.line.answer (deed_of (later ++ h) e.step e.line.answer) c (tells cells (later ++ h) e.step e.line k.0) unlent) q before.0 ∙ before.1,
     )
 
 -- a phase that has INITIALIZED and changes, is marked by a finalizer that ends

@@ -5,7 +5,7 @@ use Rattle.std.specs.declared.option.Option.{Option}
 use Rattle.exit_registry.specs.Registry.{first_of}
 use Rattle.phase_locker.specs.declared.tickets.LockNature.TheVariants as nature
 use Rattle.phase_bits.specs.Number.{phase_of}
-use Rattle.lazy_cells.specs.Kinds.{lends_value}
+use Rattle.lazy_cells.specs.Kinds.{is_primed, is_finalizable, lends_value}
 use Rattle.lazy_cells.specs.declared.call.Call.{Call}
 use Rattle.lazy_cells.specs.declared.kind.Kind.{Kind}
 use Rattle.lazy_cells.specs.declared.kind.Kind.TheVariants as kind
@@ -74,6 +74,18 @@ is_lendable true has used e = absurd (cc)
 is_lendable false false used e = absurd (cc)
 is_lendable false true true e = absurd (cc)
 is_lendable false true false e = (refl, refl)
+
+-- kinds that lend a value are not registered
+pub lent_unregistered : (q : Kind) → lends_value q ≡ true → is_finalizable q ≡ false
+lent_unregistered kind.Lazy e = refl
+lent_unregistered kind.LockedLazy e = refl
+lent_unregistered _ e = absurd (cc)
+
+-- nor primed
+pub lent_unprimed : (q : Kind) → lends_value q ≡ true → is_primed q ≡ false
+lent_unprimed kind.Lazy e = refl
+lent_unprimed kind.LockedLazy e = refl
+lent_unprimed _ e = absurd (cc)
 
 -- a value that is made to be lent may be accessed
 pub made_accessible : (q : Kind) (o : Bool) (p : ℕ) → lends_value q ≡ true → is_accessible q (phase_reached q o p Success) ≡ true

@@ -19,7 +19,7 @@ use Rattle.exit_registry.specs.Registry.{is_known}
 use Rattle.lazy_cells.specs.declared.call.Call.{Call}
 use Rattle.schedule_rules.specs.declared.step.Want.TheVariants.{Calls, Turns}
 use Rattle.schedule_rules.specs.Calls.{asks}
-use Rattle.schedule_rules.specs.Deeds.{Makes, Finishes, Deed, Opens, Holds, Ends, EndsToRead, EndsToWrite, Drops, DropsToRead, Visits, Skips}
+use Rattle.schedule_rules.specs.Deeds.{Makes, Finishes, Deed, Opens, Holds, Ends, EndsToRead, EndsToWrite, Drops, DropsToRead, Visits, Lends, Skips}
 use Rattle.schedule_rules.specs.History.{Event, accepts, deed_of}
 use Rattle.schedule_rules.specs.Sections.{Section, is_turn, runs_in, sections}
 use Rattle.schedule_rules.specs.Guards.{Guard, numbered, guards}
@@ -30,6 +30,7 @@ use Rattle.schedule_rules.specs.Legal.{IsLegal}
 use Rattle.schedule_rules.proofs.Exclusion.{alone}
 use Rattle.schedule_rules.proofs.Found.{each_none, each_found}
 use Rattle.schedule_rules.proofs.Cases.{Asking, Resting}
+use Rattle.schedule_rules.proofs.Steps.{lent_unregistered}
 use Rattle.schedule_rules.proofs.Finds.{Inside, Finishing, Visit, accessed_there, Finds, finds}
 use Rattle.schedule_rules.proofs.Leaves.{left_at, sections_left, guards_left, NewOf, Says, sections_say, guards_say, GivesOf, moves, rests}
 use Rattle.schedule_rules.proofs.Registered.{known_taken, fresh-unknown}
@@ -218,6 +219,7 @@ module _ (cells : List CellPlan) (c : ℕ) (kind : is_finalizable (cell_at cells
     gives (Drops g) f = λ w same ne. dropped g f.guard f.found w same
     gives (DropsToRead g) f = λ same ne. dropped g f.guard f.found f.way same
     gives (Visits d chs reads) f = visits d chs reads f
+    gives (Lends d chs) f = λ same ne. absurd (apart (sym (kind_at d same) ∙ lent_unregistered (cell_at cells d).kind f.free.lends))
     gives _ f = tt
 
     others : (d : Deed) (f : Finds cells h p d) → IsOther d → ToldBy (knows h) d

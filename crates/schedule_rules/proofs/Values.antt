@@ -21,19 +21,20 @@ use Rattle.schedule_rules.specs.declared.line.Answer.{Answer}
 use Rattle.schedule_rules.specs.declared.line.Answer.TheVariants as answer
 use Rattle.schedule_rules.specs.Kinds.{cell_at, tolerance_of}
 use Rattle.schedule_rules.specs.Phases.{is_accessible, flags_kept, phase_finalized, value_finalized, finishes_so}
-use Rattle.schedule_rules.specs.Changes.{Content, Change, Ran, Asked, Put, Ended, is_declined, content_after, effect}
-use Rattle.schedule_rules.specs.Deeds.{Makes, Finishes, Deed, Holds, Ends, EndsToRead, EndsToWrite, Drops, DropsToRead, Beside, Puts, Visits}
+use Rattle.schedule_rules.specs.Changes.{Content, Change, Ran, Asked, Put, RanIfAsked, Ended, is_declined, content_of_run, asks_to_lend, content_after, effect}
+use Rattle.schedule_rules.specs.Deeds.{Makes, Finishes, Deed, Holds, Ends, EndsToRead, EndsToWrite, Drops, DropsToRead, Beside, Puts, Visits, Lends}
 use Rattle.schedule_rules.specs.History.{Event, deed_of}
 use Rattle.schedule_rules.specs.Sections.{Section, sections}
 use Rattle.schedule_rules.specs.Guards.{Guard, numbered, without_guard, reader_made, writer_made, reader_beside, guards_by, guards}
 use Rattle.schedule_rules.specs.Replay.{Back, change_of, back_of_section, back_of_guard, back_by, back_of_step, content_after_back, replay, phase_at, inside}
 use Rattle.schedule_rules.specs.Holds.{reads_cell, read_guards}
-use Rattle.schedule_rules.specs.Answers.{answer_opened, answer_denied, answer_made}
+use Rattle.schedule_rules.specs.Answers.{answer_of_value, answer_opened, answer_denied, answer_made}
 use Rattle.schedule_rules.specs.Due.{phase_made}
 use Rattle.schedule_rules.specs.Legal.{IsLegal, IsLegalLine}
+use Rattle.schedule_rules.specs.Causes.{lends_at, runs_to_lend}
 use Rattle.schedule_rules.specs.Laws.{ShowsValue}
 use Rattle.schedule_rules.proofs.Cases.{step, Calling, Reach, form_at, Cases}
-use Rattle.schedule_rules.proofs.Steps.{of_legal}
+use Rattle.schedule_rules.proofs.Steps.{lent_unprimed, of_legal}
 use Rattle.schedule_rules.proofs.Exclusion.{alone}
 use Rattle.schedule_rules.proofs.Found.{each_counted, each_found, each_of, each_removed, each_put}
 use Rattle.schedule_rules.proofs.Leaves.{back_here, NewOf, guards_say, left_at, GivesOf, moves}
@@ -128,13 +129,24 @@ module _ (x : CellPlan) where
       by true = λ e. absurd (apart (sym e))
       by false = t
 
+  ran_true : (o : Bool) (made : Option ℕ) (y : Content) → IsTrue (content_after x (Ran o made) y)
+  ran_true o (Some v) y = λ e. refl
+  ran_true o None y = λ e. absurd (apart (sym (first _ _ e) ∙ has_more (flags_kept x.kind o y.phase) 6 refl ∙ kept_lacks x o y.phase))
+
+  lent_true : (o : Bool) (made : Option ℕ) (y : Content) → IsTrue y → IsTrue (content_after x (RanIfAsked o made) y)
+  lent_true o made y t = by (asks_to_lend x.kind (tolerance_of x) y.phase)
+    where
+      by : (b : Bool) → IsTrue (if b then content_of_run x.kind o made y else y)
+      by true = ran_true o made y
+      by false = t
+
   -- what happens in a section keeps this
   effect_true : (chs : List Change) (y : Content) → IsTrue y → IsTrue (effect x chs y)
   effect_true [] y t = t
-  effect_true (Ran o (Some v) ∷ chs) y t = λ e. refl
-  effect_true (Ran o None ∷ chs) y t = λ e. absurd (apart (sym (first _ _ e) ∙ has_more (flags_kept x.kind o (effect x chs y).phase) 6 refl ∙ kept_lacks x o (effect x chs y).phase))
+  effect_true (Ran o m ∷ chs) y t = ran_true o m (effect x chs y)
   effect_true (Asked o k ∷ chs) y t = asked_true o k (effect x chs y) (effect_true chs y t)
   effect_true (Put v ∷ chs) y t = λ e. refl
+  effect_true (RanIfAsked o m ∷ chs) y t = lent_true o m (effect x chs y) (effect_true chs y t)
   effect_true (Ended fine left ∷ chs) y t = ended_true fine left (effect x chs y) (effect_true chs y t)
 
   -- and no value is lost where no finalizer ends
@@ -144,6 +156,7 @@ module _ (x : CellPlan) where
   effect_stays (Ran o None ∷ chs) y r v = effect_stays chs y r v
   effect_stays (Put w ∷ chs) y r v = refl
   effect_stays (Asked o k ∷ chs) y r v = absurd r
+  effect_stays (RanIfAsked o m ∷ chs) y r v = absurd r
   effect_stays (Ended fine left ∷ chs) y r v = absurd r
 
   -- nor by a call that leaves nothing open
@@ -199,6 +212,7 @@ module _ (cells : List CellPlan) where
     keeps_primed (Drops g) f = λ w q v. dropped_stays g f.guard f.found v
     keeps_primed (DropsToRead g) f = λ q v. dropped_stays g f.guard f.found v
     keeps_primed (Visits c chs reads) f = λ q v. subst (λ l. HasValue (effect (cell_at cells c) l (replay cells c h))) (sym f.does) (asked_stays (cell_at cells c) _ f.asked (replay cells c h) v)
+    keeps_primed (Lends c chs) f = λ q v. absurd (apart (sym q ∙ lent_unprimed (cell_at cells c).kind f.free.lends))
     keeps_primed _ f = tt
 
     -- ---- what the holder of a write guard sees
@@ -322,9 +336,13 @@ module _ (cells : List CellPlan) where
 
     made : (v : ℕ) (f : Form) (q : ℕ) → Showing (act.Made v) (answer_made f v q)
     made v (Told tests) q = tt
-    made v Shown q = inr (inr refl)
+    made v Shown q = inr (inr (inl refl))
     made v (Held true falls_back) q = tt
     made v (Held false falls_back) q = tt
+
+    -- a value that is lent as it is
+    found : (a : Act) (c : ℕ) → lends_at c a ≡ true → runs_to_lend cells h a ≡ false → Reach cells h p c true → Showing a (answer_of_value (replay cells c h))
+    found a c is e f = inr (inr (inr (inl (record { cell = c; lends = is; unasked = e; reached = f; value = shown_so (replay cells c h).value (accessed-value c h f) }))))
 
     shows : Cases cells h p Showing
     shows = record {
@@ -349,6 +367,12 @@ module _ (cells : List CellPlan) where
       downgraded = λ g x f w. tt;
       borrowed = λ g x f w. tt;
       cloned = λ g x f w. tt;
+      lent_made = λ c v left u e. inr (inr (inr (inr (record { cell = c; left = left; acts = refl; asked = e }))));
+      lent_failed = λ c left u e. tt;
+      lent_rested = λ c made left u e f. found (act.GetMut c made left) c (same_number c c refl) e f;
+      lent_denied = λ c made left u e f. tt;
+      lent = λ c left u f. found (act.TryGetMut c left) c (same_number c c refl) refl f;
+      unlent = λ c left u f. tt;
     }
 
   -- a legal line that shows a value shows one that is there

@@ -6,6 +6,7 @@ use Rattle.std.specs.declared.option.Option.{Option}
 use Rattle.exit_registry.specs.Registry.{first_of}
 use Rattle.phase_seq.specs.declared.ask.Want.{Want as Sought}
 use Rattle.lazy_cells.specs.Calls.{asking, has_call}
+use Rattle.lazy_cells.specs.Kinds.{lends_value}
 use Rattle.lazy_cells.specs.declared.call.Call.{Call}
 use Rattle.schedule_rules.specs.declared.plan.CellPlan.{CellPlan}
 use Rattle.schedule_rules.specs.declared.step.Act.{Act}
@@ -21,11 +22,11 @@ use Rattle.schedule_rules.specs.Calls.{seeks, is_fast, lock_asked}
 use Rattle.schedule_rules.specs.History.{Event, count}
 use Rattle.schedule_rules.specs.Exits.{registry}
 use Rattle.schedule_rules.specs.Waits.{Attempt, attempt_of_wait, attempt_of_turn, attempt_with, attempt, Wait, wait_of, waits}
-use Rattle.schedule_rules.specs.Holds.{holding_with, is_barred}
-use Rattle.schedule_rules.specs.Refusals.{refusal, refusal_by, no_call}
+use Rattle.schedule_rules.specs.Holds.{holding_with, is_barred, is_in_use}
+use Rattle.schedule_rules.specs.Refusals.{refusal, refusal_by, refusal_free, no_call, no_lending}
 use Rattle.schedule_rules.specs.Legal.{IsLegal, IsLegalLine, answer_of, due_at}
 use Rattle.schedule_rules.specs.Laws.{ChangesNothing}
-use Rattle.schedule_rules.specs.Causes.{is_waiting, is_attempted, is_made_to_wait, waits_judged, phase_met}
+use Rattle.schedule_rules.specs.Causes.{lends_at, is_waiting, is_attempted, is_made_to_wait, waits_judged, phase_met}
 use Rattle.schedule_rules.proofs.Facts.{first, second, apart, same_number}
 use Rattle.schedule_rules.proofs.Found.{found_passes, only_one, none_counted}
 use Rattle.schedule_rules.proofs.Counts.{one-wait}
@@ -148,18 +149,18 @@ module _ (cells : List CellPlan) where
           let own : wait_of w.party (waits cells h) ≡ Some w = only_one (λ v. v.cell == c) (λ v. v.party == w.party) (waits cells h) w f (same_number w.party w.party refl) (one-wait cells w.party h) in
           absurd (apart (sym o ∙ ap (λ z. is_owned (cell_at cells z).place) (sym at) ∙ waiting-shared h w.party w legal own))
 
-  -- a call on it by another party that does not wait is refused, and changes nothing
-  pub other-refused : (h : List Event) (s : Step) (l : Line) (c : ℕ) (k : Call) → IsLegalLine cells h s l → s.act ≡ act.Call c k → is_of_other (cell_at cells c).place s.party ≡ true
+  -- what is refused as another's of a party that does not wait, changes nothing
+  refused_so : (h : List Event) (s : Step) (l : Line) → IsLegalLine cells h s l → refusal_free cells h s.party s.act ≡ Some refused.NotOwner
       → is_none (wait_of s.party (waits cells h)) ≡ true → (l.answer ≡ answer.Refused refused.NotOwner) × ChangesNothing cells h (record { step = s; line = l })
-  other-refused h s l c k m e o n =
+  refused_so h s l m e n =
       (answered, subst (λ r. ChangesNothing cells h (record { step = s; line = record { answer = r; given = l.given } })) (sym answered) nothing)
     where
-      none : (x : Option Wait) → is_none x ≡ true → refusal_by cells (is_some x) h s.party (act.Call c k) ≡ Some refused.NotOwner
-      none None f = ap (λ b. no_call b (has_call (cell_at cells c).kind k)) o
+      none : (x : Option Wait) → is_none x ≡ true → refusal_by cells (is_some x) h s.party s.act ≡ Some refused.NotOwner
+      none None f = e
       none (Some w) f = absurd (cc)
 
       refuses : refusal cells h s ≡ Some refused.NotOwner
-      refuses = ap (refusal_by cells (is_some (wait_of s.party (waits cells h))) h s.party) e ∙ none (wait_of s.party (waits cells h)) n
+      refuses = none (wait_of s.party (waits cells h)) n
 
       answered : l.answer ≡ answer.Refused refused.NotOwner
       answered = m.answered ∙ ap (λ r. answer_of r (due_at cells m.moment h s l.given m.chosen)) refuses
@@ -175,3 +176,23 @@ module _ (cells : List CellPlan) where
         owner_stays = refl;
         turns_stay = refl;
       }
+
+  -- so is a call on it by another party
+  pub other-refused : (h : List Event) (s : Step) (l : Line) (c : ℕ) (k : Call) → IsLegalLine cells h s l → s.act ≡ act.Call c k → is_of_other (cell_at cells c).place s.party ≡ true
+      → is_none (wait_of s.party (waits cells h)) ≡ true → (l.answer ≡ answer.Refused refused.NotOwner) × ChangesNothing cells h (record { step = s; line = l })
+  other-refused h s l c k m e o n = refused_so h s l m (ap (refusal_free cells h s.party) e ∙ ap (λ b. no_call b (has_call (cell_at cells c).kind k)) o) n
+
+  -- and an act of it that is to lend its value
+  pub lending-refused : (h : List Event) (s : Step) (l : Line) (c : ℕ) → IsLegalLine cells h s l → lends_at c s.act ≡ true → is_of_other (cell_at cells c).place s.party ≡ true
+      → is_none (wait_of s.party (waits cells h)) ≡ true → (l.answer ≡ answer.Refused refused.NotOwner) × ChangesNothing cells h (record { step = s; line = l })
+  lending-refused h s l c m e o n = refused_so h s l m (by s.act e) n
+    where
+      other : (z : ℕ) → (z == c) ≡ true → no_lending (no_call (is_of_other (cell_at cells z).place s.party) (lends_value (cell_at cells z).kind)) (is_in_use cells z h) ≡ Some refused.NotOwner
+      other z f =
+          let at : z ≡ c = grind arith in
+          ap (λ b. no_lending (no_call b (lends_value (cell_at cells z).kind)) (is_in_use cells z h)) (subst (λ y. is_of_other (cell_at cells y).place s.party ≡ true) (sym at) o)
+
+      by : (a : Act) → lends_at c a ≡ true → refusal_free cells h s.party a ≡ Some refused.NotOwner
+      by (act.GetMut z made left) f = other z f
+      by (act.TryGetMut z left) f = other z f
+      by _ f = absurd (apart (sym f))

@@ -88,14 +88,14 @@ is_lent answer.Failed = true
 is_lent _ = false
 
 -- the step lent the value of the cell, or ran its generator to lend it: that is a section at once
-pub record LendsAt (e : Event) (c : ℕ) : Type 0 where
-  pub lends : lends_at c e.step.act ≡ true
-  pub answered : is_lent e.line.answer ≡ true
+pub record LendsAt (s : Step) (r : Answer) (c : ℕ) : Type 0 where
+  pub lends : lends_at c s.act ≡ true
+  pub answered : is_lent r ≡ true
 
 -- the event gives a section of the cell back: there are fewer write holds of the cell afterwards, or it was a section at
 -- once
 abbrev pub GivesBack : List CellPlan → List Event → Event → ℕ → Type 0
-GivesBack cells h e c = (write_holds c (e ∷ h) < write_holds c h) ⊎ (DeclinesAt cells h e.step c ⊎ LendsAt e c)
+GivesBack cells h e c = (write_holds c (e ∷ h) < write_holds c h) ⊎ (DeclinesAt cells h e.step c ⊎ LendsAt e.step e.line.answer c)
 
 -- the step gets a guard to read, and gives this
 abbrev pub read_at : Step → Given → Event
@@ -303,11 +303,15 @@ pub record ChangesCellAlone (cells : List CellPlan) (h : List Event) (e : Event)
   pub nobody : e.line.given ≡ given.Nobody
   pub others_stay : (d : ℕ) → c ≢ d → replay cells d (e ∷ h) ≡ replay cells d h
 
--- the value that the party leaves where one is lent to it
+-- the value that a party leaves to which one is lent
 abbrev pub value_left : Act → Option ℕ
 value_left (act.GetMut c made left) = Some left
 value_left (act.TryGetMut c left) = Some left
 value_left _ = None
+
+-- what the act leaves is published of the cell, and may be accessed
+abbrev pub Leaves : List CellPlan → List Event → ℕ → Act → Type 0
+Leaves cells h c a = ((replay cells c h).value ≡ value_left a) × (is_accessible (cell_at cells c).kind (phase_at cells c h) ≡ true)
 
 -- ---- what is open
 

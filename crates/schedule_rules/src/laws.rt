@@ -13,6 +13,7 @@ ghost use Rattle.std.specs.Prelude.{
   ◌+◌,
   ◌&&◌,
   ◌++◌,
+  All,
   length,
   is_none,
   is_some,
@@ -70,6 +71,9 @@ ghost use Rattle.schedule_rules.specs.Causes.{
   is_round,
   is_closing,
   is_failure,
+  is_refused_in_use,
+  is_step_in_use,
+  lends_at,
   is_barred_step,
   is_missing_step,
   is_running_step,
@@ -92,6 +96,9 @@ ghost use Rattle.schedule_rules.specs.Laws.{
   successes,
   is_initializing,
   IsAsAt,
+  IsUnused,
+  ChangesCellAlone,
+  Leaves,
 };
 ghost use Rattle.exit_registry.specs.Exits.{closed};
 ghost use Rattle.schedule_rules.specs.Transcripts.{Schedule, Account, IsLegalTranscript};
@@ -135,7 +142,8 @@ pub fn steps_run_exactly_where_asked()
 
 /// Each of these answers comes exactly by its cause, at a step that is not refused. Cyclic: the call asks for a run of the
 /// generator that its own party runs. Access: the call is neither cyclic nor barred, runs nothing, is one that is told where
-/// the value may not be accessed, and the value may not be, at the phase that the call leaves. Finalizing and Skipped, with the
+/// the value may not be accessed, and the value may not be, at the phase that the call leaves; or the value of the cell is to
+/// be lent, and may not be accessed, and no run is asked, as a `try_get_mut` never asks for one. Finalizing and Skipped, with the
 /// number of the cell: the turn of this cell is not barred, and its value is there, or is not.
 pub fn answers_come_exactly_by_their_causes()
     ensures cyclic { (cells : List CellPlan) (h : List Event) (s : Step) (l : Line) →
@@ -178,11 +186,12 @@ pub fn turned_back_calls_change_nothing()
         IsWithoutEffect cells h (record { step = s; line = record { answer = answer.Missed; given = g } }) }
 {}
 
-/// A step answers Failed exactly where it ends a generator by a failure and is not refused. It leaves the published value
-/// of the generator's cell as it was, publishes the phase of a failed run there, and changes nothing published elsewhere.
+/// A step answers Failed exactly where it ends a generator by a failure and is not refused: the generator of its party's
+/// innermost section, or that of a `get_mut` on a cell that asks for a run, whose outcome is none. It leaves the published
+/// value of the generator's cell as it was, publishes the phase of a failed run there, and changes nothing published elsewhere.
 pub fn failed_runs_keep_the_value()
     ensures answers { (cells : List CellPlan) (h : List Event) (s : Step) (l : Line) → IsLegalLine cells h s l →
-        is_failed l.answer ≡ (is_none (refusal cells h s) && is_failure s.act) }
+        is_failed l.answer ≡ (is_none (refusal cells h s) && is_failure cells h s.act) }
     ensures changes { (cells : List CellPlan) (h : List Event) (s : Step) (g : Given) (c : ℕ) →
         IsLegalLine cells h s (record { answer = answer.Failed; given = g }) → cell_concerned cells h s ≡ Some c →
         IsFailedRun cells h (record { step = s; line = record { answer = answer.Failed; given = g } }) c }
@@ -223,7 +232,7 @@ pub fn records_bar_what_rules_bar()
 {}
 
 /// The published phase of a cell changes only where a section of the cell is given back, and never while a guard to read
-/// the cell is open.
+/// the cell is open. A value that is lent, and a generator that was to make it and failed, is a section at once.
 pub fn phases_change_where_sections_end()
     ensures { (cells : List CellPlan) (h : List Event) (e : Event) (c : ℕ) → IsLegal cells (e ∷ h) →
         phase_at cells c (e ∷ h) ≢ phase_at cells c h → GivesBack cells h e c × (read_guards c h ≡ 0) }
@@ -243,7 +252,8 @@ pub fn downgrades_keep_sections_out()
 
 /// A value that is shown is there. What an open guard shows has a value: its own section's, where it writes, and else the
 /// published one. A line that shows a value shows the one that is there: a call the published value of its cell, which may
-/// be accessed, a look what the holder of its guard sees, and a run that ends the value that it made.
+/// be accessed, a look what the holder of its guard sees, and a run that ends the value that it made. Where a value is lent,
+/// that is the published one, which may be accessed, or the one that was made to be lent.
 pub fn values_shown_are_there()
     ensures guards { (cells : List CellPlan) (h : List Event) (g : ℕ) (x : Guard) → IsLegal cells h → numbered g (guards h) ≡ Some x →
         is_some (if x.writes then inside cells h x else replay cells x.cell h).value ≡ true }
@@ -252,12 +262,12 @@ pub fn values_shown_are_there()
 {}
 
 /// Once the phase of a plain cell has INITIALIZED, a value is published there, and it stays whatever steps come, also those
-/// of a finalizer. So each later call for the value shows the same.
+/// of a finalizer, until its value is lent. So each later call for the value shows the same.
 pub fn plain_values_stay()
     ensures there { (cells : List CellPlan) (h : List Event) (c : ℕ) → is_plain (cell_at cells c).kind ≡ true →
         has (phase_at cells c h) initialized ≡ true → is_some (replay cells c h).value ≡ true }
     ensures stays { (cells : List CellPlan) (h later : List Event) (c : ℕ) → IsLegal cells (later ++ h) →
-        is_plain (cell_at cells c).kind ≡ true → has (phase_at cells c h) initialized ≡ true →
+        All (λ e. lends_at c e.step.act ≡ false) later → is_plain (cell_at cells c).kind ≡ true → has (phase_at cells c h) initialized ≡ true →
         (replay cells c (later ++ h)).value ≡ (replay cells c h).value }
 {}
 
@@ -277,11 +287,11 @@ pub fn without_retry_one_run()
         (cell_at cells c).retry ≡ false → phase_at cells c h ≡ 0 }
 {}
 
-/// A call that answers Access leaves all sections and guards, and every published value, as they were. Where its line is
+/// A step that answers Access leaves all sections and guards, and every published value, as they were. Where its line is
 /// legal, it leaves every cell but its own, and shows the phase that is then published there. That is the phase as it was, at
-/// which the value may not be accessed, and where the call is one for runs and that phase lacks INITIALIZED, that of a cell
-/// without retry, whose only run has failed or was declined; or the call itself was declined, since its cell is not
-/// registered, and leaves the phase that says so.
+/// which the value may not be accessed, and where its call is one for runs and that phase lacks INITIALIZED, that of a cell
+/// without retry, whose only run has failed or was declined; or the value was to be lent, and no run was asked; or the call
+/// itself was declined, since its cell is not registered, and leaves the phase that says so.
 pub fn access_changes_no_value()
     ensures changes { (cells : List CellPlan) (h : List Event) (s : Step) (p : Phase) (g : Given) →
         KeepsValues cells h (record { step = s; line = record { answer = answer.Access p; given = g } }) }
@@ -290,9 +300,9 @@ pub fn access_changes_no_value()
         IsTurnedAway cells h (record { step = s; line = l }) c p }
 {}
 
-/// A generator of a cell succeeds at most once.
+/// A generator of a cell succeeds at most once: in a section, or in the step that lends its value.
 pub fn generators_succeed_once()
-    ensures { (cells : List CellPlan) (h : List Event) (c : ℕ) → IsLegal cells h → successes c h ≤ 1 }
+    ensures { (cells : List CellPlan) (h : List Event) (c : ℕ) → IsLegal cells h → successes cells c h ≤ 1 }
 {}
 
 /// What is published of a cell stays while a section of it is open: it is what was published there before the step that
@@ -328,11 +338,30 @@ pub fn what_waits_asks_for_a_lock()
 {}
 
 /// At a cell that belongs to a party nothing ever waits. A call on it by another party that does not wait elsewhere is refused
-/// as not the owner's, and changes nothing.
+/// as not the owner's, and changes nothing, and so is an act that is to lend its value.
 pub fn owned_cells_never_wait()
     ensures waits { (cells : List CellPlan) (h : List Event) (c : ℕ) → IsLegal cells h → is_owned (cell_at cells c).place ≡ true →
         count (λ w. w.cell == c) (waits cells h) ≡ 0 }
     ensures refuses { (cells : List CellPlan) (h : List Event) (s : Step) (l : Line) (c : ℕ) (k : Call) → IsLegalLine cells h s l →
         s.act ≡ act.Call c k → is_of_other (cell_at cells c).place s.party ≡ true → is_none (wait_of s.party (waits cells h)) ≡ true →
         (l.answer ≡ answer.Refused refused.NotOwner) × ChangesNothing cells h (record { step = s; line = l }) }
+    ensures keeps { (cells : List CellPlan) (h : List Event) (s : Step) (l : Line) (c : ℕ) → IsLegalLine cells h s l →
+        lends_at c s.act ≡ true → is_of_other (cell_at cells c).place s.party ≡ true → is_none (wait_of s.party (waits cells h)) ≡ true →
+        (l.answer ≡ answer.Refused refused.NotOwner) × ChangesNothing cells h (record { step = s; line = l }) }
+{}
+
+/// A step that is to lend the value of a cell, and is not refused, finds no open guard, no section and no waiting call at the
+/// cell. It leaves what is open and who waits, gives nothing, and changes what is published of its cell alone. Where it shows a
+/// value, that which its party leaves is published afterwards, and may be accessed. A step is refused as InUse exactly where
+/// its party does not wait, and it is to lend the value of a cell that is the party's own or nobody's, of a kind that lends it,
+/// and in use.
+pub fn lent_cells_are_not_in_use()
+    ensures finds { (cells : List CellPlan) (h : List Event) (s : Step) (c : ℕ) →
+        lends_at c s.act ≡ true → is_none (refusal cells h s) ≡ true → IsUnused cells h c }
+    ensures changes { (cells : List CellPlan) (h : List Event) (s : Step) (l : Line) (c : ℕ) → IsLegalLine cells h s l →
+        lends_at c s.act ≡ true → is_none (refusal cells h s) ≡ true → ChangesCellAlone cells h (record { step = s; line = l }) c }
+    ensures leaves { (cells : List CellPlan) (h : List Event) (s : Step) (l : Line) (c v : ℕ) → IsLegalLine cells h s l →
+        lends_at c s.act ≡ true → l.answer ≡ answer.Value v → Leaves cells (record { step = s; line = l } ∷ h) c s.act }
+    ensures refuses { (cells : List CellPlan) (h : List Event) (s : Step) (l : Line) → IsLegalLine cells h s l →
+        is_refused_in_use l.answer ≡ is_step_in_use cells h s }
 {}

@@ -6,4 +6,4 @@ pub returns-clause-there : goal.returns-clause-there
 returns-clause-there x = plain-value
 
 pub returns-clause-stays : goal.returns-clause-stays
-returns-clause-stays x = λ cells h later c k q r. (plain-stays cells h later c k q r).1
+returns-clause-stays x = λ cells h later c k n q r. (plain-stays cells h later c k n q r).1
