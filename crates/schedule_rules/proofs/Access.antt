@@ -12,6 +12,7 @@ use Rattle.phase_locker.specs.declared.ways.Given.{Given}
 use Rattle.phase_seq.specs.Asks.{shall_init}
 use Rattle.phase_seq.specs.declared.tolerance.Tolerance.{Tolerance}
 use Rattle.lazy_cells.specs.declared.call.Call.{Call}
+use Rattle.lazy_cells.specs.declared.call.Call.TheVariants as call
 use Rattle.schedule_rules.specs.declared.plan.CellPlan.{CellPlan}
 use Rattle.schedule_rules.specs.declared.step.Act.{Act}
 use Rattle.schedule_rules.specs.declared.step.Act.TheVariants as act
@@ -32,14 +33,15 @@ use Rattle.schedule_rules.specs.Exits.{registry}
 use Rattle.schedule_rules.specs.Replay.{Back, back_by, back_of_step, replay, phase_at, content_after_back}
 use Rattle.schedule_rules.specs.Waits.{attempt, cell_of_attempt, attempt_of_turn, cell_concerned}
 use Rattle.schedule_rules.specs.Legal.{IsLegal, IsLegalLine}
-use Rattle.schedule_rules.specs.Causes.{lends_at}
+use Rattle.schedule_rules.specs.Causes.{lends_at, runs_to_lend}
 use Rattle.schedule_rules.specs.Laws.{IsTurnedAway, KeepsValues}
 use Rattle.schedule_rules.proofs.Found.{found_passes, each_found}
 use Rattle.schedule_rules.proofs.Leaves.{back_here, back_elsewhere, asked_value}
-use Rattle.schedule_rules.proofs.Cases.{IsTrying, Calling, Asking, Resting, Reach, calling-tries}
+use Rattle.schedule_rules.proofs.Cases.{IsTrying, Calling, Asking, Resting, AsksToLend, Reach, calling-tries}
+use Rattle.schedule_rules.proofs.Attempts.{asks_due}
 use Rattle.schedule_rules.proofs.Means.{Began, Away, Unlent, Means, means}
 use Rattle.schedule_rules.proofs.Grows.{Needs, IsStanding, sound}
-use Rattle.schedule_rules.proofs.Facts.{apart, same_number}
+use Rattle.schedule_rules.proofs.Facts.{apart, same_number, number_found}
 
 -- on the empty phase alone a run is wanted without retry
 empty-where-wanted : (t : Tolerance) (p : ℕ) → shall_init t (phase_of p) ≡ true → t.retry ≡ false → p ≡ 0
@@ -216,6 +218,17 @@ module _ (cells : List CellPlan) where
       by : (o : Option Section) → find (runs_in c) (sections h) ≡ o → generates_for p o ≡ true → phase_at cells c h ≡ 0
       by None e g = absurd (cc)
       by (Some s) e g = needed s e s.want refl g (each_found (runs_in c) (IsStanding cells h) (sections h) s e (sound cells h k).standing)
+
+  -- nor is a value made on another phase, to be lent
+  pub lends_on_empty : (h : List Event) (s : Step) (c : ℕ) → lends_at c s.act ≡ true → runs_to_lend cells h s.act ≡ true → (cell_at cells c).retry ≡ false → phase_at cells c h ≡ 0
+  lends_on_empty h s c e asked once = by s.act e asked
+    where
+      empty : AsksToLend cells h s.party c true → phase_at cells c h ≡ 0
+      empty a = empty-where-wanted (tolerance_at cells c) (phase_at cells c h) (asks_due (cell_at cells c).kind (tolerance_at cells c) call.Init (phase_at cells c h) a) once
+
+      by : (a : Act) → lends_at c a ≡ true → runs_to_lend cells h a ≡ true → phase_at cells c h ≡ 0
+      by (act.GetMut z made left) e r = empty (subst (λ y. AsksToLend cells h s.party y true) (number_found z c e) r)
+      by _ e r = absurd (apart (sym r))
 
 -- what may not access the value leaves every value, and what is open
 pub keeps_values : (cells : List CellPlan) (h : List Event) (s : Step) (p : Phase) (g : Given) → KeepsValues cells h (record { step = s; line = record { answer = answer.Access p; given = g } })

@@ -74,6 +74,7 @@ ghost use Rattle.schedule_rules.specs.Causes.{
   is_refused_in_use,
   is_step_in_use,
   lends_at,
+  runs_to_lend,
   is_barred_step,
   is_missing_step,
   is_running_step,
@@ -277,14 +278,16 @@ pub fn initialized_stays()
         has (phase_at cells c h) initialized ≡ true → has (phase_at cells c (e ∷ h)) initialized ≡ true }
 {}
 
-/// Without retry a run begins only on the empty phase, and while it goes on the phase stays empty. So a cell without
-/// retry whose phase is not empty never runs its generator.
+/// Without retry a run begins only on the empty phase, and while it goes on the phase stays empty. So it is with a run that
+/// ends in its own step, to lend the value. So a cell without retry whose phase is not empty never runs its generator.
 pub fn without_retry_one_run()
     ensures begins { (cells : List CellPlan) (h : List Event) (s : Step) (l : Line) (c : ℕ) → IsLegalLine cells h s l →
         l.answer ≡ answer.Running → cell_concerned cells h s ≡ Some c → (cell_at cells c).retry ≡ false →
         phase_at cells c h ≡ 0 }
     ensures runs { (cells : List CellPlan) (h : List Event) (p c : ℕ) → IsLegal cells h → runs p c h ≡ true →
         (cell_at cells c).retry ≡ false → phase_at cells c h ≡ 0 }
+    ensures lends { (cells : List CellPlan) (h : List Event) (s : Step) (c : ℕ) → lends_at c s.act ≡ true →
+        runs_to_lend cells h s.act ≡ true → (cell_at cells c).retry ≡ false → phase_at cells c h ≡ 0 }
 {}
 
 /// A step that answers Access leaves all sections and guards, and every published value, as they were. Where its line is
@@ -345,7 +348,7 @@ pub fn owned_cells_never_wait()
     ensures refuses { (cells : List CellPlan) (h : List Event) (s : Step) (l : Line) (c : ℕ) (k : Call) → IsLegalLine cells h s l →
         s.act ≡ act.Call c k → is_of_other (cell_at cells c).place s.party ≡ true → is_none (wait_of s.party (waits cells h)) ≡ true →
         (l.answer ≡ answer.Refused refused.NotOwner) × ChangesNothing cells h (record { step = s; line = l }) }
-    ensures keeps { (cells : List CellPlan) (h : List Event) (s : Step) (l : Line) (c : ℕ) → IsLegalLine cells h s l →
+    ensures lends { (cells : List CellPlan) (h : List Event) (s : Step) (l : Line) (c : ℕ) → IsLegalLine cells h s l →
         lends_at c s.act ≡ true → is_of_other (cell_at cells c).place s.party ≡ true → is_none (wait_of s.party (waits cells h)) ≡ true →
         (l.answer ≡ answer.Refused refused.NotOwner) × ChangesNothing cells h (record { step = s; line = l }) }
 {}

@@ -24,10 +24,10 @@ pub use form::{Form, form_of};
 pub use laws::{
     access_changes_no_value, answers_come_exactly_by_their_causes, downgrades_keep_sections_out,
     failed_runs_keep_the_value, generators_succeed_once, holds_exclude_each_other,
-    initialized_stays, looks_tell_what_is_registered, one_transcript_is_legal,
-    only_initializing_calls_run, owned_cells_never_wait, phases_change_where_sections_end,
-    plain_values_stay, records_bar_what_rules_bar, refused_steps_change_nothing,
-    steps_run_exactly_where_asked, steps_wait_exactly_where_barred,
+    initialized_stays, lent_cells_are_not_in_use, looks_tell_what_is_registered,
+    one_transcript_is_legal, only_initializing_calls_run, owned_cells_never_wait,
+    phases_change_where_sections_end, plain_values_stay, records_bar_what_rules_bar,
+    refused_steps_change_nothing, steps_run_exactly_where_asked, steps_wait_exactly_where_barred,
     turned_back_calls_change_nothing, values_shown_are_there, waiting_calls_are_not_cyclic,
     what_waits_asks_for_a_lock, without_retry_one_run, write_guards_stand_on_what_is_published,
 };

@@ -7,5 +7,5 @@ returns-clause-waits x = owned-never-waits
 pub returns-clause-refuses : goal.returns-clause-refuses
 returns-clause-refuses x = other-refused
 
-pub returns-clause-keeps : goal.returns-clause-keeps
-returns-clause-keeps x = lending-refused
+pub returns-clause-lends : goal.returns-clause-lends
+returns-clause-lends x = lending-refused
