@@ -29,6 +29,7 @@ PLAIN = ("Lazy", "LazyFinalize")
 PRIMED = ("PrimedLockedLazy", "PrimedLockedLazyDroped")
 HARD = ("LockedLazyDroped", "PrimedLockedLazyDroped")
 FINALIZED_KINDS = ("LazyFinalize", "LockedLazyFinalize") + HARD
+LENDING_KINDS = ("Lazy", "LockedLazy")
 KINDS = PLAIN + ("LockedLazy", "LockedLazyFinalize", "LockedLazyDroped") + PRIMED
 
 # What a call seeks of its cell, what it answers, and whether it does not wait. An init of a locked kind seeks to write, and
@@ -54,6 +55,7 @@ CALLS = {
     "turn": Call("finalize", None),
 }
 LOCKED_CALLS = [name for name, call in CALLS.items() if call.answers == "guard"]
+LENDS = ("get_mut", "try_get_mut")  # the acts by which the value of a cell that is not in use is lent for a step
 
 # What the plan says of a cell: its kind, its place (the party that it belongs to, or how its calls wait), whether its
 # generator runs once, whether it also runs where registration is refused, and the value that it has from the start.
@@ -83,6 +85,8 @@ class Cell:
         kind = self.plan.kind
         if name in ("phase", "init"):
             return True
+        if name in LENDS:
+            return kind in LENDING_KINDS
         if name in ("get", "try_get"):
             return kind in PLAIN
         return kind in PRIMED if name.startswith("primed") else kind not in PLAIN
@@ -166,12 +170,14 @@ class Model:
             return None if act == "again" else "refused 1 Waits"
         if act == "again":
             return "refused 2 NotWaiting"
-        if act in CALLS:
+        if act in CALLS or act in LENDS:
             cell = self.cells[args[0]]
             if cell.plan.place not in ("park", "spin", party):
                 return "refused 3 NotOwner"
             if not cell.has_call(act):
                 return "refused 4 NoSuchCall"
+            if act in LENDS and self.is_in_use(args[0]):
+                return "refused 9 InUse"
         if act in ("look", "set", "release", "downgrade", "clone"):
             guard = self.guards.get(args[0])
             if guard is None or guard.party != party or (act == "clone" and guard.writes):
@@ -190,6 +196,13 @@ class Model:
                 return "refused 11 Inside"
         return None
 
+    def is_in_use(self, number):
+        """A guard of the cell is open, a section of it goes on, or a call waits at it."""
+        cell = self.cells[number]
+        holders = (cell.runner, cell.finalizer, cell.writer)
+        is_held = cell.guards > 0 or any(holder is not None for holder in holders)
+        return is_held or any(call is not None and call[1] == number for call in self.waiting)
+
     def ends_so(self, section, act, args):
         if section.call != "turn" or act not in ("finished", "finish_failed"):
             return section.call != "turn" and act in ("made", "made_failed")
@@ -201,6 +214,8 @@ class Model:
             return self.call(party, *self.waiting[party])
         if act in CALLS:
             return self.call(party, act, args[0])
+        if act in LENDS:
+            return self.lend(*args)
         if act in ("made", "made_failed"):
             return self.outcome(party, args)
         if act in ("finished", "finish_failed"):
@@ -227,6 +242,21 @@ class Model:
         if act == "downgrade":
             return self.read_guard(party, guard.cell)
         return "done" + cell.hand_over()
+
+    def lend(self, number, *values):
+        """Lends the value that is found, and leaves the last of these in its place. Before that, where there are two, the
+        generator makes the first of them, or fails, if a run is due."""
+        cell = self.cells[number]
+        made, left = values if len(values) == 2 else (None, *values)
+        if made is not None and cell.wants_run():
+            if made == "fail":
+                cell.phase = FAILED
+                return "failed"
+            cell.phase, cell.value = INITIALIZED, made
+        if not cell.is_accessible():
+            return "access " + PHASES[cell.phase]
+        found, cell.value = cell.value, left
+        return f"value {found}"
 
     def exit(self, party):
         """The turn of the next cell of the round, or, where none is left, a look: it takes the cells registered since the
@@ -451,10 +481,22 @@ class Player:
             return ("downgrade", guard) if draw() < 0.3 else ("set", guard, number(self.greatest))
         if self.mixed and draw() < 0.7:
             cell = number(self.cells)
+            if draw() < 0.1:
+                return self.draw_lending(cell)
             calls = [name for name in CALLS if name != "turn" and (model.cells[cell].has_call(name) or draw() < 0.05)]
             return (self.random.choice(calls), cell)
         call = "phase" if draw() < 0.1 else "read" if draw() < 0.6 else "write"
         return (call, number(self.cells))
+
+    def draw_lending(self, cell):
+        """A value that is to be lent, mostly of a cell of a kind that lends it."""
+        draw, number = self.random.random, self.random.randrange
+        lending = [cell for cell, plan in enumerate(self.plan) if plan.kind in LENDING_KINDS]
+        if lending and draw() < 0.9:
+            cell = self.random.choice(lending)
+        if draw() < 0.3:
+            return ("try_get_mut", cell, number(self.greatest))
+        return ("get_mut", cell, "fail" if draw() < 0.3 else number(self.greatest), number(self.greatest))
 
     def is_exit_time(self, party):
         """Whether the party that exits does so now: rarely inside a section, where it is refused, and rarely beside guards of

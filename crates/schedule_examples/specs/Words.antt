@@ -97,6 +97,18 @@ downgrade p g = step p (act.Downgrade g)
 abbrev pub clone : ℕ → ℕ → Step
 clone p g = step p (act.Clone g)
 
+-- the value of the cell is to be lent, and the generator makes this one if it runs. The last is left there
+abbrev pub get_mut : ℕ → ℕ → ℕ → ℕ → Step
+get_mut p c v left = step p (act.GetMut c (Some v) left)
+
+-- the same, and the generator fails if it runs
+abbrev pub get_mut_failing : ℕ → ℕ → ℕ → Step
+get_mut_failing p c left = step p (act.GetMut c None left)
+
+-- the same without a run
+abbrev pub try_get_mut : ℕ → ℕ → ℕ → Step
+try_get_mut p c left = step p (act.TryGetMut c left)
+
 abbrev pub exit : ℕ → Step
 exit p = step p act.Exit
 
@@ -272,6 +284,9 @@ no_section = refusal refused.NoSection
 
 abbrev pub no_outcome : Line
 no_outcome = refusal refused.NoOutcome
+
+abbrev pub in_use : Line
+in_use = refusal refused.InUse
 
 abbrev pub exit_begun : Line
 exit_begun = refusal refused.ExitBegun

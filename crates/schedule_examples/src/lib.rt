@@ -10,6 +10,7 @@ pub mod failures;
 pub mod first;
 pub mod guards;
 pub mod legality;
+pub mod lent;
 pub mod nesting;
 pub mod once;
 pub mod owned;

@@ -4,10 +4,10 @@ ghost use Rattle.std.specs.Prelude.{[], ◌∷◌, ◌≡◌, ◌++◌, codes};
 ghost use Rattle.schedule_text.specs.ScheduleText.{schedule_text};
 ghost use Rattle.schedule_text.specs.TranscriptText.{transcript_text};
 ghost use Rattle.schedule_examples.specs.Examples.{Goes, GoesWith};
-ghost use Rattle.schedule_examples.specs.Cells.{own_cell, own_lazy_cell, parking_primed_dropped_cell, cell, once_cell, exit_cell, parking_exit_cell, leaking_cell, parking_once_leaking_cell};
+ghost use Rattle.schedule_examples.specs.Cells.{own_cell, own_lazy_cell, lazy_cell, parking_primed_dropped_cell, cell, once_cell, exit_cell, parking_exit_cell, leaking_cell, parking_once_leaking_cell};
 ghost use Rattle.schedule_examples.specs.FirstSteps.{empty_schedule, empty_account, first_rows, first_finals, first_schedule, first_account, once_rows, once_finals, once_schedule, once_account};
 ghost use Rattle.schedule_examples.specs.ExitSteps.{skipping_rows, skipping_finals, skipping_turns, skipping_schedule, skipping_account, finalizing_rows, finalizing_finals, finalizing_turns, finalizing_schedule, finalizing_account, closing_rows, closing_finals, closing_turns, closing_schedule, closing_account};
-ghost use Rattle.schedule_examples.specs.KindSteps.{primed_rows, primed_finals, primed_turns, primed_schedule, primed_account, own_rows, own_finals, own_schedule, own_account, worded_schedule};
+ghost use Rattle.schedule_examples.specs.KindSteps.{primed_rows, primed_finals, primed_turns, primed_schedule, primed_account, own_rows, own_finals, own_schedule, own_account, lent_rows, lent_finals, lent_schedule, lent_account, worded_schedule};
 
 /// The texts of a schedule without parties, cells and steps.
 pub fn the_empty_schedule_is_spelled()
@@ -114,7 +114,22 @@ pub fn the_schedule_of_own_cells_is_spelled()
         ++ codes "cell 0 Phase (not initialized) none\ncell 1 Phase (Initialized) 6\nend\n" }
 {}
 
-/// The words of each kind, place and option, of each call, and of each end of a finalizer.
+/// The texts of a cell whose value is lent once nobody uses it, and of one that is lent empty.
+pub fn the_schedule_of_lent_values_is_spelled()
+    ensures goes { Goes (cell ∷ lazy_cell ∷ []) lent_rows lent_finals }
+    ensures schedule { schedule_text lent_schedule
+        ≡ codes "schedule 1\nparties 3\ncell LockedLazy spin\ncell Lazy spin\nsteps\n"
+        ++ codes "0 write 0\n0 made 3\n1 read 0\n2 get_mut 0 1 2\n0 release 1\n1 again\n1 release 5\n"
+        ++ codes "2 get_mut 0 1 2\n2 try_get_mut 0 6\n"
+        ++ codes "0 try_get_mut 1 3\n0 get_mut 1 fail 3\n0 get_mut 1 8 3\n0 try_get 1\nend\n" }
+    ensures transcript { transcript_text lent_account
+        ≡ codes "transcript 1\n0 running\n1 write-guard\n2 waiting spin\n3 refused 9 InUse\n4 done\n"
+        ++ codes "5 read-guard\n6 done\n7 value 3\n8 value 2\n"
+        ++ codes "9 access Phase (not initialized)\n10 failed\n11 value 8\n12 value 3\n"
+        ++ codes "cell 0 Phase (Initialized) 6\ncell 1 Phase (Initialized) 3\nend\n" }
+{}
+
+/// The words of each kind, place and option, of each call, of each end of a finalizer, and of values that are lent.
 pub fn the_words_of_a_schedule_are_spelled()
     ensures { schedule_text worded_schedule
         ≡ codes "schedule 1\nparties 3\ncell Lazy spin\ncell LazyFinalize park once\ncell LockedLazy own 2\n"
@@ -123,5 +138,6 @@ pub fn the_words_of_a_schedule_are_spelled()
         ++ codes "0 phase 0\n0 try_get 0\n1 get 1\n0 init 2\n0 read 3\n0 write 3\n0 fast_read 4\n0 fast_write 4\n"
         ++ codes "0 try_read 5\n0 try_write 5\n0 fast_try_read 6\n0 fast_try_write 6\n0 primed_read 5\n0 primed_write 5\n"
         ++ codes "0 primed_read_non_initializing 6\n0 primed_write_non_initializing 6\n"
-        ++ codes "2 finished\n2 finished 0\n2 finish_failed\n2 finish_failed 10\nend\n" }
+        ++ codes "2 finished\n2 finished 0\n2 finish_failed\n2 finish_failed 10\n"
+        ++ codes "0 get_mut 0 11 12\n1 get_mut 0 fail 13\n2 try_get_mut 2 14\nend\n" }
 {}

@@ -37,6 +37,8 @@ rest_is (act.Downgrade g) = refl
 rest_is (act.Clone g) = refl
 rest_is (act.Finished left) = refl
 rest_is (act.FinishFailed left) = refl
+rest_is (act.GetMut c made left) = refl
+rest_is (act.TryGetMut c left) = refl
 rest_is act.Exit = refl
 
 step_is : (s : Step) → step_text s ≡ decimal s.party ++ (32 ∷ act_text s.act)

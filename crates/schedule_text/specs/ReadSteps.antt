@@ -206,6 +206,42 @@ exit_at bytes = do
   rest ← bytes_after (codes "exit\n") bytes
   Some (act.Exit, rest)
 
+-- the value that a generator makes, or else that it fails
+abbrev pub outcome_else : Field ℕ → List ℕ → Field (Option ℕ)
+outcome_else (Some v) bytes = Some (Some v.0, v.1)
+outcome_else None bytes = bytes_after (codes "fail") bytes >>= λ rest. Some (None, rest)
+
+-- the outcome of a generator that runs where a value is to be lent
+unfoldable pub outcome_at : List ℕ → Field (Option ℕ)
+outcome_at bytes = outcome_else (number_at bytes) bytes
+
+-- a cell that is to lend its value, the outcome of its generator, and the value that is left
+unfoldable pub get_mut_at : List ℕ → Field Act
+get_mut_at bytes = do
+  start ← bytes_after (codes "get_mut ") bytes
+  c ← name_at start
+  middle ← bytes_after (codes " ") c.1
+  made ← outcome_at middle
+  rest ← bytes_after (codes " ") made.1
+  left ← last_number_at rest
+  Some (act.GetMut c.0 made.0 left.0, left.1)
+
+-- the same without a run
+unfoldable pub try_get_mut_at : List ℕ → Field Act
+try_get_mut_at bytes = do
+  start ← bytes_after (codes "try_get_mut ") bytes
+  c ← name_at start
+  rest ← bytes_after (codes " ") c.1
+  left ← last_number_at rest
+  Some (act.TryGetMut c.0 left.0, left.1)
+
+-- a call, or else a value that is lent, with the letter of a call
+unfoldable pub called_or_get_mut_at : List ℕ → Field Act
+called_or_get_mut_at bytes = call_else (first_word plain_calls bytes) (get_mut_at bytes)
+
+unfoldable pub called_or_try_get_mut_at : List ℕ → Field Act
+called_or_try_get_mut_at bytes = call_else (first_word try_calls bytes) (try_get_mut_at bytes)
+
 -- what an act is, its first letter tells
 unfoldable pub act_at : List ℕ → Field Act
 act_at [] = None
@@ -219,9 +255,10 @@ act_at (b ∷ bytes) =
     else (if b == 99 then clone_at (b ∷ bytes)
     else (if b == 101 then exit_at (b ∷ bytes)
     else (if b == 102 then called_or_finished_at (b ∷ bytes)
-    else (if b == 116 then called_at try_calls (b ∷ bytes)
+    else (if b == 103 then called_or_get_mut_at (b ∷ bytes)
+    else (if b == 116 then called_or_try_get_mut_at (b ∷ bytes)
     else (if b == 112 then called_at phase_calls (b ∷ bytes)
-    else called_at plain_calls (b ∷ bytes)))))))))))
+    else called_at plain_calls (b ∷ bytes))))))))))))
 
 -- a step: its party and its act
 unfoldable pub step_at : List ℕ → Field Step

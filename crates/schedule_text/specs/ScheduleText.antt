@@ -73,6 +73,11 @@ abbrev pub left_words : Option ℕ → List Word
 left_words None = []
 left_words (Some v) = decimal v ∷ []
 
+-- the outcome of a generator that runs where a value is to be lent: the value that it makes, or that it fails
+abbrev pub outcome_word : Option ℕ → Word
+outcome_word None = codes "fail"
+outcome_word (Some v) = decimal v
+
 -- the words of an act
 abbrev pub act_words : Act → List Word
 act_words (act.Call c k) = call_name k ∷ decimal c ∷ []
@@ -86,6 +91,8 @@ act_words (act.Downgrade g) = codes "downgrade" ∷ decimal g ∷ []
 act_words (act.Clone g) = codes "clone" ∷ decimal g ∷ []
 act_words (act.Finished left) = codes "finished" ∷ left_words left
 act_words (act.FinishFailed left) = codes "finish_failed" ∷ left_words left
+act_words (act.GetMut c made left) = codes "get_mut" ∷ decimal c ∷ outcome_word made ∷ decimal left ∷ []
+act_words (act.TryGetMut c left) = codes "try_get_mut" ∷ decimal c ∷ decimal left ∷ []
 act_words act.Exit = codes "exit" ∷ []
 
 -- the line of a cell
@@ -110,10 +117,10 @@ most_bytes = 2 ^ 24
 abbrev pub schedule_text : Schedule → List ℕ
 schedule_text x = lines_text (schedule_lines x)
 
--- a value that a finalizer left is below 2^64
-abbrev pub LeftFits : Option ℕ → Type 0
-LeftFits None = Unit {0}
-LeftFits (Some v) = v < 2 ^ 64
+-- a value is below 2^64, where there is one
+abbrev pub ValueFits : Option ℕ → Type 0
+ValueFits None = Unit {0}
+ValueFits (Some v) = v < 2 ^ 64
 
 -- the numbers of an act are below their limits: those that name a cell or a guard below 2^32, values below 2^64
 abbrev pub ActFits : Act → Type 0
@@ -126,8 +133,10 @@ ActFits (act.Set g v) = (g < 2 ^ 32) × (v < 2 ^ 64)
 ActFits (act.Release g) = g < 2 ^ 32
 ActFits (act.Downgrade g) = g < 2 ^ 32
 ActFits (act.Clone g) = g < 2 ^ 32
-ActFits (act.Finished left) = LeftFits left
-ActFits (act.FinishFailed left) = LeftFits left
+ActFits (act.Finished left) = ValueFits left
+ActFits (act.FinishFailed left) = ValueFits left
+ActFits (act.GetMut c made left) = (c < 2 ^ 32) × ValueFits made × (left < 2 ^ 64)
+ActFits (act.TryGetMut c left) = (c < 2 ^ 32) × (left < 2 ^ 64)
 ActFits act.Exit = Unit {0}
 
 -- the numbers of a step are below their limits

@@ -38,6 +38,7 @@ refusal_words refused.NoGuard = codes "5" ∷ codes "NoGuard" ∷ []
 refusal_words refused.NotWriter = codes "6" ∷ codes "NotWriter" ∷ []
 refusal_words refused.NoSection = codes "7" ∷ codes "NoSection" ∷ []
 refusal_words refused.NoOutcome = codes "8" ∷ codes "NoOutcome" ∷ []
+refusal_words refused.InUse = codes "9" ∷ codes "InUse" ∷ []
 refusal_words refused.ExitBegun = codes "10" ∷ codes "ExitBegun" ∷ []
 refusal_words refused.Inside = codes "11" ∷ codes "Inside" ∷ []
 

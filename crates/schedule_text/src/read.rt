@@ -58,4 +58,6 @@ pub fn read_schedule(alloc: Global, text: &[u8]) -> Result<(Plan, Vec<Step>), Re
 }
 
 #[cfg(test)]
+mod bad_line_tests;
+#[cfg(test)]
 mod tests;

@@ -103,6 +103,7 @@ impl Page {
             Refusal::NotWriter => self.put(b"refused 6 NotWriter\n"),
             Refusal::NoSection => self.put(b"refused 7 NoSection\n"),
             Refusal::NoOutcome => self.put(b"refused 8 NoOutcome\n"),
+            Refusal::InUse => self.put(b"refused 9 InUse\n"),
             Refusal::ExitBegun => self.put(b"refused 10 ExitBegun\n"),
             Refusal::Inside => self.put(b"refused 11 Inside\n"),
         }

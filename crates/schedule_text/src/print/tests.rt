@@ -95,6 +95,7 @@ const OTHERS: &[u8] = b"transcript 1
 16 none
 17 refused 3 NotOwner
 18 refused 4 NoSuchCall
+19 refused 9 InUse
 cell 0 Phase (not initialized) none
 cell 1 Phase (Initialization panicked | Initialization skiped) none
 end
@@ -191,6 +192,7 @@ fn transcripts_are_printed(rt: HostRuntime) -> Result<(), Fail> {
         Answer::Missed,
         Answer::Refused(Refusal::NotOwner),
         Answer::Refused(Refusal::NoSuchCall),
+        Answer::Refused(Refusal::InUse),
     ];
     let left = |phase, value| Final { phase, value };
     let set = left(Phase::INITIALIZED, Some(33));

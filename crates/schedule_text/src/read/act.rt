@@ -2,9 +2,9 @@
 
 ghost use Rattle.std.specs.Prelude.{◌≡◌};
 ghost use Rattle.schedule_text.specs.ReadFields.{Gives};
-ghost use Rattle.schedule_text.specs.ReadSteps.{call_at, plain_calls, try_calls, fast_calls, phase_calls, first_word, called_at, called_or_release_at, release_at, made_at, look_at, set_at, downgrade_at, clone_at, again_at, left_at, finished_at, called_or_finished_at, exit_at, act_at};
+ghost use Rattle.schedule_text.specs.ReadSteps.{call_at, plain_calls, try_calls, fast_calls, phase_calls, first_word, called_at, called_or_release_at, release_at, made_at, look_at, set_at, downgrade_at, clone_at, again_at, left_at, finished_at, called_or_finished_at, outcome_at, get_mut_at, try_get_mut_at, called_or_get_mut_at, called_or_try_get_mut_at, exit_at, act_at};
 
-use super::field::{after_word, first_byte, last_u32, last_u64, number_u32};
+use super::field::{after_word, first_byte, last_u32, last_u64, number_u32, number_u64};
 use schedule_rules::{Act, Call};
 
 /// The cell of a call.
@@ -99,15 +99,6 @@ fn called(text: &[u8]) -> Option<(Act, &[u8])>
     ensures { Gives (λ found. (found.0, found.1.now)) result (called_at plain_calls text.now) }
 {
     let (call, rest) = plain_call(text)?;
-    cell_of(call, rest)
-}
-
-/// A call that begins with a `t`, and its cell.
-#[tactic(auto, unfolding(crate::specs::ReadSteps::called_at))]
-fn tried(text: &[u8]) -> Option<(Act, &[u8])>
-    ensures { Gives (λ found. (found.0, found.1.now)) result (called_at try_calls text.now) }
-{
-    let (call, rest) = try_call(text)?;
     cell_of(call, rest)
 }
 
@@ -222,6 +213,60 @@ fn called_or_finished(text: &[u8]) -> Option<(Act, &[u8])>
     }
 }
 
+/// The outcome of a generator that runs where a value is to be lent: `v`, or else `fail`.
+#[tactic(auto, unfolding(crate::specs::ReadSteps::outcome_at))]
+fn outcome(text: &[u8]) -> Option<(Option<u64>, &[u8])>
+    ensures { Gives (λ found. (found.0, found.1.now)) result (outcome_at text.now) }
+{
+    match number_u64(text) {
+        Some((value, rest)) => Some((Some(value), rest)),
+        None => Some((None, after_word(text, b"fail")?)),
+    }
+}
+
+/// `get_mut c v v'`, where `v` may be `fail`.
+#[tactic(auto, unfolding(crate::specs::ReadSteps::get_mut_at))]
+fn get_mut(text: &[u8]) -> Option<(Act, &[u8])>
+    ensures { Gives (λ found. (found.0, found.1.now)) result (get_mut_at text.now) }
+{
+    let (cell, rest) = number_u32(after_word(text, b"get_mut ")?)?;
+    let (made, rest) = outcome(after_word(rest, b" ")?)?;
+    let (left, rest) = last_u64(after_word(rest, b" ")?)?;
+    Some((Act::GetMut { cell, made, left }, rest))
+}
+
+/// `try_get_mut c v`.
+#[tactic(auto, unfolding(crate::specs::ReadSteps::try_get_mut_at))]
+fn try_get_mut(text: &[u8]) -> Option<(Act, &[u8])>
+    ensures { Gives (λ found. (found.0, found.1.now)) result (try_get_mut_at text.now) }
+{
+    let (cell, rest) = number_u32(after_word(text, b"try_get_mut ")?)?;
+    let (left, rest) = last_u64(after_word(rest, b" ")?)?;
+    Some((Act::TryGetMut { cell, left }, rest))
+}
+
+/// A call, or else `get_mut`, which begins with the letter of a call.
+#[tactic(auto, unfolding(crate::specs::ReadSteps::called_or_get_mut_at))]
+fn called_or_get_mut(text: &[u8]) -> Option<(Act, &[u8])>
+    ensures { Gives (λ found. (found.0, found.1.now)) result (called_or_get_mut_at text.now) }
+{
+    match plain_call(text) {
+        Some((call, rest)) => cell_of(call, rest),
+        None => get_mut(text),
+    }
+}
+
+/// A call that begins with a `t`, or else `try_get_mut`.
+#[tactic(auto, unfolding(crate::specs::ReadSteps::called_or_try_get_mut_at))]
+fn tried_or_try_get_mut(text: &[u8]) -> Option<(Act, &[u8])>
+    ensures { Gives (λ found. (found.0, found.1.now)) result (called_or_try_get_mut_at text.now) }
+{
+    match try_call(text) {
+        Some((call, rest)) => cell_of(call, rest),
+        None => try_get_mut(text),
+    }
+}
+
 /// `exit`.
 #[tactic(auto, unfolding(crate::specs::ReadSteps::exit_at))]
 fn exit(text: &[u8]) -> Option<(Act, &[u8])>
@@ -265,7 +310,8 @@ pub(super) fn act(text: &[u8]) -> Option<(Act, &[u8])>
         b'c' => clone(text),
         b'e' => exit(text),
         b'f' => called_or_finished(text),
-        b't' => tried(text),
+        b'g' => called_or_get_mut(text),
+        b't' => tried_or_try_get_mut(text),
         b'p' => phase_or_primed(text),
         _ => called(text),
     }

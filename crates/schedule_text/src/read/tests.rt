@@ -46,7 +46,7 @@ steps
 end
 ";
 
-/// Each call, and each way in which a finalizer ends.
+/// Each call, each way in which a finalizer ends, and values that are lent.
 const EACH_CALL: &[u8] = b"schedule 1
 parties 1
 steps
@@ -70,6 +70,9 @@ steps
 0 finished 0
 0 finish_failed
 0 finish_failed 18446744073709551615
+0 get_mut 16 17 18
+0 get_mut 19 fail 20
+0 try_get_mut 21 22
 end
 ";
 
@@ -82,6 +85,7 @@ steps
 0 made 18446744073709551615
 0 made_failed
 0 set 4294967295 18446744073709551615
+0 get_mut 4294967295 18446744073709551615 18446744073709551615
 0 downgrade 4294967295
 end
 ";
@@ -96,102 +100,8 @@ steps
 end
 ";
 
-const BAD: [&[u8]; 91] = [
-    b"",
-    b"schedule 2\nparties 0\nsteps\nend\n",
-    b"schedule 01\nparties 0\nsteps\nend\n",
-    b"parties 0\nsteps\nend\n",
-    b"schedule 1\nparties 00\nsteps\nend\n",
-    b"schedule 1\nparties 4294967296\nsteps\nend\n",
-    b"schedule 1\nparties \nsteps\nend\n",
-    b"schedule 1\nparties +1\nsteps\nend\n",
-    b"schedule 1\nparties -1\nsteps\nend\n",
-    b"schedule 1\nparties 1 \nsteps\nend\n",
-    b"schedule 1\nparties  1\nsteps\nend\n",
-    b"schedule 1\n\nparties 1\nsteps\nend\n",
-    b"schedule 1\r\nparties 1\r\nsteps\r\nend\r\n",
-    b"schedule 1\nparties 1\ncell LockedLazyLocal spin\nsteps\nend\n",
-    b"schedule 1\nparties 1\ncell LockedLazy parks\nsteps\nend\n",
-    b"schedule 1\nparties 1\ncell LockedLazy par\nsteps\nend\n",
-    b"schedule 1\nparties 1\ncell LockedLazy park spin\nsteps\nend\n",
-    b"schedule 1\nparties 1\ncell LockedLazy  park\nsteps\nend\n",
-    b"schedule 1\nparties 1\ncell LockedLazy spin  once\nsteps\nend\n",
-    b"schedule 1\nparties 1\ncell LockedLazy spin twice\nsteps\nend\n",
-    b"schedule 1\nparties 1\ncell LockedLazy once spin\nsteps\nend\n",
-    b"schedule 1\nparties 1\ncell LockedLazy once\nsteps\nend\n",
-    b"schedule 1\nparties 1\ncell LockedLazy park once once\nsteps\nend\n",
-    b"schedule 1\nparties 1\ncell LockedLazy park once \nsteps\nend\n",
-    b"schedule 1\nparties 1\ncell LockedLazy park \nsteps\nend\n",
-    b"schedule 1\nparties 1\ncell LockedLazy parkonce\nsteps\nend\n",
-    b"schedule 1\nparties 1\ncell LockedLazy spin retry\nsteps\nend\n",
-    b"schedule 1\nparties 1\ncell LockedLazy\nsteps\nend\n",
-    b"schedule 1\nparties 1\nsteps\ncell LockedLazy spin\nend\n",
-    b"schedule 1\nparties 1\nend\n",
-    b"schedule 1\nparties 1\nsteps\n0 read 0\n",
-    b"schedule 1\nparties 1\nsteps\nend",
-    b"schedule 1\nparties 1\nsteps\nend\n\n",
-    b"schedule 1\nparties 1\nsteps\nend\n0 again\n",
-    b"schedule 1\nparties 1\nsteps\n\nend\n",
-    b"schedule 1\nparties 1\nsteps\n# none\nend\n",
-    b"schedule 1\nparties 1\nsteps\n0  again\nend\n",
-    b"schedule 1\nparties 1\nsteps\n0\tagain\nend\n",
-    b"schedule 1\nparties 1\nsteps\n0 again \nend\n",
-    b"schedule 1\nparties 1\nsteps\n0 again\xff\nend\n",
-    b"schedule 1\nparties 1\nsteps\n00 again\nend\n",
-    b"schedule 1\nparties 1\nsteps\n0 wait 0\nend\n",
-    b"schedule 1\nparties 1\nsteps\n0 made 18446744073709551616\nend\n",
-    b"schedule 1\nparties 1\nsteps\n0 made 01\nend\n",
-    b"schedule 1\nparties 1\nsteps\n0 look 4294967296\nend\n",
-    b"schedule 1\nparties 1\nsteps\n0 downgrade\nend\n",
-    b"schedule 1\nparties 1\nsteps\n0 downgrade 4294967296\nend\n",
-    b"schedule 1\nparties 1\nsteps\n0 downgrade 1 2\nend\n",
-    b"schedule 1\nparties 1\nsteps\n0 clone\nend\n",
-    b"schedule 1\nparties 1\nsteps\n0 clone 01\nend\n",
-    b"schedule 1\nparties 1\nsteps\n0 clones 1\nend\n",
-    b"schedule 1\nparties 1\nsteps\n0 set 4\nend\n",
-    b"schedule 1\nparties 1\nsteps\n0 read 0 0\nend\n",
-    b"schedule 1\nparties 1\ncell LockedLazyFinalize\nsteps\nend\n",
-    b"schedule 1\nparties 1\ncell LockedLazyFinalizes spin\nsteps\nend\n",
-    b"schedule 1\nparties 1\ncell LockedLazy Finalize spin\nsteps\nend\n",
-    b"schedule 1\nparties 1\ncell LazyDroped spin\nsteps\nend\n",
-    b"schedule 1\nparties 1\ncell LockedLazyFinalize spin leak once\nsteps\nend\n",
-    b"schedule 1\nparties 1\ncell LockedLazyFinalize spin leak leak\nsteps\nend\n",
-    b"schedule 1\nparties 1\ncell LockedLazyFinalize leak spin\nsteps\nend\n",
-    b"schedule 1\nparties 1\ncell LockedLazyFinalize park onceleak\nsteps\nend\n",
-    b"schedule 1\nparties 1\ncell LockedLazyFinalize park leak \nsteps\nend\n",
-    b"schedule 1\nparties 1\ncell LockedLazyFinalize park leaks\nsteps\nend\n",
-    b"schedule 1\nparties 1\nsteps\n0 exit 1\nend\n",
-    b"schedule 1\nparties 1\nsteps\n0 exit \nend\n",
-    b"schedule 1\nparties 1\nsteps\n0 exits\nend\n",
-    b"schedule 1\nparties 1\nsteps\nexit\nend\n",
-    b"schedule 1\nparties 1\nsteps\n0 finished 03\nend\n",
-    b"schedule 1\nparties 1\nsteps\n0 finished \nend\n",
-    b"schedule 1\nparties 1\nsteps\n0 finish\nend\n",
-    b"schedule 1\nparties 1\nsteps\n0 finish_failed \nend\n",
-    b"schedule 1\nparties 1\nsteps\n0 finish_failed  3\nend\n",
-    b"schedule 1\nparties 1\nsteps\n0 finish_failed 3 \nend\n",
-    b"schedule 1\nparties 1\nsteps\n0 finished3\nend\n",
-    b"schedule 1\nparties 1\nsteps\n0 finished 18446744073709551616\nend\n",
-    b"schedule 1\nparties 1\ncell LockedLazy own\nsteps\nend\n",
-    b"schedule 1\nparties 1\ncell LockedLazy own once\nsteps\nend\n",
-    b"schedule 1\nparties 1\ncell LockedLazy own 4294967296\nsteps\nend\n",
-    b"schedule 1\nparties 1\ncell LockedLazy park 0\nsteps\nend\n",
-    b"schedule 1\nparties 1\ncell PrimedLockedLazy park prime\nsteps\nend\n",
-    b"schedule 1\nparties 1\ncell PrimedLockedLazy park prime 0\nsteps\nend\n",
-    b"schedule 1\nparties 1\ncell PrimedLockedLazy park prime 18446744073709551616\nsteps\nend\n",
-    b"schedule 1\nparties 1\ncell PrimedLockedLazy park prime 1 once\nsteps\nend\n",
-    b"schedule 1\nparties 1\ncell PrimedLockedLazy park prime 1 leak\nsteps\nend\n",
-    b"schedule 1\nparties 1\ncell PrimedLockedLazy prime 1 park\nsteps\nend\n",
-    b"schedule 1\nparties 1\nsteps\n0 primed_get 0\nend\n",
-    b"schedule 1\nparties 1\nsteps\n0 try_init 0\nend\n",
-    b"schedule 1\nparties 1\nsteps\n0 fast_get 0\nend\n",
-    b"schedule 1\nparties 1\nsteps\n0 phase\nend\n",
-    b"schedule 1\nparties 1\nsteps\n0 get_mut 0 1 2\nend\n",
-    b"schedule 1\nparties 1\nsteps\n0 finished_failed\nend\n",
-];
-
 /// What the text is read as, where it has at most a thousand bytes.
-fn read(alloc: Global, text: &[u8]) -> Result<(Plan, Vec<Step>), ReadError> {
+pub(super) fn read(alloc: Global, text: &[u8]) -> Result<(Plan, Vec<Step>), ReadError> {
     if text.len() > 1000 {
         return Err(ReadError::Memory);
     }
@@ -299,6 +209,11 @@ fn reads_the_largest_numbers(rt: HostRuntime) -> Result<(), Fail> {
             guard: u32::MAX,
             value: u64::MAX,
         },
+        Act::GetMut {
+            cell: u32::MAX,
+            made: Some(u64::MAX),
+            left: u64::MAX,
+        },
         Act::Downgrade { guard: u32::MAX },
     ];
     assert_eq!(rt; plan.parties, u32::MAX);
@@ -352,6 +267,17 @@ fn reads_each_call(rt: HostRuntime) -> Result<(), Fail> {
         Act::FinishFailed {
             left: Some(u64::MAX),
         },
+        Act::GetMut {
+            cell: 16,
+            made: Some(17),
+            left: 18,
+        },
+        Act::GetMut {
+            cell: 19,
+            made: None,
+            left: 20,
+        },
+        Act::TryGetMut { cell: 21, left: 22 },
     ];
     assert_eq!(rt; steps.len(), calls.len() + ends.len());
     for (i, (step, call)) in steps.iter().zip(calls.iter()).enumerate() {
@@ -377,12 +303,4 @@ fn refuses_each_part_of_a_text(rt: HostRuntime) -> Result<(), Fail> {
         }
     }
     Ok(())
-}
-
-#[test]
-fn refuses_bad_lines(rt: HostRuntime) {
-    for (i, text) in BAD.iter().enumerate() {
-        let answer = read(rt.alloc(), text);
-        assert!(rt; matches!(answer, Err(ReadError::BadLine(0))), "text {i}");
-    }
 }
