@@ -6,7 +6,7 @@ use std::rt::Files;
 use std::{fs, io};
 
 /// The examples, by the names of their files.
-const NAMES: [&str; 17] = [
+const NAMES: [&str; 18] = [
     "first",
     "readers_and_a_writer",
     "nested_generators",
@@ -24,6 +24,7 @@ const NAMES: [&str; 17] = [
     "a_dropped_value",
     "own_cells",
     "calls_that_do_not_wait",
+    "a_value_lent",
 ];
 
 /// More bytes than any of their transcripts has.

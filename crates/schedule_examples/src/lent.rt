@@ -4,7 +4,7 @@ ghost use Rattle.std.specs.Prelude.{[], ◌∷◌, ◌++◌};
 ghost use Rattle.schedule_examples.specs.Examples.{Goes, GoesOnlySo, row};
 ghost use Rattle.schedule_examples.specs.Openings.{writes_first, reads_first, fills, gets_first, finalizes_first};
 ghost use Rattle.schedule_examples.specs.Cells.{cell, parking_cell, once_cell, own_cell, exit_cell, lazy_cell, parking_lazy_cell, lazy_exit_cell, own_lazy_cell, primed_cell, untouched, untouched_with, initialized_with, left_failed};
-ghost use Rattle.schedule_examples.specs.Words.{phase, try_get, get, init, read, write, again, made, look, release, exit, get_mut, get_mut_failing, try_get_mut, giving, readers, writer, empty_phase, failed_phase, initialized_phase, value, read_guard, write_guard, running, done, empty_access, failed_access, failed, cyclic, borrowed, missed, waiting, waiting_write, round, waits, not_owner, no_such_call, in_use};
+ghost use Rattle.schedule_examples.specs.Words.{phase, try_get, get, read, write, again, made, look, release, get_mut, get_mut_failing, try_get_mut, giving, readers, writer, empty_phase, failed_phase, initialized_phase, value, read_guard, write_guard, running, done, empty_access, failed_access, failed, cyclic, borrowed, missed, waiting, waiting_write, waits, not_owner, no_such_call, in_use};
 
 /// A get_mut of an empty cell runs the generator in its own step. What it makes is found, and what the party leaves stays
 /// there. Where it fails nothing is left, and the next one runs it again. A try_get_mut runs nothing.
