@@ -10,8 +10,9 @@ mod act;
 mod field;
 mod line;
 
-use schedule_rules::{Plan, Step};
+use schedule_rules::Plan;
 use std::alloc::{AllocError, Global};
+use step_list::StepList;
 use thiserror::Error;
 
 /// Why a text is not read.
@@ -34,12 +35,12 @@ impl From<AllocError> for ReadError {
 }
 
 /// Reads the schedule that the text spells. It passes over the bytes once.
-pub fn read_schedule(alloc: Global, text: &[u8]) -> Result<(Plan, Vec<Step>), ReadError>
+pub fn read_schedule(alloc: Global, text: &[u8]) -> Result<(Plan, StepList), ReadError>
     requires { length text.now ≤ most_bytes }
     // What is read is spelled so.
-    ensures found { IfOk result (λ r. Spells text.now (schedule_of r.0 r.1.items)) }
+    ensures found { IfOk result (λ r. Spells text.now (schedule_of r.0 r.1)) }
     // What spells a schedule is read as that one, unless memory runs out.
-    ensures only { (x : Schedule) → Spells text.now x → MatchResult result (λ r. schedule_of r.0 r.1.items ≡ x) IsMemory }
+    ensures only { (x : Schedule) → Spells text.now x → MatchResult result (λ r. schedule_of r.0 r.1 ≡ x) IsMemory }
     // The number of a bad line is not told yet.
     ensures bad { IfErr result IsUnnumbered }
 {

@@ -10,6 +10,7 @@ use super::act::act;
 use super::field::{after_word, last_u32, number_u32, number_u64};
 use schedule_rules::{CellPlan, Kind, Place, Step};
 use std::alloc::{AllocError, Global};
+use step_list::StepList;
 
 /// No line of a cell has fewer bytes. So room for all cells is taken at once, and no list of them is copied to a larger one;
 /// of room that is not used no page is touched.
@@ -17,6 +18,9 @@ const SHORTEST_CELL: usize = b"cell Lazy park\n".len();
 
 /// No line of a step has fewer bytes.
 const SHORTEST_STEP: usize = b"0 exit\n".len();
+
+/// No line of a step has fewer bytes for each of its values.
+const SHORTEST_VALUE: usize = 8;
 
 /// The lines before the cells, which say how many parties there are.
 #[tactic(auto, unfolding(crate::specs::ReadSteps::parties_at))]
@@ -153,12 +157,14 @@ pub(super) fn cells(alloc: Global, text: &[u8]) -> Result<(Vec<CellPlan>, &[u8])
 }
 
 /// The lines of steps, up to one that is none.
-pub(super) fn steps(alloc: Global, text: &[u8]) -> Result<(Vec<Step>, &[u8]), AllocError>
-    ensures taken { IfOk result (λ found. text.now ≡ flat_map step_text found.0.items ++ found.1.now) }
-    ensures fit { IfOk result (λ found. AllByRecursion StepFits found.0.items) }
+pub(super) fn steps(alloc: Global, text: &[u8]) -> Result<(StepList, &[u8]), AllocError>
+    ensures taken { IfOk result (λ found. text.now ≡ flat_map step_text found.0 ++ found.1.now) }
+    ensures fit { IfOk result (λ found. AllByRecursion StepFits found.0) }
     ensures ended { IfOk result (λ found. step_at found.1.now ≡ None) }
 {
-    let mut steps = Vec::with_capacity(alloc, text.len() / SHORTEST_STEP + 1)?;
+    let count = text.len() / SHORTEST_STEP + 1;
+    let values = text.len() / SHORTEST_VALUE + 1;
+    let mut steps = StepList::with_capacity(alloc, count, values)?;
     let mut rest = text;
     while let Some((next, after)) = step(rest) {
         steps.push(next)?;

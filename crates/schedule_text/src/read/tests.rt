@@ -1,5 +1,5 @@
 use super::*;
-use schedule_rules::{Act, Call, CellPlan, Kind, Place};
+use schedule_rules::{Act, Call, CellPlan, Kind, Place, Step};
 use std::test::Fail;
 
 const NOTHING: &[u8] = b"schedule 1\nparties 0\nsteps\nend\n";
@@ -105,7 +105,8 @@ pub(super) fn read(alloc: Global, text: &[u8]) -> Result<(Plan, Vec<Step>), Read
     if text.len() > 1000 {
         return Err(ReadError::Memory);
     }
-    read_schedule(alloc, text)
+    let (plan, steps) = read_schedule(alloc, text)?;
+    Ok((plan, steps.to_vec(alloc)?))
 }
 
 #[test]

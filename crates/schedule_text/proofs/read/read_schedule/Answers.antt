@@ -13,7 +13,7 @@ returns-in_default-after_word-clause-only c =
 
 pub returns-then-not-is_end-clause-only : goal.returns-then-not-is_end-clause-only
 returns-then-not-is_end-clause-only c =
-    no_end c.args.text.now c.in-Some.parties c.in_ok-cells.cells.items c.in_ok-steps.steps.items c.in_ok-steps.rest.now
+    no_end c.args.text.now c.in-Some.parties c.in_ok-cells.cells.items c.in_ok-steps.steps c.in_ok-steps.rest.now
     (record {
       middle = c.in_ok-cells.rest.now;
       start = c.in-Some-after_word.rest.now;
@@ -27,7 +27,7 @@ returns-then-not-is_end-clause-only c =
 
 pub returns : goal.returns
 returns c =
-    let h : HasSteps c.args.text.now c.in-Some.parties c.in_ok-cells.cells.items c.in_ok-steps.steps.items c.in_ok-steps.rest.now = record {
+    let h : HasSteps c.args.text.now c.in-Some.parties c.in_ok-cells.cells.items c.in_ok-steps.steps c.in_ok-steps.rest.now = record {
       middle = c.in_ok-cells.rest.now;
       start = c.in-Some-after_word.rest.now;
       before = record { start = c.in-Some.rest.now; parties = c.in-Some.ensures; taken = c.in_ok-cells.ensures.taken; fit = c.in_ok-cells.ensures.fit; ended = c.in_ok-cells.ensures.ended };
@@ -37,7 +37,7 @@ returns c =
       ended = c.in_ok-steps.ensures.ended;
     } in
     record {
-      found = is_found c.args.text.now c.in-Some.parties c.in_ok-cells.cells.items c.in_ok-steps.steps.items c.in_ok-steps.rest.now h (c.if-not-is_end.ensures.0 refl);
-      only = is_only c.args.text.now c.in-Some.parties c.in_ok-cells.cells.items c.in_ok-steps.steps.items c.in_ok-steps.rest.now h;
+      found = is_found c.args.text.now c.in-Some.parties c.in_ok-cells.cells.items c.in_ok-steps.steps c.in_ok-steps.rest.now h (c.if-not-is_end.ensures.0 refl);
+      only = is_only c.args.text.now c.in-Some.parties c.in_ok-cells.cells.items c.in_ok-steps.steps c.in_ok-steps.rest.now h;
       bad = tt;
     }
