@@ -8,7 +8,7 @@ use Rattle.schedule_rules.specs.declared.step.Step.{Step}
 use Rattle.step_list.specs.declared.row.Code.{Code}
 use Rattle.step_list.specs.declared.row.Code.TheVariants as code
 use Rattle.step_list.specs.declared.row.StepRow.{StepRow}
-use Rattle.step_list.specs.Rows.{act_of, code_of, count_left, left_of, row_of, step_of, target_of, values_in, values_of}
+use Rattle.step_list.specs.Rows.{act_of, code_of, count_if, value_if, row_of, step_of, target_of, values_in, values_of}
 use Rattle.step_list.specs.Steps.{count_values, steps_of}
 
 -- ---- one step
@@ -28,6 +28,9 @@ act_back (act.Set g v) = refl
 act_back (act.Release g) = refl
 act_back (act.Downgrade g) = refl
 act_back (act.Clone g) = refl
+act_back (act.GetMut c None left) = refl
+act_back (act.GetMut c (Some v) left) = refl
+act_back (act.TryGetMut c left) = refl
 act_back act.Exit = refl
 
 step_back : (s : Step) → step_of (row_of s) (values_in s.act) ≡ s
@@ -48,6 +51,9 @@ counted (act.Set g v) = refl
 counted (act.Release g) = refl
 counted (act.Downgrade g) = refl
 counted (act.Clone g) = refl
+counted (act.GetMut c None left) = refl
+counted (act.GetMut c (Some v) left) = refl
+counted (act.TryGetMut c left) = refl
 counted act.Exit = refl
 
 -- values behind its own do not matter
@@ -55,22 +61,29 @@ first_stays : (values more : List ℕ) → 1 ≤ length values → slice_index (
 first_stays [] more h = absurd (omega arith)
 first_stays (v ∷ values) more h = refl
 
-left_stays : (leaves : Bool) (values more : List ℕ) → count_left leaves ≤ length values → left_of leaves (values ++ more) ≡ left_of leaves values
-left_stays true values more h = ap (λ v. Some v) (first_stays values more h)
-left_stays false values more h = refl
+value_if_stays : (leaves : Bool) (values more : List ℕ) → count_if leaves ≤ length values → value_if leaves (values ++ more) ≡ value_if leaves values
+value_if_stays true values more h = ap (λ v. Some v) (first_stays values more h)
+value_if_stays false values more h = refl
+
+-- of what is lent: what is left there, and what was made, which may be missing
+lent_stays : (makes : Bool) (target : ℕ) (values more : List ℕ) → count_if makes + 1 ≤ length values → act_of (code.GetMut makes) target (values ++ more) ≡ act_of (code.GetMut makes) target values
+lent_stays makes target [] more h = absurd (omega arith)
+lent_stays makes target (left ∷ values) more h = ap (λ made. act.GetMut target made left) (value_if_stays makes values more (omega arith))
 
 act_stays : (c : Code) (target : ℕ) (values more : List ℕ) → values_of c ≤ length values → act_of c target (values ++ more) ≡ act_of c target values
 act_stays (code.Call k) target values more h = refl
 act_stays code.Again target values more h = refl
 act_stays code.Made target values more h = ap (λ v. act.Made v) (first_stays values more h)
 act_stays code.MadeFailed target values more h = refl
-act_stays (code.Finished leaves) target values more h = ap (λ left. act.Finished left) (left_stays leaves values more h)
-act_stays (code.FinishFailed leaves) target values more h = ap (λ left. act.FinishFailed left) (left_stays leaves values more h)
+act_stays (code.Finished leaves) target values more h = ap (λ left. act.Finished left) (value_if_stays leaves values more h)
+act_stays (code.FinishFailed leaves) target values more h = ap (λ left. act.FinishFailed left) (value_if_stays leaves values more h)
 act_stays code.Look target values more h = refl
 act_stays code.Set target values more h = ap (λ v. act.Set target v) (first_stays values more h)
 act_stays code.Release target values more h = refl
 act_stays code.Downgrade target values more h = refl
 act_stays code.Clone target values more h = refl
+act_stays (code.GetMut makes) target values more h = lent_stays makes target values more h
+act_stays code.TryGetMut target values more h = ap (λ v. act.TryGetMut target v) (first_stays values more h)
 act_stays code.Exit target values more h = refl
 
 step_stays : (row : StepRow) (values more : List ℕ) → values_of row.code ≤ length values → step_of row (values ++ more) ≡ step_of row values

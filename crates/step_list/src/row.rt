@@ -1,7 +1,7 @@
 //! One step as a row, beside the values that it has.
 
 ghost use Rattle.std.specs.Prelude.{◌≡◌, ◌++◌, ◌+◌, ◌≤◌, length, vec_capacity};
-ghost use Rattle.step_list.specs.Rows.{count_left, left_of, row_of, step_of, values_in, values_left, values_of};
+ghost use Rattle.step_list.specs.Rows.{count_if, value_if, row_of, step_of, values_in, values_if, values_of};
 
 use lazy_cells::Call;
 use schedule_rules::{Act, Step};
@@ -22,6 +22,9 @@ pub enum Code {
     Release,
     Downgrade,
     Clone,
+    /// Whether the generator, where it runs, makes a value.
+    GetMut { makes: bool },
+    TryGetMut,
     Exit,
 }
 
@@ -42,7 +45,8 @@ impl Code {
         ensures { result ≡ values_of self }
     {
         match self {
-            Code::Made | Code::Set => 1,
+            Code::Made | Code::Set | Code::TryGetMut => 1,
+            Code::GetMut { makes } => usize::from(makes) + 1,
             Code::Finished { leaves } | Code::FinishFailed { leaves } => usize::from(leaves),
             Code::Call(_)
             | Code::Again
@@ -83,6 +87,13 @@ impl StepRow {
             Act::Release { guard } => (guard, Code::Release),
             Act::Downgrade { guard } => (guard, Code::Downgrade),
             Act::Clone { guard } => (guard, Code::Clone),
+            Act::GetMut { cell, made, .. } => (
+                cell,
+                Code::GetMut {
+                    makes: made.is_some(),
+                },
+            ),
+            Act::TryGetMut { cell, .. } => (cell, Code::TryGetMut),
             Act::Exit => (0, Code::Exit),
         };
         StepRow {
@@ -106,10 +117,10 @@ impl StepRow {
             Code::Made => Act::Made { value: values[0] },
             Code::MadeFailed => Act::MadeFailed,
             Code::Finished { leaves } => Act::Finished {
-                left: left(leaves, values),
+                left: value_if(leaves, values),
             },
             Code::FinishFailed { leaves } => Act::FinishFailed {
-                left: left(leaves, values),
+                left: value_if(leaves, values),
             },
             Code::Look => Act::Look { guard: self.target },
             Code::Set => Act::Set {
@@ -119,6 +130,15 @@ impl StepRow {
             Code::Release => Act::Release { guard: self.target },
             Code::Downgrade => Act::Downgrade { guard: self.target },
             Code::Clone => Act::Clone { guard: self.target },
+            Code::GetMut { makes } => Act::GetMut {
+                cell: self.target,
+                made: value_if(makes, &values[1..]),
+                left: values[0],
+            },
+            Code::TryGetMut => Act::TryGetMut {
+                cell: self.target,
+                left: values[0],
+            },
             Code::Exit => Act::Exit,
         };
         Step {
@@ -128,12 +148,12 @@ impl StepRow {
     }
 }
 
-/// The first of these values, where a finalizer left one.
-fn left(leaves: bool, values: &[u64]) -> Option<u64>
-    requires { count_left leaves ≤ length values.now }
-    ensures { result ≡ left_of leaves values.now }
+/// The first of these values, where one is there.
+fn value_if(is_there: bool, values: &[u64]) -> Option<u64>
+    requires { count_if is_there ≤ length values.now }
+    ensures { result ≡ value_if is_there values.now }
 {
-    if leaves { Some(values[0]) } else { None }
+    if is_there { Some(values[0]) } else { None }
 }
 
 /// Puts the values of an act behind these, which have room for them.
@@ -143,17 +163,22 @@ pub fn push_values(values: &mut Vec<u64>, act: Act)
 {
     match act {
         Act::Made { value } | Act::Set { value, .. } => values.push_reserved(value),
-        Act::Finished { left } | Act::FinishFailed { left } => push_left(values, left),
+        Act::GetMut { made, left, .. } => {
+            values.push_reserved(left);
+            push_if(values, made);
+        }
+        Act::TryGetMut { left, .. } => values.push_reserved(left),
+        Act::Finished { left } | Act::FinishFailed { left } => push_if(values, left),
         _ => {}
     }
 }
 
-/// Puts the value that a finalizer left behind these, where it left one. They have room for it.
-fn push_left(values: &mut Vec<u64>, left: Option<u64>)
-    requires { length values.old.items + length (values_left left) ≤ vec_capacity values.old }
-    ensures { values.new.items ≡ values.old.items ++ values_left left }
+/// Puts this value behind these, where it is there. They have room for it.
+fn push_if(values: &mut Vec<u64>, more: Option<u64>)
+    requires { length values.old.items + length (values_if more) ≤ vec_capacity values.old }
+    ensures { values.new.items ≡ values.old.items ++ values_if more }
 {
-    if let Some(value) = left {
+    if let Some(value) = more {
         values.push_reserved(value);
     }
 }

@@ -9,8 +9,8 @@ use schedule_rules::{Act, Step};
 use std::alloc::{AllocError, Global};
 use std::test::Fail;
 
-/// One step of each act, those of finalizers with and without a value.
-const ACTS: [Act; 14] = [
+/// One step of each act, those that may have a value with and without it.
+const ACTS: [Act; 17] = [
     Act::Call {
         cell: 4_000_000_000,
         call: Call::TryWrite,
@@ -29,6 +29,17 @@ const ACTS: [Act; 14] = [
     Act::Release { guard: 3 },
     Act::Downgrade { guard: 4 },
     Act::Clone { guard: 5 },
+    Act::GetMut {
+        cell: 6,
+        made: Some(10),
+        left: 11,
+    },
+    Act::GetMut {
+        cell: 7,
+        made: None,
+        left: 12,
+    },
+    Act::TryGetMut { cell: 8, left: 13 },
     Act::Exit,
 ];
 
@@ -85,10 +96,10 @@ fn steps_are_added_behind_those_that_were_taken(rt: HostRuntime) -> Result<(), F
     for act in ACTS.into_iter().take(7) {
         assert!(rt; list.pop_front().is_some_and(|step| step.act == act));
     }
-    list.push(by(14, Act::Made { value: 3 }))?;
+    list.push(by(17, Act::Made { value: 3 }))?;
     let steps = list.to_vec(rt.alloc())?;
-    assert_eq!(rt; steps.len(), 8);
+    assert_eq!(rt; steps.len(), 11);
     assert_eq!(rt; steps[1], by(8, ACTS[8]));
-    assert_eq!(rt; steps[7], by(14, Act::Made { value: 3 }));
+    assert_eq!(rt; steps[10], by(17, Act::Made { value: 3 }));
     Ok(())
 }
