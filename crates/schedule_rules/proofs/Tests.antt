@@ -283,6 +283,7 @@ module _ (t : Answer → Bool) {denies : Bool} (is : IsOfTries t denies) where
       by true = is.shown.value _
       by false = is.access _
 
+  -- and of one that a run makes first, where it is asked
   pub makes : (q : Kind) (u : Tolerance) (o : Bool) (made : Option ℕ) (y : Content) → t (answer_made_to_lend q u o made y) ≡ (is_access (answer_made_to_lend q u o made y) && denies)
   makes q u o made y =
       either (λ r. t r ≡ (is_access r && denies)) (asks_to_lend q u y.phase && is_none made) answer.Failed (answer_lent q (content_to_lend q u o made y)) is.failed (shows q (content_to_lend q u o made y))
