@@ -5,6 +5,7 @@ pub mod Lockers
 pub mod Registering
 -- What a move at one cell leaves alone
 pub mod Moved
+pub mod Waiting
 pub mod Guards
 pub mod Runs
 pub mod Opening

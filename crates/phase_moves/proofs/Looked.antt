@@ -31,7 +31,7 @@ use Rattle.phase_moves.specs.declared.rows.Taken.TheVariants as taken
 use Rattle.phase_moves.specs.declared.rows.Target.{Target}
 use Rattle.phase_moves.specs.Meets.{IsMet, IsUnlocked, holding_in, keeps_in, readers_in, wanted_in}
 use Rattle.phase_moves.specs.Standing.{Standing, answered, changes_at, content_back, run_in, runner_of}
-use Rattle.phase_moves.specs.Stands.{AreInside, AreNumbered, AreShown, AreSized, IsCell, IsExit, Stands, seen_at}
+use Rattle.phase_moves.specs.Stands.{CountsWaits, AreInside, AreNumbered, AreShown, AreSized, IsCell, IsExit, Stands, seen_at}
 use Rattle.phase_moves.specs.Tries.{IsAttempting, IsTook, MayWait, WaitsAt, ask_of}
 use Rattle.phase_moves.proofs.Admitting.{judged_no, looked_due, runs_same, turned_so}
 use Rattle.phase_moves.proofs.Seeking.{seeks_as, sought_as}
@@ -94,6 +94,7 @@ module _ {L : Type 0} (held : L → Holders) (place : L → LockerKind) (hand : 
   -- what rows of these cells stand for
   record AsCells (cs : List (CellRow L)) : Type 0 where
     cell : (c : ℕ) (r : CellRow L) → slice_get cs c ≡ Some r → IsCell held place (seen_at c m) v.parks c r
+    counted : (c : ℕ) (r : CellRow L) → slice_get cs c ≡ Some r → CountsWaits c m.waits r
     exit : IsExit (length cs) m v.exit
     waits : AreShown (length cs) m.waits v.parks
     guards : AreNumbered hand (length v.guards.items) (length cs) m.guards
@@ -103,9 +104,10 @@ module _ {L : Type 0} (held : L → Holders) (place : L → LockerKind) (hand : 
   -- rows that are as they were stand for what they stood for
   stays : (v' : Rows L) → v'.cells.items ≡ v.cells.items → v'.guards ≡ v.guards → v'.parties ≡ v.parties → v'.parks ≡ v.parks → v'.exit ≡ v.exit → Stands held place hand m v → Stands held place hand m v'
   stays v' cells guards parties parks exit st =
-      let k : AsCells v'.cells.items = subst AsCells (sym cells) (record { cell = st.cell; exit = st.exit; waits = st.waits; guards = st.guards; sections = st.sections; sizes = st.sizes }) in
+      let k : AsCells v'.cells.items = subst AsCells (sym cells) (record { cell = st.cell; counted = st.counted; exit = st.exit; waits = st.waits; guards = st.guards; sections = st.sections; sizes = st.sizes }) in
       record {
         cell = λ c r e. subst (λ z. IsCell held place (seen_at c m) z c r) (sym parks) (k.cell c r e);
+        counted = k.counted;
         slot = λ g lt. ap (λ (z : _). slice_get z.items g) guards ∙ st.slot g (subst (λ (z : _). g < length z.items) guards lt);
         party = λ q lt. ap (λ (z : _). slice_get z.items q) parties ∙ st.party q (subst (λ (z : _). q < length z.items) parties lt);
         exit = subst (λ z. IsExit (length v'.cells.items) m z) (sym exit) k.exit;

@@ -56,6 +56,7 @@ module _ {L : Type 0} (held : L → Holders) (place : L → LockerKind) where
   guard_opened c hand hand' n m m' v v' y k number at room fresh empty lt =
       record {
         around = λ d ne. around d ne ∙ k.around d ne;
+        counts = k.counts;
         others = k.others;
         same = k.same;
         lists = k.lists;
@@ -96,6 +97,7 @@ module _ {L : Type 0} (held : L → Holders) (place : L → LockerKind) where
   reslotted hand n m v v' t cells parties parks exit slot in_rows =
       record {
         cell = λ c r e. subst (λ (s : Parking). IsCell held place (seen_at c m) s c r) (sym parks) (t.cell c r (ap (λ (xs : _). slice_get xs.items c) (sym cells) ∙ e));
+        counted = λ c r e. t.counted c r (ap (λ (xs : _). slice_get xs.items c) (sym cells) ∙ e);
         slot = slot;
         party = λ p l. ap (λ (xs : _). slice_get xs.items p) parties ∙ t.party p (subst (λ (xs : _). p < length xs.items) parties l);
         exit = subst (λ (xs : _). IsExit (length xs.items) m v'.exit) (sym cells) (subst (λ x. IsExit (length v.cells.items) m x) (sym exit) t.exit);

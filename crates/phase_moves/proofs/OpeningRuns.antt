@@ -60,6 +60,7 @@ module _ {L : Type 0} (held : L → Holders) (place : L → LockerKind) where
   section_opened c hand hand' m m' v v' s k at lt =
       record {
         around = λ d ne. around d ne ∙ k.around d ne;
+        counts = k.counts;
         others = k.others;
         same = k.same;
         lists = k.lists;
