@@ -1,5 +1,5 @@
 -- What stands open after one step more is a move of what stood open.
-use Rattle.std.proofs.Common.{◌≡◌, ◌∙◌, ℕ, List, [], ◌∷◌, length, ap, sym, refl, arith, Bool, true, false, None, Some}
+use Rattle.std.proofs.Common.{◌≡◌, ◌≢◌, ◌∙◌, ℕ, List, [], ◌∷◌, length, ap, sym, refl, arith, Bool, true, false, None, Some}
 use Rattle.std.specs.Prelude.{◌==◌, if◌then◌else◌}
 use Rattle.std.specs.declared.option.Option.{Option}
 use Rattle.phase_bits.specs.declared.phase.Phase.{Phase}
@@ -13,10 +13,10 @@ use Rattle.schedule_rules.specs.declared.line.Refusal.{Refusal}
 use Rattle.schedule_rules.specs.declared.plan.CellPlan.{CellPlan}
 use Rattle.schedule_rules.specs.declared.step.Act.{Act}
 use Rattle.schedule_rules.specs.declared.step.Act.TheVariants as act
-use Rattle.schedule_rules.specs.Changes.{Ran}
+use Rattle.schedule_rules.specs.Changes.{Change, Ran, Put, RanIfAsked}
 use Rattle.schedule_rules.specs.Exits.{registry, owner, ended_turns, finishing, turn_of_section}
 use Rattle.schedule_rules.specs.Guards.{Guard, guards, numbered, guard_of, own, without_guard, reader, reader_beside, reader_made, writer_made}
-use Rattle.schedule_rules.specs.History.{Event}
+use Rattle.schedule_rules.specs.History.{Event, accepts}
 use Rattle.schedule_rules.specs.Deeds.{Makes, Finishes}
 use Rattle.schedule_rules.specs.Replay.{replay, content_after_back, back_of_guard, back_of_section}
 use Rattle.schedule_rules.specs.Sections.{Section, sections, innermost, without_innermost}
@@ -25,7 +25,11 @@ use Rattle.schedule_rules.proofs.Found.{found_passes}
 use Rattle.waiting_rows.specs.Given.{given_on}
 use Rattle.waiting_rows.proofs.Counted.{none_without}
 use Rattle.waiting_rows.proofs.GivenOn.{given_concerned}
+use Rattle.phase_moves.specs.declared.lend.Lent.{Lent}
+use Rattle.phase_moves.specs.declared.lend.Lent.TheVariants as lent
+use Rattle.phase_moves.specs.declared.lend.Loan.{Loan}
 use Rattle.phase_moves.specs.Histories.{standing, event}
+use Rattle.phase_moves.specs.Lends.{answer_of, changed, lending, lent_in, was_used}
 use Rattle.phase_moves.specs.Standing.{Standing, left, downgraded, cloned, ended, finalized, run_closed, turn_of, writer_of}
 use Rattle.phase_moves.proofs.Guards.{its_number}
 
@@ -63,6 +67,32 @@ module _ (cells : List CellPlan) (h : List Event) (p : ℕ) where
   module _ (awake : wait_of p ws ≡ None) where
     given_awake : (a : Act) (d : Given) (c : ℕ) → cell_concerned_with cells ws h p a ≡ Some c → waits_given_with cells ws h (record { party = p; act = a }) d (without_wait p ws) ≡ given_on c d ws
     given_awake a d c e = gave a d c e ∙ ap (given_on c d) (none_without p ws awake)
+
+    -- ---- a loan
+
+    -- what is lent is given back at once
+    pub lent_at_once : (c : ℕ) (l : Loan) (r : Lent) → accepts h ≡ (registry cells h).is_open → was_used r ≡ false → (l.runs ≡ false → answer_of r ≢ answer.Failed) → standing cells (event p (lending c l) (record { answer = answer_of r; given = given.Nobody }) ∷ h) ≡ lent_in c l r (standing cells h)
+    lent_at_once c l r agrees used fine = by l.runs l.made l.left r used fine
+      where
+        published : (a : Act) → cell_concerned_with cells ws h p a ≡ Some c → (chs : Bool → List Change)
+            → record { plans = cells; waits = waits_given_with cells ws h (record { party = p; act = a }) given.Nobody (without_wait p ws); sections = sections h; guards = guards h; content = λ d. content_after_back cells d (Some (record { cell = c; changes = chs (accepts h) })) (replay cells d h); registry = registry cells h; owner = owner h; turns = ended_turns h }
+            ≡ changed c (chs (registry cells h).is_open) (standing cells h)
+        published a e chs =
+            let given = given_awake a given.Nobody c e in
+            λ i. record { plans = cells; waits = given i; sections = sections h; guards = guards h; content = λ d. content_after_back cells d (Some (record { cell = c; changes = chs (agrees i) })) (replay cells d h); registry = registry cells h; owner = owner h; turns = ended_turns h }
+
+        quiet : (a : Act) → cell_concerned_with cells ws h p a ≡ Some c → record (standing cells h) { waits = waits_given_with cells ws h (record { party = p; act = a }) given.Nobody (without_wait p ws) } ≡ standing cells h
+        quiet a e = let given = given_awake a given.Nobody c e in λ i. record (standing cells h) { waits = given i }
+
+        by : (b : Bool) (made : Option ℕ) (left : ℕ) (z : Lent) → was_used z ≡ false → (b ≡ false → answer_of z ≢ answer.Failed)
+            → standing cells (event p (lending c (record { runs = b; made = made; left = left })) (record { answer = answer_of z; given = given.Nobody }) ∷ h) ≡ lent_in c (record { runs = b; made = made; left = left }) z (standing cells h)
+        by b made left lent.InUse used fine = absurd (cc)
+        by true made left (lent.Denied q) used fine = quiet (act.GetMut c made left) refl
+        by false made left (lent.Denied q) used fine = quiet (act.TryGetMut c left) refl
+        by true made left lent.Failed used fine = published (act.GetMut c made left) refl (λ o. Ran o None ∷ [])
+        by false made left lent.Failed used fine = absurd (fine refl refl)
+        by true made left (lent.Found v) used fine = published (act.GetMut c made left) refl (λ o. Put left ∷ RanIfAsked o made ∷ [])
+        by false made left (lent.Found v) used fine = published (act.TryGetMut c left) refl (λ o. Put left ∷ [])
 
     -- ---- guards
 

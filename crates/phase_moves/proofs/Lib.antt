@@ -30,6 +30,8 @@ pub mod OpeningRuns
 pub mod Took
 pub mod Arms
 pub mod Trying
+-- A loan
+pub mod Lending
 -- The exit, and the end
 pub mod Exiting
 pub mod Closing

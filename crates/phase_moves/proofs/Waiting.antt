@@ -1,5 +1,5 @@
 -- How many calls and turns wait at a cell.
-use Rattle.std.proofs.Common.{◌≡◌, ◌≢◌, ◌==◌, ◌<◌, ◌≤◌, ◌+◌, ◌-◌, ◌∙◌, ℕ, List, ◌∷◌, length, ap, sym, refl, arith, Bool, true, false, cond, None, Some}
+use Rattle.std.proofs.Common.{◌≡◌, ◌≢◌, ◌==◌, ◌<◌, ◌≤◌, ◌+◌, ◌∙◌, ℕ, List, length, ap, sym, refl, arith, Bool, true, false, cond, None, Some}
 use Rattle.std.proofs.lemmas.List.Sums.{count_by-le-length}
 use Rattle.std.specs.Prelude.{MatchBool, if◌then◌else◌, is_some}
 use Rattle.std.specs.declared.option.Option.{Option}

@@ -1,7 +1,7 @@
 //! An attempt of a call or a turn.
 
 ghost use Rattle.std.specs.Prelude.{◌≡◌, ◌<◌, true, false, None, Some, is_some};
-ghost use Rattle.schedule_rules.specs.Kinds.{is_owned};
+ghost use Rattle.schedule_rules.specs.Kinds.{is_owned, tolerance_of};
 ghost use Rattle.schedule_rules.specs.Transcripts.{most_parties};
 ghost use Rattle.phase_moves.specs.declared.rows.Taken.TheVariants.{Runs};
 ghost use Rattle.phase_moves.specs.Moves.{KeptGuards};
@@ -23,16 +23,23 @@ fn is_owned(place: Place) -> bool
     }
 }
 
+/// What the generator of a cell puts up with.
+pub fn tolerance_of(plan: CellPlan) -> Tolerance
+    ensures { result ≡ tolerance_of plan }
+{
+    Tolerance {
+        retry: plan.retry,
+        leak: plan.leak,
+    }
+}
+
 /// What is asked of a cell: nothing, where the call looks at the cell as it is. At a cell of its party's own nothing
 /// waits, so that the rows of who is parked say of no party that it waits there.
 fn ask_of(plan: CellPlan, want: Want) -> Option<Ask>
     requires { has_want plan.kind want ≡ true }
     ensures { result ≡ ask_of plan want }
 {
-    let tol = Tolerance {
-        retry: plan.retry,
-        leak: plan.leak,
-    };
+    let tol = tolerance_of(plan);
     let ask = match want {
         Want::Calls(call) => lazy_cells::ask_of(plan.kind, call, tol)?,
         Want::Turns => Ask {
