@@ -56,9 +56,9 @@ use Rattle.phase_moves.proofs.Asked.{IsAsked, asked_as, stays_same, run_calls, r
 use Rattle.phase_moves.proofs.Attempts.{is_away, IsBegun, IsTurned, Tells, declines, phase_left, rows_begun, stays_asked, writes_begun, wrote}
 use Rattle.phase_moves.proofs.Answered.{answered as begun_as}
 use Rattle.phase_moves.proofs.Calling.{answered_moved}
-use Rattle.phase_moves.proofs.Few.{fewer_readers}
+use Rattle.phase_moves.proofs.Waiting.{fewer_readers, count_here, counted_less, counted_more, few_wait, some_counted, waited_here}
 use Rattle.phase_moves.proofs.Leaving.{sound}
-use Rattle.phase_moves.proofs.Looked.{met_turned}
+use Rattle.phase_moves.proofs.Looking.{met_turned}
 use Rattle.phase_moves.proofs.Meeting.{met}
 use Rattle.phase_moves.proofs.Settling.{IsSettled, call_settled}
 use Rattle.waiting_rows.proofs.Sound.{sound_of}
@@ -67,7 +67,6 @@ use Rattle.phase_moves.proofs.Moved.{parties_set, moved}
 use Rattle.phase_moves.proofs.Places.{read_at}
 use Rattle.phase_moves.proofs.Parking.{shown_called, freed_writers}
 use Rattle.phase_moves.proofs.Runs.{none_runs}
-use Rattle.phase_moves.proofs.Waiting.{count_here, counted_less, counted_more, few_wait, some_counted, waited_here}
 use Rattle.phase_moves.proofs.Took.{asked_here as asked_here_of, cell_here as cell_here_of, cyclic_as as cyclic_as_of, of_here as of_here_of, in_parks as in_parks_of, party_in as party_in_of, sizes_in as sizes_in_of, exit_with as exit_with_of, exit_still as exit_still_of, was_none as was_none_of, rows_as as rows_as_of, told_as as told_as_of, phase_as as phase_as_of, took_nothing as took_nothing_of, took_read as took_read_of, took_write as took_write_of, took_wait as took_wait_of, took_run as took_run_of}
 
 module _ {L : Type 0} (held : L → Holders) (place : L → LockerKind) where

@@ -56,7 +56,7 @@ use Rattle.phase_moves.proofs.Lockers.{locked_write, locked_down, hands_writers,
 use Rattle.phase_moves.proofs.Guards.{target_given}
 use Rattle.phase_moves.proofs.Opening.{guard_opened, seen_reader}
 use Rattle.phase_moves.specs.Gifts.{MayGive, MayGiveDown}
-use Rattle.phase_moves.proofs.EndGives.{gives_closed, gives_down}
+use Rattle.phase_moves.proofs.Giving.{gives_closed, gives_down}
 use Rattle.phase_moves.proofs.Innermost.{in_cells, cell_here, runs_here, o_is, its_row, write_open, seen_closed, seen_without, closed_moved, without_moved, without_it, cell_ended, counted_ended, parties_ended}
 use Rattle.phase_moves.proofs.Moved.{HasParties, exit_kept, moved}
 

@@ -35,7 +35,7 @@ use Rattle.phase_moves.proofs.Leaving.{parked_few}
 use Rattle.phase_moves.proofs.Lockers.{locked_write, hands_writers}
 use Rattle.phase_moves.proofs.Guards.{target_given}
 use Rattle.phase_moves.specs.Gifts.{MayGive}
-use Rattle.phase_moves.proofs.EndGives.{gives_closed}
+use Rattle.phase_moves.proofs.Giving.{gives_closed}
 use Rattle.phase_moves.proofs.Innermost.{in_cells, cell_here, runs_here, o_is, its_row, write_open, seen_closed, closed_moved, cell_ended, counted_ended, parties_ended}
 use Rattle.phase_moves.proofs.Moved.{moved}
 

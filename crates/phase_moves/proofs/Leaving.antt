@@ -33,12 +33,11 @@ use Rattle.phase_moves.proofs.Guards.{its_number, found_itself, gone, once_witho
 use Rattle.phase_moves.proofs.Lockers.{locked_read, locked_write, locked_down, writing_alone, hands_writers, downgrades_writers}
 use Rattle.phase_moves.proofs.Opening.{guard_opened, seen_reader}
 use Rattle.phase_locker.proofs.Leaving.{write_has_no_reader}
-use Rattle.phase_moves.proofs.Few.{few_readers, fewer_readers}
+use Rattle.phase_moves.proofs.Waiting.{few_readers, fewer_readers, count_given}
 use Rattle.phase_moves.proofs.Known.{effect_known}
 use Rattle.phase_moves.proofs.Runs.{none_runs}
 use Rattle.phase_moves.proofs.Moved.{IsCalled, IsMoved, HasParties, exit_kept, parties_same, moved}
 use Rattle.phase_moves.proofs.Places.{read_at}
-use Rattle.phase_moves.proofs.Waiting.{count_given}
 
 -- rows that stand for something are sound
 pub sound : {L : Type 0} (held : L → Holders) (place : L → LockerKind) (hand : ℕ) (m : Standing) (v : Rows L) → Stands held place hand m v → IsSound v.parks

@@ -39,7 +39,7 @@ use Rattle.phase_moves.proofs.Leaving.{parked_few}
 use Rattle.phase_moves.proofs.Lockers.{locked_write}
 use Rattle.phase_moves.proofs.Moved.{exit_kept, moved, parties_same}
 use Rattle.phase_moves.proofs.Places.{itself_eq, read_at}
-use Rattle.phase_moves.proofs.OpeningRuns.{no_more}
+use Rattle.phase_moves.proofs.Opening.{no_more}
 use Rattle.phase_moves.proofs.Runs.{none_runs}
 
 -- ---- what waits at a cell has its shares and claims

@@ -11,13 +11,11 @@ pub mod Runs
 pub mod Opening
 -- The moves on guards
 pub mod Hand
-pub mod Taking
 pub mod Leaving
 pub mod Giving
 pub mod Calling
 -- The ends of sections
 pub mod Innermost
-pub mod EndGives
 pub mod Ending
 pub mod Finalizing
 -- An attempt
@@ -26,7 +24,6 @@ pub mod Answered
 pub mod Parking
 pub mod Asked
 pub mod Seeking
-pub mod OpeningRuns
 pub mod Took
 pub mod Arms
 pub mod Trying
@@ -40,8 +37,6 @@ pub mod Histories
 pub mod Setting
 pub mod Looking
 pub mod Starting
-pub mod HistoryExits
-pub mod Few
 pub mod Judged
 pub mod Settling
 pub mod Barring
@@ -49,4 +44,3 @@ pub mod Admitting
 pub mod GivenUp
 pub mod Sharing
 pub mod Meeting
-pub mod Looked

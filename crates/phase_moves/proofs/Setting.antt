@@ -18,7 +18,7 @@ use Rattle.phase_moves.specs.Reading.{row_put}
 use Rattle.phase_moves.specs.Moves.{Rests, IsOpenWriter}
 use Rattle.phase_moves.proofs.Guards.{slots_same}
 use Rattle.phase_moves.proofs.Places.{read_at, slice_get_set_same, slice_get_set_other}
-use Rattle.phase_moves.proofs.Taking.{row_shown}
+use Rattle.phase_moves.proofs.Hand.{row_shown}
 
 -- no number is more often a guard's
 numbers_put : (k g value : ℕ) (gs : List Guard) → count (λ (x : Guard). x.number == k) (put_in g value gs) ≡ count (λ (x : Guard). x.number == k) gs

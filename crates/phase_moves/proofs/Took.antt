@@ -59,12 +59,11 @@ use Rattle.phase_moves.proofs.Guards.{target_given, writes_here}
 use Rattle.phase_moves.proofs.Known.{effect_known}
 use Rattle.phase_moves.proofs.Lockers.{handed_writers}
 use Rattle.phase_moves.proofs.Moved.{IsMoved, HasParties, parties_set, moved}
-use Rattle.phase_moves.proofs.Opening.{guard_opened, seen_reader, seen_writer}
+use Rattle.phase_moves.proofs.Opening.{guard_opened, seen_reader, seen_writer, as_many, no_more, opens, section_opened, wrote_all}
 use Rattle.phase_moves.proofs.Parking.{shown_called, shown_waiting, freed_writers, waiting_writers}
 use Rattle.phase_moves.proofs.Places.{itself_eq, read_at}
 use Rattle.phase_moves.proofs.Runs.{none_runs}
 use Rattle.phase_moves.proofs.Waiting.{count_beside, waited_here}
-use Rattle.phase_moves.proofs.OpeningRuns.{as_many, no_more, opens, section_opened, wrote_all}
 
 module _ {L : Type 0} (held : L → Holders) (place : L → LockerKind) where
   module _ (m : Standing) (v v' : Rows L) (p : ℕ) (t : Target) (waits : Bool) (is : IsAttempting held place m v p t waits) (row row' : CellRow L) (row_is : row ≡ get_or v.cells.items t.cell row) (of of' : PartyRow) (of_is : of ≡ get_or v.parties.items p of)
