@@ -22,14 +22,13 @@ use Rattle.schedule_rules.proofs.Accepts.{open-accepts}
 use Rattle.phase_moves.specs.declared.rows.GuardRow.TheVariants as guard
 use Rattle.phase_moves.specs.declared.rows.Rows.{Rows}
 use Rattle.phase_moves.specs.declared.look_up.Running.{Running}
-use Rattle.phase_moves.specs.declared.rows.Target.{Target}
 use Rattle.phase_moves.specs.Exits.{Owns, TakesTurn, IsTurn, MayLook, Looks}
 use Rattle.phase_moves.specs.Histories.{standing}
 use Rattle.phase_moves.specs.Moves.{KeptGuards, KeptWith, Pushes}
 use Rattle.phase_moves.specs.Reading.{RunsBy, running_of}
 use Rattle.phase_moves.specs.Standing.{Standing, owned, turn_taken, round_looked}
 use Rattle.phase_moves.proofs.Hand.{pushed_free}
-use Rattle.phase_moves.proofs.HistoryExits.{exit_looks}
+use Rattle.phase_moves.proofs.Histories.{exit_looks}
 use Rattle.phase_acts.specs.Steps.{IsAwake, HasStepped, step_of}
 use Rattle.phase_acts.specs.Tries.{MayTry, Tries}
 use Rattle.phase_acts.proofs.Causes.{turn_trying, turn_steps}
