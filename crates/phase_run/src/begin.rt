@@ -8,13 +8,13 @@ ghost use Rattle.phase_run.specs.Steps.{SpellsOnly, IsBegun};
 ghost use Rattle.phase_run.specs.Stops.{StopsRun, StopsAnswer};
 
 use crate::stop::Stop;
-use phase_schedule::{Plan, ReadError, Run, RunError, Step, read_schedule};
+use phase_schedule::{Plan, ReadError, Run, RunError, StepList, read_schedule};
 use std::alloc::Global;
 
 /// The plan and the steps of a text, which is let go.
-fn read_plan(alloc: Global, text: Vec<u8>) -> Result<(Plan, Vec<Step>), Stop>
+fn read_plan(alloc: Global, text: Vec<u8>) -> Result<(Plan, StepList), Stop>
     requires { length text.items ≤ most_bytes }
-    ensures read { IfOk result (λ r. SpellsOnly text.items (schedule_of r.0 r.1.items)) }
+    ensures read { IfOk result (λ r. SpellsOnly text.items (schedule_of r.0 r.1)) }
     ensures stops { IfErr result (StopsAnswer text.items) }
 {
     match read_schedule(alloc, &text) {
@@ -25,11 +25,11 @@ fn read_plan(alloc: Global, text: Vec<u8>) -> Result<(Plan, Vec<Step>), Stop>
 }
 
 /// The run of a plan, which is let go, and of its steps.
-fn begin_plan(alloc: Global, plan: Plan, steps: Vec<Step>) -> Result<Run, Stop>
+fn begin_plan(alloc: Global, plan: Plan, steps: StepList) -> Result<Run, Stop>
     requires cells { length plan.cells.items < 2 ^ 32 }
-    requires steps { length steps.items < 2 ^ 32 }
-    ensures made { IfOk result (HasMade (schedule_of plan steps.items) []) }
-    ensures stops { IfErr result (StopsRun (schedule_of plan steps.items)) }
+    requires steps { length steps < 2 ^ 32 }
+    ensures made { IfOk result (HasMade (schedule_of plan steps) []) }
+    ensures stops { IfErr result (StopsRun (schedule_of plan steps)) }
 {
     match Run::new(alloc, &plan, steps) {
         Ok(run) => Ok(run),

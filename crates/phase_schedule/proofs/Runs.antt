@@ -1,9 +1,10 @@
 -- Whole runs of schedules.
-use Rattle.std.proofs.Common.{zero, suc, ◌≡◌, ℕ, ◌+◌, ◌<◌, ◌≤◌, List, [], ◌∷◌, ◌++◌, length, refl, sym, ◌∙◌, ap, subst, arith, get_or, true, false, None, Some}
-use Rattle.std.specs.Prelude.{nat_lt, slice_get}
+use Rattle.std.proofs.Common.{zero, suc, ◌≡◌, ℕ, ◌+◌, ◌<◌, ◌≤◌, List, [], ◌∷◌, ◌++◌, drop, length, sym, ◌∙◌, ap, subst, arith, get_or, None, Some}
+use Rattle.std.specs.Prelude.{slice_get}
 use Rattle.std.specs.declared.option.Option.{Option}
 use Rattle.std.proofs.lemmas.Grind.{common_steps}
-use Rattle.std.proofs.lemmas.Option.{get_or_from_slice_get, slice_get-get_or, slice_get_past, slice_get_within}
+use Rattle.std.proofs.lemmas.List.{length_push}
+use Rattle.std.proofs.lemmas.Option.{get_or_from_slice_get, slice_get-get_or, slice_get_within}
 use Rattle.phase_bits.specs.declared.holders.Holders.{Holders}
 use Rattle.phase_locker.specs.declared.ways.LockerKind.{LockerKind}
 use Rattle.schedule_rules.specs.declared.step.Step.{Step}
@@ -68,60 +69,68 @@ whole held place x lines p e made ends all = record { lines = all; legal = made.
 
 -- ---- a run that hands out its lines
 
--- the step at a place that is found there, or not
-pub step_found : (ss xs : List Step) (i n : ℕ) (s : Step) → xs ≡ ss → i ≡ n → true ≡ nat_lt i (length xs) → s ≡ get_or xs i s → slice_get ss n ≡ Some s
-step_found ss xs i n s same is lt e = subst (λ ys. slice_get ys n ≡ Some s) same (subst (λ k. slice_get xs k ≡ Some s) is (slice_get-get_or xs i s inside ∙ ap (λ y. Some y) (sym e)))
-  where
-    inside : i < length xs
-    inside = grind (arith, lt)
+-- the first of what is left from a place on, and what is left behind it
+left_from : (xs : List Step) (n : ℕ) (s : Step) (more : List Step) → s ∷ more ≡ drop n xs → (slice_get xs n ≡ Some s) × (more ≡ drop (suc n) xs)
+left_from [] zero s more e = absurd (cc)
+left_from [] (suc n) s more e = absurd (cc)
+left_from (x ∷ xs) zero s more e = (cc, cc)
+left_from (x ∷ xs) (suc n) s more e = left_from xs n s more e
 
-pub none_found : (ss xs : List Step) (i n : ℕ) → xs ≡ ss → i ≡ n → false ≡ nat_lt i (length xs) → slice_get ss n ≡ None
-none_found ss xs i n same is ge = subst (λ ys. slice_get ys n ≡ None) same (subst (λ k. slice_get xs k ≡ None) is (slice_get_past xs i past))
-  where
-    past : length xs ≤ i
-    past = grind (arith, ge)
+-- nothing is left there
+nothing_left : (xs : List Step) (n : ℕ) → [] ≡ drop n xs → length xs ≤ n
+nothing_left [] n e = omega arith
+nothing_left (x ∷ xs) zero e = absurd (cc)
+nothing_left (x ∷ xs) (suc n) e = let rest : _ = nothing_left xs n e in omega (arith, rest)
 
 -- before the first step
-pub has_none : (x : Schedule) (r : Run) → IsValid x → r.steps.items ≡ x.steps → progress.HasMade held_by place_by (frame_of x) [] r.progress → HasMade x [] r
+pub has_none : (x : Schedule) (r : Run) → IsValid x → r.steps ≡ x.steps → progress.HasMade held_by place_by (frame_of x) [] r.progress → HasMade x [] r
 has_none x r valid steps made =
     record { valid = valid; steps = steps; few = omega arith; made = subst (λ h. progress.HasMade held_by place_by (frame_of x) h r.progress) (sym (told_none [] x.steps)) made }
 
--- its next step
-pub is_next : (x : Schedule) (lines : List Line) (r : Run) (s : Step) → HasMade x lines r → slice_get r.steps.items (length r.progress.machine.rows.guards.items) ≡ Some s → slice_get x.steps (length lines) ≡ Some s
-is_next x lines r s made at = subst (λ n. slice_get x.steps n ≡ Some s) (count_is held_by place_by x lines r.progress made.made made.few) (subst (λ ss. slice_get ss (length r.progress.machine.rows.guards.items) ≡ Some s) made.steps at)
-
-pub goes_on : (x : Schedule) (lines : List Line) (old new : Run) (s : Step) (l : Line) → HasMade x lines old → slice_get old.steps.items (length old.progress.machine.rows.guards.items) ≡ Some s → new.steps.items ≡ old.steps.items → progress.Steps held_by place_by old.progress s l new.progress → GoesOnFrom x lines (Some l) new
-goes_on x lines old new s l made at steps did = (
-  record { valid = made.valid; steps = steps ∙ made.steps; few = more; made = after },
+-- its next step is made
+pub goes_on : (x : Schedule) (lines : List Line) (old new : Run) (s : Step) (l : Line) → HasMade x lines old → old.steps ≡ s ∷ new.steps → progress.Steps held_by place_by old.progress s l new.progress → GoesOnFrom x lines (Some l) new
+goes_on x lines old new s l made first did = (
+  record { valid = made.valid; steps = left.1 ∙ ap (λ n. drop n x.steps) (sym longer); few = more; made = after },
   told_known held_by place_by (frame_of x) (told [] x.steps lines) s l new.progress step,
 )
   where
-    next : slice_get x.steps (length lines) ≡ Some s
-    next = is_next x lines old s made at
+    left : (slice_get x.steps (length lines) ≡ Some s) × (new.steps ≡ drop (suc (length lines)) x.steps)
+    left = left_from x.steps (length lines) s new.steps (sym first ∙ made.steps)
 
     step : progress.HasMade held_by place_by (frame_of x) (event s l ∷ told [] x.steps lines) new.progress
-    step = did (frame_of x) (told [] x.steps lines) (can_step held_by place_by x lines old.progress made.made made.few s made.valid next)
+    step = did (frame_of x) (told [] x.steps lines) (can_step held_by place_by x lines old.progress made.made made.few s made.valid left.0)
 
     after : progress.HasMade held_by place_by (frame_of x) (told [] x.steps (lines ++ l ∷ [])) new.progress
-    after = steps_on held_by place_by x lines old.progress made.made made.few s l new.progress made.valid next did
+    after = steps_on held_by place_by x lines old.progress made.made made.few s l new.progress made.valid left.0 did
+
+    longer : length (lines ++ l ∷ []) ≡ suc (length lines)
+    longer = let e : length (lines ++ l ∷ []) ≡ length lines + 1 = length_push lines l in omega (arith, e)
 
     more : length (lines ++ l ∷ []) ≤ length x.steps
-    more = let inside : length lines < length x.steps = slice_get_within x.steps (length lines) s next in grind (arith, common_steps, inside)
+    more = let inside : length lines < length x.steps = slice_get_within x.steps (length lines) s left.0 in omega (arith, longer, inside)
+
+-- it can be made
+pub can_go_on : (x : Schedule) (lines : List Line) (r : Run) (s : Step) (more : List Step) → HasMade x lines r → r.steps ≡ s ∷ more → CanStep held_by place_by (frame_of x) (told [] x.steps lines) r.progress s
+can_go_on x lines r s more made first =
+    can_step held_by place_by x lines r.progress made.made made.few s made.valid (left_from x.steps (length lines) s more (sym first ∙ made.steps)).0
 
 -- no step is left
-pub is_done : (x : Schedule) (lines : List Line) (r : Run) → HasMade x lines r → slice_get r.steps.items (length r.progress.machine.rows.guards.items) ≡ None → GoesOnFrom x lines None r
-is_done x lines r made none = (made, by (length lines) refl)
+pub is_done : (x : Schedule) (lines : List Line) (old new : Run) → HasMade x lines old → old.steps ≡ [] → new.steps ≡ [] → new.progress ≡ old.progress → GoesOnFrom x lines None new
+is_done x lines old new made none stays same = (
+  record {
+    valid = made.valid;
+    steps = stays ∙ sym none ∙ made.steps;
+    few = made.few;
+    made = subst (λ p. progress.HasMade held_by place_by (frame_of x) (told [] x.steps lines) p) (sym same) made.made;
+  },
+  all,
+)
   where
-    past : slice_get x.steps (length lines) ≡ None
-    past = subst (λ n. slice_get x.steps n ≡ None) (count_is held_by place_by x lines r.progress made.made made.few) (subst (λ ss. slice_get ss (length r.progress.machine.rows.guards.items) ≡ None) made.steps none)
-
-    beyond : (xs : List Step) (i : ℕ) → slice_get xs i ≡ None → length xs ≤ i
-    beyond [] i e = omega arith
-    beyond (y ∷ ys) zero e = absurd (cc)
-    beyond (y ∷ ys) (suc i) e = let rest : _ = beyond ys i e in omega (arith, rest)
-
-    by : (n : ℕ) → length lines ≡ n → length lines ≡ length x.steps
-    by n e = let le : length x.steps ≤ length lines = beyond x.steps (length lines) past in let few : _ = made.few in omega (arith, le, few)
+    all : length lines ≡ length x.steps
+    all =
+        let le : length x.steps ≤ length lines = nothing_left x.steps (length lines) (sym none ∙ made.steps) in
+        let few : _ = made.few in
+        omega (arith, le, few)
 
 -- it is a run still
 pub still_run : (old new : Run) (o : Option Line) → IsRun old → GoesOn old o new → IsRun new

@@ -1,6 +1,6 @@
 -- What a run that hands out its lines has made. The lines that it handed out are not kept: so a contract says what they
 -- are for every schedule and all lines that they may have been.
-use Rattle.std.specs.Prelude.{List, [], ◌∷◌, ◌++◌, ◌≡◌, ◌≤◌, length}
+use Rattle.std.specs.Prelude.{List, [], ◌∷◌, ◌++◌, ◌≡◌, ◌≤◌, drop, length}
 use Rattle.std.specs.declared.option.Option.{Option}
 use Rattle.std.specs.declared.option.Option.TheVariants.{None, Some}
 use Rattle.phase_bits.specs.declared.holders.Holders.{Holders}
@@ -30,7 +30,7 @@ frame_of x = record { parties = x.parties; cells = x.cells; count = length x.ste
 -- the run is of this schedule, and has made its first steps with these lines
 pub record HasMade (x : Schedule) (lines : List Line) (r : Run) : Type 0 where
   pub valid : IsValid x
-  pub steps : r.steps.items ≡ x.steps
+  pub steps : r.steps ≡ drop (length lines) x.steps
   pub few : length lines ≤ length x.steps
   pub made : progress.HasMade held_by place_by (frame_of x) (told [] x.steps lines) r.progress
 

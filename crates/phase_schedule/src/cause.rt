@@ -7,6 +7,7 @@ ghost use Rattle.phase_schedule.specs.Errors.{cause_of, cause_of_plan, first_fou
 
 use crate::error::RunError;
 use schedule_rules::{Act, CellPlan, Kind, Place, Plan, Step};
+use step_list::StepList;
 
 /// A schedule has fewer parties than this.
 const MOST_PARTIES: u32 = 1 << 20;
@@ -20,6 +21,18 @@ pub fn cause(plan: &Plan, steps: &[Step]) -> Option<RunError>
     match plan_cause(plan) {
         Some(error) => Some(error),
         None => unknown_step(plan, steps),
+    }
+}
+
+/// Why the schedule of these steps does not run, where there is a cause.
+pub fn cause_of_list(plan: &Plan, steps: &StepList) -> Option<RunError>
+    requires cells { length plan.now.cells.items < 2 ^ 32 }
+    requires steps { length steps.now < 2 ^ 32 }
+    ensures { result ≡ cause_of (schedule_of plan.now steps.now) }
+{
+    match plan_cause(plan) {
+        Some(error) => Some(error),
+        None => unknown_step_of_list(plan, steps),
     }
 }
 
@@ -77,6 +90,22 @@ fn unknown_step(plan: &Plan, steps: &[Step]) -> Option<RunError>
         if let Some(error) = unknown(plan, i as u32, s) {
             return Some(error);
         }
+    }
+    None
+}
+
+/// The first step of a list that does so.
+fn unknown_step_of_list(plan: &Plan, steps: &StepList) -> Option<RunError>
+    requires { length steps.now < 2 ^ 32 }
+    ensures { result ≡ first_found (unknown_of plan.now.parties (length plan.now.cells.items)) 0 steps.now }
+{
+    let mut left = steps.iter();
+    let mut n = 0;
+    while let Some(step) = left.next() {
+        if let Some(error) = unknown(plan, n, &step) {
+            return Some(error);
+        }
+        n += 1;
     }
     None
 }

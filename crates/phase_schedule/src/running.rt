@@ -5,13 +5,14 @@ ghost use Rattle.schedule_rules.specs.Transcripts.{schedule_of, IsValid};
 ghost use Rattle.phase_schedule.specs.Errors.{cause_of, IsCause};
 ghost use Rattle.phase_schedule.specs.Running.{EndsSo, GoesOn, HasMade, IsRun};
 
-use crate::cause::cause;
+use crate::cause::cause_of_list;
 use crate::ending::Ending;
 use crate::error::RunError;
 use crate::progress::Progress;
 use phase_locker::HolderLocker;
-use schedule_rules::{Line, Plan, Step};
+use schedule_rules::{Line, Plan};
 use std::alloc::Global;
+use step_list::StepList;
 
 /// A schedule that runs, and hands out the line of each step as it is made. It keeps no line. It is spent by `finish`.
 /// This project's own, as its calls are.
@@ -19,7 +20,8 @@ use std::alloc::Global;
 /// What a contract says of it, it says for every schedule that it may be of and all lines that it may have handed out.
 pub struct Run {
     progress: Progress<HolderLocker>,
-    steps: Vec<Step>,
+    /// Those that were not made yet.
+    steps: StepList,
 }
 
 impl Run {
@@ -30,15 +32,15 @@ impl Run {
     ///
     /// `TooManyParties` for 2^20 parties or more, else `BadPlan` at the first cell that can't belong to its party, else
     /// `UnknownParty` or `UnknownCell` at the first step that names one, the party first; `Memory` where memory ran out.
-    pub fn new(alloc: Global, plan: &Plan, steps: Vec<Step>) -> Result<Run, RunError>
+    pub fn new(alloc: Global, plan: &Plan, steps: StepList) -> Result<Run, RunError>
         requires cells { length plan.now.cells.items < 2 ^ 32 }
-        requires steps { length steps.items < 2 ^ 32 }
-        ensures made { IfOk result (HasMade (schedule_of plan.now steps.items) []) }
-        ensures cause { IfErr result (IsCause (cause_of (schedule_of plan.now steps.items))) }
+        requires steps { length steps < 2 ^ 32 }
+        ensures made { IfOk result (HasMade (schedule_of plan.now steps) []) }
+        ensures cause { IfErr result (IsCause (cause_of (schedule_of plan.now steps))) }
         // What can be run is run, unless memory runs out.
-        ensures complete { IsValid (schedule_of plan.now steps.items) → IsOkUnless result RunError.Memory }
+        ensures complete { IsValid (schedule_of plan.now steps) → IsOkUnless result RunError.Memory }
     {
-        if let Some(error) = cause(plan, &steps) {
+        if let Some(error) = cause_of_list(plan, &steps) {
             return Err(error);
         }
         let progress = Progress::new(alloc, plan, steps.len() as u32)?;
@@ -51,8 +53,7 @@ impl Run {
         ensures goes { GoesOn self.old result self.new }
         ensures is { IsRun self.new }
     {
-        let number = self.progress.machine.rows.guards.len();
-        let step = *self.steps.get(number)?;
+        let step = self.steps.pop_front()?;
         Some(self.progress.step(&step))
     }
 

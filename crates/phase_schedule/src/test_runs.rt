@@ -17,6 +17,7 @@ use schedule_rules::{
 use std::alloc::{AllocError, Global};
 use std::process::Abort;
 use std::test::Fail;
+use step_list::StepList;
 
 /// A step and the line that it is to have.
 pub type Row = (Step, Line);
@@ -221,7 +222,8 @@ fn expect_lines(
     requires cells { length plan.now.cells.items < 2 ^ 32 }
     requires rows { length rows.now < 2 ^ 32 }
 {
-    let mut run = Run::new(alloc, plan, steps_of(alloc, rows)?)?;
+    let steps = StepList::from_slice(alloc, &steps_of(alloc, rows)?)?;
+    let mut run = Run::new(alloc, plan, steps)?;
     let is_told = tells(&mut run, rows);
     let is_done = run.next_line().is_none();
     let ending = run.finish();

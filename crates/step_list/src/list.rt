@@ -57,6 +57,21 @@ impl StepList {
         })
     }
 
+    /// These steps.
+    ///
+    /// # Errors
+    ///
+    /// `AllocError` where memory is short.
+    pub fn from_slice(alloc: Global, steps: &[Step]) -> Result<StepList, AllocError>
+        ensures { IfOk result (λ list. list ≡ steps.now) }
+    {
+        let mut list = StepList::with_capacity(alloc, steps.len(), 0)?;
+        for step in steps {
+            list.push(*step)?;
+        }
+        Ok(list)
+    }
+
     /// Adds a step at the end.
     ///
     /// # Errors

@@ -1,4 +1,4 @@
-use Rattle.std.proofs.Common.{◌≡◌, ◌∙◌, [], ap, None, Some, refl, subst, sym}
+use Rattle.std.proofs.Common.{◌≡◌, ◌∙◌, [], None, Some, refl, subst, sym}
 use Rattle.schedule_rules.specs.Transcripts.{schedule_of}
 use Rattle.phase_schedule.specs.declared.error.RunError.{RunError}
 use Rattle.phase_schedule.specs.Errors.{cause_of}
@@ -14,14 +14,15 @@ clash e same = cc
 
 pub returns-in-Some-clause-complete : goal.returns-in-Some-clause-complete
 returns-in-Some-clause-complete c =
-    λ v. absurd (clash c.in-Some.error (sym c.in-Some.is ∙ c.cause.ensures ∙ ap (λ ss. cause_of (schedule_of c.args.plan.now ss)) c.deref.ensures.value ∙ no_cause (schedule_of c.args.plan.now c.args.steps.items) v))
+    λ v. absurd (clash c.in-Some.error (c.in-Some.ensures ∙ no_cause (schedule_of c.args.plan.now c.args.steps) v))
 
 pub new-requires-clause-shared : goal.new-requires-clause-shared
 new-requires-clause-shared c =
-    shared_cells (schedule_of c.args.plan.now c.args.steps.items) (ap (λ ss. cause_of (schedule_of c.args.plan.now ss)) (sym c.deref.ensures.value) ∙ sym c.cause.ensures ∙ c.in_default.is)
+    shared_cells (schedule_of c.args.plan.now c.args.steps) (sym c.cause_of_list.ensures ∙ c.in_default.is)
 
 pub returns-clause-made : goal.returns-clause-made
 returns-clause-made c =
-    let none : cause_of (schedule_of c.args.plan.now c.args.steps.items) ≡ None = ap (λ ss. cause_of (schedule_of c.args.plan.now ss)) (sym c.deref.ensures.value) ∙ sym c.cause.ensures ∙ c.in_default.is in
-    has_none (schedule_of c.args.plan.now c.args.steps.items) (record { progress = c.in_ok-progress.progress; steps = c.args.steps }) (valid (schedule_of c.args.plan.now c.args.steps.items) c.requires.cells c.requires.steps none) refl
-    (subst (λ n. progress.HasMade held_by place_by (frame_of_plan c.args.plan.now n) [] c.in_ok-progress.progress) (c.len.ensures ∙ c.args.steps.ok.0) c.in_ok-progress.ensures)
+    let x = schedule_of c.args.plan.now c.args.steps in
+    let none : cause_of x ≡ None = sym c.cause_of_list.ensures ∙ c.in_default.is in
+    has_none x (record { progress = c.in_ok-progress.progress; steps = c.args.steps }) (valid x c.requires.cells c.requires.steps none) refl
+    (subst (λ n. progress.HasMade held_by place_by (frame_of_plan c.args.plan.now n) [] c.in_ok-progress.progress) c.len.ensures c.in_ok-progress.ensures)

@@ -1,33 +1,30 @@
-use Rattle.std.proofs.Common.{◌∙◌, [], refl, Some}
+use Rattle.std.proofs.Common.{[], refl, Some}
 use Rattle.schedule_rules.specs.Transcripts.{told}
-use Rattle.phase_schedule.specs.Running.{frame_of, held_by, place_by}
-use Rattle.phase_schedule.proofs.Runs.{can_step, goes_on, is_done, is_next, none_found, step_found, still_run}
+use Rattle.phase_schedule.specs.declared.running.Run.{Run}
+use Rattle.phase_schedule.specs.Running.{frame_of}
+use Rattle.phase_schedule.proofs.Runs.{can_go_on, goes_on, is_done, still_run}
 use Rattle.phase_schedule.proofs.running.Run.next_line.Goals as goal
 
 pub returns-in_err-step-clause-goes : goal.returns-in_err-step-clause-goes
 returns-in_err-step-clause-goes c =
     let old = c.args.self.now in
-    λ x lines made. rw c.from_residual.ensures (is_done x lines old made (none_found old.steps.items c.deref.result.now c.len-number.result _ c.deref.ensures.value (c.len-number.ensures ∙ old.progress.machine.rows.guards.ok.0) c.in_err-step.ensures.lookup.0))
+    λ x lines made. rw c.from_residual.ensures (is_done x lines old (record { progress = old.progress; steps = c.pop_front.new.self }) made c.in_err-step.ensures.0 c.in_err-step.ensures.1 refl)
 
 pub step-requires : goal.step-requires
 step-requires c =
-    let old = c.args.self.now in let r = c.requires in
-    let at = step_found old.steps.items c.deref.result.now c.len-number.result _ c.in_ok-step.field-0.now c.deref.ensures.value (c.len-number.ensures ∙ old.progress.machine.rows.guards.ok.0) c.in_ok-step.ensures.lookup.0 c.in_ok-step.ensures.lookup.1 in
+    let r = c.requires in
     record {
       frame = frame_of r.schedule;
       h = told [] r.schedule.steps r.lines;
-      can = can_step held_by place_by r.schedule r.lines old.progress r.made.made r.made.few c.in_ok-step.field-0.now r.made.valid (is_next r.schedule r.lines old c.in_ok-step.field-0.now r.made at);
+      can = can_go_on r.schedule r.lines c.args.self.now c.in_ok-step.step c.pop_front.new.self r.made c.in_ok-step.ensures;
     }
 
 pub returns-clause-goes : goal.returns-clause-goes
 returns-clause-goes c =
-    let old = c.args.self.now in
-    let at = step_found old.steps.items c.deref.result.now c.len-number.result _ c.in_ok-step.field-0.now c.deref.ensures.value (c.len-number.ensures ∙ old.progress.machine.rows.guards.ok.0) c.in_ok-step.ensures.lookup.0 c.in_ok-step.ensures.lookup.1 in
-    λ x lines made. goes_on x lines old (record { progress = c.step.new.self; steps = old.steps }) c.in_ok-step.field-0.now c.step.result made at refl c.step.ensures
+    λ x lines made. goes_on x lines c.args.self.now (record { progress = c.step.new.self; steps = c.pop_front.new.self }) c.in_ok-step.step c.step.result made c.in_ok-step.ensures c.step.ensures
 
 pub returns-clause-is : goal.returns-clause-is
 returns-clause-is c =
-    let old = c.args.self.now in
-    let at = step_found old.steps.items c.deref.result.now c.len-number.result _ c.in_ok-step.field-0.now c.deref.ensures.value (c.len-number.ensures ∙ old.progress.machine.rows.guards.ok.0) c.in_ok-step.ensures.lookup.0 c.in_ok-step.ensures.lookup.1 in
-    still_run old (record { progress = c.step.new.self; steps = old.steps }) (Some c.step.result) c.requires
-    (λ x lines made. goes_on x lines old (record { progress = c.step.new.self; steps = old.steps }) c.in_ok-step.field-0.now c.step.result made at refl c.step.ensures)
+    let new : Run = record { progress = c.step.new.self; steps = c.pop_front.new.self } in
+    still_run c.args.self.now new (Some c.step.result) c.requires
+    (λ x lines made. goes_on x lines c.args.self.now new c.in_ok-step.step c.step.result made c.in_ok-step.ensures c.step.ensures)
