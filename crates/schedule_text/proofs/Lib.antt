@@ -4,5 +4,6 @@ pub mod ReadActs
 pub mod ReadLines
 pub mod ReadSchedule
 pub mod PrintPieces
+pub mod PrintNumerals
 pub mod PrintPhases
 pub mod PrintWords

@@ -2,6 +2,7 @@ pub mod Lines
 pub mod ScheduleText
 pub mod TranscriptText
 pub mod Pages
+pub mod Numerals
 pub mod Reading
 pub mod ReadFields
 pub mod ReadSteps

@@ -12,6 +12,7 @@ mod answer;
 mod end;
 mod flags;
 mod line;
+mod numeral;
 mod page;
 mod phase;
 #[cfg(test)]

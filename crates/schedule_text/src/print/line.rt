@@ -2,7 +2,7 @@
 
 ghost use Rattle.std.specs.Prelude.{◌≡◌, ◌++◌, true};
 ghost use Rattle.schedule_text.specs.Lines.{line_text};
-ghost use Rattle.schedule_text.specs.Pages.{GrowsBy, HasRoom, has_line_room};
+ghost use Rattle.schedule_text.specs.Pages.{HasRoom, has_line_room};
 ghost use Rattle.schedule_text.specs.TranscriptText.{answer_words, given_words, step_words};
 
 use crate::print::page::Page;
@@ -14,7 +14,7 @@ impl Page {
         requires { has_line_room self.old ≡ true }
         ensures { self.new ≡ self.old ++ line_text (step_words number line.now) }
     {
-        self.put_decimal(number, b' ');
+        self.put_counted(number);
         self.put_line(line);
     }
 
@@ -29,11 +29,11 @@ impl Page {
         match line.given {
             Given::Nobody => {}
             Given::Readers => {
-                self.take_back();
+                self.take_off(1);
                 self.put(b" gives readers\n");
             }
             Given::Writer(party) => {
-                self.take_back();
+                self.take_off(1);
                 self.put(b" gives writer ");
                 self.put_decimal(u64::from(party), b'\n');
             }

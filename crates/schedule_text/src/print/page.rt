@@ -1,10 +1,10 @@
 //! The page on which a transcript is written.
 
-ghost use Rattle.std.specs.Prelude.{◌≡◌, ◌<◌, ◌-◌, [], ◌∷◌, ◌++◌, length, take, not, IfOk};
+ghost use Rattle.std.specs.Prelude.{◌≡◌, ◌≤◌, ◌<◌, ◌-◌, [], ◌∷◌, ◌++◌, length, take, not, IfOk};
 ghost use Rattle.std.specs.Fmt.{decimal};
 ghost use Rattle.schedule_text.specs.Pages.{GrowsBy, HasRoom, has_line_room};
 
-use itoa::write_digits;
+use crate::print::numeral::{NUMERAL_BYTES, Numeral, write_row};
 use std::alloc::{AllocError, Global};
 use std::marker::Model;
 
@@ -13,9 +13,6 @@ const PAGE_BYTES: usize = 65_536;
 
 /// More bytes than any line of a transcript has.
 const LINE_ROOM: usize = 256;
-
-/// The most digits that a number has.
-const MOST_DIGITS: usize = 20;
 
 /// A block of bytes on which the lines of a transcript are put, one after another. Whoever writes the transcript hands the
 /// bytes on and clears the page where it is full. All its memory is taken when it is made. This project's own.
@@ -27,6 +24,8 @@ pub struct Page {
     block: Vec<u8>,
     /// How many are on the page.
     len: usize,
+    /// The number of the step that was put last.
+    numeral: Numeral,
 }
 
 impl Model for Page {
@@ -46,7 +45,11 @@ impl Page {
         ensures { IfOk result (λ page. page ≡ []) }
     {
         let block = vec![in alloc; 0u8; PAGE_BYTES]?;
-        Ok(Page { block, len: 0 })
+        Ok(Page {
+            block,
+            len: 0,
+            numeral: Numeral::of(0),
+        })
     }
 
     /// The bytes on the page.
@@ -81,12 +84,24 @@ impl Page {
         self.len = end;
     }
 
-    /// Takes the last byte off the page.
-    pub(crate) fn take_back(&mut self)
-        requires { 0 < length self.old }
-        ensures { self.new ≡ take (length self.old - 1) self.old }
+    /// Puts so many bytes of the front of these, which are copied whole. A copy of a fixed size takes the least time.
+    #[inline(always)]
+    pub(crate) fn put_front(&mut self, text: &[u8], count: usize)
+        requires count { count ≤ length text.now }
+        requires room { HasRoom (length text.now) self.old }
+        ensures { self.new ≡ self.old ++ take count text.now }
     {
-        self.len -= 1;
+        self.put(text);
+        self.take_off(text.len() - count);
+    }
+
+    /// Takes so many of the last bytes off the page.
+    #[inline(always)]
+    pub(crate) fn take_off(&mut self, count: usize)
+        requires { count ≤ length self.old }
+        ensures { self.new ≡ take (length self.old - count) self.old }
+    {
+        self.len -= count;
     }
 
     /// Puts a number in decimal, and a byte that ends it.
@@ -96,8 +111,19 @@ impl Page {
         ensures text { self.new ≡ self.old ++ (decimal number ++ end ∷ []) }
         ensures room { GrowsBy 21 self.old self.new }
     {
-        let mut digits = [end; MOST_DIGITS + 1];
-        let start = write_digits(number, &mut digits, MOST_DIGITS);
-        self.put(&digits[start..]);
+        let (row, start) = write_row(number, end);
+        self.put_front(&row[start..start + NUMERAL_BYTES], NUMERAL_BYTES - start);
+    }
+
+    /// Puts the number of a step, and a space. It is kept, since the number of the next step is mostly made of it.
+    #[inline(always)]
+    pub(crate) fn put_counted(&mut self, number: u64)
+        requires { HasRoom 21 self.old }
+        ensures text { self.new ≡ self.old ++ (decimal number ++ 32 ∷ []) }
+        ensures room { GrowsBy 21 self.old self.new }
+    {
+        self.numeral.turn_to(number);
+        let (text, count) = self.numeral.text();
+        self.put_front(&text, count);
     }
 }
