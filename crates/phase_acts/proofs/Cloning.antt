@@ -31,8 +31,7 @@ use Rattle.phase_moves.specs.Standing.{Standing, cloned, reads_in, writes_in}
 use Rattle.phase_moves.specs.Stands.{Stands, Seen}
 use Rattle.phase_moves.proofs.Guards.{reads_here}
 use Rattle.phase_moves.proofs.Hand.{pushed_free}
-use Rattle.phase_moves.proofs.Histories.{clone_beside}
-use Rattle.phase_moves.proofs.HistoryExits.{clone_barred}
+use Rattle.phase_moves.proofs.Histories.{clone_beside, clone_barred}
 use Rattle.phase_moves.proofs.Opening.{seen_reader}
 use Rattle.phase_acts.specs.Steps.{IsAwake, HasStepped, step_of}
 use Rattle.phase_acts.proofs.Downgrading.{owner_of}

@@ -29,7 +29,7 @@ use Rattle.phase_moves.specs.Moves.{KeptGuards, KeptWith, Pushes}
 use Rattle.phase_moves.specs.Reading.{RunsBy, running_of}
 use Rattle.phase_moves.specs.Standing.{Standing, owned, turn_taken, round_looked}
 use Rattle.phase_moves.proofs.Hand.{pushed_free}
-use Rattle.phase_moves.proofs.HistoryExits.{exit_looks}
+use Rattle.phase_moves.proofs.Histories.{exit_looks}
 use Rattle.phase_acts.specs.Steps.{IsAwake, HasStepped, step_of}
 use Rattle.phase_acts.specs.Tries.{MayTry, Tries}
 use Rattle.phase_acts.proofs.Causes.{turn_trying, turn_steps}

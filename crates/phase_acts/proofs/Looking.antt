@@ -28,7 +28,7 @@ use Rattle.phase_moves.specs.Moves.{IsOpenWriter, KeptWith, MaySet, Pushes, Sets
 use Rattle.phase_moves.specs.Reading.{HoldsBy}
 use Rattle.phase_moves.specs.Standing.{seen_by, put}
 use Rattle.phase_moves.proofs.Hand.{pushed_free}
-use Rattle.phase_moves.proofs.HistoryExits.{look_stays, set_puts}
+use Rattle.phase_moves.proofs.Histories.{look_stays, set_puts}
 use Rattle.phase_acts.specs.Steps.{IsAwake, HasStepped, step_of}
 use Rattle.phase_acts.proofs.Holding.{none_held, Shows, shows}
 use Rattle.phase_acts.proofs.Keeping.{none_with}

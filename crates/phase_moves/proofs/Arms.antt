@@ -1,6 +1,6 @@
 -- The rows stand for what is open after an attempt, whatever it was answered.
-use Rattle.std.proofs.Common.{◌≡◌, ◌<◌, ◌≤◌, ◌^◌, ◌+◌, ◌∙◌, ℕ, List, length, set, get_or, ap, sym, subst, refl, arith, Bool, true, false, None, Some, inl, inr}
-use Rattle.std.specs.Prelude.{◌⊎◌, ◌&&◌, MatchBool, if◌then◌else◌}
+use Rattle.std.proofs.Common.{◌≡◌, ◌<◌, ◌≤◌, ◌+◌, ◌∙◌, ℕ, List, length, set, get_or, ap, sym, subst, refl, arith, Bool, true, false, None, Some, inl, inr}
+use Rattle.std.specs.Prelude.{◌⊎◌, ◌&&◌, MatchBool, if◌then◌else◌, is_some}
 use Rattle.std.specs.declared.option.Option.{Option}
 use Rattle.phase_bits.specs.declared.phase.Phase.{Phase}
 use Rattle.phase_bits.specs.declared.holders.Holders.{Holders}
@@ -35,7 +35,10 @@ use Rattle.schedule_rules.specs.Kinds.{cell_at}
 use Rattle.schedule_rules.specs.Changes.{Content, Change}
 use Rattle.schedule_rules.specs.Phases.{tries_registration}
 use Rattle.schedule_rules.specs.Sections.{innermost, is_turn}
-use Rattle.schedule_rules.specs.Waits.{Wait, wait_of, without_wait, cell_of_section}
+use Rattle.schedule_rules.specs.History.{count}
+use Rattle.schedule_rules.specs.Transcripts.{most_parties}
+use Rattle.schedule_rules.specs.Waits.{Wait, wait_of, waits_at, without_wait, cell_of_section}
+use Rattle.waiting_rows.specs.Given.{given_on}
 use Rattle.waiting_rows.specs.Shown.{wait_row}
 use Rattle.phase_moves.specs.declared.rows.CellRow.{CellRow}
 use Rattle.phase_moves.specs.declared.rows.PartyRow.{PartyRow}
@@ -45,7 +48,7 @@ use Rattle.phase_moves.specs.declared.rows.Taken.TheVariants as taken
 use Rattle.phase_moves.specs.Calls.{Calls as CallOf, registry_for, registry_begun}
 use Rattle.phase_moves.specs.Standing.{Standing, run_in, runner_of, reads_in, writes_in, changes_at, section_asked, registry_asked}
 use Rattle.phase_moves.specs.Stands.{Stands, seen_at, IsCell, IsExit, IsLocked, AreShown, party_row, open_run, run_as, stays_in}
-use Rattle.phase_moves.specs.Tries.{IsAttempting, IsTook, MayWait, WaitsAt, ask_of, is_quick, opens_section, party_after, run_after, taken_of}
+use Rattle.phase_moves.specs.Tries.{IsAttempting, IsTook, MayWait, WaitsAt, ask_of, is_quick, opens_section, party_after, run_after, taken_of, waiting_after, waiting_with}
 use Rattle.phase_moves.specs.declared.rows.Taken.{Taken}
 use Rattle.phase_moves.specs.Meets.{IsMet}
 use Rattle.phase_moves.proofs.Admitting.{final_turns}
@@ -53,14 +56,15 @@ use Rattle.phase_moves.proofs.Asked.{IsAsked, asked_as, stays_same, run_calls, r
 use Rattle.phase_moves.proofs.Attempts.{is_away, IsBegun, IsTurned, Tells, declines, phase_left, rows_begun, stays_asked, writes_begun, wrote}
 use Rattle.phase_moves.proofs.Answered.{answered as begun_as}
 use Rattle.phase_moves.proofs.Calling.{answered_moved}
-use Rattle.phase_moves.proofs.Few.{fewer_readers}
+use Rattle.phase_moves.proofs.Waiting.{fewer_readers, count_here, counted_less, counted_more, few_wait, some_counted, waited_here}
 use Rattle.phase_moves.proofs.Leaving.{sound}
-use Rattle.phase_moves.proofs.Looked.{met_turned}
+use Rattle.phase_moves.proofs.Looking.{met_turned}
 use Rattle.phase_moves.proofs.Meeting.{met}
 use Rattle.phase_moves.proofs.Settling.{IsSettled, call_settled}
 use Rattle.waiting_rows.proofs.Sound.{sound_of}
 use Rattle.phase_locker.proofs.Keeping.{freed_free, freed_size}
 use Rattle.phase_moves.proofs.Moved.{parties_set, moved}
+use Rattle.phase_moves.proofs.Places.{read_at}
 use Rattle.phase_moves.proofs.Parking.{shown_called, freed_writers}
 use Rattle.phase_moves.proofs.Runs.{none_runs}
 use Rattle.phase_moves.proofs.Took.{asked_here as asked_here_of, cell_here as cell_here_of, cyclic_as as cyclic_as_of, of_here as of_here_of, in_parks as in_parks_of, party_in as party_in_of, sizes_in as sizes_in_of, exit_with as exit_with_of, exit_still as exit_still_of, was_none as was_none_of, rows_as as rows_as_of, told_as as told_as_of, phase_as as phase_as_of, took_nothing as took_nothing_of, took_read as took_read_of, took_write as took_write_of, took_wait as took_wait_of, took_run as took_run_of}
@@ -129,24 +133,52 @@ module _ {L : Type 0} (held : L → Holders) (place : L → LockerKind) where
     phase_as : (d : IsBegun who ask reg (held row.seq.locker) v.parks b g (held row'.seq.locker) v'.parks) → (b₁ : Begun) → b ≡ b₁ → (held row'.seq.locker).phase ≡ phase_left (declines ask reg (held row.seq.locker).phase) b₁ (held row.seq.locker).phase
     phase_as d = phase_as_of held place m v v' p t waits is row row' row_is of of' of_is cells guards parties plan value owner turns b g registry running stands op k ask ask_is cyc d
 
-    took_nothing : (d : IsBegun who ask reg (held row.seq.locker) v.parks b g (held row'.seq.locker) v'.parks) (few : (held row'.seq.locker).readers ≤ most_readers) (tell : (z : Taken) → taken_of b ≡ z → IsMet p t z g m) → (q : Phase) → b ≡ begun.Nothing q → of' ≡ record { waiting = None; innermost = of.innermost } → row'.run ≡ row.run → IsTook held place m v p t (taken.Nothing q) g v'
+    took_nothing : (d : IsBegun who ask reg (held row.seq.locker) v.parks b g (held row'.seq.locker) v'.parks) (few : (held row'.seq.locker).readers ≤ most_readers) (tell : (z : Taken) → taken_of b ≡ z → IsMet p t z g m) → (q : Phase) → b ≡ begun.Nothing q → of' ≡ record { waiting = None; innermost = of.innermost } → row'.run ≡ row.run → row'.waiting ≡ count (waits_at t.cell) (given_on t.cell g (without_wait p m.waits)) → IsTook held place m v p t (taken.Nothing q) g v'
     took_nothing d few tell = took_nothing_of held place m v v' p t waits is row row' row_is of of' of_is cells guards parties plan value owner turns b g registry running stands op k ask ask_is cyc d few tell
 
-    took_read : (d : IsBegun who ask reg (held row.seq.locker) v.parks b g (held row'.seq.locker) v'.parks) (few : (held row'.seq.locker).readers ≤ most_readers) (tell : (z : Taken) → taken_of b ≡ z → IsMet p t z g m) → (l : ReadTicket) (q : Phase) → b ≡ begun.Read l q → of' ≡ record { waiting = None; innermost = of.innermost } → row'.run ≡ row.run → IsTook held place m v p t (taken.Read l q) g v'
+    took_read : (d : IsBegun who ask reg (held row.seq.locker) v.parks b g (held row'.seq.locker) v'.parks) (few : (held row'.seq.locker).readers ≤ most_readers) (tell : (z : Taken) → taken_of b ≡ z → IsMet p t z g m) → (l : ReadTicket) (q : Phase) → b ≡ begun.Read l q → of' ≡ record { waiting = None; innermost = of.innermost } → row'.run ≡ row.run → row'.waiting ≡ count (waits_at t.cell) (given_on t.cell g (without_wait p m.waits)) → IsTook held place m v p t (taken.Read l q) g v'
     took_read d few tell = took_read_of held place m v v' p t waits is row row' row_is of of' of_is cells guards parties plan value owner turns b g registry running stands op k ask ask_is cyc d few tell
 
-    took_write : (d : IsBegun who ask reg (held row.seq.locker) v.parks b g (held row'.seq.locker) v'.parks) (few : (held row'.seq.locker).readers ≤ most_readers) (tell : (z : Taken) → taken_of b ≡ z → IsMet p t z g m) → (l : WriteTicket) (q : Phase) → b ≡ begun.Write l q → of' ≡ record { waiting = None; innermost = of.innermost } → row'.run ≡ row.run → IsTook held place m v p t (taken.Write l q) g v'
+    took_write : (d : IsBegun who ask reg (held row.seq.locker) v.parks b g (held row'.seq.locker) v'.parks) (few : (held row'.seq.locker).readers ≤ most_readers) (tell : (z : Taken) → taken_of b ≡ z → IsMet p t z g m) → (l : WriteTicket) (q : Phase) → b ≡ begun.Write l q → of' ≡ record { waiting = None; innermost = of.innermost } → row'.run ≡ row.run → row'.waiting ≡ count (waits_at t.cell) (given_on t.cell g (without_wait p m.waits)) → IsTook held place m v p t (taken.Write l q) g v'
     took_write d few tell = took_write_of held place m v v' p t waits is row row' row_is of of' of_is cells guards parties plan value owner turns b g registry running stands op k ask ask_is cyc d few tell
 
-    took_wait : (d : IsBegun who ask reg (held row.seq.locker) v.parks b g (held row'.seq.locker) v'.parks) (few : (held row'.seq.locker).readers ≤ most_readers) (tell : (z : Taken) → taken_of b ≡ z → IsMet p t z g m) → (way : How) → b ≡ begun.Wait way → of' ≡ record { waiting = Some (record { cell = t.cell; want = t.want }); innermost = of.innermost } → row'.run ≡ row.run → IsTook held place m v p t (taken.Wait way) g v'
+    took_wait : (d : IsBegun who ask reg (held row.seq.locker) v.parks b g (held row'.seq.locker) v'.parks) (few : (held row'.seq.locker).readers ≤ most_readers) (tell : (z : Taken) → taken_of b ≡ z → IsMet p t z g m) → (way : How) → b ≡ begun.Wait way → of' ≡ record { waiting = Some (record { cell = t.cell; want = t.want }); innermost = of.innermost } → row'.run ≡ row.run → row'.waiting ≡ count (waits_at t.cell) (given_on t.cell g (without_wait p m.waits)) + 1 → IsTook held place m v p t (taken.Wait way) g v'
     took_wait d few tell = took_wait_of held place m v v' p t waits is row row' row_is of of' of_is cells guards parties plan value owner turns b g registry running stands op k ask ask_is cyc d few tell
 
-    took_run : (d : IsBegun who ask reg (held row.seq.locker) v.parks b g (held row'.seq.locker) v'.parks) (few : (held row'.seq.locker).readers ≤ most_readers) (tell : (z : Taken) → taken_of b ≡ z → IsMet p t z g m) → (s : SeqSection) → reads_begun b ≡ 0 → writes_begun b ≡ 1 → (held row'.seq.locker).phase ≡ (held row.seq.locker).phase → v'.parks ≡ rows_handed t.cell g (freed p v.parks) → IsExit (length v.cells.items) (record m { registry = registry_asked t.cell t.want m }) v'.exit → row'.seq.running ≡ runner_of (Some (record { section = section_asked n p t.cell t.want m; outer = cell_of_section (innermost p m.sections) })) → s ≡ section_by who (run_as x.kind t.want) (stays_in x t.want m.registry.is_open y.phase) write_ticket → false ≡ (initializes x.kind t.want && seq_runs p (runner_of (run_in t.cell m.sections))) → IsMet p t taken.Runs g m → of' ≡ record { waiting = None; innermost = Some t.cell } → row'.run ≡ Some (record { run = record { party = p; want = t.want; outer = of.innermost }; section = s }) → IsTook held place m v p t taken.Runs g v'
+    took_run : (d : IsBegun who ask reg (held row.seq.locker) v.parks b g (held row'.seq.locker) v'.parks) (few : (held row'.seq.locker).readers ≤ most_readers) (tell : (z : Taken) → taken_of b ≡ z → IsMet p t z g m) → (s : SeqSection) → reads_begun b ≡ 0 → writes_begun b ≡ 1 → (held row'.seq.locker).phase ≡ (held row.seq.locker).phase → v'.parks ≡ rows_handed t.cell g (freed p v.parks) → IsExit (length v.cells.items) (record m { registry = registry_asked t.cell t.want m }) v'.exit → row'.seq.running ≡ runner_of (Some (record { section = section_asked n p t.cell t.want m; outer = cell_of_section (innermost p m.sections) })) → s ≡ section_by who (run_as x.kind t.want) (stays_in x t.want m.registry.is_open y.phase) write_ticket → false ≡ (initializes x.kind t.want && seq_runs p (runner_of (run_in t.cell m.sections))) → IsMet p t taken.Runs g m → of' ≡ record { waiting = None; innermost = Some t.cell } → row'.run ≡ Some (record { run = record { party = p; want = t.want; outer = of.innermost }; section = s }) → row'.waiting ≡ count (waits_at t.cell) (given_on t.cell g (without_wait p m.waits)) → IsTook held place m v p t taken.Runs g v'
     took_run d few tell = took_run_of held place m v v' p t waits is row row' row_is of of' of_is cells guards parties plan value owner turns b g registry running stands op k ask ask_is cyc d few tell
 
+    -- ---- how many wait at the cell
+
+    counted_before : row.waiting ≡ count (waits_at t.cell) m.waits
+    counted_before = is.rests.stands.counted t.cell row (read_at v.cells.items t.cell row is.cell row_is)
+
+    counted_one : row.waiting ≡ count (waits_at t.cell) (given_on t.cell g (without_wait p m.waits)) + (if is_some of.waiting then 1 else 0)
+    counted_one =
+        counted_before ∙ count_here p t.cell m.waits is.rests.stands.waits.single g (waited_here waits t.cell (wait_of p m.waits) is.waited)
+        ∙ ap (λ (z : PartyRow). count (waits_at t.cell) (given_on t.cell g (without_wait p m.waits)) + (if is_some z.waiting then 1 else 0)) (sym of_here)
+
+    -- one that waits is counted
+    pub counted_some : is_some of.waiting ≡ true → 0 < row.waiting
+    counted_some = some_counted (is_some of.waiting) row.waiting _ counted_one
+
+    pub counted_few : row.waiting < most_parties
+    counted_few =
+        let st = is.rests.stands in
+        let most = few_wait t.cell m.waits v.parks st.waits.single st.waits.shows in
+        let few = st.sizes.few in
+        let same = counted_before in
+        omega (arith, most, few, same)
+
+    many_less : row'.waiting ≡ waiting_with (is_some of.waiting) false row.waiting → row'.waiting ≡ count (waits_at t.cell) (given_on t.cell g (without_wait p m.waits))
+    many_less same = same ∙ counted_less (is_some of.waiting) row.waiting _ counted_one
+
+    many_more : row'.waiting ≡ waiting_with (is_some of.waiting) true row.waiting → row'.waiting ≡ count (waits_at t.cell) (given_on t.cell g (without_wait p m.waits)) + 1
+    many_more same = same ∙ counted_more (is_some of.waiting) row.waiting _ counted_one
+
     -- ---- it was turned away: nothing changed
-    stays_away : (z : Begun) → b ≡ z → is_run z ≡ false → running_after z row.seq.running ≡ row.seq.running → IsTurned (held row.seq.locker) v.parks b g (held row'.seq.locker) v'.parks → of' ≡ of → row'.run ≡ row.run → Stands held place n m v'
-    stays_away z e still runner d o run =
+    stays_away : (z : Begun) → b ≡ z → is_run z ≡ false → running_after z row.seq.running ≡ row.seq.running → IsTurned (held row.seq.locker) v.parks b g (held row'.seq.locker) v'.parks → of' ≡ of → row'.run ≡ row.run → row'.waiting ≡ row.waiting → Stands held place n m v'
+    stays_away z e still runner d o run many =
         moved held place t.cell n n m m v v' row' is.rests.stands is.cell cells
         (let k0 = cell_here in
         record {
@@ -158,7 +190,8 @@ module _ {L : Type 0} (held : L → Holders) (place : L → LockerKind) where
           runner = running ∙ ap (λ x. running_after x row.seq.running) e ∙ runner ∙ k0.runner;
           runs = run ∙ k0.runs;
         })
-        (answered_moved held place t.cell n m v v' m.waits m.content m.registry is.rests.stands k.others k.same (ap (λ (s : Parking). length s.writers) d.rows) guards (exit_still (ap is_run e ∙ still)) (subst (λ (s : Parking). AreShown (length v.cells.items) m.waits s) (sym d.rows) is.rests.stands.waits) (λ d ne. refl) (λ g x e w. refl))
+        (many ∙ counted_before)
+        (answered_moved held place t.cell n m v v' m.waits m.content m.registry is.rests.stands k.others k.same (ap (λ (s : Parking). length s.writers) d.rows) guards (exit_still (ap is_run e ∙ still)) (subst (λ (s : Parking). AreShown (length v.cells.items) m.waits s) (sym d.rows) is.rests.stands.waits) (λ d ne. refl) (λ g x e w. refl) (λ d ne. refl))
         (parties_set held place n m m v v' p of' is.rests.stands parties (o ∙ of_here) (λ q ne. refl))
 
     -- ---- what the locker requires
@@ -198,7 +231,7 @@ module _ {L : Type 0} (held : L → Holders) (place : L → LockerKind) where
       sound_freed =
           let a = shown_called (length v.cells.items) who m.waits v.parks given.Nobody is.rests.stands.waits sizes_in is.rests.stands.sizes.few in_parks party_in tt in
           let size = freed_size p v.parks in
-          sound_of (without_wait p m.waits) (freed p v.parks) a.single a.shows (freed_writers p v.parks ∙ sizes_in ∙ sym size.1) (subst (λ i. i < 2 ^ 20) (sym size.0) is.rests.stands.sizes.few)
+          sound_of (without_wait p m.waits) (freed p v.parks) a.single a.shows (freed_writers p v.parks ∙ sizes_in ∙ sym size.1) (subst (λ i. i < most_parties) (sym size.0) is.rests.stands.sizes.few)
 
       room_freed : 1 + length (readers_of (freed p v.parks) t.cell) ≤ most_readers
       room_freed = let size = freed_size p v.parks in fewer_readers t.cell (freed p v.parks) (let a = in_parks in omega (arith, a, size.1)) sound_freed (record { party = p; inside = (let a = party_in in omega (arith, a, size.0)); free = freed_free p v.parks party_in })
@@ -225,17 +258,17 @@ module _ {L : Type 0} (held : L → Holders) (place : L → LockerKind) where
 
       -- ---- the arms of the code
 
-      does_nothing : (q : Phase) → b ≡ begun.Nothing q → of' ≡ record { waiting = None; innermost = of.innermost } → row'.run ≡ row.run → IsTook held place m v p t (taken.Nothing q) g v'
-      does_nothing q e o run = took_nothing (did (ap is_away e)) (few_now (ap is_turned_back e)) (told_met (ap is_turned_back e)) q e o run
+      does_nothing : (q : Phase) → b ≡ begun.Nothing q → of' ≡ record { waiting = None; innermost = of.innermost } → row'.run ≡ row.run → row'.waiting ≡ count (waits_at t.cell) (given_on t.cell g (without_wait p m.waits)) → IsTook held place m v p t (taken.Nothing q) g v'
+      does_nothing q e o run many = took_nothing (did (ap is_away e)) (few_now (ap is_turned_back e)) (told_met (ap is_turned_back e)) q e o run many
 
-      does_read : (l : ReadTicket) (q : Phase) → b ≡ begun.Read l q → of' ≡ record { waiting = None; innermost = of.innermost } → row'.run ≡ row.run → IsTook held place m v p t (taken.Read l q) g v'
-      does_read l q e o run = took_read (did (ap is_away e)) (few_now (ap is_turned_back e)) (told_met (ap is_turned_back e)) l q e o run
+      does_read : (l : ReadTicket) (q : Phase) → b ≡ begun.Read l q → of' ≡ record { waiting = None; innermost = of.innermost } → row'.run ≡ row.run → row'.waiting ≡ count (waits_at t.cell) (given_on t.cell g (without_wait p m.waits)) → IsTook held place m v p t (taken.Read l q) g v'
+      does_read l q e o run many = took_read (did (ap is_away e)) (few_now (ap is_turned_back e)) (told_met (ap is_turned_back e)) l q e o run many
 
-      does_write : (l : WriteTicket) (q : Phase) → b ≡ begun.Write l q → of' ≡ record { waiting = None; innermost = of.innermost } → row'.run ≡ row.run → IsTook held place m v p t (taken.Write l q) g v'
-      does_write l q e o run = took_write (did (ap is_away e)) (few_now (ap is_turned_back e)) (told_met (ap is_turned_back e)) l q e o run
+      does_write : (l : WriteTicket) (q : Phase) → b ≡ begun.Write l q → of' ≡ record { waiting = None; innermost = of.innermost } → row'.run ≡ row.run → row'.waiting ≡ count (waits_at t.cell) (given_on t.cell g (without_wait p m.waits)) → IsTook held place m v p t (taken.Write l q) g v'
+      does_write l q e o run many = took_write (did (ap is_away e)) (few_now (ap is_turned_back e)) (told_met (ap is_turned_back e)) l q e o run many
 
-      does_wait : (way : How) → b ≡ begun.Wait way → of' ≡ record { waiting = Some (record { cell = t.cell; want = t.want }); innermost = of.innermost } → row'.run ≡ row.run → IsTook held place m v p t (taken.Wait way) g v'
-      does_wait way e o run = took_wait (did (ap is_away e)) (few_now (ap is_turned_back e)) (told_met (ap is_turned_back e)) way e o run
+      does_wait : (way : How) → b ≡ begun.Wait way → of' ≡ record { waiting = Some (record { cell = t.cell; want = t.want }); innermost = of.innermost } → row'.run ≡ row.run → row'.waiting ≡ count (waits_at t.cell) (given_on t.cell g (without_wait p m.waits)) + 1 → IsTook held place m v p t (taken.Wait way) g v'
+      does_wait way e o run many = took_wait (did (ap is_away e)) (few_now (ap is_turned_back e)) (told_met (ap is_turned_back e)) way e o run many
 
       -- what is turned away
       turned : is_away b ≡ true → Turned
@@ -254,18 +287,18 @@ module _ {L : Type 0} (held : L → Holders) (place : L → LockerKind) where
           stayed (begun.Run s) f e d = absurd (cc)
           stayed (begun.Final s) f e d = absurd (cc)
 
-      does_cyclic : b ≡ begun.Cyclic → of' ≡ of → row'.run ≡ row.run → IsTook held place m v p t taken.Cyclic g v'
-      does_cyclic e o run =
+      does_cyclic : b ≡ begun.Cyclic → of' ≡ of → row'.run ≡ row.run → row'.waiting ≡ row.waiting → IsTook held place m v p t taken.Cyclic g v'
+      does_cyclic e o run many =
           let d = turned (ap is_away e) in
           record {
-            stands = stays_away begun.Cyclic e refl refl d o run;
+            stands = stays_away begun.Cyclic e refl refl d o run many;
             told = tt;
             cyclic = cyclic_as begun.Cyclic e;
             met = subst (λ z. IsMet p t taken.Cyclic z m) (sym d.given) (met_turned m p t (sym (cyclic_as begun.Cyclic e)));
           }
 
-      does_missed : b ≡ begun.Missed → of' ≡ of → row'.run ≡ row.run → IsTook held place m v p t taken.Missed g v'
-      does_missed e o run = record { stands = stays_away begun.Missed e refl refl (turned (ap is_away e)) o run; told = tt; cyclic = cyclic_as begun.Missed e; met = told_met (ap is_turned_back e) taken.Missed (ap taken_of e) }
+      does_missed : b ≡ begun.Missed → of' ≡ of → row'.run ≡ row.run → row'.waiting ≡ row.waiting → IsTook held place m v p t taken.Missed g v'
+      does_missed e o run many = record { stands = stays_away begun.Missed e refl refl (turned (ap is_away e)) o run many; told = tt; cyclic = cyclic_as begun.Missed e; met = told_met (ap is_turned_back e) taken.Missed (ap taken_of e) }
 
       -- no section ran where one is opened
       none_ran : (d : Begun_) → wrote (declines ask reg (held row.seq.locker).phase) b ≡ true → row.run ≡ None
@@ -283,15 +316,15 @@ module _ {L : Type 0} (held : L → Holders) (place : L → LockerKind) where
       none_before_final : (s : SeqSection) → b ≡ begun.Final s → row.run ≡ None
       none_before_final s e = none_ran (final_began s e) (ap (wrote _) e)
 
-      does_run : (s : SeqSection) → b ≡ begun.Run s → of' ≡ record { waiting = None; innermost = Some t.cell } → row'.run ≡ Some (record { run = record { party = p; want = t.want; outer = of.innermost }; section = s }) → IsTook held place m v p t taken.Runs g v'
-      does_run s e o run =
+      does_run : (s : SeqSection) → b ≡ begun.Run s → of' ≡ record { waiting = None; innermost = Some t.cell } → row'.run ≡ Some (record { run = record { party = p; want = t.want; outer = of.innermost }; section = s }) → row'.waiting ≡ count (waits_at t.cell) (given_on t.cell g (without_wait p m.waits)) → IsTook held place m v p t taken.Runs g v'
+      does_run s e o run many =
           let d = run_began s e in
           let tells = told_as d (begun.Run s) e in
           let call : is_turn t.want ≡ false = run_calls x t.want ask asked_here (held row.seq.locker).phase tells.1 in
           let here = cell_here in
           took_run d (few_now (ap is_turned_back e)) (told_met (ap is_turned_back e)) s (ap reads_begun e) (ap writes_begun e) (phase_as d (begun.Run s) e) (rows_as d (begun.Run s) e) (exit_run e call)
           (running ∙ ap (λ x. running_after x row.seq.running) e ∙ ap (λ (z : SeqSection). Some z.who.party) tells.0 ∙ (rw call refl))
-          (tells.0 ∙ (λ i. section_by who ask.want (stays_asked (registry_for (here.planned i).kind (is.rests.stands.exit.registry_is i)) (here.locked.phase_is i)) write_ticket) ∙ ap (λ q. section_by who ask.want q write_ticket) (stays_same x t.want m.registry y.phase call) ∙ ap (λ w. section_by who w (stays_in x t.want m.registry.is_open y.phase) write_ticket) (asked_as x t.want ask asked_here _ tells.1)) (cyclic_as (begun.Run s) e) (told_met (ap is_turned_back e) taken.Runs (ap taken_of e)) o run
+          (tells.0 ∙ (λ i. section_by who ask.want (stays_asked (registry_for (here.planned i).kind (is.rests.stands.exit.registry_is i)) (here.locked.phase_is i)) write_ticket) ∙ ap (λ q. section_by who ask.want q write_ticket) (stays_same x t.want m.registry y.phase call) ∙ ap (λ w. section_by who w (stays_in x t.want m.registry.is_open y.phase) write_ticket) (asked_as x t.want ask asked_here _ tells.1)) (cyclic_as (begun.Run s) e) (told_met (ap is_turned_back e) taken.Runs (ap taken_of e)) o run many
         where
           exit_run : b ≡ begun.Run s → is_turn t.want ≡ false → IsExit (length v.cells.items) (record m { registry = registry_asked t.cell t.want m }) v'.exit
           exit_run e call = by t.want refl call
@@ -306,8 +339,8 @@ module _ {L : Type 0} (held : L → Holders) (place : L → LockerKind) where
                   (cells_stay t.cell (tries_registration x.kind y.phase) m.registry)
               by Turns q f = absurd (cc)
 
-      does_final : (s : SeqSection) → b ≡ begun.Final s → of' ≡ record { waiting = None; innermost = Some t.cell } → row'.run ≡ Some (record { run = record { party = p; want = t.want; outer = of.innermost }; section = s }) → IsTook held place m v p t taken.Runs g v'
-      does_final s e o run =
+      does_final : (s : SeqSection) → b ≡ begun.Final s → of' ≡ record { waiting = None; innermost = Some t.cell } → row'.run ≡ Some (record { run = record { party = p; want = t.want; outer = of.innermost }; section = s }) → row'.waiting ≡ count (waits_at t.cell) (given_on t.cell g (without_wait p m.waits)) → IsTook held place m v p t taken.Runs g v'
+      does_final s e o run many =
           let d = final_began s e in
           let tells = told_as d (begun.Final s) e in
           let turn : t.want ≡ Turns = final_turns x t.want ask asked_here tells.1 in
@@ -315,7 +348,7 @@ module _ {L : Type 0} (held : L → Holders) (place : L → LockerKind) where
           took_run d (few_now (ap is_turned_back e)) (told_met (ap is_turned_back e)) s (ap reads_begun e) (ap writes_begun e) (phase_as d (begun.Final s) e) (rows_as d (begun.Final s) e)
           (subst (λ w. IsExit (length v.cells.items) (record m { registry = registry_asked t.cell w m }) v'.exit) (sym turn) (exit_still (ap is_run e)))
           (running ∙ ap (λ x. running_after x row.seq.running) e ∙ here.runner ∙ ap runner_of (none_runs t.cell m.sections (let z = was_none d (ap (wrote _) e) in omega (arith, z))) ∙ sym (ap (λ w. if is_turn w then None else Some p) turn))
-          (tells.0 ∙ (λ i. section_by who ask.want (here.locked.phase_is i) write_ticket) ∙ ap (λ w. section_by who w (phase_of y.phase) write_ticket) (final_as turn) ∙ ap (λ w. section_by who (run_as x.kind w) (stays_in x w m.registry.is_open y.phase) write_ticket) (sym turn)) (cyclic_as (begun.Final s) e) (told_met (ap is_turned_back e) taken.Runs (ap taken_of e)) o run
+          (tells.0 ∙ (λ i. section_by who ask.want (here.locked.phase_is i) write_ticket) ∙ ap (λ w. section_by who w (phase_of y.phase) write_ticket) (final_as turn) ∙ ap (λ w. section_by who (run_as x.kind w) (stays_in x w m.registry.is_open y.phase) write_ticket) (sym turn)) (cyclic_as (begun.Final s) e) (told_met (ap is_turned_back e) taken.Runs (ap taken_of e)) o run many
         where
           final_as : t.want ≡ Turns → ask.want ≡ want.Finalize
           final_as turn = let sought : Some want.Finalize ≡ Some ask.want = ap (seeks x.kind) (sym turn) ∙ asked_here.sought in cc
@@ -335,15 +368,15 @@ module _ {L : Type 0} (held : L → Holders) (place : L → LockerKind) where
           by (begun.Write l q) f e = absurd (cc)
 
       -- all of it
-      pub does : of' ≡ party_after t b of → row'.run ≡ run_after p t of b row.run → IsTook held place m v p t (taken_of b) g v'
-      does o run = by b refl o run
+      pub does : of' ≡ party_after t b of → row'.run ≡ run_after p t of b row.run → row'.waiting ≡ waiting_after b (is_some of.waiting) row.waiting → IsTook held place m v p t (taken_of b) g v'
+      does o run many = by b refl o run many
         where
-          by : (z : Begun) → b ≡ z → of' ≡ party_after t z of → row'.run ≡ run_after p t of z row.run → IsTook held place m v p t (taken_of z) g v'
-          by (begun.Wait way) e o run = does_wait way e o run
-          by begun.Missed e o run = does_missed e o run
-          by begun.Cyclic e o run = does_cyclic e o run
-          by (begun.Nothing q) e o run = does_nothing q e o run
-          by (begun.Read l q) e o run = does_read l q e o run
-          by (begun.Write l q) e o run = does_write l q e o run
-          by (begun.Run s) e o run = does_run s e o run
-          by (begun.Final s) e o run = does_final s e o run
+          by : (z : Begun) → b ≡ z → of' ≡ party_after t z of → row'.run ≡ run_after p t of z row.run → row'.waiting ≡ waiting_after z (is_some of.waiting) row.waiting → IsTook held place m v p t (taken_of z) g v'
+          by (begun.Wait way) e o run many = does_wait way e o run (many_more many)
+          by begun.Missed e o run many = does_missed e o run many
+          by begun.Cyclic e o run many = does_cyclic e o run many
+          by (begun.Nothing q) e o run many = does_nothing q e o run (many_less many)
+          by (begun.Read l q) e o run many = does_read l q e o run (many_less many)
+          by (begun.Write l q) e o run many = does_write l q e o run (many_less many)
+          by (begun.Run s) e o run many = does_run s e o run (many_less many)
+          by (begun.Final s) e o run many = does_final s e o run (many_less many)

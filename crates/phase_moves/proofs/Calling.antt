@@ -15,13 +15,14 @@ use Rattle.schedule_rules.specs.Changes.{Content}
 use Rattle.schedule_rules.specs.Kinds.{cell_at}
 use Rattle.schedule_rules.specs.Guards.{Guard, numbered, reader}
 use Rattle.schedule_rules.specs.Holds.{reads_cell}
-use Rattle.schedule_rules.specs.Waits.{Wait}
+use Rattle.schedule_rules.specs.History.{count}
+use Rattle.schedule_rules.specs.Waits.{Wait, waits_at}
 use Rattle.schedule_rules.proofs.Found.{found_counts}
 use Rattle.waiting_rows.proofs.RowCounts.{shares_shown}
 use Rattle.phase_moves.specs.declared.rows.CellRow.{CellRow}
 use Rattle.phase_moves.specs.declared.rows.Rows.{Rows}
 use Rattle.phase_moves.specs.Standing.{Standing, cloned, reads_in, writes_in, run_in}
-use Rattle.phase_moves.specs.Stands.{Seen, seen_at, IsCell, IsExit, IsLocked, AreShown, Stands}
+use Rattle.phase_moves.specs.Stands.{CountsWaits, Seen, seen_at, IsCell, IsExit, IsLocked, AreShown, Stands}
 use Rattle.phase_moves.specs.Moves.{IsOpenReader, IsFull, ClonesAs}
 use Rattle.phase_moves.proofs.Guards.{found_itself, reads_here, slots_same}
 use Rattle.phase_moves.proofs.Lockers.{reading_alone}
@@ -33,10 +34,11 @@ module _ {L : Type 0} (held : L → Holders) (place : L → LockerKind) where
   -- other calls wait, the registry is this, and the cell holds something else, which no write guard shows
   pub answered_moved : (c hand : ℕ) (m : Standing) (v v' : Rows L) (ws : List Wait) (f : ℕ → Content) (r : Registry) → Stands held place hand m v → OthersStay c v.parks v'.parks → SameSize v.parks v'.parks → length v'.parks.writers ≡ length v.parks.writers → v'.guards ≡ v.guards
       → IsExit (length v.cells.items) (record m { registry = r }) v'.exit → AreShown (length v.cells.items) ws v'.parks → ((d : ℕ) → d ≢ c → f d ≡ m.content d) → ((g : ℕ) (x : Guard) → numbered g m.guards ≡ Some x → x.writes ≡ true → f x.cell ≡ m.content x.cell)
-      → IsMoved held place c hand hand m (record m { waits = ws; content = f; registry = r }) v v'
-  answered_moved c hand m v v' ws f r t others same lists guards exit shown beside drafts =
+      → ((d : ℕ) → d ≢ c → count (waits_at d) ws ≡ count (waits_at d) m.waits) → IsMoved held place c hand hand m (record m { waits = ws; content = f; registry = r }) v v'
+  answered_moved c hand m v v' ws f r t others same lists guards exit shown beside drafts counts =
       record {
         around = λ d ne. (let e = beside d ne in λ i. record { plan = cell_at m.plans d; content = e i; reads = reads_in d m; writes = writes_in d m; run = run_in d m.sections });
+        counts = counts;
         others = others;
         same = same;
         lists = lists;
@@ -50,15 +52,15 @@ module _ {L : Type 0} (held : L → Holders) (place : L → LockerKind) where
 
   -- other calls wait, and nothing else changes
   pub waits_moved : (c hand : ℕ) (m : Standing) (v v' : Rows L) (ws : List Wait) → Stands held place hand m v → OthersStay c v.parks v'.parks → SameSize v.parks v'.parks → length v'.parks.writers ≡ length v.parks.writers → v'.guards ≡ v.guards → v'.exit ≡ v.exit → AreShown (length v.cells.items) ws v'.parks
-      → IsMoved held place c hand hand m (record m { waits = ws }) v v'
-  waits_moved c hand m v v' ws t others same lists guards exit shown =
-      answered_moved c hand m v v' ws m.content m.registry t others same lists guards (exit_kept (length v.cells.items) m m v.exit v'.exit exit refl refl refl t.exit) shown (λ d ne. refl) (λ g x e w. refl)
+      → ((d : ℕ) → d ≢ c → count (waits_at d) ws ≡ count (waits_at d) m.waits) → IsMoved held place c hand hand m (record m { waits = ws }) v v'
+  waits_moved c hand m v v' ws t others same lists guards exit shown counts =
+      answered_moved c hand m v v' ws m.content m.registry t others same lists guards (exit_kept (length v.cells.items) m m v.exit v'.exit exit refl refl refl t.exit) shown (λ d ne. refl) (λ g x e w. refl) counts
 
   -- nothing is touched beside the row of a cell
   pub nothing_moved : (c hand : ℕ) (m : Standing) (v v' : Rows L) → Stands held place hand m v → v'.guards ≡ v.guards → v'.exit ≡ v.exit → v'.parks ≡ v.parks → IsMoved held place c hand hand m m v v'
   nothing_moved c hand m v v' t guards exit parks =
       waits_moved c hand m v v' m.waits t (subst (λ (s : Parking). OthersStay c v.parks s) (sym parks) (others_refl c v.parks)) (subst (λ (s : Parking). SameSize v.parks s) (sym parks) (record { parties = refl; cells = refl })) (ap (λ (s : Parking). length s.writers) parks) guards exit
-      (subst (λ (s : Parking). AreShown (length v.cells.items) m.waits s) (sym parks) t.waits)
+      (subst (λ (s : Parking). AreShown (length v.cells.items) m.waits s) (sym parks) t.waits) (λ d ne. refl)
 
   -- ---- a clone
 
@@ -68,6 +70,9 @@ module _ {L : Type 0} (held : L → Holders) (place : L → LockerKind) where
 
     clone_row : IsCell held place (seen_at c m) v.parks c row
     clone_row = is.rests.stands.cell c row (read_at v.cells.items c row clone_in row_is)
+
+    clone_calm : row'.waiting ≡ row.waiting → CountsWaits c m.waits row'
+    clone_calm many = many ∙ is.rests.stands.counted c row (read_at v.cells.items c row clone_in row_is)
 
     clone_some : 0 < reads_in c m
     clone_some = subst (λ d. 0 < reads_in d m) at (found_counts (λ (z : Guard). z.number == x.number) (reads_cell x.cell) m.guards x (found_itself g m.guards x is.found) (reads_here x is.reads))
@@ -86,10 +91,10 @@ module _ {L : Type 0} (held : L → Holders) (place : L → LockerKind) where
         omega (arith, are, most, shown, e))
 
     -- one more reads
-    pub clone_more : v'.cells.items ≡ set v.cells.items c row' → v'.guards ≡ v.guards → v'.parties ≡ v.parties → v'.parks ≡ v.parks → v'.exit ≡ v.exit → row'.plan ≡ row.plan → row'.value ≡ row.value → row'.run ≡ row.run → row'.seq.running ≡ row.seq.running → place row'.seq.locker ≡ place row.seq.locker
+    pub clone_more : v'.cells.items ≡ set v.cells.items c row' → v'.guards ≡ v.guards → v'.parties ≡ v.parties → v'.parks ≡ v.parks → v'.exit ≡ v.exit → row'.plan ≡ row.plan → row'.waiting ≡ row.waiting → row'.value ≡ row.value → row'.run ≡ row.run → row'.seq.running ≡ row.seq.running → place row'.seq.locker ≡ place row.seq.locker
         → held row'.seq.locker ≡ admit_read (held row.seq.locker) → (held row.seq.locker).readers ≢ most_readers → KeepsFit (place row.seq.locker) (held row.seq.locker) (held row'.seq.locker) → Stands held place (length v.guards.items) (cloned (length v.guards.items) x m) v'
-    clone_more cells guards parties parks exit plan value run running stays more fewer keeps =
-        moved held place c n n m (cloned n x m) v v' row' is.rests.stands clone_in cells here
+    clone_more cells guards parties parks exit plan many value run running stays more fewer keeps =
+        moved held place c n n m (cloned n x m) v v' row' is.rests.stands clone_in cells here (clone_calm many)
         (guard_opened held place c n n n m m v v' (reader n x.party x.cell)
         (nothing_moved c n m v v' is.rests.stands guards exit parks)
         refl at (omega arith) is.rests.empty is.rests.empty clone_in)
@@ -123,10 +128,10 @@ module _ {L : Type 0} (held : L → Holders) (place : L → LockerKind) where
             (record { planned = plan ∙ k0.planned; valued = value ∙ k0.valued; known = k0.known; locked = now; placed = stays ∙ k0.placed; runner = running ∙ k0.runner; runs = run ∙ k0.runs }))
 
     -- as many do
-    clone_none : v'.cells.items ≡ set v.cells.items c row' → v'.guards ≡ v.guards → v'.parties ≡ v.parties → v'.parks ≡ v.parks → v'.exit ≡ v.exit → row'.plan ≡ row.plan → row'.value ≡ row.value → row'.run ≡ row.run → row'.seq.running ≡ row.seq.running → place row'.seq.locker ≡ place row.seq.locker
+    clone_none : v'.cells.items ≡ set v.cells.items c row' → v'.guards ≡ v.guards → v'.parties ≡ v.parties → v'.parks ≡ v.parks → v'.exit ≡ v.exit → row'.plan ≡ row.plan → row'.waiting ≡ row.waiting → row'.value ≡ row.value → row'.run ≡ row.run → row'.seq.running ≡ row.seq.running → place row'.seq.locker ≡ place row.seq.locker
         → held row'.seq.locker ≡ held row.seq.locker → Stands held place (length v.guards.items) m v'
-    clone_none cells guards parties parks exit plan value run running stays more =
-        moved held place c (length v.guards.items) (length v.guards.items) m m v v' row' is.rests.stands clone_in cells here
+    clone_none cells guards parties parks exit plan many value run running stays more =
+        moved held place c (length v.guards.items) (length v.guards.items) m m v v' row' is.rests.stands clone_in cells here (clone_calm many)
         (nothing_moved c (length v.guards.items) m v v' is.rests.stands guards exit parks)
         (parties_same held place (length v.guards.items) m m v v' is.rests.stands parties (λ p. refl))
       where
@@ -144,7 +149,7 @@ module _ {L : Type 0} (held : L → Holders) (place : L → LockerKind) where
             }
 
     -- what the locker answers
-    pub clones : (o : Option ReadTicket) → v'.cells.items ≡ set v.cells.items c row' → v'.guards ≡ v.guards → v'.parties ≡ v.parties → v'.parks ≡ v.parks → v'.exit ≡ v.exit → row'.plan ≡ row.plan → row'.value ≡ row.value → row'.run ≡ row.run → row'.seq.running ≡ row.seq.running → place row'.seq.locker ≡ place row.seq.locker
+    pub clones : (o : Option ReadTicket) → v'.cells.items ≡ set v.cells.items c row' → v'.guards ≡ v.guards → v'.parties ≡ v.parties → v'.parks ≡ v.parks → v'.exit ≡ v.exit → row'.plan ≡ row.plan → row'.waiting ≡ row.waiting → row'.value ≡ row.value → row'.run ≡ row.run → row'.seq.running ≡ row.seq.running → place row'.seq.locker ≡ place row.seq.locker
         → (IsNone o ↔ ((held row.seq.locker).readers ≡ most_readers)) → OnSome o (held row'.seq.locker ≡ admit_read (held row.seq.locker)) → (IsNone o → held row'.seq.locker ≡ held row.seq.locker) → KeepsFit (place row.seq.locker) (held row.seq.locker) (held row'.seq.locker) → ClonesAs held place v m x o v'
-    clones None cells guards parties parks exit plan value run running stays most some none keeps = (clone_none cells guards parties parks exit plan value run running stays (none refl), clone_full (most.0 refl))
-    clones (Some t) cells guards parties parks exit plan value run running stays most some none keeps = clone_more cells guards parties parks exit plan value run running stays some (λ e. (let f = most.1 e in absurd (cc))) keeps
+    clones None cells guards parties parks exit plan many value run running stays most some none keeps = (clone_none cells guards parties parks exit plan many value run running stays (none refl), clone_full (most.0 refl))
+    clones (Some t) cells guards parties parks exit plan many value run running stays most some none keeps = clone_more cells guards parties parks exit plan many value run running stays some (λ e. (let f = most.1 e in absurd (cc))) keeps

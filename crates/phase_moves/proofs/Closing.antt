@@ -84,6 +84,7 @@ module _ {L : Type 0} (held : L → Holders) (place : L → LockerKind) where
           m = m;
           stands = record {
             cell = λ c r e. subst (λ s. IsCell held place (seen_at c m) s c r) (sym parks) (can.rests.stands.cell c r (ap (λ cs. slice_get cs.items c) (sym cells) ∙ e));
+            counted = λ c r e. can.rests.stands.counted c r (ap (λ cs. slice_get cs.items c) (sym cells) ∙ e);
             slot = λ g lt. sym (other_at new.guards.items old.guards.items row g popped lt) ∙ can.rests.stands.slot g (let e = n_is in omega (arith, e, lt)) ∙ ap (λ r. Some r) (shows (length old.guards.items) g (let e = n_is in omega (arith, e, lt)) ∙ sym (shows k g (omega (arith, lt))));
             party = λ p lt. ap (λ ps. slice_get ps.items p) parties ∙ can.rests.stands.party p (subst (λ ps. p < length ps.items) parties lt);
             exit = rw (cells, exit) can.rests.stands.exit;

@@ -56,8 +56,8 @@ use Rattle.phase_moves.proofs.Lockers.{locked_write, locked_down, hands_writers,
 use Rattle.phase_moves.proofs.Guards.{target_given}
 use Rattle.phase_moves.proofs.Opening.{guard_opened, seen_reader}
 use Rattle.phase_moves.specs.Gifts.{MayGive, MayGiveDown}
-use Rattle.phase_moves.proofs.EndGives.{gives_closed, gives_down}
-use Rattle.phase_moves.proofs.Innermost.{in_cells, cell_here, runs_here, o_is, its_row, write_open, seen_closed, seen_without, closed_moved, without_moved, without_it, cell_ended, parties_ended}
+use Rattle.phase_moves.proofs.Giving.{gives_closed, gives_down}
+use Rattle.phase_moves.proofs.Innermost.{in_cells, cell_here, runs_here, o_is, its_row, write_open, seen_closed, seen_without, closed_moved, without_moved, without_it, cell_ended, counted_ended, parties_ended}
 use Rattle.phase_moves.proofs.Moved.{HasParties, exit_kept, moved}
 
 -- ---- what the end of a run answers
@@ -153,7 +153,7 @@ module _ {L : Type 0} (held : L → Holders) (place : L → LockerKind) (m : Sta
   -- ---- the move
 
   module _ (v' : Rows L) (row' : CellRow L) (of of' : PartyRow) (of_is : of ≡ get_or v.parties.items p of) (o : OpenRun) (taken : row.run ≡ Some o) (cells : v'.cells.items ≡ set v.cells.items c row') (guards : v'.guards ≡ v.guards) (exit : v'.exit ≡ v.exit) (parties : v'.parties.items ≡ set v.parties.items p of')
-      (of'_is : of' ≡ record { waiting = of.waiting; innermost = o.run.outer }) (plan : row'.plan ≡ row.plan) (run : row'.run ≡ None) (running : row'.seq.running ≡ None) (b : Bool) (made_is : IsMadeAs made b) (r : Finished × Given)
+      (of'_is : of' ≡ record { waiting = of.waiting; innermost = o.run.outer }) (plan : row'.plan ≡ row.plan) (calm : row'.waiting ≡ row.waiting) (run : row'.run ≡ None) (running : row'.seq.running ≡ None) (b : Bool) (made_is : IsMadeAs made b) (r : Finished × Given)
       (finishes : Finishes o.section b (held row.seq.locker) v.parks r (held row'.seq.locker) v'.parks) (stands : FinishedStands o.section.who.cell r.0 (held row'.seq.locker) v'.parks) (reads : open_reads (held row'.seq.locker) v'.parks o.section.who.cell ≡ reads_finished r.0) (k : Left held place o.section.who.cell row.seq.locker row'.seq.locker v.parks v'.parks) where
     abbrev made_as : Content
     made_as = content_of_run (cell_at m.plans c).kind s.is_open made (m.content c)
@@ -224,6 +224,7 @@ module _ {L : Type 0} (held : L → Holders) (place : L → LockerKind) (m : Sta
           moved held place c n n m (run_closed s made r.1 m) v v' row' ok inside cells
           (subst (λ (z : Seen). IsCell held place z v'.parks c row') (sym (seen_closed held place m v p c s is.inner row row_is (Ran s.is_open made ∷ []) r.1))
           (cell_now made_as 0 0 value known_made (locked_write (place row.seq.locker) (place row'.seq.locker) (held row.seq.locker) (held row'.seq.locker) v.parks v'.parks c made_as.phase (reached its.stays d) r.1 hands unread closed left_here.fits (phase_is d d_is) here.locked.limit (parked_few held place n m v ok c inside))))
+          (counted_ended held place m v p c s is.inner row row_is row' r.1 calm)
           (closed_moved held place m v p c s is.inner row row_is (Ran s.is_open made ∷ []) r.1 m.turns v' left_here guards (exit_kept (length v.cells.items) m m v.exit v'.exit exit refl refl refl ok.exit) (hands_writers c _ v.parks r.1 _ v'.parks hands) (listed_hand c _ v.parks r.1 hands.may) hands.rows)
           (parties_now (run_closed s made r.1 m) refl (λ x. target_given s.cell r.1 m.waits x))
 
@@ -268,6 +269,7 @@ module _ {L : Type 0} (held : L → Holders) (place : L → LockerKind) (m : Sta
           stands = moved held place c n n m (guarded (reader n s.party s.cell) (run_closed s made r.1 m)) v v' row' ok inside cells
               (subst (λ (z : Seen). IsCell held place z v'.parks c row') (sym seen)
               (cell_now made_as 1 0 (value ∙ made_value d.0) known_made (locked_down (place row'.seq.locker) (held row.seq.locker) (held row'.seq.locker) v.parks v'.parks c made_as.phase (reached its.stays true) r.1 d.3 (reads_here (finished.Read l q) e) (stands_here (finished.Read l q) e).0 left_here.fits (phase_is true d.0) (write_has_no_reader (place row.seq.locker) (held row.seq.locker) v.parks c here.locked.fits (write_open held place m v p c s is.inner row row_is)) (parked_fewer held place n m v ok c inside (end_room o taken b made_is d.0)))))
+              (counted_ended held place m v p c s is.inner row row_is row' r.1 calm)
               (guard_opened held place c n n n m (run_closed s made r.1 m) v v' (reader n s.party s.cell)
               (closed_moved held place m v p c s is.inner row row_is (Ran s.is_open made ∷ []) r.1 m.turns v' left_here guards (exit_kept (length v.cells.items) m m v.exit v'.exit exit refl refl refl ok.exit) (downgrades_writers c _ (held row.seq.locker) v.parks r.1 (held row'.seq.locker) v'.parks d.3) (listed_share c v.parks r.1 d.3.may) d.3.rows)
               refl is.inner.at (omega arith) is.inner.rests.empty is.inner.rests.empty inside)
@@ -303,6 +305,7 @@ module _ {L : Type 0} (held : L → Holders) (place : L → LockerKind) (m : Sta
                 one = omega arith;
                 limit = subst (λ (h : Holders). h.readers ≤ most_readers) (sym d.3) here.locked.limit;
               })))
+              (counted_ended held place m v p c s is.inner row row_is row' given.Nobody calm)
               (guard_opened held place c n n n m gone v v' (writer_of n s made) (without_moved held place m v p c s is.inner row row_is v' left_here guards exit d.4) refl is.inner.at (omega arith) is.inner.rests.empty is.inner.rests.empty inside)
               (parties_now (guarded (writer_of n s made) gone) refl (λ x. refl));
           told = going made (subst (IsMadeAs made) d.0 made_is) (runs_as want.Write d.1, told_as q (d.2 ∙ phase_is true d.0), d.5);

@@ -35,8 +35,8 @@ use Rattle.phase_moves.proofs.Leaving.{parked_few}
 use Rattle.phase_moves.proofs.Lockers.{locked_write, hands_writers}
 use Rattle.phase_moves.proofs.Guards.{target_given}
 use Rattle.phase_moves.specs.Gifts.{MayGive}
-use Rattle.phase_moves.proofs.EndGives.{gives_closed}
-use Rattle.phase_moves.proofs.Innermost.{in_cells, cell_here, runs_here, o_is, its_row, write_open, seen_closed, closed_moved, cell_ended, parties_ended}
+use Rattle.phase_moves.proofs.Giving.{gives_closed}
+use Rattle.phase_moves.proofs.Innermost.{in_cells, cell_here, runs_here, o_is, its_row, write_open, seen_closed, closed_moved, cell_ended, counted_ended, parties_ended}
 use Rattle.phase_moves.proofs.Moved.{moved}
 
 pub asked_final : (q : Kind) (w : Want) → is_turn w ≡ true → finalizes (run_as q w) ≡ true
@@ -62,7 +62,7 @@ module _ {L : Type 0} (held : L → Holders) (place : L → LockerKind) (m : Sta
 
   -- the move
   module _ (v' : Rows L) (row' : CellRow L) (of of' : PartyRow) (of_is : of ≡ get_or v.parties.items p of) (o : OpenRun) (taken : row.run ≡ Some o) (cells : v'.cells.items ≡ set v.cells.items c row') (guards : v'.guards ≡ v.guards) (parties : v'.parties.items ≡ set v.parties.items p of')
-      (of'_is : of' ≡ record { waiting = of.waiting; innermost = o.run.outer }) (plan : row'.plan ≡ row.plan) (left : Option ℕ) (value : row'.value ≡ value_finalized row.plan.kind left row.value) (run : row'.run ≡ None) (running : row'.seq.running ≡ row.seq.running) (fine : Bool) (r : Phase × Given)
+      (of'_is : of' ≡ record { waiting = of.waiting; innermost = o.run.outer }) (plan : row'.plan ≡ row.plan) (calm : row'.waiting ≡ row.waiting) (left : Option ℕ) (value : row'.value ≡ value_finalized row.plan.kind left row.value) (run : row'.run ≡ None) (running : row'.seq.running ≡ row.seq.running) (fine : Bool) (r : Phase × Given)
       (registry : v'.exit.registry ≡ v.exit.registry) (owner : v'.exit.owner ≡ v.exit.owner) (turns : v'.exit.turns.items ≡ v.exit.turns.items ++ record { cell = c; turn = turn_of fine } ∷ [])
       (finishes : FinishesFinal o.section fine (held row.seq.locker) v.parks r (held row'.seq.locker) v'.parks) (closed : IsWriteOpen (held row'.seq.locker) v'.parks o.section.who.cell → ⊥) (reads : open_reads (held row'.seq.locker) v'.parks o.section.who.cell ≡ 0) (k : Left held place o.section.who.cell row.seq.locker row'.seq.locker v.parks v'.parks) where
     at_c : o.section.who.cell ≡ c
@@ -100,6 +100,7 @@ module _ {L : Type 0} (held : L → Holders) (place : L → LockerKind) (m : Sta
               (subst (λ (z : Seen). IsCell held place z v'.parks c row') (sym (seen_closed held place m v p c s is.inner row row_is (Ended fine left ∷ []) r.1))
               (cell_ended held place m v p c s is.inner row row_is v' row' y 0 0 plan run (running ∙ here.runner ∙ ap runner_of (runs_here held place m v p c s is.inner row row_is) ∙ (let t = is.turn in rw t refl)) left_here.place (value ∙ (λ i. value_finalized (here.planned i).kind left (here.valued i))) (change_known (cell_at m.plans c) (Ended fine left) (m.content c) here.known)
               (locked_write (place row.seq.locker) (place row'.seq.locker) (held row.seq.locker) (held row'.seq.locker) v.parks v'.parks c y.phase (finalized_phase (held row.seq.locker).phase fine) r.1 hands (subst (λ d. open_reads (held row'.seq.locker) v'.parks d ≡ 0) at_c reads) (subst (λ d. IsWriteOpen (held row'.seq.locker) v'.parks d → ⊥) at_c closed) left_here.fits phase_is here.locked.limit (parked_few held place n m v is.inner.rests.stands c (in_cells held place m v p c s is.inner row row_is)))))
+              (counted_ended held place m v p c s is.inner row row_is row' r.1 calm)
               (closed_moved held place m v p c s is.inner row row_is (Ended fine left ∷ []) r.1 _ v' left_here guards exit_now (hands_writers c _ v.parks r.1 _ v'.parks hands) (listed_hand c _ v.parks r.1 hands.may) hands.rows)
               (parties_ended held place m v p c s is.inner row row_is v' of of' of_is parties o taken of'_is (finalized s fine left r.1 m) refl (λ x. target_given s.cell r.1 m.waits x));
           told = finishes.phase ∙ phase_is ∙ (λ i. phase_of (phase_finalized (m.content (sym is.inner.at i)).phase fine));

@@ -1,5 +1,5 @@
 -- What the row of a guard in hand tells, and when the hand is empty.
-use Rattle.std.proofs.Common.{◌≡◌, ◌≤◌, ◌∙◌, ℕ, length, ap, sym, refl, arith, Bool, true, false, None, Some, inl, inr}
+use Rattle.std.proofs.Common.{◌≡◌, ◌≤◌, ◌∙◌, ℕ, length, ap, sym, refl, arith, Bool, true, false, None, Some, inl, inr, ◌==◌, ◌<◌, set, subst}
 use Rattle.std.proofs.lemmas.Bool.{cases_eq}
 use Rattle.std.specs.declared.option.Option.{Option}
 use Rattle.phase_bits.specs.declared.phase.Phase.{Phase}
@@ -10,14 +10,17 @@ use Rattle.phase_locker.specs.declared.ways.LockerKind.{LockerKind}
 use Rattle.phase_locker.specs.declared.tickets.ReadTicket.{ReadTicket}
 use Rattle.phase_locker.specs.declared.tickets.WriteTicket.{WriteTicket}
 use Rattle.phase_locker.specs.Natures.{read_ticket, write_ticket}
-use Rattle.schedule_rules.specs.Guards.{Guard, numbered, without_guard}
+use Rattle.schedule_rules.specs.Guards.{Guard, numbered, without_guard, guard_of, own}
 use Rattle.phase_moves.specs.declared.rows.GuardRow.TheVariants as guard
 use Rattle.phase_moves.specs.declared.rows.Rows.{Rows}
 use Rattle.phase_moves.specs.Standing.{Standing, left, seen_by}
-use Rattle.phase_moves.specs.Stands.{Stands, guard_row}
-use Rattle.phase_moves.specs.Moves.{Rests, Pushes}
+use Rattle.phase_moves.specs.Stands.{Stands, guard_row, slot_row}
+use Rattle.phase_moves.specs.Moves.{Rests, Pushes, IsTaken, TakenAs}
 use Rattle.phase_moves.proofs.Guards.{gone, its_number, found_itself}
-use Rattle.phase_moves.proofs.Opening.{rehand}
+use Rattle.phase_moves.proofs.Opening.{rehand, taken}
+use Rattle.std.specs.Prelude.{slice_get, if◌then◌else◌}
+use Rattle.phase_moves.specs.declared.rows.GuardRow.{GuardRow}
+use Rattle.phase_moves.specs.Reading.{is_row_of}
 
 -- the row of a read guard, and of a write guard
 pub record ReadRow (m : Standing) (c : ℕ) (o : Option Guard) : Type 0 where
@@ -72,3 +75,49 @@ module _ {L : Type 0} (held : L → Holders) (place : L → LockerKind) where
   pub left_empty : (hand : ℕ) (m : Standing) (v : Rows L) (x : Guard) (g : Given) → Stands held place hand m v → numbered hand m.guards ≡ Some x → numbered hand (left x g m).guards ≡ None
   left_empty hand m v x g t found =
       ap (λ i. numbered i (without_guard x.number m.guards)) (sym (its_number hand m.guards x found)) ∙ gone x.number m.guards x (found_itself hand m.guards x found) (t.guards.once x.number)
+
+-- ---- what the row of a guard tells of the guard
+
+row_party : (m : Standing) (p : ℕ) (x : Guard) → is_row_of p (guard_row m (Some x)) ≡ (x.party == p)
+row_party m p x = by x.writes refl
+  where
+    by : (b : Bool) → x.writes ≡ b → is_row_of p (guard_row m (Some x)) ≡ (x.party == p)
+    by true e = rw e refl
+    by false e = rw e refl
+
+-- whose guard it is
+owner : (m : Standing) (p : ℕ) (o : Option Guard) (b : Bool) → is_row_of p (guard_row m o) ≡ b → own p o ≡ (if b then o else None)
+owner m p None true e = refl
+owner m p None false e = refl
+owner m p (Some x) b e = let f : (x.party == p) ≡ b = sym (row_party m p x) ∙ e in rw f refl
+
+module _ {L : Type 0} (held : L → Holders) (place : L → LockerKind) (m : Standing) (v v' : Rows L) (p g : ℕ) (r : Rests held place m v) where
+  -- the row of a guard
+  pub row_shown : (row : GuardRow) → slice_get v.guards.items g ≡ Some row → g < length v.guards.items → row ≡ guard_row m (numbered g m.guards)
+  row_shown row e lt =
+      let s : Some row ≡ Some (slot_row (length v.guards.items) m g) = sym e ∙ r.stands.slot g lt in
+      let q : row ≡ slot_row (length v.guards.items) m g = cc in
+      let no : (g == length v.guards.items) ≡ false = grind (arith, lt) in
+      q ∙ rw no refl
+
+  -- it is not the party's
+  pub not_taken : (row : GuardRow) → slice_get v.guards.items g ≡ Some row → g < length v.guards.items → is_row_of p row ≡ false → IsTaken held place v p g guard.Free v m
+  not_taken row e lt f =
+      let none : guard_of g p m.guards ≡ None = owner m p (numbered g m.guards) false (ap (is_row_of p) (sym (row_shown row e lt)) ∙ f) in
+      record { row_is = ap (guard_row m) (sym none); taken = subst (λ o. TakenAs held place v g o m v) (sym none) r.stands }
+
+  -- it is
+  pub is_taken : (row : GuardRow) → slice_get v.guards.items g ≡ Some row → g < length v.guards.items → is_row_of p row ≡ true → v'.guards.items ≡ set v.guards.items g guard.Free → v'.cells ≡ v.cells → v'.parties ≡ v.parties → v'.parks ≡ v.parks → v'.exit ≡ v.exit → IsTaken held place v p g row v' m
+  is_taken row e lt f guards cells parties parks exit =
+      let its : guard_of g p m.guards ≡ numbered g m.guards = owner m p (numbered g m.guards) true (ap (is_row_of p) (sym (row_shown row e lt)) ∙ f) in
+      record { row_is = row_shown row e lt ∙ ap (guard_row m) (sym its); taken = subst (λ o. TakenAs held place v g o m v') (sym its) (by (numbered g m.guards) refl) }
+    where
+      all : Stands held place g m v'
+      all = taken held place m v v' g r.stands r.empty lt guards cells parties parks exit
+
+      by : (o : Option Guard) → numbered g m.guards ≡ o → TakenAs held place v g o m v'
+      by None q = absurd (never (row_shown row e lt ∙ ap (guard_row m) q) f)
+        where
+          never : row ≡ guard.Free → is_row_of p row ≡ true → ⊥
+          never s t = let n : false ≡ true = ap (is_row_of p) (sym s) ∙ t in cc
+      by (Some x) q = (all, q)

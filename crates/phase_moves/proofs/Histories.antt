@@ -1,6 +1,6 @@
 -- What stands open after one step more is a move of what stood open.
-use Rattle.std.proofs.Common.{◌≡◌, ◌∙◌, ℕ, List, [], ◌∷◌, length, ap, sym, refl, arith, Bool, true, false, None, Some}
-use Rattle.std.specs.Prelude.{◌==◌, if◌then◌else◌}
+use Rattle.std.proofs.Common.{◌≡◌, ◌≢◌, ◌∙◌, ℕ, List, [], ◌∷◌, length, ap, sym, refl, arith, Bool, true, false, None, Some, ◌==◌}
+use Rattle.std.specs.Prelude.{◌==◌, if◌then◌else◌, not}
 use Rattle.std.specs.declared.option.Option.{Option}
 use Rattle.phase_bits.specs.declared.phase.Phase.{Phase}
 use Rattle.phase_locker.specs.declared.ways.Given.{Given}
@@ -13,10 +13,10 @@ use Rattle.schedule_rules.specs.declared.line.Refusal.{Refusal}
 use Rattle.schedule_rules.specs.declared.plan.CellPlan.{CellPlan}
 use Rattle.schedule_rules.specs.declared.step.Act.{Act}
 use Rattle.schedule_rules.specs.declared.step.Act.TheVariants as act
-use Rattle.schedule_rules.specs.Changes.{Ran}
-use Rattle.schedule_rules.specs.Exits.{registry, owner, ended_turns, finishing, turn_of_section}
+use Rattle.schedule_rules.specs.Changes.{Change, Ran, Put, RanIfAsked}
+use Rattle.schedule_rules.specs.Exits.{registry, owner, ended_turns, finishing, turn_of_section, owner_by}
 use Rattle.schedule_rules.specs.Guards.{Guard, guards, numbered, guard_of, own, without_guard, reader, reader_beside, reader_made, writer_made}
-use Rattle.schedule_rules.specs.History.{Event}
+use Rattle.schedule_rules.specs.History.{Event, accepts}
 use Rattle.schedule_rules.specs.Deeds.{Makes, Finishes}
 use Rattle.schedule_rules.specs.Replay.{replay, content_after_back, back_of_guard, back_of_section}
 use Rattle.schedule_rules.specs.Sections.{Section, sections, innermost, without_innermost}
@@ -25,9 +25,17 @@ use Rattle.schedule_rules.proofs.Found.{found_passes}
 use Rattle.waiting_rows.specs.Given.{given_on}
 use Rattle.waiting_rows.proofs.Counted.{none_without}
 use Rattle.waiting_rows.proofs.GivenOn.{given_concerned}
+use Rattle.phase_moves.specs.declared.lend.Lent.{Lent}
+use Rattle.phase_moves.specs.declared.lend.Lent.TheVariants as lent
+use Rattle.phase_moves.specs.declared.lend.Loan.{Loan}
 use Rattle.phase_moves.specs.Histories.{standing, event}
-use Rattle.phase_moves.specs.Standing.{Standing, left, downgraded, cloned, ended, finalized, run_closed, turn_of, writer_of}
+use Rattle.phase_moves.specs.Lends.{answer_of, changed, lending, lent_in, was_used}
+use Rattle.phase_moves.specs.Standing.{Standing, left, downgraded, cloned, ended, finalized, run_closed, turn_of, writer_of, owned, put, round_looked}
 use Rattle.phase_moves.proofs.Guards.{its_number}
+use Rattle.exit_registry.specs.declared.registry.Look.{Look}
+use Rattle.exit_registry.specs.declared.registry.Look.TheVariants as look
+use Rattle.schedule_rules.specs.Due.{answer_of_look}
+use Rattle.schedule_rules.specs.Refusals.{is_other}
 
 owned_by : (p : ℕ) (x : Guard) (o : Option Guard) → own p o ≡ Some x → (o ≡ Some x) × (x.party ≡ p)
 owned_by p x None e = absurd (cc)
@@ -63,6 +71,32 @@ module _ (cells : List CellPlan) (h : List Event) (p : ℕ) where
   module _ (awake : wait_of p ws ≡ None) where
     given_awake : (a : Act) (d : Given) (c : ℕ) → cell_concerned_with cells ws h p a ≡ Some c → waits_given_with cells ws h (record { party = p; act = a }) d (without_wait p ws) ≡ given_on c d ws
     given_awake a d c e = gave a d c e ∙ ap (given_on c d) (none_without p ws awake)
+
+    -- ---- a loan
+
+    -- what is lent is given back at once
+    pub lent_at_once : (c : ℕ) (l : Loan) (r : Lent) → accepts h ≡ (registry cells h).is_open → was_used r ≡ false → (l.runs ≡ false → answer_of r ≢ answer.Failed) → standing cells (event p (lending c l) (record { answer = answer_of r; given = given.Nobody }) ∷ h) ≡ lent_in c l r (standing cells h)
+    lent_at_once c l r agrees used fine = by l.runs l.made l.left r used fine
+      where
+        published : (a : Act) → cell_concerned_with cells ws h p a ≡ Some c → (chs : Bool → List Change)
+            → record { plans = cells; waits = waits_given_with cells ws h (record { party = p; act = a }) given.Nobody (without_wait p ws); sections = sections h; guards = guards h; content = λ d. content_after_back cells d (Some (record { cell = c; changes = chs (accepts h) })) (replay cells d h); registry = registry cells h; owner = owner h; turns = ended_turns h }
+            ≡ changed c (chs (registry cells h).is_open) (standing cells h)
+        published a e chs =
+            let given = given_awake a given.Nobody c e in
+            λ i. record { plans = cells; waits = given i; sections = sections h; guards = guards h; content = λ d. content_after_back cells d (Some (record { cell = c; changes = chs (agrees i) })) (replay cells d h); registry = registry cells h; owner = owner h; turns = ended_turns h }
+
+        quiet : (a : Act) → cell_concerned_with cells ws h p a ≡ Some c → record (standing cells h) { waits = waits_given_with cells ws h (record { party = p; act = a }) given.Nobody (without_wait p ws) } ≡ standing cells h
+        quiet a e = let given = given_awake a given.Nobody c e in λ i. record (standing cells h) { waits = given i }
+
+        by : (b : Bool) (made : Option ℕ) (left : ℕ) (z : Lent) → was_used z ≡ false → (b ≡ false → answer_of z ≢ answer.Failed)
+            → standing cells (event p (lending c (record { runs = b; made = made; left = left })) (record { answer = answer_of z; given = given.Nobody }) ∷ h) ≡ lent_in c (record { runs = b; made = made; left = left }) z (standing cells h)
+        by b made left lent.InUse used fine = absurd (cc)
+        by true made left (lent.Denied q) used fine = quiet (act.GetMut c made left) refl
+        by false made left (lent.Denied q) used fine = quiet (act.TryGetMut c left) refl
+        by true made left lent.Failed used fine = published (act.GetMut c made left) refl (λ o. Ran o None ∷ [])
+        by false made left lent.Failed used fine = absurd (fine refl refl)
+        by true made left (lent.Found v) used fine = published (act.GetMut c made left) refl (λ o. Put left ∷ RanIfAsked o made ∷ [])
+        by false made left (lent.Found v) used fine = published (act.TryGetMut c left) refl (λ o. Put left ∷ [])
 
     -- ---- guards
 
@@ -131,3 +165,37 @@ module _ (cells : List CellPlan) (h : List Event) (p : ℕ) where
       final_ended false left d q =
           let given = given_awake (act.FinishFailed left) d s.cell (ap cell_of_section top) in
           λ i. record { plans = cells; waits = given i; sections = without_innermost (sym party i) (sections h); guards = guards h; content = λ c. content_after_back cells c (back_of_section (Finishes false left) (top i)) (replay cells c h); registry = registry cells h; owner = owner h; turns = turn_of_section (turn_of false) (top i) (ended_turns h) }
+
+  -- ---- a step of a party that does not wait, which opens and gives back nothing
+
+  module _ (awake : wait_of p ws ≡ None) where
+    -- a look
+    pub look_stays : (g v : ℕ) → standing cells (event p (act.Look g) (record { answer = answer.Value v; given = given.Nobody }) ∷ h) ≡ standing cells h
+    look_stays g v = λ i. record (standing cells h) { waits = none_without p ws awake i; owner = owner h }
+
+    -- a clone that is barred
+    pub clone_barred : (g : ℕ) → standing cells (event p (act.Clone g) (record { answer = answer.Borrowed; given = given.Nobody }) ∷ h) ≡ standing cells h
+    clone_barred g = λ i. record (standing cells h) { waits = none_without p ws awake i; owner = owner h }
+
+    -- a value that is set
+    pub set_puts : (g v : ℕ) → standing cells (event p (act.Set g v) (record { answer = answer.Done; given = given.Nobody }) ∷ h) ≡ put g v (standing cells h)
+    set_puts g v = λ i. record (put g v (standing cells h)) { waits = none_without p ws awake i; owner = owner h }
+
+  -- ---- the exit, of a party that may own it
+
+  module _ (free : is_other (owner h) p ≡ false) where
+    owns : owner_by p true (owner h) ≡ Some p
+    owns = by (owner h) free
+      where
+        by : (o : Option ℕ) → is_other o p ≡ false → owner_by p true o ≡ Some p
+        by None e = refl
+        by (Some q) e = at (q == p) refl e
+          where
+            at : (b : Bool) → (q == p) ≡ b → not b ≡ false → Some q ≡ Some p
+            at true f g = ap (λ x. Some x) (grind (arith, f))
+            at false f g = absurd (cc)
+
+    -- a look for the cells that were registered since the last one
+    pub exit_looks : wait_of p ws ≡ None → (o : Look) → standing cells (event p act.Exit (record { answer = answer_of_look o; given = given.Nobody }) ∷ h) ≡ round_looked (owned p (standing cells h))
+    exit_looks awake (look.Round r) = λ i. record (round_looked (owned p (standing cells h))) { waits = none_without p ws awake i; owner = owns i }
+    exit_looks awake look.Closed = λ i. record (round_looked (owned p (standing cells h))) { waits = none_without p ws awake i; owner = owns i }

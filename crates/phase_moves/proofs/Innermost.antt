@@ -28,7 +28,7 @@ use Rattle.phase_moves.specs.declared.rows.OpenRun.{OpenRun}
 use Rattle.phase_moves.specs.declared.rows.PartyRow.{PartyRow}
 use Rattle.phase_moves.specs.declared.rows.Rows.{Rows}
 use Rattle.phase_moves.specs.Standing.{Standing, Run, run_in, reads_in, closed}
-use Rattle.phase_moves.specs.Stands.{seen_at, IsCell, IsLocked, IsExit, AreShown, party_row, open_run, section_of, target_of}
+use Rattle.phase_moves.specs.Stands.{CountsWaits, seen_at, IsCell, IsLocked, IsExit, AreShown, party_row, open_run, section_of, target_of}
 use Rattle.phase_moves.specs.Ends.{IsInnermost}
 use Rattle.phase_moves.proofs.Lockers.{writing_alone}
 use Rattle.phase_moves.proofs.Guards.{slots_same, writes_here}
@@ -36,6 +36,7 @@ use Rattle.phase_moves.proofs.Leaving.{sound}
 use Rattle.phase_moves.proofs.Runs.{none_runs, run_kept, run_top, inside_ended, inside_found}
 use Rattle.phase_moves.proofs.Moved.{IsMoved, HasParties, exit_kept, parties_set}
 use Rattle.phase_moves.proofs.Places.{read_at}
+use Rattle.phase_moves.proofs.Waiting.{count_given}
 
 module _ {L : Type 0} (held : L → Holders) (place : L → LockerKind) (m : Standing) (v : Rows L) (p c : ℕ) (s : Section) (is : IsInnermost held place m v p c s) (row : CellRow L) (row_is : row ≡ get_or v.cells.items c row) where
   abbrev n : ℕ
@@ -125,6 +126,7 @@ module _ {L : Type 0} (held : L → Holders) (place : L → LockerKind) (m : Sta
   without_moved v' k guards exit parks =
       let st = is.rests.stands in
       record {
+        counts = λ d ne. refl;
         around = λ d ne. (let w = runs_beside d ne in let r = run_beside d ne in λ i. record { plan = cell_at m.plans d; content = m.content d; reads = reads_in d m; writes = count (writes_cell d) m.guards + w i; run = r i });
         others = k.others;
         same = k.same;
@@ -167,6 +169,7 @@ module _ {L : Type 0} (held : L → Holders) (place : L → LockerKind) (m : Sta
     closed_moved ts v' k guards exit lists listed rows =
         let st = is.rests.stands in
         record {
+          counts = λ d ne. count_given d s.cell g m.waits;
           around = λ d ne. (let a = content_beside d ne in let w = runs_beside d ne in let r = run_beside d ne in λ i. record { plan = cell_at m.plans d; content = a i; reads = reads_in d m; writes = count (writes_cell d) m.guards + w i; run = r i });
           others = k.others;
           same = k.same;
@@ -191,6 +194,10 @@ module _ {L : Type 0} (held : L → Holders) (place : L → LockerKind) (m : Sta
         not_here g' x e w q = let some = found_counts (λ (z : Guard). z.number == g') (writes_cell c) m.guards x e (ap (λ d. writes_cell d x) (sym q) ∙ writes_here x w) in let none = no_writers in omega (arith, some, none)
 
   -- ---- the rows
+
+  -- as many wait at the cell as before
+  pub counted_ended : (row' : CellRow L) (g : Given) → row'.waiting ≡ row.waiting → CountsWaits c (given_on s.cell g m.waits) row'
+  counted_ended row' g same = same ∙ is.rests.stands.counted c row (read_at v.cells.items c row in_cells row_is) ∙ sym (count_given c s.cell g m.waits)
 
   -- the row of the cell
   pub cell_ended : (v' : Rows L) (row' : CellRow L) (y : Content) (a z : ℕ) → row'.plan ≡ row.plan → row'.run ≡ None → row'.seq.running ≡ None → place row'.seq.locker ≡ place row.seq.locker → row'.value ≡ y.value → IsKnown (phase_of y.phase) → IsLocked (place row'.seq.locker) (held row'.seq.locker) v'.parks c a z y.phase

@@ -2,6 +2,7 @@
 use Rattle.std.proofs.Common.{ℕ, ◌<◌, List, [], ◌∷◌, arith, Bool, true, false, None, Some}
 use Rattle.lazy_cells.specs.Kinds.{is_finalizable}
 use Rattle.schedule_rules.specs.Kinds.{tolerance_of}
+use Rattle.std.specs.declared.option.Option.{Option}
 use Rattle.std.proofs.lemmas.Nat.{and_le_l, or_of_8}
 use Rattle.std.specs.Prelude.{◌==◌, ◌^◌, ◌-◌, if◌then◌else◌}
 use Rattle.phase_bits.specs.Flags.{without_flags}
@@ -11,7 +12,7 @@ use Rattle.schedule_rules.specs.declared.plan.CellPlan.{CellPlan}
 use Rattle.schedule_rules.specs.declared.step.Want.{Want}
 use Rattle.schedule_rules.specs.declared.step.Want.TheVariants.{Calls, Turns}
 use Rattle.schedule_rules.specs.Phases.{flags_kept, phase_reached, NoRun}
-use Rattle.schedule_rules.specs.Changes.{Content, Change, Ran, Asked, Put, Ended, content_after, effect, is_declined}
+use Rattle.schedule_rules.specs.Changes.{Content, Change, Ran, Asked, Put, RanIfAsked, Ended, asks_to_lend, content_after, content_of_run, effect, is_declined}
 use Rattle.phase_moves.specs.Stands.{stays_in}
 
 -- the flags that stay beside those of a run
@@ -63,6 +64,12 @@ change_known x (Asked is_open c) y k = by (is_declined x.kind (tolerance_of x) c
     by true = record { below = omega arith }
     by false = k
 change_known x (Put v) y k = k
+change_known x (RanIfAsked is_open made) y k = by (asks_to_lend x.kind (tolerance_of x) y.phase) made
+  where
+    by : (b : Bool) (o : Option ℕ) → IsKnown (phase_of (if b then content_of_run x.kind is_open o y else y).phase)
+    by true (Some v) = record { below = reached_known (flags_kept x.kind is_open y.phase) true (kept_known x is_open y.phase k.below) }
+    by true None = record { below = reached_known (flags_kept x.kind is_open y.phase) false (kept_known x is_open y.phase k.below) }
+    by false o = k
 change_known x (Ended fine left) y k = record { below = finalized_known y.phase fine k.below }
 
 -- so do changes one after another

@@ -26,14 +26,14 @@ use Rattle.waiting_rows.proofs.Sound.{sound_of}
 use Rattle.phase_moves.specs.declared.rows.CellRow.{CellRow}
 use Rattle.phase_moves.specs.declared.rows.Rows.{Rows}
 use Rattle.phase_moves.specs.Standing.{Standing, left, downgraded, reads_in, writes_in, seen_by, run_in, runner_of}
-use Rattle.phase_moves.specs.Stands.{Seen, seen_at, IsCell, IsLocked, Stands, slot_row, party_row, open_run}
+use Rattle.phase_moves.specs.Stands.{CountsWaits, Seen, seen_at, IsCell, IsLocked, Stands, slot_row, party_row, open_run}
 use Rattle.phase_locker.specs.Left.{Left}
 use Rattle.phase_moves.specs.Moves.{IsReader, IsWriter}
 use Rattle.phase_moves.proofs.Guards.{its_number, found_itself, gone, once_without, left_there, reads_elsewhere, writes_elsewhere, writes_here, reads_here, never_reads, never_writes, count_same, count_less, slots_same, target_given}
 use Rattle.phase_moves.proofs.Lockers.{locked_read, locked_write, locked_down, writing_alone, hands_writers, downgrades_writers}
 use Rattle.phase_moves.proofs.Opening.{guard_opened, seen_reader}
 use Rattle.phase_locker.proofs.Leaving.{write_has_no_reader}
-use Rattle.phase_moves.proofs.Few.{few_readers, fewer_readers}
+use Rattle.phase_moves.proofs.Waiting.{few_readers, fewer_readers, count_given}
 use Rattle.phase_moves.proofs.Known.{effect_known}
 use Rattle.phase_moves.proofs.Runs.{none_runs}
 use Rattle.phase_moves.proofs.Moved.{IsCalled, IsMoved, HasParties, exit_kept, parties_same, moved}
@@ -103,6 +103,7 @@ module _ {L : Type 0} (held : L → Holders) (place : L → LockerKind) (hand : 
   left_moved g v' one guards exit sizes k listed rows =
       record {
         around = around g;
+        counts = λ d ne. count_given d x.cell g m.waits;
         others = k.others;
         same = k.same;
         lists = sizes;
@@ -250,6 +251,10 @@ parties_left held place hand m v v' x t parties g =
 -- ---- the moves
 
 module _ {L : Type 0} (held : L → Holders) (place : L → LockerKind) (hand : ℕ) (m : Standing) (v v' : Rows L) (x : Guard) (row row' : CellRow L) (g : Given) (t : Stands held place hand m v) (found : numbered hand m.guards ≡ Some x) (k : IsCalled held place x.cell row row' v v') where
+  -- as many wait at the cell as before
+  calm : CountsWaits x.cell (given_on x.cell g m.waits) row'
+  calm = k.waiting ∙ t.counted x.cell row k.row_at ∙ sym (count_given x.cell x.cell g m.waits)
+
   gone_back : length v'.parks.writers ≡ length v.parks.writers → IsListed x.cell v.parks g → v'.parks ≡ rows_handed x.cell g v.parks → IsMoved held place x.cell hand hand m (left x g m) v v'
   gone_back lists listed rows =
       left_moved held place hand m v x t found g v' (one held place hand m v x t found row k.row_at) k.guards k.exit lists k.left listed rows
@@ -259,6 +264,7 @@ module _ {L : Type 0} (held : L → Holders) (place : L → LockerKind) (hand : 
   leaves_read r value hands less closed =
       moved held place x.cell hand hand m (left x g m) v v' row' t (inside held place hand m v x t found) k.cells
       (read_back held place hand m v x t found row k.row_at g row' v'.parks r k.plan value k.run k.running hands less closed k.left)
+      calm
       (gone_back (hands_writers x.cell _ v.parks g _ v'.parks hands) (listed_hand x.cell _ v.parks g hands.may) hands.rows)
       (parties_left held place hand m v v' x t k.parties g)
 
@@ -268,6 +274,7 @@ module _ {L : Type 0} (held : L → Holders) (place : L → LockerKind) (hand : 
     leaves_write hands none =
         moved held place x.cell hand hand m (left x g m) v v' row' t (inside held place hand m v x t found) k.cells
         (write_back held place hand m v x t found row k.row_at w g row' v'.parks q k.plan phase value k.run k.running hands none closed k.left)
+        calm
         (gone_back (hands_writers x.cell _ v.parks g _ v'.parks hands) (listed_hand x.cell _ v.parks g hands.may) hands.rows)
         (parties_left held place hand m v v' x t k.parties g)
 
@@ -276,6 +283,7 @@ module _ {L : Type 0} (held : L → Holders) (place : L → LockerKind) (hand : 
     leaves_down down reads free n room fresh =
         moved held place x.cell hand n m (downgraded n x g m) v v' row' t (inside held place hand m v x t found) k.cells
         (down_back held place hand m v x t found row k.row_at w n g row' v'.parks q k.plan phase value k.run k.running down reads closed k.left free)
+        calm
         (guard_opened held place x.cell hand hand n m (left x g m) v v' (reader n x.party x.cell)
         (gone_back (downgrades_writers x.cell q (held row.seq.locker) v.parks g (held row'.seq.locker) v'.parks down) (listed_share x.cell v.parks g down.may) down.rows)
         refl refl room fresh (ap (λ i. numbered i (without_guard x.number m.guards)) (sym (its_number hand m.guards x found)) ∙ gone x.number m.guards x (found_itself hand m.guards x found) (t.guards.once x.number)) (inside held place hand m v x t found))

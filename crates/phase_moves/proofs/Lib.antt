@@ -5,18 +5,17 @@ pub mod Lockers
 pub mod Registering
 -- What a move at one cell leaves alone
 pub mod Moved
+pub mod Waiting
 pub mod Guards
 pub mod Runs
 pub mod Opening
 -- The moves on guards
 pub mod Hand
-pub mod Taking
 pub mod Leaving
 pub mod Giving
 pub mod Calling
 -- The ends of sections
 pub mod Innermost
-pub mod EndGives
 pub mod Ending
 pub mod Finalizing
 -- An attempt
@@ -25,10 +24,11 @@ pub mod Answered
 pub mod Parking
 pub mod Asked
 pub mod Seeking
-pub mod OpeningRuns
 pub mod Took
 pub mod Arms
 pub mod Trying
+-- A loan
+pub mod Lending
 -- The exit, and the end
 pub mod Exiting
 pub mod Closing
@@ -37,8 +37,6 @@ pub mod Histories
 pub mod Setting
 pub mod Looking
 pub mod Starting
-pub mod HistoryExits
-pub mod Few
 pub mod Judged
 pub mod Settling
 pub mod Barring
@@ -46,4 +44,3 @@ pub mod Admitting
 pub mod GivenUp
 pub mod Sharing
 pub mod Meeting
-pub mod Looked

@@ -1,29 +1,54 @@
 -- What the rows tell of what stands open.
-use Rattle.std.proofs.Common.{◌≡◌, ◌==◌, ◌<◌, ◌∙◌, ℕ, List, length, get_or, ap, sym, subst, refl, arith, Bool, true, false, None, Some}
+use Rattle.std.proofs.Common.{◌≡◌, ◌==◌, ◌<◌, ◌∙◌, ℕ, List, length, get_or, ap, sym, subst, refl, arith, Bool, true, false, None, Some, [], ◌∷◌, ◌&&◌}
 use Rattle.std.proofs.lemmas.Option.{gets}
 use Rattle.std.proofs.lemmas.Grind.{common_steps}
-use Rattle.std.specs.Prelude.{slice_get}
+use Rattle.std.specs.Prelude.{slice_get, ◌<◌, MatchBool, if◌then◌else◌, is_some, not}
 use Rattle.std.specs.declared.option.Option.{Option}
 use Rattle.phase_bits.specs.declared.holders.Holders.{Holders}
 use Rattle.phase_locker.specs.declared.ways.LockerKind.{LockerKind}
 use Rattle.schedule_rules.specs.declared.plan.CellPlan.{CellPlan}
 use Rattle.schedule_rules.specs.Guards.{Guard, guard_of, numbered, own}
-use Rattle.schedule_rules.specs.Kinds.{cell_at}
-use Rattle.schedule_rules.specs.Sections.{Section, innermost}
-use Rattle.schedule_rules.specs.Waits.{cell_of_section}
+use Rattle.schedule_rules.specs.Kinds.{cell_at, tolerance_of}
+use Rattle.schedule_rules.specs.Sections.{Section, innermost, generates_for, runs_in}
+use Rattle.schedule_rules.specs.Waits.{cell_of_section, wait_of, without_wait}
 use Rattle.phase_moves.specs.declared.look_up.Running.{Running}
 use Rattle.phase_moves.specs.declared.rows.CellRow.{CellRow}
 use Rattle.phase_moves.specs.declared.rows.GuardRow.{GuardRow}
 use Rattle.phase_moves.specs.declared.rows.PartyRow.{PartyRow}
 use Rattle.phase_moves.specs.declared.rows.Rows.{Rows}
-use Rattle.phase_moves.specs.Standing.{Standing}
-use Rattle.phase_moves.specs.Stands.{guard_row, party_row}
+use Rattle.phase_moves.specs.Standing.{Standing, answered, changes_at, content_back, run_in, runner_of}
+use Rattle.phase_moves.specs.Stands.{guard_row, party_row, CountsWaits, AreInside, AreNumbered, AreShown, AreSized, IsCell, IsExit, Stands, seen_at}
 use Rattle.phase_moves.specs.Reading.{held_of, run_kept, running_kept, running_of, shown_by, value_kept}
 use Rattle.phase_moves.specs.Moves.{Rests}
 use Rattle.phase_moves.proofs.Innermost.{row_run}
 use Rattle.phase_moves.proofs.Places.{read_at}
 use Rattle.phase_moves.proofs.Runs.{inside_found}
-use Rattle.phase_moves.proofs.Taking.{row_shown}
+use Rattle.phase_moves.proofs.Hand.{row_shown}
+use Rattle.std.specs.List.{find}
+use Rattle.phase_bits.specs.declared.phase.Phase.{Phase}
+use Rattle.phase_bits.specs.Number.{phase_of}
+use Rattle.phase_locker.specs.declared.tickets.LockNature.TheVariants as nature
+use Rattle.phase_locker.specs.declared.ways.Given.TheVariants as given
+use Rattle.phase_seq.specs.Begins.{runs}
+use Rattle.lazy_cells.specs.Calls.{asking}
+use Rattle.schedule_rules.specs.declared.line.Answer.TheVariants as answer
+use Rattle.schedule_rules.specs.declared.step.Want.{Want}
+use Rattle.schedule_rules.specs.declared.step.Want.TheVariants.{Calls, Turns}
+use Rattle.schedule_rules.specs.Answers.{answer_admitted, answer_barred, drains_by, way_parked}
+use Rattle.schedule_rules.specs.Calls.{initializes, is_fast, lock_asked, run_asked, seeks, seeks_run}
+use Rattle.schedule_rules.specs.Changes.{Asked, Change, Content, effect}
+use Rattle.schedule_rules.specs.Forms.{form_of}
+use Rattle.schedule_rules.specs.Holds.{is_barred, keeps}
+use Rattle.schedule_rules.specs.Legal.{Last}
+use Rattle.schedule_rules.specs.Phases.{runs_generator}
+use Rattle.waiting_rows.proofs.Counted.{none_without}
+use Rattle.phase_moves.specs.declared.rows.Taken.TheVariants as taken
+use Rattle.phase_moves.specs.declared.rows.Target.{Target}
+use Rattle.phase_moves.specs.Meets.{IsMet, IsUnlocked, holding_in, keeps_in, readers_in, wanted_in}
+use Rattle.phase_moves.specs.Tries.{IsAttempting, IsTook, MayWait, WaitsAt, ask_of}
+use Rattle.phase_moves.proofs.Admitting.{judged_no, looked_due, runs_same, turned_so}
+use Rattle.phase_moves.proofs.Seeking.{seeks_as, sought_as}
+use Rattle.phase_moves.proofs.Asked.{none_sought}
 
 is_there : {X : Type 0} (xs : List X) (i : ℕ) → i < length xs → slice_get xs i ≡ None → ⊥
 is_there xs i lt e = grind (arith, common_steps, gets, lt, e)
@@ -73,3 +98,112 @@ module _ {L : Type 0} (held : L → Holders) (place : L → LockerKind) (m : Sta
           at true w false b = rw (w, b) refl
           at false w true b = rw (w, b) (ap (λ z. Some (record { cell = x.cell; writes = false; value = z })) (value (slice_get v.cells.items x.cell) refl))
           at false w false b = rw (w, b) refl
+
+-- ---- an attempt that is turned back, and one that looks at the cell as it is: it takes no lock
+
+-- one that was turned back
+pub met_turned : (m : Standing) (p : ℕ) (t : Target) → (initializes (cell_at m.plans t.cell).kind t.want && runs p (runner_of (run_in t.cell m.sections))) ≡ true → IsMet p t taken.Cyclic given.Nobody m
+met_turned m p t turned =
+    record {
+      moment = Last;
+      chosen = false;
+      answered = sym (turned_so (initializes (cell_at m.plans t.cell).kind t.want && generates_for p (find (runs_in t.cell) m.sections)) answer.Cyclic _ (ap (λ b. initializes (cell_at m.plans t.cell).kind t.want && b) (sym (runs_same p t.cell m.sections)) ∙ turned));
+      gives = refl;
+      wanted = refl;
+    }
+
+-- it is answered by what the cell holds
+pub met_looked : (m : Standing) (p : ℕ) (t : Target) → seeks (cell_at m.plans t.cell).kind t.want ≡ None → wait_of p m.waits ≡ None → IsMet p t (taken.Nothing (phase_of (m.content t.cell).phase)) given.Nobody m
+met_looked m p t none free =
+    record {
+      moment = Last;
+      chosen = false;
+      answered = looked_due x t.cell p m.registry y t.want none
+          ∙ sym (judged_no (initializes x.kind t.want && generates_for p (find (runs_in t.cell) m.sections)) (keeps_in p t.cell t.want m) (is_barred (wanted_in t.cell t.want m) (holding_in t.cell (without_wait p m.waits) m)) false answer.Cyclic
+          (answer_barred (is_fast t.want) x.place (way_parked x.kind t.want (drains_by (wanted_in t.cell t.want m) (holding_in t.cell (without_wait p m.waits) m) false))) (answer_admitted x.kind (tolerance_of x) t.cell m.registry.is_open t.want y)
+          (ap (λ s. seeks_run s && generates_for p (find (runs_in t.cell) m.sections)) none) (ap (λ w. keeps w (wanted_in t.cell t.want m) (readers_in t.cell m.waits m)) free) (ap (λ n. is_barred n (holding_in t.cell (without_wait p m.waits) m)) unwanted));
+      gives = tt;
+      wanted = by t.want none;
+    }
+  where
+    x : CellPlan
+    x = cell_at m.plans t.cell
+
+    y : Content
+    y = m.content t.cell
+
+    unwanted : wanted_in t.cell t.want m ≡ nature.None
+    unwanted = ap (λ s. lock_asked (asking s (is_fast t.want) (tolerance_of (cell_at m.plans t.cell))) (m.content t.cell).phase) none
+
+    by : (w : Want) → seeks (cell_at m.plans t.cell).kind w ≡ None → IsUnlocked (cell_at m.plans t.cell).kind w
+    by (Calls j) e = ap (seeks_as (form_of (cell_at m.plans t.cell).kind j)) (sym e) ∙ sought_as (cell_at m.plans t.cell).kind j
+    by Turns e = tt
+
+-- nothing happened in its section
+unchanged : (m : Standing) (c : ℕ) (w : Want) → seeks (cell_at m.plans c).kind w ≡ None → changes_at c w m ≡ []
+unchanged m c (Calls j) none =
+    ap (λ s. if run_asked (asking s (is_fast (Calls j)) (tolerance_of (cell_at m.plans c))) (m.content c).phase && not (runs_generator (cell_at m.plans c).kind (tolerance_of (cell_at m.plans c)) m.registry.is_open (m.content c).phase) then Asked m.registry.is_open j ∷ [] else []) none
+unchanged m c Turns none = refl
+
+-- so nothing is published
+still : (m : Standing) (c d : ℕ) (chs : List Change) → chs ≡ [] → content_back (Some (record { cell = c; changes = chs })) m d ≡ m.content d
+still m c d chs e = ap (λ z. content_back (Some (record { cell = c; changes = z })) m d) e ∙ by (c == d)
+  where
+    by : (b : Bool) → (if b then m.content d else m.content d) ≡ m.content d
+    by true = refl
+    by false = refl
+
+module _ {L : Type 0} (held : L → Holders) (place : L → LockerKind) (hand : ℕ) (m : Standing) (v : Rows L) where
+  -- what rows of these cells stand for
+  record AsCells (cs : List (CellRow L)) : Type 0 where
+    cell : (c : ℕ) (r : CellRow L) → slice_get cs c ≡ Some r → IsCell held place (seen_at c m) v.parks c r
+    counted : (c : ℕ) (r : CellRow L) → slice_get cs c ≡ Some r → CountsWaits c m.waits r
+    exit : IsExit (length cs) m v.exit
+    waits : AreShown (length cs) m.waits v.parks
+    guards : AreNumbered hand (length v.guards.items) (length cs) m.guards
+    sections : AreInside (length cs) m.sections
+    sizes : AreSized (length cs) (length v.parties.items) v.parks
+
+  -- rows that are as they were stand for what they stood for
+  stays : (v' : Rows L) → v'.cells.items ≡ v.cells.items → v'.guards ≡ v.guards → v'.parties ≡ v.parties → v'.parks ≡ v.parks → v'.exit ≡ v.exit → Stands held place hand m v → Stands held place hand m v'
+  stays v' cells guards parties parks exit st =
+      let k : AsCells v'.cells.items = subst AsCells (sym cells) (record { cell = st.cell; counted = st.counted; exit = st.exit; waits = st.waits; guards = st.guards; sections = st.sections; sizes = st.sizes }) in
+      record {
+        cell = λ c r e. subst (λ z. IsCell held place (seen_at c m) z c r) (sym parks) (k.cell c r e);
+        counted = k.counted;
+        slot = λ g lt. ap (λ (z : _). slice_get z.items g) guards ∙ st.slot g (subst (λ (z : _). g < length z.items) guards lt);
+        party = λ q lt. ap (λ (z : _). slice_get z.items q) parties ∙ st.party q (subst (λ (z : _). q < length z.items) parties lt);
+        exit = subst (λ z. IsExit (length v'.cells.items) m z) (sym exit) k.exit;
+        waits = subst (λ z. AreShown (length v'.cells.items) m.waits z) (sym parks) k.waits;
+        guards = subst (λ (z : _). AreNumbered hand (length z.items) (length v'.cells.items) m.guards) (sym guards) k.guards;
+        sections = k.sections;
+        sizes = subst (λ (z : _). AreSized (length v'.cells.items) (length z.items) v'.parks) (sym parties) (subst (λ z. AreSized (length v'.cells.items) (length v.parties.items) z) (sym parks) k.sizes);
+      }
+
+module _ {L : Type 0} (held : L → Holders) (place : L → LockerKind) (m : Standing) (v : Rows L) (p : ℕ) (t : Target) (waits : Bool) (is : IsAttempting held place m v p t waits) (row : CellRow L) (row_is : row ≡ get_or v.cells.items t.cell row) (none : ask_of row.plan t.want ≡ None) where
+  here : IsCell held place (seen_at t.cell m) v.parks t.cell row
+  here = is.rests.stands.cell t.cell row (read_at v.cells.items t.cell row is.cell row_is)
+
+  nothing : seeks (cell_at m.plans t.cell).kind t.want ≡ None
+  nothing = none_sought (cell_at m.plans t.cell) t.want (ap (λ (z : CellPlan). ask_of z t.want) (sym here.planned) ∙ none)
+
+  free : wait_of p m.waits ≡ None
+  free = by waits is.waited is.waits_so
+    where
+      by : (w : Bool) → MatchBool w (WaitsAt t.cell (wait_of p m.waits)) (wait_of p m.waits ≡ None) → (w ≡ true → MayWait (cell_at m.plans t.cell) t.want) → wait_of p m.waits ≡ None
+      by true k so = let sought = (so refl).sought in absurd (let f : false ≡ true = sym (ap is_some nothing) ∙ sought in cc)
+      by false k so = k
+
+  same : m ≡ answered p t.cell given.Nobody (changes_at t.cell t.want m) m
+  same = λ i. record m { waits = sym (none_without p m.waits free) i; content = λ d. sym (still m t.cell d (changes_at t.cell t.want m) (unchanged m t.cell t.want nothing)) i }
+
+  -- the rows are as they were
+  module _ (v' : Rows L) (cells : v'.cells.items ≡ v.cells.items) (guards : v'.guards ≡ v.guards) (parties : v'.parties ≡ v.parties) (parks : v'.parks ≡ v.parks) (exit : v'.exit ≡ v.exit) where
+    pub looks : (q : Phase) → q ≡ (held row.seq.locker).phase → IsTook held place m v p t (taken.Nothing q) given.Nobody v'
+    looks q q_is = subst (λ z. IsTook held place m v p t (taken.Nothing z) given.Nobody v') (sym (q_is ∙ here.locked.phase_is))
+        (record {
+          stands = subst (λ z. Stands held place (length v.guards.items) z v') same (stays held place (length v.guards.items) m v v' cells guards parties parks exit is.rests.stands);
+          told = ap (λ (chs : List Change). phase_of (effect (cell_at m.plans t.cell) chs (m.content t.cell)).phase) (sym (unchanged m t.cell t.want nothing));
+          cyclic = sym (ap (λ s. seeks_run s && runs p (runner_of (run_in t.cell m.sections))) nothing);
+          met = met_looked m p t nothing free;
+        })

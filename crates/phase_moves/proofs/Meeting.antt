@@ -1,5 +1,5 @@
 -- What an attempt took is the answer that is due of what it met, and what it gave it may give.
-use Rattle.std.proofs.Common.{◌≡◌, ◌≢◌, ◌<◌, ◌^◌, ◌∙◌, ℕ, List, length, ap, sym, subst, refl, arith, Bool, true, false, None, Some, inl, inr, ◌&&◌, ◌||◌}
+use Rattle.std.proofs.Common.{◌≡◌, ◌≢◌, ◌<◌, ◌∙◌, ℕ, List, length, ap, sym, subst, refl, arith, Bool, true, false, None, Some, inl, inr, ◌&&◌, ◌||◌}
 use Rattle.std.proofs.lemmas.Bool.{cases_lt}
 use Rattle.std.specs.Prelude.{◌⊎◌, MatchBool, if◌then◌else◌, nat_lt}
 use Rattle.std.specs.List.{find}
@@ -44,6 +44,7 @@ use Rattle.schedule_rules.specs.Kinds.{cell_at, tolerance_of}
 use Rattle.schedule_rules.specs.Legal.{First, Last}
 use Rattle.schedule_rules.specs.Sections.{generates_for, runs_in}
 use Rattle.schedule_rules.specs.Waits.{Wait, drains_on, is_drain, wait_of, without_wait}
+use Rattle.schedule_rules.specs.Transcripts.{most_parties}
 use Rattle.waiting_rows.specs.Given.{IsListed, given_on}
 use Rattle.waiting_rows.proofs.GivenOn.{listed_hand, listed_share}
 use Rattle.waiting_rows.proofs.RowCounts.{claims_shown, shares_shown}
@@ -73,7 +74,7 @@ record Misses (ask : Ask) (e : Begun) : Type 0 where
   quick : ask.fast ≡ true
   begins : e ≡ begun.Missed
 
-module _ (n : ℕ) (k : LockerKind) (h : Holders) (s : Parking) (m : Standing) (p : ℕ) (t : Target) (locked : IsLocked k h s t.cell (reads_in t.cell m) (writes_in t.cell m) (m.content t.cell).phase) (placed : k ≡ kind_at (cell_at m.plans t.cell).place) (shown : AreShown n m.waits s) (sizes : length s.writers ≡ length s.readers) (few : length s.rows < 2 ^ 20)
+module _ (n : ℕ) (k : LockerKind) (h : Holders) (s : Parking) (m : Standing) (p : ℕ) (t : Target) (locked : IsLocked k h s t.cell (reads_in t.cell m) (writes_in t.cell m) (m.content t.cell).phase) (placed : k ≡ kind_at (cell_at m.plans t.cell).place) (shown : AreShown n m.waits s) (sizes : length s.writers ≡ length s.readers) (few : length s.rows < most_parties)
     (cell_in : t.cell < length s.readers) (party_in : p < length s.rows) (ask : Ask) (asked : IsAsked (cell_at m.plans t.cell) t.want ask) (waited : (w : Wait) → wait_of p m.waits ≡ Some w → w.cell ≡ t.cell) (awake : is_quick (cell_at m.plans t.cell) t.want ≡ true → wait_of p m.waits ≡ None) (shared_turn : t.want ≡ Turns → is_owned (cell_at m.plans t.cell).place ≡ false) where
   abbrev who : Who
   who = record { cell = t.cell; party = p }

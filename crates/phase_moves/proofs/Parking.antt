@@ -1,5 +1,5 @@
 -- The rows show who waits after a call.
-use Rattle.std.proofs.Common.{◌≡◌, ◌<◌, ◌^◌, ◌∙◌, ℕ, List, [], ◌∷◌, length, set, sym, subst, refl, arith, Some, length-set}
+use Rattle.std.proofs.Common.{◌≡◌, ◌<◌, ◌∙◌, ℕ, List, [], ◌∷◌, length, set, sym, subst, refl, arith, Some, length-set}
 use Rattle.phase_locker.specs.declared.ways.Given.{Given}
 use Rattle.phase_locker.specs.declared.ways.Given.TheVariants as given
 use Rattle.phase_locker.specs.declared.ways.How.{How}
@@ -14,6 +14,7 @@ use Rattle.phase_locker.specs.Attempts.{rows_waiting}
 use Rattle.phase_locker.proofs.Keeping.{freed_size}
 use Rattle.schedule_rules.specs.declared.step.Want.{Want}
 use Rattle.schedule_rules.specs.Waits.{Wait, without_wait, with_wait}
+use Rattle.schedule_rules.specs.Transcripts.{most_parties}
 use Rattle.schedule_rules.proofs.Opened.{wait_removed}
 use Rattle.waiting_rows.specs.Given.{given_on, IsListed}
 use Rattle.waiting_rows.proofs.GivenOn.{shows_on, single_on, within_on, none_on}
@@ -58,7 +59,7 @@ waiting_writers how.Drain w s = refl
 waiting_writers how.ParkedRead w s = refl
 waiting_writers how.ParkedWrite w s = length-set s.writers w.cell _
 
-module _ (n : ℕ) (who : Who) (ws : List Wait) (s : Parking) (g : Given) (shown : AreShown n ws s) (sizes : length s.writers ≡ length s.readers) (few : length s.rows < 2 ^ 20) (cell : who.cell < length s.readers) (party : who.party < length s.rows) (listed : IsListed who.cell (freed who.party s) g) where
+module _ (n : ℕ) (who : Who) (ws : List Wait) (s : Parking) (g : Given) (shown : AreShown n ws s) (sizes : length s.writers ≡ length s.readers) (few : length s.rows < most_parties) (cell : who.cell < length s.readers) (party : who.party < length s.rows) (listed : IsListed who.cell (freed who.party s) g) where
   -- the call waits no longer, and what it had was given on
   pub shown_called : AreShown n (given_on who.cell g (without_wait who.party ws)) (rows_handed who.cell g (freed who.party s))
   shown_called =
@@ -67,7 +68,7 @@ module _ (n : ℕ) (who : Who) (ws : List Wait) (s : Parking) (g : Given) (shown
       let free = shows_freed who.party ws s (sound_of ws s shown.single shown.shows sizes few) shown.shows in
       let alone = single_without who.party ws shown.single in
       record {
-        shows = shows_on who.cell g (without_wait who.party ws) (freed who.party s) (omega (arith, size.1, cell)) (sound_of (without_wait who.party ws) (freed who.party s) alone free (more ∙ sizes ∙ sym size.1) (subst (λ n. n < 2 ^ 20) (sym size.0) few)) free listed;
+        shows = shows_on who.cell g (without_wait who.party ws) (freed who.party s) (omega (arith, size.1, cell)) (sound_of (without_wait who.party ws) (freed who.party s) alone free (more ∙ sizes ∙ sym size.1) (subst (λ n. n < most_parties) (sym size.0) few)) free listed;
         single = single_on who.cell g (without_wait who.party ws) alone;
         within = within_on n who.cell g (without_wait who.party ws) (within_without n who.party ws shown.within);
       }

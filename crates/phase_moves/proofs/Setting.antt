@@ -18,7 +18,7 @@ use Rattle.phase_moves.specs.Reading.{row_put}
 use Rattle.phase_moves.specs.Moves.{Rests, IsOpenWriter}
 use Rattle.phase_moves.proofs.Guards.{slots_same}
 use Rattle.phase_moves.proofs.Places.{read_at, slice_get_set_same, slice_get_set_other}
-use Rattle.phase_moves.proofs.Taking.{row_shown}
+use Rattle.phase_moves.proofs.Hand.{row_shown}
 
 -- no number is more often a guard's
 numbers_put : (k g value : ℕ) (gs : List Guard) → count (λ (x : Guard). x.number == k) (put_in g value gs) ≡ count (λ (x : Guard). x.number == k) gs
@@ -73,6 +73,7 @@ module _ {L : Type 0} (held : L → Holders) (place : L → LockerKind) (m : Sta
         record {
           cell = λ c r e.
               subst (λ (z : Seen). IsCell held place z v'.parks c r) (sym (seen_put c)) (subst (λ (s : Parking). IsCell held place (seen_at c m) s c r) (sym parks) (t.cell c r (ap (λ (xs : _). slice_get xs.items c) (sym cells) ∙ e)));
+          counted = λ c r e. t.counted c r (ap (λ (xs : _). slice_get xs.items c) (sym cells) ∙ e);
           slot = λ j l. ap (λ (xs : List GuardRow). slice_get xs j) guards ∙ by j (cases_eq j g) (subst (λ i. j < i) size l);
           party = λ p l. ap (λ (xs : _). slice_get xs.items p) parties ∙ t.party p (subst (λ (xs : _). p < length xs.items) parties l);
           exit = subst (λ (xs : _). IsExit (length xs.items) (put g value m) v'.exit) (sym cells) (subst (λ y. IsExit (length v.cells.items) (put g value m) y) (sym exit) (record { registry_is = t.exit.registry_is; owner_is = t.exit.owner_is; turns_are = t.exit.turns_are; cells_are = t.exit.cells_are }));

@@ -1,5 +1,5 @@
 -- What is given for the share or drain of a call that is taken away may be given, and beside a lock to write nothing is.
-use Rattle.std.proofs.Common.{◌≡◌, ◌≢◌, ◌<◌, ◌+◌, ◌^◌, ◌∙◌, ℕ, List, length, ap, sym, subst, refl, arith, true, false, None, Some, inl, inr}
+use Rattle.std.proofs.Common.{◌≡◌, ◌≢◌, ◌<◌, ◌+◌, ◌∙◌, ℕ, List, length, ap, sym, subst, refl, arith, true, false, None, Some, inl, inr}
 use Rattle.std.proofs.lemmas.Bool.{cases_lt}
 use Rattle.std.specs.declared.option.Option.{Option}
 use Rattle.phase_bits.specs.declared.holders.Holders.{Holders}
@@ -23,6 +23,7 @@ use Rattle.schedule_rules.specs.History.{count}
 use Rattle.schedule_rules.specs.Holds.{has_own}
 use Rattle.schedule_rules.specs.Kinds.{cell_at, is_parking}
 use Rattle.schedule_rules.specs.Waits.{Wait, drains_on, wait_of, without_wait}
+use Rattle.schedule_rules.specs.Transcripts.{most_parties}
 use Rattle.waiting_rows.specs.Given.{IsListed, given_on}
 use Rattle.waiting_rows.specs.Shown.{wait_row, waiting_of}
 use Rattle.waiting_rows.proofs.Gave.{gave_share}
@@ -49,7 +50,7 @@ gives_none p t m (taken.Read l q) = tt
 gives_none p t m (taken.Write l q) = refl
 gives_none p t m taken.Runs = refl
 
-module _ (n : ℕ) (k : LockerKind) (h : Holders) (s : Parking) (m : Standing) (p : ℕ) (t : Target) (locked : IsLocked k h s t.cell (reads_in t.cell m) (writes_in t.cell m) (m.content t.cell).phase) (placed : k ≡ kind_at (cell_at m.plans t.cell).place) (shown : AreShown n m.waits s) (sizes : length s.writers ≡ length s.readers) (few : length s.rows < 2 ^ 20)
+module _ (n : ℕ) (k : LockerKind) (h : Holders) (s : Parking) (m : Standing) (p : ℕ) (t : Target) (locked : IsLocked k h s t.cell (reads_in t.cell m) (writes_in t.cell m) (m.content t.cell).phase) (placed : k ≡ kind_at (cell_at m.plans t.cell).place) (shown : AreShown n m.waits s) (sizes : length s.writers ≡ length s.readers) (few : length s.rows < most_parties)
     (cell_in : t.cell < length s.readers) (party_in : p < length s.rows) (waited : (w : Wait) → wait_of p m.waits ≡ Some w → w.cell ≡ t.cell) where
   abbrev who : Who
   who = record { cell = t.cell; party = p }

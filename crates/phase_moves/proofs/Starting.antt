@@ -1,5 +1,5 @@
 -- The rows before the first step stand for the empty history.
-use Rattle.std.proofs.Common.{◌≡◌, ◌<◌, ◌≤◌, ◌+◌, ◌^◌, ◌∙◌, ℕ, List, [], ◌∷◌, ◌++◌, length, get_or, replicate, ap, sym, subst, refl, arith, None, Some, inl, inr}
+use Rattle.std.proofs.Common.{◌≡◌, ◌<◌, ◌≤◌, ◌+◌, ◌∙◌, ℕ, List, [], ◌∷◌, ◌++◌, length, get_or, replicate, ap, sym, subst, refl, arith, None, Some, inl, inr}
 use Rattle.std.proofs.Math.ListN.{length-replicate}
 use Rattle.std.proofs.lemmas.Bool.{cases_lt}
 use Rattle.std.proofs.lemmas.Option.{gets}
@@ -15,6 +15,7 @@ use Rattle.phase_locker.proofs.Fresh.{new_fits}
 use Rattle.schedule_rules.specs.declared.plan.CellPlan.{CellPlan}
 use Rattle.schedule_rules.specs.declared.plan.Plan.{Plan}
 use Rattle.schedule_rules.specs.Kinds.{cell_at}
+use Rattle.schedule_rules.specs.Transcripts.{most_parties}
 use Rattle.waiting_rows.proofs.Within.{shows_fresh}
 use Rattle.phase_moves.specs.declared.rows.CellRow.{CellRow}
 use Rattle.phase_moves.specs.declared.rows.Rows.{Rows}
@@ -70,7 +71,7 @@ module _ {L : Type 0} (held : L → Holders) (place : L → LockerKind) where
         runs = k.runs;
       }
 
-  pub fresh : (plan : Plan) (count : ℕ) (v : Rows L) → plan.parties < 2 ^ 20 → AreFreshCells held place plan.cells.items v.cells.items → v.parties.items ≡ replicate plan.parties idle_party → v.parks ≡ no_rows (length plan.cells.items) plan.parties → v.guards.items ≡ []
+  pub fresh : (plan : Plan) (count : ℕ) (v : Rows L) → plan.parties < most_parties → AreFreshCells held place plan.cells.items v.cells.items → v.parties.items ≡ replicate plan.parties idle_party → v.parks ≡ no_rows (length plan.cells.items) plan.parties → v.guards.items ≡ []
       → v.exit.registry ≡ new_registry (length plan.cells.items) → v.exit.owner ≡ None → v.exit.turns.items ≡ [] → vec_capacity v.guards ≡ count → length plan.cells.items ≤ vec_capacity v.exit.turns → AreFresh held place plan count v
   fresh plan count v few cells parties parks guards registry owner turns guard_room turn_room =
       record {
@@ -89,6 +90,7 @@ module _ {L : Type 0} (held : L → Holders) (place : L → LockerKind) where
       stands =
           record {
             cell = λ c row e. subst (λ (s : Parking). IsCell held place (seen_at c (standing plan.cells.items [])) s c row) (sym parks) (cell_fresh plan.cells.items plan.parties c row (cells.each c row e));
+            counted = λ c row e. (cells.each c row e).calm;
             slot = λ g lt. absurd (let z = ap length guards in omega (arith, lt, z));
             party = λ p lt. ap (λ xs. slice_get xs p) parties ∙ all_same plan.parties p idle_party (let z = ap length parties ∙ length-replicate plan.parties _ in omega (arith, lt, z));
             exit = record { registry_is = registry; owner_is = owner; turns_are = turns; cells_are = length-replicate (length plan.cells.items) _ ∙ sym cells.count };
@@ -100,6 +102,6 @@ module _ {L : Type 0} (held : L → Holders) (place : L → LockerKind) where
                   rows = ap (λ (s : Parking). length s.rows) parks ∙ length-replicate plan.parties _ ∙ sym (ap length parties ∙ length-replicate plan.parties _);
                   readers = ap (λ (s : Parking). length s.readers) parks ∙ length-replicate (length plan.cells.items) _ ∙ sym cells.count;
                   writers = ap (λ (s : Parking). length s.writers) parks ∙ length-replicate (length plan.cells.items) _ ∙ sym cells.count;
-                  few = subst (λ n. n < 2 ^ 20) (sym (ap (λ (s : Parking). length s.rows) parks ∙ length-replicate plan.parties _)) few;
+                  few = subst (λ n. n < most_parties) (sym (ap (λ (s : Parking). length s.rows) parks ∙ length-replicate plan.parties _)) few;
                 };
           }

@@ -30,6 +30,7 @@ module _ {L : Type 0} (held : L → Holders) (place : L → LockerKind) where
     pub planned : row.plan ≡ x
     pub valued : row.value ≡ (opening_content x).value
     pub runs : row.run ≡ None
+    pub calm : row.waiting ≡ 0
     pub runner : row.seq.running ≡ None
     pub free : held row.seq.locker ≡ unheld (phase_of 0)
     pub placed : place row.seq.locker ≡ kind_at x.place

@@ -8,6 +8,7 @@ pub mod Ends
 pub mod Meets
 pub mod Tries
 pub mod Exits
+pub mod Lends
 pub mod Closing
 pub mod Histories
 pub mod Fresh

@@ -1,5 +1,5 @@
 -- What an attempt meets at its cell, how that answers it, and when it may give a share to parked calls.
-use Rattle.std.specs.Prelude.{ℕ, List, Bool, true, false, not, ◌≡◌, ◌≢◌, ◌+◌, nat_lt, if◌then◌else◌}
+use Rattle.std.specs.Prelude.{ℕ, List, Bool, true, false, ◌≡◌, ◌≢◌, ◌+◌, nat_lt, if◌then◌else◌}
 use Rattle.std.specs.List.{find}
 use Rattle.std.specs.declared.option.Option.TheVariants.{None}
 use Rattle.phase_locker.specs.declared.tickets.LockNature.{LockNature}

@@ -1,5 +1,5 @@
 -- When rows stand for what is open.
-use Rattle.std.specs.Prelude.{ℕ, Bool, List, [], ◌∷◌, ◌≡◌, ◌≢◌, ◌≤◌, ◌<◌, ◌^◌, ◌==◌, length, slice_get, if◌then◌else◌}
+use Rattle.std.specs.Prelude.{ℕ, Bool, List, [], ◌∷◌, ◌≡◌, ◌≢◌, ◌≤◌, ◌<◌, ◌==◌, length, slice_get, if◌then◌else◌}
 use Rattle.std.specs.Option.{unwrap_or}
 use Rattle.std.specs.declared.option.Option.{Option}
 use Rattle.std.specs.declared.option.Option.TheVariants.{None, Some}
@@ -33,7 +33,8 @@ use Rattle.schedule_rules.specs.Changes.{Content}
 use Rattle.schedule_rules.specs.History.{count}
 use Rattle.schedule_rules.specs.Sections.{Section, innermost}
 use Rattle.schedule_rules.specs.Guards.{Guard, numbered}
-use Rattle.schedule_rules.specs.Waits.{Wait, wait_of, cell_of_section}
+use Rattle.schedule_rules.specs.Waits.{Wait, wait_of, waits_at, cell_of_section}
+use Rattle.schedule_rules.specs.Transcripts.{most_parties}
 use Rattle.waiting_rows.specs.Shown.{Shows, IsSingle, AreWithin}
 use Rattle.phase_moves.specs.declared.rows.CellRow.{CellRow}
 use Rattle.phase_moves.specs.declared.rows.Exit.{Exit}
@@ -145,6 +146,10 @@ pub record IsCell {L : Type 0} (held : L → Holders) (place : L → LockerKind)
   pub runner : row.seq.running ≡ runner_of z.run
   pub runs : row.run ≡ open_run z.plan c z.content.phase z.run
 
+-- it is counted how many calls and turns wait at the cell
+abbrev pub CountsWaits : {L : Type 0} → ℕ → List Wait → CellRow L → Type 0
+CountsWaits c ws row = row.waiting ≡ count (waits_at c) ws
+
 -- the sections are in one of the first cells, so many
 abbrev pub AreInside : ℕ → List Section → Type 0
 AreInside n [] = Unit {0}
@@ -178,11 +183,12 @@ pub record AreSized (cells parties : ℕ) (s : Parking) : Type 0 where
   pub rows : length s.rows ≡ parties
   pub readers : length s.readers ≡ cells
   pub writers : length s.writers ≡ cells
-  pub few : length s.rows < 2 ^ 20
+  pub few : length s.rows < most_parties
 
 -- the rows stand for this, while the lock of the guard with the number hand is in the hand of the step
 pub record Stands {L : Type 0} (held : L → Holders) (place : L → LockerKind) (hand : ℕ) (m : Standing) (v : Rows L) : Type 0 where
   pub cell : (c : ℕ) (row : CellRow L) → slice_get v.cells.items c ≡ Some row → IsCell held place (seen_at c m) v.parks c row
+  pub counted : (c : ℕ) (row : CellRow L) → slice_get v.cells.items c ≡ Some row → CountsWaits c m.waits row
   pub slot : (g : ℕ) → g < length v.guards.items → slice_get v.guards.items g ≡ Some (slot_row hand m g)
   pub party : (p : ℕ) → p < length v.parties.items → slice_get v.parties.items p ≡ Some (party_row m p)
   pub exit : IsExit (length v.cells.items) m v.exit

@@ -1,5 +1,5 @@
 -- What an attempt requires and does.
-use Rattle.std.specs.Prelude.{ℕ, Bool, true, false, ◌≡◌, ◌<◌, ◌&&◌, ◌||◌, is_some, length, MatchBool}
+use Rattle.std.specs.Prelude.{ℕ, Bool, true, false, ◌≡◌, ◌<◌, ◌+◌, ◌-◌, ◌&&◌, ◌||◌, is_some, length, MatchBool, if◌then◌else◌}
 use Rattle.std.specs.declared.option.Option.{Option}
 use Rattle.std.specs.declared.option.Option.TheVariants.{None, Some}
 use Rattle.phase_bits.specs.declared.phase.Phase.{Phase}
@@ -95,6 +95,21 @@ run_after p t of (begun.Read l q) run = run
 run_after p t of (begun.Write l q) run = run
 run_after p t of (begun.Run o) run = Some (run_of p t of o)
 run_after p t of (begun.Final o) run = Some (run_of p t of o)
+
+-- how many wait at a cell where so many waited, once a party that waited there or not waits there or not
+abbrev pub waiting_with : Bool → Bool → ℕ → ℕ
+waiting_with was is n = (if was then n - 1 else n) + (if is then 1 else 0)
+
+-- how many wait at the cell then, of a party that waited there or not
+abbrev pub waiting_after : Begun → Bool → ℕ → ℕ
+waiting_after (begun.Wait way) was n = waiting_with was true n
+waiting_after begun.Missed was n = n
+waiting_after begun.Cyclic was n = n
+waiting_after (begun.Nothing q) was n = waiting_with was false n
+waiting_after (begun.Read l q) was n = waiting_with was false n
+waiting_after (begun.Write l q) was n = waiting_with was false n
+waiting_after (begun.Run o) was n = waiting_with was false n
+waiting_after (begun.Final o) was n = waiting_with was false n
 
 -- ---- what an attempt requires and tells
 

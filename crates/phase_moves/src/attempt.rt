@@ -1,10 +1,11 @@
 //! An attempt of a call or a turn.
 
-ghost use Rattle.std.specs.Prelude.{◌≡◌, true, None, Some};
-ghost use Rattle.schedule_rules.specs.Kinds.{is_owned};
+ghost use Rattle.std.specs.Prelude.{◌≡◌, ◌<◌, true, false, None, Some, is_some};
+ghost use Rattle.schedule_rules.specs.Kinds.{is_owned, tolerance_of};
+ghost use Rattle.schedule_rules.specs.Transcripts.{most_parties};
 ghost use Rattle.phase_moves.specs.declared.rows.Taken.TheVariants.{Runs};
 ghost use Rattle.phase_moves.specs.Moves.{KeptGuards};
-ghost use Rattle.phase_moves.specs.Tries.{MayAttempt, Attempts, ask_of, has_want, opens_section, party_after, party_running, run_after, run_of, taken_of};
+ghost use Rattle.phase_moves.specs.Tries.{MayAttempt, Attempts, ask_of, has_want, opens_section, party_after, party_running, run_after, run_of, taken_of, waiting_after, waiting_with};
 
 use crate::calls::{call, finish_final};
 use crate::rows::{CellRow, OpenRun, PartyRow, Rows, RunRow, Taken, Target};
@@ -22,16 +23,23 @@ fn is_owned(place: Place) -> bool
     }
 }
 
+/// What the generator of a cell puts up with.
+pub fn tolerance_of(plan: CellPlan) -> Tolerance
+    ensures { result ≡ tolerance_of plan }
+{
+    Tolerance {
+        retry: plan.retry,
+        leak: plan.leak,
+    }
+}
+
 /// What is asked of a cell: nothing, where the call looks at the cell as it is. At a cell of its party's own nothing
 /// waits, so that the rows of who is parked say of no party that it waits there.
 fn ask_of(plan: CellPlan, want: Want) -> Option<Ask>
     requires { has_want plan.kind want ≡ true }
     ensures { result ≡ ask_of plan want }
 {
-    let tol = Tolerance {
-        retry: plan.retry,
-        leak: plan.leak,
-    };
+    let tol = tolerance_of(plan);
     let ask = match want {
         Want::Calls(call) => lazy_cells::ask_of(plan.kind, call, tol)?,
         Want::Turns => Ask {
@@ -63,6 +71,22 @@ impl<L: PhaseLocker> CellRow<L> {
         }
     }
 
+    /// The party waits here with this from now on, or waits no longer.
+    fn awaits(&mut self, of: &mut PartyRow, waiting: Option<Target>)
+        requires counted { is_some of.old.waiting ≡ true → 0 < self.old.waiting }
+        requires few { self.old.waiting < most_parties }
+        ensures party { of.new ≡ record of.old { waiting = waiting } }
+        ensures row { self.new ≡ record self.old { waiting = waiting_with (is_some of.old.waiting) (is_some waiting) self.old.waiting } }
+    {
+        if of.waiting.is_some() {
+            self.waiting -= 1;
+        }
+        if waiting.is_some() {
+            self.waiting += 1;
+        }
+        of.waiting = waiting;
+    }
+
     /// The party runs a section here.
     fn runs(
         &mut self,
@@ -72,10 +96,12 @@ impl<L: PhaseLocker> CellRow<L> {
         target: Target,
         section: Section,
     ) -> Taken
-        requires { self.old.run ≡ None }
+        requires none { self.old.run ≡ None }
+        requires counted { is_some of.old.waiting ≡ true → 0 < self.old.waiting }
+        requires few { self.old.waiting < most_parties }
         ensures taken { result ≡ Runs }
         ensures party { of.new ≡ party_running target }
-        ensures row { self.new ≡ record self.old { run = Some (run_of party target of.old section) } }
+        ensures row { self.new ≡ record self.old { run = Some (run_of party target of.old section); waiting = waiting_with (is_some of.old.waiting) false self.old.waiting } }
         ensures parks { parks.new ≡ parks.old }
     {
         let run = RunRow {
@@ -83,7 +109,7 @@ impl<L: PhaseLocker> CellRow<L> {
             want: target.want,
             outer: of.innermost,
         };
-        of.waiting = None;
+        self.awaits(of, None);
         of.innermost = Some(target.cell);
         self.open(parks, OpenRun { run, section });
         Taken::Runs
@@ -98,29 +124,31 @@ impl<L: PhaseLocker> CellRow<L> {
         target: Target,
         begun: Begun,
     ) -> Taken
-        requires { opens_section begun ≡ true → self.old.run ≡ None }
+        requires none { opens_section begun ≡ true → self.old.run ≡ None }
+        requires counted { is_some of.old.waiting ≡ true → 0 < self.old.waiting }
+        requires few { self.old.waiting < most_parties }
         ensures taken { result ≡ taken_of begun }
         ensures party { of.new ≡ party_after target begun of.old }
-        ensures row { self.new ≡ record self.old { run = run_after party target of.old begun self.old.run } }
+        ensures row { self.new ≡ record self.old { run = run_after party target of.old begun self.old.run; waiting = waiting_after begun (is_some of.old.waiting) self.old.waiting } }
         ensures parks { parks.new ≡ parks.old }
     {
         match begun {
             Begun::Wait(how) => {
-                of.waiting = Some(target);
+                self.awaits(of, Some(target));
                 Taken::Wait(how)
             }
             Begun::Cyclic => Taken::Cyclic,
             Begun::Missed => Taken::Missed,
             Begun::Nothing(phase) => {
-                of.waiting = None;
+                self.awaits(of, None);
                 Taken::Nothing(phase)
             }
             Begun::Read(lock, phase) => {
-                of.waiting = None;
+                self.awaits(of, None);
                 Taken::Read(lock, phase)
             }
             Begun::Write(lock, phase) => {
-                of.waiting = None;
+                self.awaits(of, None);
                 Taken::Write(lock, phase)
             }
             Begun::Run(section) => self.runs(of, parks, party, target, section),

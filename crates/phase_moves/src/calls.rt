@@ -15,11 +15,14 @@ ghost use Rattle.phase_seq.specs.Registers.{MayRegister};
 ghost use Rattle.phase_seq.specs.Stands.{BegunStands, FinishedStands, IsFinalizing, IsRunning, begins_write, reads_begun, reads_finished};
 ghost use Rattle.lazy_cells.specs.Kinds.{is_finalizable};
 ghost use Rattle.phase_moves.specs.Calls.{Calling, Calls, registry_for, registry_begun};
+ghost use Rattle.phase_moves.specs.Lends.{TriesWrite};
 
 use exit_registry::ExitRegistry;
 use lazy_cells::{Kind, finalizable};
 use phase_bits::Phase;
-use phase_locker::{Given, Parks, PhaseLocker, ReadTicket, Who, WriteTicket};
+use phase_locker::{
+    Given, LockNature, LockResult, Parks, PhaseLocker, ReadTicket, Who, WriteTicket,
+};
 use phase_seq::{Ask, Begun, Finished, LazySequentializer, Section, Want};
 
 /// Gives a read lock back.
@@ -172,4 +175,33 @@ pub fn finish_final<L: PhaseLocker>(
     ensures left { Left L.held L.place section.who.cell cell.old.locker cell.new.locker parks.old parks.new }
 {
     cell.finish_final(parks, section, fine)
+}
+
+/// The lock to write a cell that nobody holds; `None` exactly where somebody does. The rows of who is parked stay.
+pub fn try_write<L: PhaseLocker>(
+    cell: &mut LazySequentializer<L, ()>,
+    parks: &mut Parks,
+    number: u32,
+) -> Option<WriteTicket>
+    requires cell { number < length parks.old.readers }
+    requires fits { Fits (L.place cell.old.locker) (L.held cell.old.locker) parks.old number }
+    ensures tries { TriesWrite result (L.held cell.old.locker) (L.held cell.new.locker) }
+    ensures fits { KeepsFit (L.place cell.old.locker) (L.held cell.old.locker) (L.held cell.new.locker) }
+    ensures place { L.place cell.new.locker ≡ L.place cell.old.locker }
+    ensures running { cell.new.running ≡ cell.old.running }
+    ensures parks { parks.new ≡ parks.old }
+{
+    let write = |_phase: Phase| -> LockNature
+        ensures { result ≡ LockNature.Write }
+    { LockNature::Write };
+    match cell.locker_mut().try_lock(&write) {
+        None => None,
+        Some(LockResult::Write(lock)) => Some(lock),
+        // What asks for a lock to write gets no other.
+        Some(LockResult::None(_)) => None,
+        Some(LockResult::Read(lock)) => {
+            let _given = cell.locker_mut().release_read(parks, number, lock);
+            None
+        }
+    }
 }

@@ -97,6 +97,7 @@ fn close_cell<L: PhaseLocker>(cell: u32, row: CellRow<L>, parks: &mut Parks)
         plan: _,
         value: _,
         run,
+        waiting: _,
         mut seq,
     } = row;
     match run {

@@ -2,6 +2,7 @@
 
 ghost use Rattle.std.specs.Prelude.{◌≡◌, ◌<◌, ◌^◌, true, IfOk, length, replicate};
 ghost use Rattle.schedule_rules.specs.Changes.{opening_content};
+ghost use Rattle.schedule_rules.specs.Transcripts.{most_parties};
 ghost use Rattle.phase_moves.specs.Fresh.{TakesPlaces, AreFresh, AreFreshCells, IsFreshCell, idle_party};
 ghost use Rattle.phase_moves.specs.Stands.{kind_at};
 
@@ -46,6 +47,7 @@ fn fresh_cell<L: PhaseLocker>(plan: CellPlan) -> CellRow<L>
         plan,
         value: opening_value(plan),
         run,
+        waiting: 0,
         seq: LazySequentializer::new(L::new(kind_of(plan.place), Phase::empty())),
     }
 }
@@ -84,7 +86,7 @@ impl<L: PhaseLocker> Rows<L> {
     ///
     /// Where memory is short.
     pub fn new(alloc: Global, plan: &Plan, count: u32) -> Result<Rows<L>, AllocError>
-        requires parties { plan.now.parties < 2 ^ 20 }
+        requires parties { plan.now.parties < most_parties }
         requires cells { length plan.now.cells.items < 2 ^ 32 }
         requires places { TakesPlaces L.takes plan.now.cells.items }
         ensures { IfOk result (AreFresh L.held L.place plan.now count) }

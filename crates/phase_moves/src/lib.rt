@@ -10,9 +10,11 @@ mod close;
 mod ends;
 mod exit;
 mod fresh;
+mod lend;
 mod look_up;
 mod moves;
 mod rows;
 
+pub use lend::{Lent, Loan};
 pub use look_up::{Held, Running};
 pub use rows::{CellRow, Exit, GuardRow, OpenRun, PartyRow, Rows, RunRow, Taken, Target};

@@ -30,6 +30,8 @@ pub struct CellRow<L> {
     pub value: Option<u64>,
     /// The section that runs.
     pub run: Option<OpenRun>,
+    /// How many calls and turns wait here.
+    pub waiting: u32,
     /// Who runs the generator, and the locker, with the published phase.
     pub seq: LazySequentializer<L, ()>,
 }

@@ -17,7 +17,7 @@ pub returns-clause-downgrades : goal.returns-clause-downgrades
 returns-clause-downgrades g c = λ hand n m x is room fresh.
     let r = c.downgrade.ensures in
     write_down g.L.PhaseLocker.held g.L.PhaseLocker.place m c.args.self.now _ c.args.cell hand x c.index_mut-row.result.now _ c.downgrade.result.1
-    (record { row_at = writer_row g.L.PhaseLocker.held g.L.PhaseLocker.place c.args.self.now _ _ c.index_mut-row.ensures.value _ _ _ _ _ is; cells = refl; guards = refl; parties = refl; exit = refl; plan = refl; run = refl; running = r.running; left = r.left })
+    (record { row_at = writer_row g.L.PhaseLocker.held g.L.PhaseLocker.place c.args.self.now _ _ c.index_mut-row.ensures.value _ _ _ _ _ is; cells = refl; guards = refl; parties = refl; exit = refl; plan = refl; waiting = refl; run = refl; running = r.running; left = r.left })
     c.args.phase c.args.value is refl r.downgrades r.reads r.closed c.requires.room n room fresh
 
 pub returns-clause-gives : goal.returns-clause-gives

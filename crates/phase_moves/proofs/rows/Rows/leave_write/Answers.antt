@@ -17,7 +17,7 @@ pub returns-clause-leaves : goal.returns-clause-leaves
 returns-clause-leaves g c = λ hand m x is.
     let r = c.release_write.ensures in
     write_left g.L.PhaseLocker.held g.L.PhaseLocker.place m c.args.self.now _ c.args.cell hand x c.index_mut-row.result.now _ c.release_write.result
-    (record { row_at = writer_row g.L.PhaseLocker.held g.L.PhaseLocker.place c.args.self.now _ _ c.index_mut-row.ensures.value _ _ _ _ _ is; cells = refl; guards = refl; parties = refl; exit = refl; plan = refl; run = refl; running = r.running; left = r.left })
+    (record { row_at = writer_row g.L.PhaseLocker.held g.L.PhaseLocker.place c.args.self.now _ _ c.index_mut-row.ensures.value _ _ _ _ _ is; cells = refl; guards = refl; parties = refl; exit = refl; plan = refl; waiting = refl; run = refl; running = r.running; left = r.left })
     c.args.phase c.args.value is refl r.hands r.reads r.closed
 
 pub returns-clause-gives : goal.returns-clause-gives

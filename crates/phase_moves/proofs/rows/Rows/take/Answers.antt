@@ -2,7 +2,7 @@ use Rattle.std.proofs.Common.{refl, ◌≡◌, ◌∙◌, sym, ap, arith, ◌<�
 use Rattle.std.specs.Prelude.{slice_get}
 use Rattle.phase_moves.specs.Reading.{is_row_of}
 use Rattle.phase_moves.proofs.Places.{read_at, read_once}
-use Rattle.phase_moves.proofs.Taking.{not_taken, is_taken}
+use Rattle.phase_moves.proofs.Hand.{not_taken, is_taken}
 use Rattle.phase_moves.proofs.rows.Rows.take.Goals as goal
 
 pub returns-then-not-is_of-clause-takes : goal.returns-then-not-is_of-clause-takes
