@@ -22,7 +22,6 @@ use Rattle.schedule_rules.proofs.Accepts.{open-accepts}
 use Rattle.phase_moves.specs.declared.rows.GuardRow.TheVariants as guard
 use Rattle.phase_moves.specs.declared.rows.Rows.{Rows}
 use Rattle.phase_moves.specs.declared.look_up.Running.{Running}
-use Rattle.phase_moves.specs.declared.rows.Target.{Target}
 use Rattle.phase_moves.specs.Exits.{Owns, TakesTurn, IsTurn, MayLook, Looks}
 use Rattle.phase_moves.specs.Histories.{standing}
 use Rattle.phase_moves.specs.Moves.{KeptGuards, KeptWith, Pushes}

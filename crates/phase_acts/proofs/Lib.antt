@@ -26,3 +26,5 @@ pub mod TriedLegal
 pub mod Attempting
 pub mod Causes
 pub mod Performing
+-- Loans
+pub mod Lending

@@ -36,6 +36,8 @@ refusal_other (act.Set g v) ne = refl
 refusal_other (act.Release g) ne = refl
 refusal_other (act.Downgrade g) ne = refl
 refusal_other (act.Clone g) ne = refl
+refusal_other (act.GetMut c made left) ne = refl
+refusal_other (act.TryGetMut c left) ne = refl
 refusal_other act.Exit ne = refl
 
 module _ {L : Type 0} (held : L → Holders) (place : L → LockerKind) (cells : List CellPlan) (h : List Event) (old : Rows L) (s : Step) (next : IsNext held place cells h old s) (r : Option Target) (tells : AwaitsBy held place old s.party r) where

@@ -130,6 +130,8 @@ module _ (cells : List CellPlan) (h : List Event) (p : ℕ) (a : Act) (c : ℕ) 
         by (act.Release g) e = refl
         by (act.Downgrade g) e = refl
         by (act.Clone g) e = refl
+        by (act.GetMut d made v) e = refl
+        by (act.TryGetMut d v) e = refl
 
     its_own : owner h ≡ o
     its_own = ap (λ e. owner_by p e (owner h)) (sym no_exit) ∙ k.owned
@@ -196,7 +198,7 @@ module _ (cells : List CellPlan) (h : List Event) (p : ℕ) (a : Act) (c : ℕ) 
 
       pub try_shown : (v : ℕ) (d : Given) → standing cells (event p a (record { answer = answer.Value v; given = d }) ∷ h) ≡ left_open d
       try_shown v d =
-          ap (λ b. by_deed (deed_shown b) (waits_given_with cells ws h (step_of p a) d (without_wait p ws))) does_call
+          ap (λ b. by_deed (deed_shown (accepts h) b) (waits_given_with cells ws h (step_of p a) d (without_wait p ws))) does_call
           ∙ (λ i. record (standing cells h) { waits = gave d i; content = λ x. content_is x i; registry = sym same i; owner = its_own i })
 
       pub try_reads : (d : Given) → standing cells (event p a (record { answer = answer.ReadGuard; given = d }) ∷ h) ≡ guarded (reader (length h) p c) (left_open d)

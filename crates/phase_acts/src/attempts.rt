@@ -13,7 +13,7 @@ use phase_moves::Target;
 use schedule_rules::{Act, Call, Line, Place, Refusal, Want};
 
 /// Whether the cell at this place belongs to another party.
-fn is_of_other(place: Place, party: u32) -> bool
+pub(crate) fn is_of_other(place: Place, party: u32) -> bool
     ensures { result ≡ is_of_other place party }
 {
     match place {

@@ -6,6 +6,7 @@
 mod attempts;
 mod exit;
 mod guards;
+mod lend;
 mod line;
 mod machine;
 mod perform;

@@ -4,6 +4,7 @@ ghost use Rattle.phase_acts.specs.Steps.{MayStep, Steps, MayAct, Acts};
 
 use crate::machine::Machine;
 use phase_locker::PhaseLocker;
+use phase_moves::Loan;
 use schedule_rules::{Act, Line, Refusal, Step};
 
 impl<L: PhaseLocker> Machine<L> {
@@ -39,6 +40,14 @@ impl<L: PhaseLocker> Machine<L> {
             Act::Release { guard } => self.release(party, guard),
             Act::Downgrade { guard } => self.downgrade(party, guard),
             Act::Clone { guard } => self.clone_guard(party, guard),
+            Act::GetMut { cell, made, left } => {
+                let runs = true;
+                self.lend(party, cell, Loan { runs, made, left })
+            }
+            Act::TryGetMut { cell, left } => {
+                let (runs, made) = (false, None);
+                self.lend(party, cell, Loan { runs, made, left })
+            }
             Act::Exit => self.exit(party),
         }
     }

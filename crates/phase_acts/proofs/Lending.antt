@@ -1,0 +1,158 @@
+-- A value is lent: it is refused as a call is, and where the cell is in use.
+use Rattle.std.proofs.Common.{◌≡◌, ◌≢◌, ◌<◌, ◌∙◌, ℕ, List, length, get_or, ap, sym, subst, refl, Bool, true, false, None, Some}
+use Rattle.std.specs.Prelude.{IsTrue, nat_lt, if◌then◌else◌}
+use Rattle.phase_bits.specs.declared.holders.Holders.{Holders}
+use Rattle.phase_locker.specs.declared.ways.Given.TheVariants as given
+use Rattle.phase_locker.specs.declared.ways.LockerKind.{LockerKind}
+use Rattle.lazy_cells.specs.Kinds.{lends_value}
+use Rattle.lazy_cells.specs.declared.kind.Kind.{Kind}
+use Rattle.schedule_rules.specs.declared.form.Form.TheVariants.{Shown}
+use Rattle.schedule_rules.specs.declared.line.Answer.TheVariants as answer
+use Rattle.schedule_rules.specs.declared.line.Line.{Line}
+use Rattle.schedule_rules.specs.declared.line.Refusal.TheVariants as refused
+use Rattle.schedule_rules.specs.declared.plan.CellPlan.{CellPlan}
+use Rattle.schedule_rules.specs.declared.step.Act.TheVariants as act
+use Rattle.std.specs.declared.option.Option.{Option}
+use Rattle.schedule_rules.specs.Answers.{answer_at, answer_lent}
+use Rattle.schedule_rules.specs.Phases.{is_accessible}
+use Rattle.schedule_rules.specs.Changes.{Content}
+use Rattle.schedule_rules.specs.Due.{due_answer}
+use Rattle.schedule_rules.specs.Exits.{registry}
+use Rattle.schedule_rules.specs.Guards.{numbered}
+use Rattle.schedule_rules.specs.History.{Event, accepts}
+use Rattle.schedule_rules.specs.Kinds.{cell_at, is_of_other}
+use Rattle.schedule_rules.specs.Refusals.{no_call, no_lending, refusal, refusal_free, refusal_to_lend}
+use Rattle.schedule_rules.specs.Replay.{replay}
+use Rattle.schedule_rules.specs.Transcripts.{names_known_cell}
+use Rattle.schedule_rules.specs.Waits.{Wait, other_waits}
+use Rattle.schedule_rules.proofs.Accepts.{open-accepts}
+use Rattle.phase_moves.specs.declared.lend.Lent.{Lent}
+use Rattle.phase_moves.specs.declared.lend.Lent.TheVariants as lent
+use Rattle.phase_moves.specs.declared.lend.Loan.{Loan}
+use Rattle.phase_moves.specs.declared.rows.CellRow.{CellRow}
+use Rattle.phase_moves.specs.declared.rows.GuardRow.TheVariants as guard
+use Rattle.phase_moves.specs.declared.rows.Rows.{Rows}
+use Rattle.phase_moves.specs.Histories.{standing}
+use Rattle.phase_moves.specs.Lends.{IsLending, IsLent, Lends, MayLend, answer_due, answer_of, in_use, lending, lent_in, was_used}
+use Rattle.phase_moves.specs.Moves.{KeptGuards, KeptWith, Pushes, Rests}
+use Rattle.phase_moves.specs.Standing.{Standing}
+use Rattle.phase_moves.proofs.Hand.{pushed_free}
+use Rattle.phase_moves.proofs.Histories.{lent_at_once, refused_stays}
+use Rattle.phase_moves.proofs.Places.{read_at}
+use Rattle.phase_acts.specs.Steps.{IsAwake, HasStepped, step_of}
+use Rattle.phase_acts.proofs.Calling.{below}
+use Rattle.phase_acts.proofs.Keeping.{guards_with}
+use Rattle.phase_acts.proofs.Lines.{legal_last, legal_refused, refusal_awake}
+use Rattle.phase_acts.proofs.Stepping.{stepped}
+
+-- the cell is one of the cells
+names_cell : (n c : ℕ) (l : Loan) → IsTrue (names_known_cell n (lending c l)) → IsTrue (nat_lt c n)
+names_cell n c l = by l.runs
+  where
+    by : (b : Bool) → IsTrue (names_known_cell n (if b then act.GetMut c l.made l.left else act.TryGetMut c l.left)) → IsTrue (nat_lt c n)
+    by true k = k
+    by false k = k
+
+-- a value that is found as it is does not fail
+never_failed : (q : Kind) (y : Content) → answer_lent q y ≢ answer.Failed
+never_failed q y = by (is_accessible q y.phase)
+  where
+    by : (b : Bool) → answer_at Shown b y ≢ answer.Failed
+    by true e = absurd (cc)
+    by false e = absurd (cc)
+
+module _ {L : Type 0} (held : L → Holders) (place : L → LockerKind) (cells : List CellPlan) (h : List Event) (old : Rows L) (p c : ℕ) (l : Loan) (is : IsAwake held place cells h old p (lending c l)) where
+  abbrev m : Standing
+  m = standing cells h
+
+  pub lend_inside : c < length old.cells.items
+  lend_inside = below c (length old.cells.items) (names_cell (length old.cells.items) c l is.next.known.cell)
+
+  -- ---- the refusals
+
+  refusal_is : refusal cells h (step_of p (lending c l)) ≡ no_lending (no_call (is_of_other (cell_at cells c).place p) (lends_value (cell_at cells c).kind)) (in_use c m)
+  refusal_is = refusal_awake cells h p is.awake (lending c l) ∙ by l.runs
+    where
+      by : (b : Bool) → refusal_free cells h p (if b then act.GetMut c l.made l.left else act.TryGetMut c l.left) ≡ refusal_to_lend cells h p c
+      by true = refl
+      by false = refl
+
+  module _ (row : CellRow L) (row_is : row ≡ get_or old.cells.items c row) where
+    planned : row.plan ≡ cell_at cells c
+    planned = (is.next.follows.rests.stands.cell c row (read_at old.cells.items c row lend_inside row_is)).planned
+
+    -- why it is refused, by what is read off the row
+    by_plan : (other has : Bool) → other ≡ is_of_other row.plan.place p → has ≡ lends_value row.plan.kind → refusal cells h (step_of p (lending c l)) ≡ no_lending (no_call other has) (in_use c m)
+    by_plan other has o e = refusal_is ∙ (λ i. no_lending (no_call (sym (o ∙ ap (λ (x : CellPlan). is_of_other x.place p) planned) i) (sym (e ∙ ap (λ (x : CellPlan). lends_value x.kind) planned) i)) (in_use c m))
+
+    pub lend_not_owner : (other : Bool) → other ≡ is_of_other row.plan.place p → other ≡ true → refusal cells h (step_of p (lending c l)) ≡ Some refused.NotOwner
+    lend_not_owner other o e = by_plan other (lends_value row.plan.kind) o refl ∙ ap (λ b. no_lending (no_call b (lends_value row.plan.kind)) (in_use c m)) e
+
+    module _ (other has : Bool) (o : other ≡ is_of_other row.plan.place p) (mine : other ≡ false) (e : has ≡ lends_value row.plan.kind) where
+      pub lend_not_had : has ≡ false → refusal cells h (step_of p (lending c l)) ≡ Some refused.NoSuchCall
+      lend_not_had f = by_plan other has o e ∙ (λ i. no_lending (no_call (mine i) (f i)) (in_use c m))
+
+      module _ (f : has ≡ true) where
+        refusal_used : (b : Bool) → b ≡ in_use c m → refusal cells h (step_of p (lending c l)) ≡ no_lending None b
+        refusal_used b q = by_plan other has o e ∙ (λ i. no_lending (no_call (mine i) (f i)) (sym q i))
+
+        -- ---- the move
+
+        is_lending : IsLending held place (length old.guards.items) m old c
+        is_lending = record { stands = is.next.follows.rests.stands; inside = lend_inside; lends = ap (λ (x : CellPlan). lends_value x.kind) (sym planned) ∙ sym e ∙ f }
+
+        pub may_lend : MayLend held place old c
+        may_lend = record { hand = length old.guards.items; m = m; is = is_lending }
+
+        module _ (mid new : Rows L) (r : Lent) (lends : Lends held place old c l r mid) (between : KeptGuards old mid) (push : Pushes held place mid guard.Free new) (last : KeptWith 1 mid new) where
+          abbrev k : IsLent held place (length old.guards.items) m c l r mid
+          k = lends (length old.guards.items) m is_lending
+
+          all_kept : KeptWith 1 old new
+          all_kept = guards_with old mid new 1 between last
+
+          empty : (z : Lent) → numbered (length old.guards.items) (lent_in c l z m).guards ≡ None
+          empty lent.InUse = is.next.follows.rests.empty
+          empty (lent.Denied q) = is.next.follows.rests.empty
+          empty lent.Failed = is.next.follows.rests.empty
+          empty (lent.Found v) = is.next.follows.rests.empty
+
+          rests : Rests held place (lent_in c l r m) new
+          rests = pushed_free held place (length old.guards.items) (lent_in c l r m) mid new k.stands (empty r) push
+
+          -- it is in use
+          used_line : r ≡ lent.InUse → HasStepped held place cells h old (step_of p (lending c l)) (record { answer = answer.Refused refused.InUse; given = given.Nobody }) new
+          used_line q =
+              stepped held place cells h old new (step_of p (lending c l)) is.next _ m (refused_stays cells h p (lending c l) refused.InUse given.Nobody) (subst (λ (z : Lent). Rests held place (lent_in c l z m) new) q rests) all_kept
+              (legal_refused cells h (step_of p (lending c l)) refused.InUse (refusal_used true (ap was_used (sym q) ∙ k.used)))
+
+          -- it is not
+          free_line : was_used r ≡ false → HasStepped held place cells h old (step_of p (lending c l)) (record { answer = answer_of r; given = given.Nobody }) new
+          free_line free =
+              stepped held place cells h old new (step_of p (lending c l)) is.next _ (lent_in c l r m) (lent_at_once cells h p is.awake c l r agrees free fine) rests all_kept
+              (legal_last cells h (step_of p (lending c l)) (answer_of r) given.Nobody (refusal_used false (sym free ∙ k.used)) (due_lending (other_waits cells h (step_of p (lending c l))) ∙ ap (λ o. answer_due (cell_at cells c) l o (replay cells c h)) agrees ∙ k.due free) refl)
+            where
+              agrees : accepts h ≡ (registry cells h).is_open
+              agrees = sym (open-accepts cells h is.next.follows.legal)
+
+              as_lent : l.runs ≡ false → answer_due (cell_at cells c) l (registry cells h).is_open (replay cells c h) ≡ answer_lent (cell_at cells c).kind (replay cells c h)
+              as_lent runs = rw runs refl
+
+              fine : l.runs ≡ false → answer_of r ≢ answer.Failed
+              fine runs failed = never_failed (cell_at cells c).kind (replay cells c h) (sym (as_lent runs) ∙ k.due free ∙ failed)
+
+              due_lending : (ws : List Wait) → due_answer cells h (step_of p (lending c l)) ws false ≡ answer_due (cell_at cells c) l (accepts h) (replay cells c h)
+              due_lending ws = by l.runs l.made l.left
+                where
+                  by : (b : Bool) (made : Option ℕ) (left : ℕ) → due_answer cells h (step_of p (lending c (record { runs = b; made = made; left = left }))) ws false ≡ answer_due (cell_at cells c) (record { runs = b; made = made; left = left }) (accepts h) (replay cells c h)
+                  by true made left = refl
+                  by false made left = refl
+
+          pub did_lend : (line : Line) → line ≡ record { answer = answer_of r; given = given.Nobody } → HasStepped held place cells h old (step_of p (lending c l)) line new
+          did_lend line line_is = subst (λ x. HasStepped held place cells h old (step_of p (lending c l)) x new) (sym line_is) (by r refl)
+            where
+              by : (z : Lent) → r ≡ z → HasStepped held place cells h old (step_of p (lending c l)) (record { answer = answer_of r; given = given.Nobody }) new
+              by lent.InUse q = subst (λ (z : Lent). HasStepped held place cells h old (step_of p (lending c l)) (record { answer = answer_of z; given = given.Nobody }) new) (sym q) (used_line q)
+              by (lent.Denied u) q = free_line (ap was_used q)
+              by lent.Failed q = free_line (ap was_used q)
+              by (lent.Found v) q = free_line (ap was_used q)
