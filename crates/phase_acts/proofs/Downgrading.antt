@@ -1,7 +1,6 @@
 -- A write guard is given back, and its holder reads on.
 use Rattle.std.proofs.Common.{◌≡◌, ◌≢◌, ◌∙◌, ℕ, List, length, ap, sym, subst, refl, arith, true, false, None, Some}
 use Rattle.std.specs.declared.option.Option.{Option}
-use Rattle.phase_bits.specs.declared.phase.Phase.{Phase}
 use Rattle.phase_bits.specs.declared.holders.Holders.{Holders}
 use Rattle.phase_locker.specs.Rows.{HasFree}
 use Rattle.phase_locker.specs.declared.tickets.ReadTicket.{ReadTicket}

@@ -24,7 +24,7 @@ use Rattle.phase_moves.specs.declared.look_up.Held.{Held}
 use Rattle.phase_moves.specs.declared.rows.GuardRow.TheVariants as guard
 use Rattle.phase_moves.specs.declared.rows.Rows.{Rows}
 use Rattle.phase_moves.specs.Histories.{standing}
-use Rattle.phase_moves.specs.Moves.{IsOpenWriter, KeptWith, MaySet, Pushes, Sets}
+use Rattle.phase_moves.specs.Moves.{KeptGuards, IsOpenWriter, KeptWith, MaySet, Pushes, Sets}
 use Rattle.phase_moves.specs.Reading.{HoldsBy}
 use Rattle.phase_moves.specs.Standing.{seen_by, put}
 use Rattle.phase_moves.proofs.Hand.{pushed_free}

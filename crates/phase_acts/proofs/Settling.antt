@@ -28,7 +28,7 @@ use Rattle.phase_moves.specs.Exits.{Skips}
 use Rattle.phase_moves.specs.Gifts.{MayGive, MayGiveDown, GivesDown, GivesRead, GivesWrite}
 use Rattle.phase_moves.specs.Meets.{answer_left}
 use Rattle.phase_moves.specs.Moves.{Downgrades, IsReader, IsWriter, KeptGuards, LeavesRead, LeavesWrite, MayDowngrade, MayLeaveRead, MayLeaveWrite, Pushes, Rests}
-use Rattle.phase_moves.specs.Standing.{Standing, answered, took, left, downgraded, seen_by, changes_asked, changes_at, content_tried, writer_asked}
+use Rattle.phase_moves.specs.Standing.{Standing, answered, took, left, downgraded, changes_asked, changes_at, content_tried, writer_asked}
 use Rattle.phase_moves.specs.Stands.{IsCell, Stands, seen_at}
 use Rattle.phase_moves.specs.Tries.{phase_asked}
 use Rattle.schedule_rules.specs.Waits.{without_wait}
