@@ -8,9 +8,15 @@ use crate::test_runs::{
 };
 use phase_bits::Phase;
 use phase_locker::Waiting;
+use phase_moves::GuardRow;
 use schedule_rules::{Answer, Call, CellPlan, Given, How, Kind, Place, Refusal};
 use std::process::Abort;
 use std::test::Fail;
+
+#[test]
+fn a_row_of_a_guard_takes_twelve_bytes(rt: HostRuntime) {
+    assert_eq!(rt; std::mem::size_of::<GuardRow>(), 12);
+}
 
 #[test]
 fn answers_are_those_known(rt: HostRuntime) -> Result<(), Fail> {
