@@ -1,7 +1,6 @@
 -- A write guard is given back, and its holder reads on.
 use Rattle.std.proofs.Common.{◌≡◌, ◌≢◌, ◌∙◌, ℕ, List, length, ap, sym, subst, refl, arith, true, false, None, Some}
 use Rattle.std.specs.declared.option.Option.{Option}
-use Rattle.phase_bits.specs.declared.phase.Phase.{Phase}
 use Rattle.phase_bits.specs.declared.holders.Holders.{Holders}
 use Rattle.phase_locker.specs.Rows.{HasFree}
 use Rattle.phase_locker.specs.declared.tickets.ReadTicket.{ReadTicket}
@@ -84,14 +83,14 @@ module _ {L : Type 0} (held : L → Holders) (place : L → LockerKind) (old : R
           let n : true ≡ false = sym w ∙ f.writes ∙ ap (λ (x : Guard). x.writes) same ∙ k.is.reads in
           cc
 
-      module _ (q c : ℕ) (phase : Phase) (value : Option ℕ) (l : WriteTicket) (row_is : row ≡ guard.Write q c phase value l) where
-        abbrev k : HasWriter held place old mid p g row takes kept m is.next.follows.rests c phase value
-        k = has_writer held place old mid p g row takes kept m is.next.follows.rests q c phase value l row_is
+      module _ (q c : ℕ) (l : WriteTicket) (row_is : row ≡ guard.Write q c l) where
+        abbrev k : HasWriter held place old mid p g row takes kept m is.next.follows.rests c
+        k = has_writer held place old mid p g row takes kept m is.next.follows.rests q c l row_is
 
-        pub may_downgrade : MayDowngrade held place mid c phase value
+        pub may_downgrade : MayDowngrade held place mid c
         may_downgrade = record { hand = g; m = m; x = k.x; is = k.is; room = has_free g mid k.is.stands kept.kept.parties }
 
-        pub read_on : (mid' new : Rows L) (d : Given) → Downgrades held place mid c phase value d mid' → GivesDown held place mid c phase value d → KeptGuards mid mid' → (t : ReadTicket) (line : Line) → line ≡ record { answer = answer.ReadGuard; given = d } → Pushes held place mid' (guard.Read p c t) new → KeptWith 1 mid' new
+        pub read_on : (mid' new : Rows L) (d : Given) → Downgrades held place mid c d mid' → GivesDown held place mid c d → KeptGuards mid mid' → (t : ReadTicket) (line : Line) → line ≡ record { answer = answer.ReadGuard; given = d } → Pushes held place mid' (guard.Read p c t) new → KeptWith 1 mid' new
             → HasStepped held place cells h old (step_of p (act.Downgrade g)) line new
         read_on mid' new d downs gives between t line line_is push last =
             let x = k.x in

@@ -300,21 +300,21 @@ module _ {L : Type 0} (held : L → Holders) (place : L → LockerKind) (old mid
       carried = guarded (writer_of n s (Some v)) gone
 
       -- it writes on
-      writes_on : takes_none f ≡ false → (new : Rows L) (last : KeptWith 1 mid new) (line : Line) → line ≡ record { answer = answer.WriteGuard; given = given.Nobody } → (t : WriteTicket) → Pushes held place mid (guard.Write p c x (Some v) t) new → HasStepped held place cells h old (step_of p (act.Made v)) line new
+      writes_on : takes_none f ≡ false → (new : Rows L) (last : KeptWith 1 mid new) (line : Line) → line ≡ record { answer = answer.WriteGuard; given = given.Nobody } → (t : WriteTicket) → Pushes held place mid (guard.Write p c t) new → HasStepped held place cells h old (step_of p (act.Made v)) line new
       writes_on holds new last line line_is t push =
           let eq : standing cells (event p (act.Made v) (record { answer = answer.WriteGuard; given = given.Nobody }) ∷ h) ≡ carried =
           made_write cells h p is.awake s found v l x ∙ ap (λ i. ended i s (Some v) given.Nobody (finished.Write l x) m) (sym is.next.follows.steps) in
           subst (λ z. HasStepped held place cells h old (step_of p (act.Made v)) z new) (sym line_is)
           (stepped held place cells h old new (step_of p (act.Made v)) is.next (record { answer = answer.WriteGuard; given = given.Nobody }) carried eq
-          (pushed_writer held place mid new n mid_n (writer_of n s (Some v)) p c x (Some v) gone t refl refl (sym party_of) (sym at) e.told.1 refl e.stands push)
+          (pushed_writer held place mid new n mid_n (writer_of n s (Some v)) p c gone t refl refl (sym party_of) (sym at) e.stands push)
           (guards_with old mid new 1 kept last)
           (legal_last cells h (step_of p (act.Made v)) answer.WriteGuard given.Nobody none (due_is ∙ write_made f v (phase_made cells h s) (fits_run sought.Write e.told.0) holds) refl))
 
       -- or its lock is given back at once
-      in_hand : IsWriter held place n carried mid (writer_of n s (Some v)) c x (Some v)
-      in_hand = record { stands = e.stands; found = opened_found n (writer_of n s (Some v)) gone refl; at = at; writes = refl; phase_is = e.told.1; value_is = refl }
+      in_hand : IsWriter held place n carried mid (writer_of n s (Some v)) c
+      in_hand = record { stands = e.stands; found = opened_found n (writer_of n s (Some v)) gone refl; at = at; writes = refl }
 
-      writes_back : takes_none f ≡ true → (mid' new : Rows L) (g : Given) → LeavesWrite held place mid c x (Some v) g mid' → GivesWrite held place mid c x (Some v) g → KeptGuards mid mid' → KeptWith 1 mid' new → (line : Line) → line ≡ record { answer = answer_back f v x; given = g } → Pushes held place mid' guard.Free new
+      writes_back : takes_none f ≡ true → (mid' new : Rows L) (g : Given) → LeavesWrite held place mid c g mid' → GivesWrite held place mid c g → KeptGuards mid mid' → KeptWith 1 mid' new → (line : Line) → line ≡ record { answer = answer_back f v x; given = g } → Pushes held place mid' guard.Free new
           → HasStepped held place cells h old (step_of p (act.Made v)) line new
       writes_back unheld mid' new g leaves gives between last line line_is push =
           given_back mid' new (guards_with old mid new 1 kept (guards_with mid mid' new 1 between last)) x g unheld e.told.1
@@ -341,15 +341,15 @@ module _ {L : Type 0} (held : L → Holders) (place : L → LockerKind) (old mid
     run_ends new last line None x is none e line_is push = absurd e.told
 
     pub run_writes : (new : Rows L) (last : KeptWith 1 mid new) (line : Line) (made : Option ℕ) (x : Phase) (l : WriteTicket) (c : ℕ) (is : IsAwake held place cells h old p (outcome made)) → refusal cells h (step_of p (outcome made)) ≡ None → s.cell ≡ c → IsEnded held place (standing cells h) old s made (finished.Write l x) d mid → takes_none f ≡ false
-        → line ≡ record { answer = answer.WriteGuard; given = d } → (t : WriteTicket) → Pushes held place mid (guard.Write p c x made t) new → HasStepped held place cells h old (step_of p (outcome made)) line new
+        → line ≡ record { answer = answer.WriteGuard; given = d } → (t : WriteTicket) → Pushes held place mid (guard.Write p c t) new → HasStepped held place cells h old (step_of p (outcome made)) line new
     run_writes new last line (Some v) x l c is none at e holds line_is t push = writes_on held place old mid p cells h s found d kept v is none k w f f_is x l c at e holds new last line (line_is ∙ ap (λ z. record { answer = answer.WriteGuard; given = z }) e.gave) t push
     run_writes new last line None x l c is none at e holds line_is t push = absurd e.told
 
-    pub run_may_leave : (made : Option ℕ) (x : Phase) (l : WriteTicket) (c : ℕ) (is : IsAwake held place cells h old p (outcome made)) → refusal cells h (step_of p (outcome made)) ≡ None → s.cell ≡ c → IsEnded held place (standing cells h) old s made (finished.Write l x) d mid → MayLeaveWrite held place mid c x made
+    pub run_may_leave : (made : Option ℕ) (x : Phase) (l : WriteTicket) (c : ℕ) (is : IsAwake held place cells h old p (outcome made)) → refusal cells h (step_of p (outcome made)) ≡ None → s.cell ≡ c → IsEnded held place (standing cells h) old s made (finished.Write l x) d mid → MayLeaveWrite held place mid c
     run_may_leave (Some v) x l c is none at e = record { hand = length old.guards.items; m = _; x = _; is = in_hand held place old mid p cells h s found d kept v is none k w f f_is x l c at e }
     run_may_leave None x l c is none at e = absurd e.told
 
     pub run_leaves : (mid' new : Rows L) (between : KeptGuards mid mid') (last : KeptWith 1 mid' new) (line : Line) (g : Given) (made : Option ℕ) (x : Phase) (l : WriteTicket) (c : ℕ) (is : IsAwake held place cells h old p (outcome made)) → refusal cells h (step_of p (outcome made)) ≡ None → s.cell ≡ c → IsEnded held place (standing cells h) old s made (finished.Write l x) d mid → takes_none f ≡ true
-        → LeavesWrite held place mid c x made g mid' → GivesWrite held place mid c x made g → line ≡ record { answer = answer_back f (unwrap_or made 0) x; given = g } → Pushes held place mid' guard.Free new → HasStepped held place cells h old (step_of p (outcome made)) line new
+        → LeavesWrite held place mid c g mid' → GivesWrite held place mid c g → line ≡ record { answer = answer_back f (unwrap_or made 0) x; given = g } → Pushes held place mid' guard.Free new → HasStepped held place cells h old (step_of p (outcome made)) line new
     run_leaves mid' new between last line g (Some v) x l c is none at e unheld leaves gives line_is push = writes_back held place old mid p cells h s found d kept v is none k w f f_is x l c at e unheld mid' new g leaves gives between last line line_is push
     run_leaves mid' new between last line g None x l c is none at e unheld leaves gives line_is push = absurd e.told

@@ -24,14 +24,14 @@ use Rattle.phase_moves.specs.declared.look_up.Held.{Held}
 use Rattle.phase_moves.specs.declared.rows.GuardRow.TheVariants as guard
 use Rattle.phase_moves.specs.declared.rows.Rows.{Rows}
 use Rattle.phase_moves.specs.Histories.{standing}
-use Rattle.phase_moves.specs.Moves.{IsOpenWriter, KeptWith, MaySet, Pushes, Sets}
+use Rattle.phase_moves.specs.Moves.{KeptGuards, IsOpenWriter, KeptWith, MaySet, Pushes, Sets}
 use Rattle.phase_moves.specs.Reading.{HoldsBy}
 use Rattle.phase_moves.specs.Standing.{seen_by, put}
 use Rattle.phase_moves.proofs.Hand.{pushed_free}
 use Rattle.phase_moves.proofs.Histories.{look_stays, set_puts}
 use Rattle.phase_acts.specs.Steps.{IsAwake, HasStepped, step_of}
 use Rattle.phase_acts.proofs.Holding.{none_held, Shows, shows}
-use Rattle.phase_acts.proofs.Keeping.{none_with}
+use Rattle.phase_acts.proofs.Keeping.{guards_with}
 use Rattle.phase_acts.proofs.Lines.{legal_last, refusal_awake}
 use Rattle.phase_acts.proofs.Releasing.{found_of}
 use Rattle.phase_acts.proofs.Stepping.{stepped}
@@ -92,12 +92,12 @@ module _ {L : Type 0} (held : L → Holders) (place : L → LockerKind) (cells :
     pub is_open_writer : y.writes ≡ true → IsOpenWriter held place (standing cells h) old g f.x
     is_open_writer w = record { rests = is.next.follows.rests; found = found_of g p (guards h) f.x f.is; writes = sym f.writes ∙ w }
 
-    pub may_set : y.writes ≡ true → MaySet held place old g
-    may_set w = record { m = standing cells h; x = f.x; is = is_open_writer w }
+    pub may_set : y.writes ≡ true → MaySet held place old y.cell
+    may_set w = record { m = standing cells h; g = g; x = f.x; is = is_open_writer w; at = sym f.at }
 
-    pub did_set : y.writes ≡ true → (mid new : Rows L) → Sets held place old g v mid → KeptWith 0 old mid → (l : Line) → l ≡ record { answer = answer.Done; given = given.Nobody } → Pushes held place mid guard.Free new → KeptWith 1 mid new → HasStepped held place cells h old (step_of p (act.Set g v)) l new
+    pub did_set : y.writes ≡ true → (mid new : Rows L) → Sets held place old y.cell v mid → KeptGuards old mid → (l : Line) → l ≡ record { answer = answer.Done; given = given.Nobody } → Pushes held place mid guard.Free new → KeptWith 1 mid new → HasStepped held place cells h old (step_of p (act.Set g v)) l new
     did_set w mid new sets kept l l_is push last =
-        let rests = sets (standing cells h) f.x (is_open_writer w) in
+        let rests = sets (standing cells h) g f.x (is_open_writer w) (sym f.at) in
         subst (λ z. HasStepped held place cells h old (step_of p (act.Set g v)) z new) (sym l_is)
-        (stepped held place cells h old new (step_of p (act.Set g v)) is.next _ (put g v (standing cells h)) (set_puts cells h p is.awake g v) (pushed_free held place (length mid.guards.items) (put g v (standing cells h)) mid new rests.stands rests.empty push) (none_with old mid new 1 kept last)
+        (stepped held place cells h old new (step_of p (act.Set g v)) is.next _ (put g v (standing cells h)) (set_puts cells h p is.awake g v) (pushed_free held place (length mid.guards.items) (put g v (standing cells h)) mid new rests.stands rests.empty push) (guards_with old mid new 1 kept last)
         (legal_last cells h (step_of p (act.Set g v)) answer.Done given.Nobody (refusal_is ∙ ap (λ b. no_writer (Some b)) w) refl refl))

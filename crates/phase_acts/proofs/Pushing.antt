@@ -1,9 +1,6 @@
 -- The row of the guard that a step opened is pushed.
 use Rattle.std.proofs.Common.{◌≡◌, ◌∙◌, ℕ, length, ap, sym, subst, refl, arith, true, Some}
-use Rattle.std.specs.declared.option.Option.{Option}
-use Rattle.phase_bits.specs.declared.phase.Phase.{Phase}
 use Rattle.phase_bits.specs.declared.holders.Holders.{Holders}
-use Rattle.phase_bits.specs.Number.{phase_of}
 use Rattle.phase_locker.specs.Natures.{read_ticket, write_ticket}
 use Rattle.phase_locker.specs.declared.tickets.ReadTicket.{ReadTicket}
 use Rattle.phase_locker.specs.declared.tickets.WriteTicket.{WriteTicket}
@@ -12,7 +9,7 @@ use Rattle.schedule_rules.specs.Guards.{Guard, numbered, reader}
 use Rattle.phase_moves.specs.declared.rows.GuardRow.TheVariants as guard
 use Rattle.phase_moves.specs.declared.rows.Rows.{Rows}
 use Rattle.phase_moves.specs.Moves.{Pushes, Rests}
-use Rattle.phase_moves.specs.Standing.{Standing, guarded, seen_by}
+use Rattle.phase_moves.specs.Standing.{Standing, guarded}
 use Rattle.phase_moves.specs.Stands.{Stands, guard_row}
 
 -- the guard opened last is found by its number
@@ -24,13 +21,13 @@ module _ {L : Type 0} (held : L → Holders) (place : L → LockerKind) (mid new
   pub pushed_reader : (p q c d : ℕ) (m : Standing) (l : ReadTicket) → q ≡ p → d ≡ c → Stands held place n (guarded (reader n p c) m) mid → Pushes held place mid (guard.Read q d l) new → Rests held place (guarded (reader n p c) m) new
   pushed_reader p q c d m l party at t push =
       push (guarded (reader n p c) m) (subst (λ i. Stands held place i (guarded (reader n p c) m) mid) (sym count) t)
-      ((λ i. guard.Read (party i) (at i) read_ticket) ∙ ap (guard_row (guarded (reader n p c) m)) (sym (ap (λ i. numbered i (guarded (reader n p c) m).guards) count ∙ opened_found n (reader n p c) m refl)))
+      ((λ i. guard.Read (party i) (at i) read_ticket) ∙ ap guard_row (sym (ap (λ i. numbered i (guarded (reader n p c) m).guards) count ∙ opened_found n (reader n p c) m refl)))
 
-  -- a write guard, and what its holder sees
-  pub pushed_writer : (x : Guard) (q d : ℕ) (phase : Phase) (value : Option ℕ) (m : Standing) (l : WriteTicket) → x.number ≡ n → x.writes ≡ true → q ≡ x.party → d ≡ x.cell → phase ≡ phase_of (seen_by (guarded x m) x).phase → value ≡ (seen_by (guarded x m) x).value → Stands held place n (guarded x m) mid → Pushes held place mid (guard.Write q d phase value l) new → Rests held place (guarded x m) new
-  pushed_writer x q d phase value m l number writes party at phase_is value_is t push =
+  -- a write guard
+  pub pushed_writer : (x : Guard) (q d : ℕ) (m : Standing) (l : WriteTicket) → x.number ≡ n → x.writes ≡ true → q ≡ x.party → d ≡ x.cell → Stands held place n (guarded x m) mid → Pushes held place mid (guard.Write q d l) new → Rests held place (guarded x m) new
+  pushed_writer x q d m l number writes party at t push =
       push (guarded x m) (subst (λ i. Stands held place i (guarded x m) mid) (sym count) t)
-      ((λ i. guard.Write (party i) (at i) (phase_is i) (value_is i) write_ticket) ∙ sym (row x writes) ∙ ap (guard_row (guarded x m)) (sym (ap (λ i. numbered i (guarded x m).guards) count ∙ opened_found n x m number)))
+      ((λ i. guard.Write (party i) (at i) write_ticket) ∙ sym (row x writes) ∙ ap guard_row (sym (ap (λ i. numbered i (guarded x m).guards) count ∙ opened_found n x m number)))
     where
-      row : (x : Guard) → x.writes ≡ true → guard_row (guarded x m) (Some x) ≡ guard.Write x.party x.cell (phase_of (seen_by (guarded x m) x).phase) (seen_by (guarded x m) x).value write_ticket
+      row : (x : Guard) → x.writes ≡ true → guard_row (Some x) ≡ guard.Write x.party x.cell write_ticket
       row x w = rw w refl

@@ -2,7 +2,6 @@
 use Rattle.std.proofs.Common.{◌≡◌, ◌∙◌, ℕ, List, length, ap, sym, subst, refl, arith, Bool, true, false, None, Some}
 use Rattle.std.specs.Prelude.{◌==◌, if◌then◌else◌}
 use Rattle.std.specs.declared.option.Option.{Option}
-use Rattle.phase_bits.specs.declared.phase.Phase.{Phase}
 use Rattle.phase_bits.specs.declared.holders.Holders.{Holders}
 use Rattle.phase_locker.specs.declared.tickets.ReadTicket.{ReadTicket}
 use Rattle.phase_locker.specs.declared.tickets.WriteTicket.{WriteTicket}
@@ -34,11 +33,11 @@ use Rattle.phase_acts.proofs.Lines.{legal_last, refusal_awake, gave_freed}
 use Rattle.phase_acts.proofs.Stepping.{stepped, still_next}
 
 -- the row of no guard tells that there is none
-pub free_none : (m : Standing) (o : Option Guard) → guard.Free ≡ guard_row m o → o ≡ None
-free_none m None e = refl
-free_none m (Some x) e = by x.writes e
+pub free_none : (o : Option Guard) → guard.Free ≡ guard_row o → o ≡ None
+free_none None e = refl
+free_none (Some x) e = by x.writes e
   where
-    by : (b : Bool) → guard.Free ≡ (if b then guard_row m (Some (record x { writes = true })) else guard_row m (Some (record x { writes = false }))) → Some x ≡ None
+    by : (b : Bool) → guard.Free ≡ (if b then guard_row (Some (record x { writes = true })) else guard_row (Some (record x { writes = false }))) → Some x ≡ None
     by true e = absurd (cc)
     by false e = absurd (cc)
 
@@ -58,7 +57,7 @@ module _ {L : Type 0} (held : L → Holders) (place : L → LockerKind) (old mid
   -- the party has no such guard: nothing was done
   module _ (row_is : row ≡ guard.Free) where
     pub no_guard_of : guard_of g p m.guards ≡ None
-    no_guard_of = free_none m (guard_of g p m.guards) (sym row_is ∙ (takes m r).row_is)
+    no_guard_of = free_none (guard_of g p m.guards) (sym row_is ∙ (takes m r).row_is)
 
     pub free_rests : Rests held place m mid
     free_rests =
@@ -75,7 +74,7 @@ module _ {L : Type 0} (held : L → Holders) (place : L → LockerKind) (old mid
   pub has_reader : (q c : ℕ) (l : ReadTicket) → row ≡ guard.Read q c l → HasReader c
   has_reader q c l row_is =
       let k = takes m r in
-      let f = read_row m q c l (guard_of g p m.guards) (sym row_is ∙ k.row_is) in
+      let f = read_row q c l (guard_of g p m.guards) (sym row_is ∙ k.row_is) in
       let t : TakenAs held place old g (Some f.x) m mid = subst (λ o. TakenAs held place old g o m mid) f.is k.taken in
       record { x = f.x; mine = f.is; is = record { stands = t.0; found = t.1; at = f.at; reads = f.reads } }
 
@@ -83,20 +82,20 @@ module _ {L : Type 0} (held : L → Holders) (place : L → LockerKind) (old mid
   may_leave_read q c l row_is = let f = has_reader q c l row_is in record { hand = g; m = m; x = f.x; is = f.is }
 
   -- a write guard
-  pub record HasWriter (c : ℕ) (phase : Phase) (value : Option ℕ) : Type 0 where
+  pub record HasWriter (c : ℕ) : Type 0 where
     pub x : Guard
     pub mine : guard_of g p m.guards ≡ Some x
-    pub is : IsWriter held place g m mid x c phase value
+    pub is : IsWriter held place g m mid x c
 
-  pub has_writer : (q c : ℕ) (phase : Phase) (value : Option ℕ) (l : WriteTicket) → row ≡ guard.Write q c phase value l → HasWriter c phase value
-  has_writer q c phase value l row_is =
+  pub has_writer : (q c : ℕ) (l : WriteTicket) → row ≡ guard.Write q c l → HasWriter c
+  has_writer q c l row_is =
       let k = takes m r in
-      let f = write_row m q c phase value l (guard_of g p m.guards) (sym row_is ∙ k.row_is) in
+      let f = write_row q c l (guard_of g p m.guards) (sym row_is ∙ k.row_is) in
       let t : TakenAs held place old g (Some f.x) m mid = subst (λ o. TakenAs held place old g o m mid) f.is k.taken in
-      record { x = f.x; mine = f.is; is = record { stands = t.0; found = t.1; at = f.at; writes = f.writes; phase_is = f.phase_is; value_is = f.value_is } }
+      record { x = f.x; mine = f.is; is = record { stands = t.0; found = t.1; at = f.at; writes = f.writes } }
 
-  pub may_leave_write : (q c : ℕ) (phase : Phase) (value : Option ℕ) (l : WriteTicket) → row ≡ guard.Write q c phase value l → MayLeaveWrite held place mid c phase value
-  may_leave_write q c phase value l row_is = let f = has_writer q c phase value l row_is in record { hand = g; m = m; x = f.x; is = f.is }
+  pub may_leave_write : (q c : ℕ) (l : WriteTicket) → row ≡ guard.Write q c l → MayLeaveWrite held place mid c
+  may_leave_write q c l row_is = let f = has_writer q c l row_is in record { hand = g; m = m; x = f.x; is = f.is }
 
 module _ {L : Type 0} (held : L → Holders) (place : L → LockerKind) (old mid : Rows L) (p g : ℕ) (row : GuardRow) (takes : Takes held place old p g row mid) (kept : KeptWith 0 old mid) (cells : List CellPlan) (h : List Event) (is : IsAwake held place cells h old p (act.Release g)) where
   abbrev m : Standing
@@ -127,8 +126,8 @@ module _ {L : Type 0} (held : L → Holders) (place : L → LockerKind) (old mid
         subst (λ y. HasStepped held place cells h old (step_of p (act.Release g)) y new) (sym line_is)
         (released f.x f.mine mid' new d (leaves g m f.x f.is) (left_empty held place g m mid f.x d f.is.stands f.is.found) (gives g m f.x f.is) push all_kept)
 
-    pub released_write : (q c : ℕ) (phase : Phase) (value : Option ℕ) (l : WriteTicket) → row ≡ guard.Write q c phase value l → LeavesWrite held place mid c phase value d mid' → GivesWrite held place mid c phase value d → HasStepped held place cells h old (step_of p (act.Release g)) line new
-    released_write q c phase value l row_is leaves gives =
-        let f = has_writer held place old mid p g row takes kept m is.next.follows.rests q c phase value l row_is in
+    pub released_write : (q c : ℕ) (l : WriteTicket) → row ≡ guard.Write q c l → LeavesWrite held place mid c d mid' → GivesWrite held place mid c d → HasStepped held place cells h old (step_of p (act.Release g)) line new
+    released_write q c l row_is leaves gives =
+        let f = has_writer held place old mid p g row takes kept m is.next.follows.rests q c l row_is in
         subst (λ y. HasStepped held place cells h old (step_of p (act.Release g)) y new) (sym line_is)
         (released f.x f.mine mid' new d (leaves g m f.x f.is) (left_empty held place g m mid f.x d f.is.stands f.is.found) (gives g m f.x f.is) push all_kept)

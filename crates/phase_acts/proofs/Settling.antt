@@ -28,7 +28,7 @@ use Rattle.phase_moves.specs.Exits.{Skips}
 use Rattle.phase_moves.specs.Gifts.{MayGive, MayGiveDown, GivesDown, GivesRead, GivesWrite}
 use Rattle.phase_moves.specs.Meets.{answer_left}
 use Rattle.phase_moves.specs.Moves.{Downgrades, IsReader, IsWriter, KeptGuards, LeavesRead, LeavesWrite, MayDowngrade, MayLeaveRead, MayLeaveWrite, Pushes, Rests}
-use Rattle.phase_moves.specs.Standing.{Standing, answered, took, left, downgraded, seen_by, changes_asked, changes_at, content_tried, writer_asked}
+use Rattle.phase_moves.specs.Standing.{Standing, answered, took, left, downgraded, changes_asked, changes_at, content_tried, writer_asked}
 use Rattle.phase_moves.specs.Stands.{IsCell, Stands, seen_at}
 use Rattle.phase_moves.specs.Tries.{phase_asked}
 use Rattle.schedule_rules.specs.Waits.{without_wait}
@@ -173,53 +173,49 @@ module _ {L : Type 0} (held : L → Holders) (place : L → LockerKind) (m : Sta
         let rows = is.stands.sizes.rows in
         free_party p took_write.waits old.parks is.stands.waits.shows (none_on p t.cell g (without_wait p m.waits) (wait_removed p m.waits)) (omega (arith, lt, rows))
 
-    module _ (row : CellRow L) (row_is : row ≡ get_or old.cells.items t.cell row) where
-      value_is : row.value ≡ (seen_by took_write x).value
-      value_is = (is.stands.cell t.cell row (read_at old.cells.items t.cell row is.cell row_is)).valued ∙ sym (value_asked (cell_at m.plans t.cell) t.want m.registry.is_open (m.content t.cell))
+    pub is_writer : IsWriter held place n took_write old x t.cell
+    is_writer = record { stands = is.stands; found = found_write; at = refl; writes = refl }
 
-      pub is_writer : IsWriter held place n took_write old x t.cell q row.value
-      is_writer = record { stands = is.stands; found = found_write; at = refl; writes = refl; phase_is = is.told; value_is = value_is }
+    pub may_give_write : MayLeaveWrite held place old t.cell
+    may_give_write = record { hand = n; m = took_write; x = x; is = is_writer }
 
-      pub may_give_write : MayLeaveWrite held place old t.cell q row.value
-      may_give_write = record { hand = n; m = took_write; x = x; is = is_writer }
+    pub may_read_on : MayDowngrade held place old t.cell
+    may_read_on = record { hand = n; m = took_write; x = x; is = is_writer; room = free }
 
-      pub may_read_on : MayDowngrade held place old t.cell q row.value
-      may_read_on = record { hand = n; m = took_write; x = x; is = is_writer; room = free }
+    module _ (row : CellRow L) (row_is : row ≡ get_or old.cells.items t.cell row) (a : Answer) (a_is : a ≡ answer_left row.plan.kind t.cell t.want (record { phase = number q; value = row.value })) where
+      write_is : a ≡ answer_tried t.cell t.want m
+      write_is = answered_as (taken.Write l q) is row row_is q is.told refl (sym (value_asked (cell_at m.plans t.cell) t.want m.registry.is_open (m.content t.cell))) a a_is
 
-      module _ (a : Answer) (a_is : a ≡ answer_left row.plan.kind t.cell t.want (record { phase = number q; value = row.value })) where
-        write_is : a ≡ answer_tried t.cell t.want m
-        write_is = answered_as (taken.Write l q) is row row_is q is.told refl (sym (value_asked (cell_at m.plans t.cell) t.want m.registry.is_open (m.content t.cell))) a a_is
+      write_settled : (d : Given) → line ≡ record { answer = a; given = given_first g d } → Rests held place (write_kept a n x d took_write) new → GivesWritten a x d took_write → IsSettled held place n m p t (taken.Write l q) g line new
+      write_settled d line_is rests gave =
+          record {
+            last = d;
+            line = line_is ∙ (λ i. record { answer = write_is i; given = given_first g d });
+            rests = subst (λ z. Rests held place (write_kept z n x d took_write) new) write_is rests;
+            gave = subst (λ z. GivesWritten z x d took_write) write_is gave;
+          }
 
-        write_settled : (d : Given) → line ≡ record { answer = a; given = given_first g d } → Rests held place (write_kept a n x d took_write) new → GivesWritten a x d took_write → IsSettled held place n m p t (taken.Write l q) g line new
-        write_settled d line_is rests gave =
-            record {
-              last = d;
-              line = line_is ∙ (λ i. record { answer = write_is i; given = given_first g d });
-              rests = subst (λ z. Rests held place (write_kept z n x d took_write) new) write_is rests;
-              gave = subst (λ z. GivesWritten z x d took_write) write_is gave;
-            }
+      pub keeps_write : writes_on a ≡ true → line ≡ record { answer = a; given = g } → Pushes held place old (guard.Write p t.cell l) new → IsSettled held place n m p t (taken.Write l q) g line new
+      keeps_write writes line_is push =
+          write_settled given.Nobody (line_is ∙ ap (λ d. record { answer = a; given = d }) (sym (first_alone g)))
+          (subst (λ b. Rests held place (if b then took_write else (if reads_on a then downgraded n x given.Nobody took_write else left x given.Nobody took_write)) new) (sym writes) (pushed_writer held place old new n refl x p t.cell _ l refl refl refl refl is.stands push))
+          (subst (λ b. MatchBool b (given.Nobody ≡ given.Nobody) (MatchBool (reads_on a) (MayGiveDown t.cell took_write given.Nobody) (MayGive t.cell (left x given.Nobody took_write) given.Nobody))) (sym writes) refl)
 
-        pub keeps_write : writes_on a ≡ true → line ≡ record { answer = a; given = g } → Pushes held place old (guard.Write p t.cell q row.value l) new → IsSettled held place n m p t (taken.Write l q) g line new
-        keeps_write writes line_is push =
-            write_settled given.Nobody (line_is ∙ ap (λ d. record { answer = a; given = d }) (sym (first_alone g)))
-            (subst (λ b. Rests held place (if b then took_write else (if reads_on a then downgraded n x given.Nobody took_write else left x given.Nobody took_write)) new) (sym writes) (pushed_writer held place old new n refl x p t.cell q row.value _ l refl refl refl refl is.told value_is is.stands push))
-            (subst (λ b. MatchBool b (given.Nobody ≡ given.Nobody) (MatchBool (reads_on a) (MayGiveDown t.cell took_write given.Nobody) (MayGive t.cell (left x given.Nobody took_write) given.Nobody))) (sym writes) refl)
+      -- it is not kept
+      write_left : writes_on a ≡ false → (d : Given) → line ≡ record { answer = a; given = given_first g d } → (r : Bool) → reads_on a ≡ r → Rests held place (if r then downgraded n x d took_write else left x d took_write) new → MatchBool r (MayGiveDown t.cell took_write d) (MayGive t.cell (left x given.Nobody took_write) d) → IsSettled held place n m p t (taken.Write l q) g line new
+      write_left lacks d line_is r reads rests gave =
+          write_settled d line_is
+          (subst (λ b. Rests held place (if b then took_write else (if reads_on a then downgraded n x d took_write else left x d took_write)) new) (sym lacks) (subst (λ b. Rests held place (if b then downgraded n x d took_write else left x d took_write) new) (sym reads) rests))
+          (subst (λ b. MatchBool b (d ≡ given.Nobody) (MatchBool (reads_on a) (MayGiveDown t.cell took_write d) (MayGive t.cell (left x given.Nobody took_write) d))) (sym lacks) (subst (λ b. MatchBool b (MayGiveDown t.cell took_write d) (MayGive t.cell (left x given.Nobody took_write) d)) (sym reads) gave))
 
-        -- it is not kept
-        write_left : writes_on a ≡ false → (d : Given) → line ≡ record { answer = a; given = given_first g d } → (r : Bool) → reads_on a ≡ r → Rests held place (if r then downgraded n x d took_write else left x d took_write) new → MatchBool r (MayGiveDown t.cell took_write d) (MayGive t.cell (left x given.Nobody took_write) d) → IsSettled held place n m p t (taken.Write l q) g line new
-        write_left lacks d line_is r reads rests gave =
-            write_settled d line_is
-            (subst (λ b. Rests held place (if b then took_write else (if reads_on a then downgraded n x d took_write else left x d took_write)) new) (sym lacks) (subst (λ b. Rests held place (if b then downgraded n x d took_write else left x d took_write) new) (sym reads) rests))
-            (subst (λ b. MatchBool b (d ≡ given.Nobody) (MatchBool (reads_on a) (MayGiveDown t.cell took_write d) (MayGive t.cell (left x given.Nobody took_write) d))) (sym lacks) (subst (λ b. MatchBool b (MayGiveDown t.cell took_write d) (MayGive t.cell (left x given.Nobody took_write) d)) (sym reads) gave))
+      pub reads_write : writes_on a ≡ false → reads_on a ≡ true → (mid : Rows L) (d : Given) → Downgrades held place old t.cell d mid → GivesDown held place old t.cell d → KeptGuards old mid → line ≡ record { answer = a; given = given_first g d } → (i : ReadTicket) → Pushes held place mid (guard.Read p t.cell i) new → IsSettled held place n m p t (taken.Write l q) g line new
+      reads_write lacks reads mid d downs gives between line_is i push =
+          write_left lacks d line_is true reads
+          (pushed_reader held place mid new n (ap (λ (v : _). length v.items) between.guards) p p t.cell t.cell (left x d took_write) i refl refl (downs n n took_write x is_writer (omega arith) gone) push) (gives n took_write x is_writer)
+        where
+          gone : numbered n (without_guard n took_write.guards) ≡ None
+          gone = left_empty held place n took_write old x d is.stands found_write
 
-        pub reads_write : writes_on a ≡ false → reads_on a ≡ true → (mid : Rows L) (d : Given) → Downgrades held place old t.cell q row.value d mid → GivesDown held place old t.cell q row.value d → KeptGuards old mid → line ≡ record { answer = a; given = given_first g d } → (i : ReadTicket) → Pushes held place mid (guard.Read p t.cell i) new → IsSettled held place n m p t (taken.Write l q) g line new
-        reads_write lacks reads mid d downs gives between line_is i push =
-            write_left lacks d line_is true reads
-            (pushed_reader held place mid new n (ap (λ (v : _). length v.items) between.guards) p p t.cell t.cell (left x d took_write) i refl refl (downs n n took_write x is_writer (omega arith) gone) push) (gives n took_write x is_writer)
-          where
-            gone : numbered n (without_guard n took_write.guards) ≡ None
-            gone = left_empty held place n took_write old x d is.stands found_write
-
-        pub leaves_write : writes_on a ≡ false → reads_on a ≡ false → (mid : Rows L) (d : Given) → LeavesWrite held place old t.cell q row.value d mid → GivesWrite held place old t.cell q row.value d → line ≡ record { answer = a; given = given_first g d } → Pushes held place mid guard.Free new → IsSettled held place n m p t (taken.Write l q) g line new
-        leaves_write lacks reads mid d leaves gives line_is push =
-            write_left lacks d line_is false reads (pushed_free held place n (left x d took_write) mid new (leaves n took_write x is_writer) (left_empty held place n took_write old x d is.stands found_write) push) (gives n took_write x is_writer)
+      pub leaves_write : writes_on a ≡ false → reads_on a ≡ false → (mid : Rows L) (d : Given) → LeavesWrite held place old t.cell d mid → GivesWrite held place old t.cell d → line ≡ record { answer = a; given = given_first g d } → Pushes held place mid guard.Free new → IsSettled held place n m p t (taken.Write l q) g line new
+      leaves_write lacks reads mid d leaves gives line_is push =
+          write_left lacks d line_is false reads (pushed_free held place n (left x d took_write) mid new (leaves n took_write x is_writer) (left_empty held place n took_write old x d is.stands found_write) push) (gives n took_write x is_writer)

@@ -26,11 +26,9 @@ impl<L: PhaseLocker> Machine<L> {
             GuardRow::Write {
                 party: _,
                 cell,
-                phase,
-                value,
                 lock,
             } => {
-                let given = self.rows.leave_write(cell, lock, phase, value);
+                let given = self.rows.leave_write(cell, lock);
                 self.end_step(GuardRow::Free, Answer::Done, given)
             }
         }
@@ -51,11 +49,9 @@ impl<L: PhaseLocker> Machine<L> {
             GuardRow::Write {
                 party: _,
                 cell,
-                phase,
-                value,
                 lock,
             } => {
-                let (lock, given) = self.rows.downgrade(cell, lock, phase, value);
+                let (lock, given) = self.rows.downgrade(cell, lock);
                 let row = GuardRow::Read { party, cell, lock };
                 self.end_step(row, Answer::ReadGuard, given)
             }

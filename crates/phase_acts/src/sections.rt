@@ -73,16 +73,10 @@ impl<L: PhaseLocker> Machine<L> {
             }
             Finished::Write(lock, phase) => {
                 if takes_none(run.kind, call) {
-                    let given = self.rows.leave_write(cell, lock, phase, made);
+                    let given = self.rows.leave_write(cell, lock);
                     return self.end_step(GuardRow::Free, told(run.kind, call, made, phase), given);
                 }
-                let row = GuardRow::Write {
-                    party,
-                    cell,
-                    phase,
-                    value: made,
-                    lock,
-                };
+                let row = GuardRow::Write { party, cell, lock };
                 self.end_step(row, Answer::WriteGuard, given)
             }
             Finished::Failed(_phase) => self.end_step(GuardRow::Free, Answer::Failed, given),

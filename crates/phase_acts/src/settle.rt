@@ -152,7 +152,7 @@ impl<L: PhaseLocker> Machine<L> {
         self.end_step(GuardRow::Free, answer, all)
     }
 
-    /// The lock to write is kept, or given back with this phase. A call that falls back reads on.
+    /// The lock to write is kept, or given back. A call that falls back reads on.
     fn settle_write(
         &mut self,
         party: u32,
@@ -167,25 +167,18 @@ impl<L: PhaseLocker> Machine<L> {
     {
         let cell = target.cell;
         let row = &self.rows.cells[cell as usize];
-        let value = row.value;
         let answer = answer_left(row, target, phase);
         if writes_on(answer) {
-            let row = GuardRow::Write {
-                party,
-                cell,
-                phase,
-                value,
-                lock,
-            };
+            let row = GuardRow::Write { party, cell, lock };
             return self.end_step(row, answer, given);
         }
         if reads_on(answer) {
-            let (lock, last) = self.rows.downgrade(cell, lock, phase, value);
+            let (lock, last) = self.rows.downgrade(cell, lock);
             let row = GuardRow::Read { party, cell, lock };
             let all = given_first(given, last);
             return self.end_step(row, answer, all);
         }
-        let last = self.rows.leave_write(cell, lock, phase, value);
+        let last = self.rows.leave_write(cell, lock);
         let all = given_first(given, last);
         self.end_step(GuardRow::Free, answer, all)
     }

@@ -31,7 +31,7 @@ impl<L: PhaseLocker> Machine<L> {
         if !held.writes {
             return self.refuse(Refusal::NotWriter);
         }
-        self.rows.set(guard, value);
+        self.rows.set(held.cell, value);
         self.end_step(GuardRow::Free, Answer::Done, Given::Nobody)
     }
 }

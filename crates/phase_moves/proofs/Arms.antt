@@ -48,7 +48,7 @@ use Rattle.phase_moves.specs.declared.rows.Taken.TheVariants as taken
 use Rattle.phase_moves.specs.Calls.{Calls as CallOf, registry_for, registry_begun}
 use Rattle.phase_moves.specs.Standing.{Standing, run_in, runner_of, reads_in, writes_in, changes_at, section_asked, registry_asked}
 use Rattle.phase_moves.specs.Stands.{Stands, seen_at, IsCell, IsExit, IsLocked, AreShown, party_row, open_run, run_as, stays_in}
-use Rattle.phase_moves.specs.Tries.{IsAttempting, IsTook, MayWait, WaitsAt, ask_of, is_quick, opens_section, party_after, run_after, taken_of, waiting_after, waiting_with}
+use Rattle.phase_moves.specs.Tries.{IsAttempting, IsTook, MayWait, WaitsAt, ask_of, draft_after, is_quick, opens_section, party_after, run_after, taken_of, waiting_after, waiting_with}
 use Rattle.phase_moves.specs.declared.rows.Taken.{Taken}
 use Rattle.phase_moves.specs.Meets.{IsMet}
 use Rattle.phase_moves.proofs.Admitting.{final_turns}
@@ -58,6 +58,7 @@ use Rattle.phase_moves.proofs.Answered.{answered as begun_as}
 use Rattle.phase_moves.proofs.Calling.{answered_moved}
 use Rattle.phase_moves.proofs.Waiting.{fewer_readers, count_here, counted_less, counted_more, few_wait, some_counted, waited_here}
 use Rattle.phase_moves.proofs.Leaving.{sound}
+use Rattle.phase_moves.proofs.Drafts.{keeps_still}
 use Rattle.phase_moves.proofs.Looking.{met_turned}
 use Rattle.phase_moves.proofs.Meeting.{met}
 use Rattle.phase_moves.proofs.Settling.{IsSettled, call_settled}
@@ -133,19 +134,19 @@ module _ {L : Type 0} (held : L → Holders) (place : L → LockerKind) where
     phase_as : (d : IsBegun who ask reg (held row.seq.locker) v.parks b g (held row'.seq.locker) v'.parks) → (b₁ : Begun) → b ≡ b₁ → (held row'.seq.locker).phase ≡ phase_left (declines ask reg (held row.seq.locker).phase) b₁ (held row.seq.locker).phase
     phase_as d = phase_as_of held place m v v' p t waits is row row' row_is of of' of_is cells guards parties plan value owner turns b g registry running stands op k ask ask_is cyc d
 
-    took_nothing : (d : IsBegun who ask reg (held row.seq.locker) v.parks b g (held row'.seq.locker) v'.parks) (few : (held row'.seq.locker).readers ≤ most_readers) (tell : (z : Taken) → taken_of b ≡ z → IsMet p t z g m) → (q : Phase) → b ≡ begun.Nothing q → of' ≡ record { waiting = None; innermost = of.innermost } → row'.run ≡ row.run → row'.waiting ≡ count (waits_at t.cell) (given_on t.cell g (without_wait p m.waits)) → IsTook held place m v p t (taken.Nothing q) g v'
+    took_nothing : (d : IsBegun who ask reg (held row.seq.locker) v.parks b g (held row'.seq.locker) v'.parks) (few : (held row'.seq.locker).readers ≤ most_readers) (tell : (z : Taken) → taken_of b ≡ z → IsMet p t z g m) → (q : Phase) → b ≡ begun.Nothing q → of' ≡ record { waiting = None; innermost = of.innermost } → row'.run ≡ row.run → row'.waiting ≡ count (waits_at t.cell) (given_on t.cell g (without_wait p m.waits)) → row'.draft ≡ row.draft → IsTook held place m v p t (taken.Nothing q) g v'
     took_nothing d few tell = took_nothing_of held place m v v' p t waits is row row' row_is of of' of_is cells guards parties plan value owner turns b g registry running stands op k ask ask_is cyc d few tell
 
-    took_read : (d : IsBegun who ask reg (held row.seq.locker) v.parks b g (held row'.seq.locker) v'.parks) (few : (held row'.seq.locker).readers ≤ most_readers) (tell : (z : Taken) → taken_of b ≡ z → IsMet p t z g m) → (l : ReadTicket) (q : Phase) → b ≡ begun.Read l q → of' ≡ record { waiting = None; innermost = of.innermost } → row'.run ≡ row.run → row'.waiting ≡ count (waits_at t.cell) (given_on t.cell g (without_wait p m.waits)) → IsTook held place m v p t (taken.Read l q) g v'
+    took_read : (d : IsBegun who ask reg (held row.seq.locker) v.parks b g (held row'.seq.locker) v'.parks) (few : (held row'.seq.locker).readers ≤ most_readers) (tell : (z : Taken) → taken_of b ≡ z → IsMet p t z g m) → (l : ReadTicket) (q : Phase) → b ≡ begun.Read l q → of' ≡ record { waiting = None; innermost = of.innermost } → row'.run ≡ row.run → row'.waiting ≡ count (waits_at t.cell) (given_on t.cell g (without_wait p m.waits)) → row'.draft ≡ row.draft → IsTook held place m v p t (taken.Read l q) g v'
     took_read d few tell = took_read_of held place m v v' p t waits is row row' row_is of of' of_is cells guards parties plan value owner turns b g registry running stands op k ask ask_is cyc d few tell
 
-    took_write : (d : IsBegun who ask reg (held row.seq.locker) v.parks b g (held row'.seq.locker) v'.parks) (few : (held row'.seq.locker).readers ≤ most_readers) (tell : (z : Taken) → taken_of b ≡ z → IsMet p t z g m) → (l : WriteTicket) (q : Phase) → b ≡ begun.Write l q → of' ≡ record { waiting = None; innermost = of.innermost } → row'.run ≡ row.run → row'.waiting ≡ count (waits_at t.cell) (given_on t.cell g (without_wait p m.waits)) → IsTook held place m v p t (taken.Write l q) g v'
+    took_write : (d : IsBegun who ask reg (held row.seq.locker) v.parks b g (held row'.seq.locker) v'.parks) (few : (held row'.seq.locker).readers ≤ most_readers) (tell : (z : Taken) → taken_of b ≡ z → IsMet p t z g m) → (l : WriteTicket) (q : Phase) → b ≡ begun.Write l q → of' ≡ record { waiting = None; innermost = of.innermost } → row'.run ≡ row.run → row'.waiting ≡ count (waits_at t.cell) (given_on t.cell g (without_wait p m.waits)) → row'.draft ≡ record { phase = q; value = row.value } → IsTook held place m v p t (taken.Write l q) g v'
     took_write d few tell = took_write_of held place m v v' p t waits is row row' row_is of of' of_is cells guards parties plan value owner turns b g registry running stands op k ask ask_is cyc d few tell
 
-    took_wait : (d : IsBegun who ask reg (held row.seq.locker) v.parks b g (held row'.seq.locker) v'.parks) (few : (held row'.seq.locker).readers ≤ most_readers) (tell : (z : Taken) → taken_of b ≡ z → IsMet p t z g m) → (way : How) → b ≡ begun.Wait way → of' ≡ record { waiting = Some (record { cell = t.cell; want = t.want }); innermost = of.innermost } → row'.run ≡ row.run → row'.waiting ≡ count (waits_at t.cell) (given_on t.cell g (without_wait p m.waits)) + 1 → IsTook held place m v p t (taken.Wait way) g v'
+    took_wait : (d : IsBegun who ask reg (held row.seq.locker) v.parks b g (held row'.seq.locker) v'.parks) (few : (held row'.seq.locker).readers ≤ most_readers) (tell : (z : Taken) → taken_of b ≡ z → IsMet p t z g m) → (way : How) → b ≡ begun.Wait way → of' ≡ record { waiting = Some (record { cell = t.cell; want = t.want }); innermost = of.innermost } → row'.run ≡ row.run → row'.waiting ≡ count (waits_at t.cell) (given_on t.cell g (without_wait p m.waits)) + 1 → row'.draft ≡ row.draft → IsTook held place m v p t (taken.Wait way) g v'
     took_wait d few tell = took_wait_of held place m v v' p t waits is row row' row_is of of' of_is cells guards parties plan value owner turns b g registry running stands op k ask ask_is cyc d few tell
 
-    took_run : (d : IsBegun who ask reg (held row.seq.locker) v.parks b g (held row'.seq.locker) v'.parks) (few : (held row'.seq.locker).readers ≤ most_readers) (tell : (z : Taken) → taken_of b ≡ z → IsMet p t z g m) → (s : SeqSection) → reads_begun b ≡ 0 → writes_begun b ≡ 1 → (held row'.seq.locker).phase ≡ (held row.seq.locker).phase → v'.parks ≡ rows_handed t.cell g (freed p v.parks) → IsExit (length v.cells.items) (record m { registry = registry_asked t.cell t.want m }) v'.exit → row'.seq.running ≡ runner_of (Some (record { section = section_asked n p t.cell t.want m; outer = cell_of_section (innermost p m.sections) })) → s ≡ section_by who (run_as x.kind t.want) (stays_in x t.want m.registry.is_open y.phase) write_ticket → false ≡ (initializes x.kind t.want && seq_runs p (runner_of (run_in t.cell m.sections))) → IsMet p t taken.Runs g m → of' ≡ record { waiting = None; innermost = Some t.cell } → row'.run ≡ Some (record { run = record { party = p; want = t.want; outer = of.innermost }; section = s }) → row'.waiting ≡ count (waits_at t.cell) (given_on t.cell g (without_wait p m.waits)) → IsTook held place m v p t taken.Runs g v'
+    took_run : (d : IsBegun who ask reg (held row.seq.locker) v.parks b g (held row'.seq.locker) v'.parks) (few : (held row'.seq.locker).readers ≤ most_readers) (tell : (z : Taken) → taken_of b ≡ z → IsMet p t z g m) → (s : SeqSection) → reads_begun b ≡ 0 → writes_begun b ≡ 1 → (held row'.seq.locker).phase ≡ (held row.seq.locker).phase → v'.parks ≡ rows_handed t.cell g (freed p v.parks) → IsExit (length v.cells.items) (record m { registry = registry_asked t.cell t.want m }) v'.exit → row'.seq.running ≡ runner_of (Some (record { section = section_asked n p t.cell t.want m; outer = cell_of_section (innermost p m.sections) })) → s ≡ section_by who (run_as x.kind t.want) (stays_in x t.want m.registry.is_open y.phase) write_ticket → false ≡ (initializes x.kind t.want && seq_runs p (runner_of (run_in t.cell m.sections))) → IsMet p t taken.Runs g m → of' ≡ record { waiting = None; innermost = Some t.cell } → row'.run ≡ Some (record { run = record { party = p; want = t.want; outer = of.innermost }; section = s }) → row'.waiting ≡ count (waits_at t.cell) (given_on t.cell g (without_wait p m.waits)) → row'.draft ≡ row.draft → IsTook held place m v p t taken.Runs g v'
     took_run d few tell = took_run_of held place m v v' p t waits is row row' row_is of of' of_is cells guards parties plan value owner turns b g registry running stands op k ask ask_is cyc d few tell
 
     -- ---- how many wait at the cell
@@ -177,8 +178,8 @@ module _ {L : Type 0} (held : L → Holders) (place : L → LockerKind) where
     many_more same = same ∙ counted_more (is_some of.waiting) row.waiting _ counted_one
 
     -- ---- it was turned away: nothing changed
-    stays_away : (z : Begun) → b ≡ z → is_run z ≡ false → running_after z row.seq.running ≡ row.seq.running → IsTurned (held row.seq.locker) v.parks b g (held row'.seq.locker) v'.parks → of' ≡ of → row'.run ≡ row.run → row'.waiting ≡ row.waiting → Stands held place n m v'
-    stays_away z e still runner d o run many =
+    stays_away : (z : Begun) → b ≡ z → is_run z ≡ false → running_after z row.seq.running ≡ row.seq.running → IsTurned (held row.seq.locker) v.parks b g (held row'.seq.locker) v'.parks → of' ≡ of → row'.run ≡ row.run → row'.waiting ≡ row.waiting → row'.draft ≡ row.draft → Stands held place n m v'
+    stays_away z e still runner d o run many draft =
         moved held place t.cell n n m m v v' row' is.rests.stands is.cell cells
         (let k0 = cell_here in
         record {
@@ -191,7 +192,8 @@ module _ {L : Type 0} (held : L → Holders) (place : L → LockerKind) where
           runs = run ∙ k0.runs;
         })
         (many ∙ counted_before)
-        (answered_moved held place t.cell n m v v' m.waits m.content m.registry is.rests.stands k.others k.same (ap (λ (s : Parking). length s.writers) d.rows) guards (exit_still (ap is_run e ∙ still)) (subst (λ (s : Parking). AreShown (length v.cells.items) m.waits s) (sym d.rows) is.rests.stands.waits) (λ d ne. refl) (λ g x e w. refl) (λ d ne. refl))
+        (keeps_still t.cell m row m row' (is.rests.stands.draft t.cell row (read_at v.cells.items t.cell row is.cell row_is)) draft refl (λ g x e w. e) (λ g x e w. refl))
+        (answered_moved held place t.cell n m v v' m.waits m.content m.registry is.rests.stands k.others k.same (ap (λ (s : Parking). length s.writers) d.rows) guards (exit_still (ap is_run e ∙ still)) (subst (λ (s : Parking). AreShown (length v.cells.items) m.waits s) (sym d.rows) is.rests.stands.waits) (λ d ne. refl) (λ d ne. refl))
         (parties_set held place n m m v v' p of' is.rests.stands parties (o ∙ of_here) (λ q ne. refl))
 
     -- ---- what the locker requires
@@ -258,17 +260,17 @@ module _ {L : Type 0} (held : L → Holders) (place : L → LockerKind) where
 
       -- ---- the arms of the code
 
-      does_nothing : (q : Phase) → b ≡ begun.Nothing q → of' ≡ record { waiting = None; innermost = of.innermost } → row'.run ≡ row.run → row'.waiting ≡ count (waits_at t.cell) (given_on t.cell g (without_wait p m.waits)) → IsTook held place m v p t (taken.Nothing q) g v'
-      does_nothing q e o run many = took_nothing (did (ap is_away e)) (few_now (ap is_turned_back e)) (told_met (ap is_turned_back e)) q e o run many
+      does_nothing : (q : Phase) → b ≡ begun.Nothing q → of' ≡ record { waiting = None; innermost = of.innermost } → row'.run ≡ row.run → row'.waiting ≡ count (waits_at t.cell) (given_on t.cell g (without_wait p m.waits)) → row'.draft ≡ row.draft → IsTook held place m v p t (taken.Nothing q) g v'
+      does_nothing q e o run many draft = took_nothing (did (ap is_away e)) (few_now (ap is_turned_back e)) (told_met (ap is_turned_back e)) q e o run many draft
 
-      does_read : (l : ReadTicket) (q : Phase) → b ≡ begun.Read l q → of' ≡ record { waiting = None; innermost = of.innermost } → row'.run ≡ row.run → row'.waiting ≡ count (waits_at t.cell) (given_on t.cell g (without_wait p m.waits)) → IsTook held place m v p t (taken.Read l q) g v'
-      does_read l q e o run many = took_read (did (ap is_away e)) (few_now (ap is_turned_back e)) (told_met (ap is_turned_back e)) l q e o run many
+      does_read : (l : ReadTicket) (q : Phase) → b ≡ begun.Read l q → of' ≡ record { waiting = None; innermost = of.innermost } → row'.run ≡ row.run → row'.waiting ≡ count (waits_at t.cell) (given_on t.cell g (without_wait p m.waits)) → row'.draft ≡ row.draft → IsTook held place m v p t (taken.Read l q) g v'
+      does_read l q e o run many draft = took_read (did (ap is_away e)) (few_now (ap is_turned_back e)) (told_met (ap is_turned_back e)) l q e o run many draft
 
-      does_write : (l : WriteTicket) (q : Phase) → b ≡ begun.Write l q → of' ≡ record { waiting = None; innermost = of.innermost } → row'.run ≡ row.run → row'.waiting ≡ count (waits_at t.cell) (given_on t.cell g (without_wait p m.waits)) → IsTook held place m v p t (taken.Write l q) g v'
-      does_write l q e o run many = took_write (did (ap is_away e)) (few_now (ap is_turned_back e)) (told_met (ap is_turned_back e)) l q e o run many
+      does_write : (l : WriteTicket) (q : Phase) → b ≡ begun.Write l q → of' ≡ record { waiting = None; innermost = of.innermost } → row'.run ≡ row.run → row'.waiting ≡ count (waits_at t.cell) (given_on t.cell g (without_wait p m.waits)) → row'.draft ≡ record { phase = q; value = row.value } → IsTook held place m v p t (taken.Write l q) g v'
+      does_write l q e o run many draft = took_write (did (ap is_away e)) (few_now (ap is_turned_back e)) (told_met (ap is_turned_back e)) l q e o run many draft
 
-      does_wait : (way : How) → b ≡ begun.Wait way → of' ≡ record { waiting = Some (record { cell = t.cell; want = t.want }); innermost = of.innermost } → row'.run ≡ row.run → row'.waiting ≡ count (waits_at t.cell) (given_on t.cell g (without_wait p m.waits)) + 1 → IsTook held place m v p t (taken.Wait way) g v'
-      does_wait way e o run many = took_wait (did (ap is_away e)) (few_now (ap is_turned_back e)) (told_met (ap is_turned_back e)) way e o run many
+      does_wait : (way : How) → b ≡ begun.Wait way → of' ≡ record { waiting = Some (record { cell = t.cell; want = t.want }); innermost = of.innermost } → row'.run ≡ row.run → row'.waiting ≡ count (waits_at t.cell) (given_on t.cell g (without_wait p m.waits)) + 1 → row'.draft ≡ row.draft → IsTook held place m v p t (taken.Wait way) g v'
+      does_wait way e o run many draft = took_wait (did (ap is_away e)) (few_now (ap is_turned_back e)) (told_met (ap is_turned_back e)) way e o run many draft
 
       -- what is turned away
       turned : is_away b ≡ true → Turned
@@ -287,18 +289,18 @@ module _ {L : Type 0} (held : L → Holders) (place : L → LockerKind) where
           stayed (begun.Run s) f e d = absurd (cc)
           stayed (begun.Final s) f e d = absurd (cc)
 
-      does_cyclic : b ≡ begun.Cyclic → of' ≡ of → row'.run ≡ row.run → row'.waiting ≡ row.waiting → IsTook held place m v p t taken.Cyclic g v'
-      does_cyclic e o run many =
+      does_cyclic : b ≡ begun.Cyclic → of' ≡ of → row'.run ≡ row.run → row'.waiting ≡ row.waiting → row'.draft ≡ row.draft → IsTook held place m v p t taken.Cyclic g v'
+      does_cyclic e o run many draft =
           let d = turned (ap is_away e) in
           record {
-            stands = stays_away begun.Cyclic e refl refl d o run many;
+            stands = stays_away begun.Cyclic e refl refl d o run many draft;
             told = tt;
             cyclic = cyclic_as begun.Cyclic e;
             met = subst (λ z. IsMet p t taken.Cyclic z m) (sym d.given) (met_turned m p t (sym (cyclic_as begun.Cyclic e)));
           }
 
-      does_missed : b ≡ begun.Missed → of' ≡ of → row'.run ≡ row.run → row'.waiting ≡ row.waiting → IsTook held place m v p t taken.Missed g v'
-      does_missed e o run many = record { stands = stays_away begun.Missed e refl refl (turned (ap is_away e)) o run many; told = tt; cyclic = cyclic_as begun.Missed e; met = told_met (ap is_turned_back e) taken.Missed (ap taken_of e) }
+      does_missed : b ≡ begun.Missed → of' ≡ of → row'.run ≡ row.run → row'.waiting ≡ row.waiting → row'.draft ≡ row.draft → IsTook held place m v p t taken.Missed g v'
+      does_missed e o run many draft = record { stands = stays_away begun.Missed e refl refl (turned (ap is_away e)) o run many draft; told = tt; cyclic = cyclic_as begun.Missed e; met = told_met (ap is_turned_back e) taken.Missed (ap taken_of e) }
 
       -- no section ran where one is opened
       none_ran : (d : Begun_) → wrote (declines ask reg (held row.seq.locker).phase) b ≡ true → row.run ≡ None
@@ -316,15 +318,15 @@ module _ {L : Type 0} (held : L → Holders) (place : L → LockerKind) where
       none_before_final : (s : SeqSection) → b ≡ begun.Final s → row.run ≡ None
       none_before_final s e = none_ran (final_began s e) (ap (wrote _) e)
 
-      does_run : (s : SeqSection) → b ≡ begun.Run s → of' ≡ record { waiting = None; innermost = Some t.cell } → row'.run ≡ Some (record { run = record { party = p; want = t.want; outer = of.innermost }; section = s }) → row'.waiting ≡ count (waits_at t.cell) (given_on t.cell g (without_wait p m.waits)) → IsTook held place m v p t taken.Runs g v'
-      does_run s e o run many =
+      does_run : (s : SeqSection) → b ≡ begun.Run s → of' ≡ record { waiting = None; innermost = Some t.cell } → row'.run ≡ Some (record { run = record { party = p; want = t.want; outer = of.innermost }; section = s }) → row'.waiting ≡ count (waits_at t.cell) (given_on t.cell g (without_wait p m.waits)) → row'.draft ≡ row.draft → IsTook held place m v p t taken.Runs g v'
+      does_run s e o run many draft =
           let d = run_began s e in
           let tells = told_as d (begun.Run s) e in
           let call : is_turn t.want ≡ false = run_calls x t.want ask asked_here (held row.seq.locker).phase tells.1 in
           let here = cell_here in
           took_run d (few_now (ap is_turned_back e)) (told_met (ap is_turned_back e)) s (ap reads_begun e) (ap writes_begun e) (phase_as d (begun.Run s) e) (rows_as d (begun.Run s) e) (exit_run e call)
           (running ∙ ap (λ x. running_after x row.seq.running) e ∙ ap (λ (z : SeqSection). Some z.who.party) tells.0 ∙ (rw call refl))
-          (tells.0 ∙ (λ i. section_by who ask.want (stays_asked (registry_for (here.planned i).kind (is.rests.stands.exit.registry_is i)) (here.locked.phase_is i)) write_ticket) ∙ ap (λ q. section_by who ask.want q write_ticket) (stays_same x t.want m.registry y.phase call) ∙ ap (λ w. section_by who w (stays_in x t.want m.registry.is_open y.phase) write_ticket) (asked_as x t.want ask asked_here _ tells.1)) (cyclic_as (begun.Run s) e) (told_met (ap is_turned_back e) taken.Runs (ap taken_of e)) o run many
+          (tells.0 ∙ (λ i. section_by who ask.want (stays_asked (registry_for (here.planned i).kind (is.rests.stands.exit.registry_is i)) (here.locked.phase_is i)) write_ticket) ∙ ap (λ q. section_by who ask.want q write_ticket) (stays_same x t.want m.registry y.phase call) ∙ ap (λ w. section_by who w (stays_in x t.want m.registry.is_open y.phase) write_ticket) (asked_as x t.want ask asked_here _ tells.1)) (cyclic_as (begun.Run s) e) (told_met (ap is_turned_back e) taken.Runs (ap taken_of e)) o run many draft
         where
           exit_run : b ≡ begun.Run s → is_turn t.want ≡ false → IsExit (length v.cells.items) (record m { registry = registry_asked t.cell t.want m }) v'.exit
           exit_run e call = by t.want refl call
@@ -339,8 +341,8 @@ module _ {L : Type 0} (held : L → Holders) (place : L → LockerKind) where
                   (cells_stay t.cell (tries_registration x.kind y.phase) m.registry)
               by Turns q f = absurd (cc)
 
-      does_final : (s : SeqSection) → b ≡ begun.Final s → of' ≡ record { waiting = None; innermost = Some t.cell } → row'.run ≡ Some (record { run = record { party = p; want = t.want; outer = of.innermost }; section = s }) → row'.waiting ≡ count (waits_at t.cell) (given_on t.cell g (without_wait p m.waits)) → IsTook held place m v p t taken.Runs g v'
-      does_final s e o run many =
+      does_final : (s : SeqSection) → b ≡ begun.Final s → of' ≡ record { waiting = None; innermost = Some t.cell } → row'.run ≡ Some (record { run = record { party = p; want = t.want; outer = of.innermost }; section = s }) → row'.waiting ≡ count (waits_at t.cell) (given_on t.cell g (without_wait p m.waits)) → row'.draft ≡ row.draft → IsTook held place m v p t taken.Runs g v'
+      does_final s e o run many draft =
           let d = final_began s e in
           let tells = told_as d (begun.Final s) e in
           let turn : t.want ≡ Turns = final_turns x t.want ask asked_here tells.1 in
@@ -348,7 +350,7 @@ module _ {L : Type 0} (held : L → Holders) (place : L → LockerKind) where
           took_run d (few_now (ap is_turned_back e)) (told_met (ap is_turned_back e)) s (ap reads_begun e) (ap writes_begun e) (phase_as d (begun.Final s) e) (rows_as d (begun.Final s) e)
           (subst (λ w. IsExit (length v.cells.items) (record m { registry = registry_asked t.cell w m }) v'.exit) (sym turn) (exit_still (ap is_run e)))
           (running ∙ ap (λ x. running_after x row.seq.running) e ∙ here.runner ∙ ap runner_of (none_runs t.cell m.sections (let z = was_none d (ap (wrote _) e) in omega (arith, z))) ∙ sym (ap (λ w. if is_turn w then None else Some p) turn))
-          (tells.0 ∙ (λ i. section_by who ask.want (here.locked.phase_is i) write_ticket) ∙ ap (λ w. section_by who w (phase_of y.phase) write_ticket) (final_as turn) ∙ ap (λ w. section_by who (run_as x.kind w) (stays_in x w m.registry.is_open y.phase) write_ticket) (sym turn)) (cyclic_as (begun.Final s) e) (told_met (ap is_turned_back e) taken.Runs (ap taken_of e)) o run many
+          (tells.0 ∙ (λ i. section_by who ask.want (here.locked.phase_is i) write_ticket) ∙ ap (λ w. section_by who w (phase_of y.phase) write_ticket) (final_as turn) ∙ ap (λ w. section_by who (run_as x.kind w) (stays_in x w m.registry.is_open y.phase) write_ticket) (sym turn)) (cyclic_as (begun.Final s) e) (told_met (ap is_turned_back e) taken.Runs (ap taken_of e)) o run many draft
         where
           final_as : t.want ≡ Turns → ask.want ≡ want.Finalize
           final_as turn = let sought : Some want.Finalize ≡ Some ask.want = ap (seeks x.kind) (sym turn) ∙ asked_here.sought in cc
@@ -368,15 +370,15 @@ module _ {L : Type 0} (held : L → Holders) (place : L → LockerKind) where
           by (begun.Write l q) f e = absurd (cc)
 
       -- all of it
-      pub does : of' ≡ party_after t b of → row'.run ≡ run_after p t of b row.run → row'.waiting ≡ waiting_after b (is_some of.waiting) row.waiting → IsTook held place m v p t (taken_of b) g v'
-      does o run many = by b refl o run many
+      pub does : of' ≡ party_after t b of → row'.run ≡ run_after p t of b row.run → row'.waiting ≡ waiting_after b (is_some of.waiting) row.waiting → row'.draft ≡ draft_after b row.value row.draft → IsTook held place m v p t (taken_of b) g v'
+      does o run many draft = by b refl o run many draft
         where
-          by : (z : Begun) → b ≡ z → of' ≡ party_after t z of → row'.run ≡ run_after p t of z row.run → row'.waiting ≡ waiting_after z (is_some of.waiting) row.waiting → IsTook held place m v p t (taken_of z) g v'
-          by (begun.Wait way) e o run many = does_wait way e o run (many_more many)
-          by begun.Missed e o run many = does_missed e o run many
-          by begun.Cyclic e o run many = does_cyclic e o run many
-          by (begun.Nothing q) e o run many = does_nothing q e o run (many_less many)
-          by (begun.Read l q) e o run many = does_read l q e o run (many_less many)
-          by (begun.Write l q) e o run many = does_write l q e o run (many_less many)
-          by (begun.Run s) e o run many = does_run s e o run (many_less many)
-          by (begun.Final s) e o run many = does_final s e o run (many_less many)
+          by : (z : Begun) → b ≡ z → of' ≡ party_after t z of → row'.run ≡ run_after p t of z row.run → row'.waiting ≡ waiting_after z (is_some of.waiting) row.waiting → row'.draft ≡ draft_after z row.value row.draft → IsTook held place m v p t (taken_of z) g v'
+          by (begun.Wait way) e o run many draft = does_wait way e o run (many_more many) draft
+          by begun.Missed e o run many draft = does_missed e o run many draft
+          by begun.Cyclic e o run many draft = does_cyclic e o run many draft
+          by (begun.Nothing q) e o run many draft = does_nothing q e o run (many_less many) draft
+          by (begun.Read l q) e o run many draft = does_read l q e o run (many_less many) draft
+          by (begun.Write l q) e o run many draft = does_write l q e o run (many_less many) draft
+          by (begun.Run s) e o run many draft = does_run s e o run (many_less many) draft
+          by (begun.Final s) e o run many draft = does_final s e o run (many_less many) draft

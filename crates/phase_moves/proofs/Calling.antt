@@ -22,28 +22,30 @@ use Rattle.waiting_rows.proofs.RowCounts.{shares_shown}
 use Rattle.phase_moves.specs.declared.rows.CellRow.{CellRow}
 use Rattle.phase_moves.specs.declared.rows.Rows.{Rows}
 use Rattle.phase_moves.specs.Standing.{Standing, cloned, reads_in, writes_in, run_in}
-use Rattle.phase_moves.specs.Stands.{CountsWaits, Seen, seen_at, IsCell, IsExit, IsLocked, AreShown, Stands}
+use Rattle.phase_moves.specs.Stands.{CountsWaits, KeepsDraft, Seen, seen_at, IsCell, IsExit, IsLocked, AreShown, Stands}
 use Rattle.phase_moves.specs.Moves.{IsOpenReader, IsFull, ClonesAs}
-use Rattle.phase_moves.proofs.Guards.{found_itself, reads_here, slots_same}
+use Rattle.phase_moves.proofs.Drafts.{beside_reader, keeps_still}
+use Rattle.phase_moves.proofs.Guards.{found_itself, reads_here}
 use Rattle.phase_moves.proofs.Lockers.{reading_alone}
 use Rattle.phase_moves.proofs.Opening.{guard_opened, seen_reader}
 use Rattle.phase_moves.proofs.Moved.{IsMoved, exit_kept, parties_same, moved}
 use Rattle.phase_moves.proofs.Places.{read_at}
 
 module _ {L : Type 0} (held : L → Holders) (place : L → LockerKind) where
-  -- other calls wait, the registry is this, and the cell holds something else, which no write guard shows
+  -- other calls wait, the registry is this, and the cell holds something else
   pub answered_moved : (c hand : ℕ) (m : Standing) (v v' : Rows L) (ws : List Wait) (f : ℕ → Content) (r : Registry) → Stands held place hand m v → OthersStay c v.parks v'.parks → SameSize v.parks v'.parks → length v'.parks.writers ≡ length v.parks.writers → v'.guards ≡ v.guards
-      → IsExit (length v.cells.items) (record m { registry = r }) v'.exit → AreShown (length v.cells.items) ws v'.parks → ((d : ℕ) → d ≢ c → f d ≡ m.content d) → ((g : ℕ) (x : Guard) → numbered g m.guards ≡ Some x → x.writes ≡ true → f x.cell ≡ m.content x.cell)
+      → IsExit (length v.cells.items) (record m { registry = r }) v'.exit → AreShown (length v.cells.items) ws v'.parks → ((d : ℕ) → d ≢ c → f d ≡ m.content d)
       → ((d : ℕ) → d ≢ c → count (waits_at d) ws ≡ count (waits_at d) m.waits) → IsMoved held place c hand hand m (record m { waits = ws; content = f; registry = r }) v v'
-  answered_moved c hand m v v' ws f r t others same lists guards exit shown beside drafts counts =
+  answered_moved c hand m v v' ws f r t others same lists guards exit shown beside counts =
       record {
         around = λ d ne. (let e = beside d ne in λ i. record { plan = cell_at m.plans d; content = e i; reads = reads_in d m; writes = writes_in d m; run = run_in d m.sections });
         counts = counts;
+        drafts = λ g x e w ne. e;
         others = others;
         same = same;
         lists = lists;
         guards = guards;
-        slots = λ g lt. slots_same m (record m { waits = ws; content = f; registry = r }) hand g refl (λ ne. refl) (λ x ne e w. drafts g x e w);
+        slots = λ g lt. refl;
         exit = record { registry_is = exit.registry_is; owner_is = exit.owner_is; turns_are = exit.turns_are; cells_are = exit.cells_are };
         waits = shown;
         numbers = t.guards;
@@ -54,7 +56,7 @@ module _ {L : Type 0} (held : L → Holders) (place : L → LockerKind) where
   pub waits_moved : (c hand : ℕ) (m : Standing) (v v' : Rows L) (ws : List Wait) → Stands held place hand m v → OthersStay c v.parks v'.parks → SameSize v.parks v'.parks → length v'.parks.writers ≡ length v.parks.writers → v'.guards ≡ v.guards → v'.exit ≡ v.exit → AreShown (length v.cells.items) ws v'.parks
       → ((d : ℕ) → d ≢ c → count (waits_at d) ws ≡ count (waits_at d) m.waits) → IsMoved held place c hand hand m (record m { waits = ws }) v v'
   waits_moved c hand m v v' ws t others same lists guards exit shown counts =
-      answered_moved c hand m v v' ws m.content m.registry t others same lists guards (exit_kept (length v.cells.items) m m v.exit v'.exit exit refl refl refl t.exit) shown (λ d ne. refl) (λ g x e w. refl) counts
+      answered_moved c hand m v v' ws m.content m.registry t others same lists guards (exit_kept (length v.cells.items) m m v.exit v'.exit exit refl refl refl t.exit) shown (λ d ne. refl) counts
 
   -- nothing is touched beside the row of a cell
   pub nothing_moved : (c hand : ℕ) (m : Standing) (v v' : Rows L) → Stands held place hand m v → v'.guards ≡ v.guards → v'.exit ≡ v.exit → v'.parks ≡ v.parks → IsMoved held place c hand hand m m v v'
@@ -74,6 +76,10 @@ module _ {L : Type 0} (held : L → Holders) (place : L → LockerKind) where
     clone_calm : row'.waiting ≡ row.waiting → CountsWaits c m.waits row'
     clone_calm many = many ∙ is.rests.stands.counted c row (read_at v.cells.items c row clone_in row_is)
 
+    -- and the row keeps what it kept
+    clone_draft : (m' : Standing) → m'.plans ≡ m.plans → m'.content ≡ m.content → ((g : ℕ) (x : Guard) → numbered g m'.guards ≡ Some x → x.writes ≡ true → numbered g m.guards ≡ Some x) → row'.draft ≡ row.draft → KeepsDraft c m' row'
+    clone_draft m' plans content there draft = keeps_still c m row m' row' (is.rests.stands.draft c row (read_at v.cells.items c row clone_in row_is)) draft plans there (λ g x e w. ap (λ f. f x.cell) content)
+
     clone_some : 0 < reads_in c m
     clone_some = subst (λ d. 0 < reads_in d m) at (found_counts (λ (z : Guard). z.number == x.number) (reads_cell x.cell) m.guards x (found_itself g m.guards x is.found) (reads_here x is.reads))
 
@@ -91,10 +97,11 @@ module _ {L : Type 0} (held : L → Holders) (place : L → LockerKind) where
         omega (arith, are, most, shown, e))
 
     -- one more reads
-    pub clone_more : v'.cells.items ≡ set v.cells.items c row' → v'.guards ≡ v.guards → v'.parties ≡ v.parties → v'.parks ≡ v.parks → v'.exit ≡ v.exit → row'.plan ≡ row.plan → row'.waiting ≡ row.waiting → row'.value ≡ row.value → row'.run ≡ row.run → row'.seq.running ≡ row.seq.running → place row'.seq.locker ≡ place row.seq.locker
+    pub clone_more : v'.cells.items ≡ set v.cells.items c row' → v'.guards ≡ v.guards → v'.parties ≡ v.parties → v'.parks ≡ v.parks → v'.exit ≡ v.exit → row'.plan ≡ row.plan → row'.waiting ≡ row.waiting → row'.value ≡ row.value → row'.draft ≡ row.draft → row'.run ≡ row.run → row'.seq.running ≡ row.seq.running → place row'.seq.locker ≡ place row.seq.locker
         → held row'.seq.locker ≡ admit_read (held row.seq.locker) → (held row.seq.locker).readers ≢ most_readers → KeepsFit (place row.seq.locker) (held row.seq.locker) (held row'.seq.locker) → Stands held place (length v.guards.items) (cloned (length v.guards.items) x m) v'
-    clone_more cells guards parties parks exit plan many value run running stays more fewer keeps =
+    clone_more cells guards parties parks exit plan many value draft run running stays more fewer keeps =
         moved held place c n n m (cloned n x m) v v' row' is.rests.stands clone_in cells here (clone_calm many)
+        (clone_draft (cloned n x m) refl refl (λ j y e w. beside_reader n x.party x.cell j m.guards y e w) draft)
         (guard_opened held place c n n n m m v v' (reader n x.party x.cell)
         (nothing_moved c n m v v' is.rests.stands guards exit parks)
         refl at (omega arith) is.rests.empty is.rests.empty clone_in)
@@ -128,10 +135,11 @@ module _ {L : Type 0} (held : L → Holders) (place : L → LockerKind) where
             (record { planned = plan ∙ k0.planned; valued = value ∙ k0.valued; known = k0.known; locked = now; placed = stays ∙ k0.placed; runner = running ∙ k0.runner; runs = run ∙ k0.runs }))
 
     -- as many do
-    clone_none : v'.cells.items ≡ set v.cells.items c row' → v'.guards ≡ v.guards → v'.parties ≡ v.parties → v'.parks ≡ v.parks → v'.exit ≡ v.exit → row'.plan ≡ row.plan → row'.waiting ≡ row.waiting → row'.value ≡ row.value → row'.run ≡ row.run → row'.seq.running ≡ row.seq.running → place row'.seq.locker ≡ place row.seq.locker
+    clone_none : v'.cells.items ≡ set v.cells.items c row' → v'.guards ≡ v.guards → v'.parties ≡ v.parties → v'.parks ≡ v.parks → v'.exit ≡ v.exit → row'.plan ≡ row.plan → row'.waiting ≡ row.waiting → row'.value ≡ row.value → row'.draft ≡ row.draft → row'.run ≡ row.run → row'.seq.running ≡ row.seq.running → place row'.seq.locker ≡ place row.seq.locker
         → held row'.seq.locker ≡ held row.seq.locker → Stands held place (length v.guards.items) m v'
-    clone_none cells guards parties parks exit plan many value run running stays more =
+    clone_none cells guards parties parks exit plan many value draft run running stays more =
         moved held place c (length v.guards.items) (length v.guards.items) m m v v' row' is.rests.stands clone_in cells here (clone_calm many)
+        (clone_draft m refl refl (λ j y e w. e) draft)
         (nothing_moved c (length v.guards.items) m v v' is.rests.stands guards exit parks)
         (parties_same held place (length v.guards.items) m m v v' is.rests.stands parties (λ p. refl))
       where
@@ -149,7 +157,7 @@ module _ {L : Type 0} (held : L → Holders) (place : L → LockerKind) where
             }
 
     -- what the locker answers
-    pub clones : (o : Option ReadTicket) → v'.cells.items ≡ set v.cells.items c row' → v'.guards ≡ v.guards → v'.parties ≡ v.parties → v'.parks ≡ v.parks → v'.exit ≡ v.exit → row'.plan ≡ row.plan → row'.waiting ≡ row.waiting → row'.value ≡ row.value → row'.run ≡ row.run → row'.seq.running ≡ row.seq.running → place row'.seq.locker ≡ place row.seq.locker
+    pub clones : (o : Option ReadTicket) → v'.cells.items ≡ set v.cells.items c row' → v'.guards ≡ v.guards → v'.parties ≡ v.parties → v'.parks ≡ v.parks → v'.exit ≡ v.exit → row'.plan ≡ row.plan → row'.waiting ≡ row.waiting → row'.value ≡ row.value → row'.draft ≡ row.draft → row'.run ≡ row.run → row'.seq.running ≡ row.seq.running → place row'.seq.locker ≡ place row.seq.locker
         → (IsNone o ↔ ((held row.seq.locker).readers ≡ most_readers)) → OnSome o (held row'.seq.locker ≡ admit_read (held row.seq.locker)) → (IsNone o → held row'.seq.locker ≡ held row.seq.locker) → KeepsFit (place row.seq.locker) (held row.seq.locker) (held row'.seq.locker) → ClonesAs held place v m x o v'
-    clones None cells guards parties parks exit plan many value run running stays most some none keeps = (clone_none cells guards parties parks exit plan many value run running stays (none refl), clone_full (most.0 refl))
-    clones (Some t) cells guards parties parks exit plan many value run running stays most some none keeps = clone_more cells guards parties parks exit plan many value run running stays some (λ e. (let f = most.1 e in absurd (cc))) keeps
+    clones None cells guards parties parks exit plan many value draft run running stays most some none keeps = (clone_none cells guards parties parks exit plan many value draft run running stays (none refl), clone_full (most.0 refl))
+    clones (Some t) cells guards parties parks exit plan many value draft run running stays most some none keeps = clone_more cells guards parties parks exit plan many value draft run running stays some (λ e. (let f = most.1 e in absurd (cc))) keeps

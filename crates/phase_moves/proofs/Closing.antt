@@ -4,7 +4,6 @@ use Rattle.std.proofs.lemmas.Grind.{common_steps}
 use Rattle.std.proofs.lemmas.Option.{gets, slice_get_within}
 use Rattle.std.specs.Prelude.{slice_get, if◌then◌else◌}
 use Rattle.std.specs.declared.option.Option.{Option}
-use Rattle.phase_bits.specs.declared.phase.Phase.{Phase}
 use Rattle.phase_bits.specs.declared.holders.Holders.{Holders}
 use Rattle.phase_locker.specs.declared.ways.LockerKind.{LockerKind}
 use Rattle.phase_locker.specs.declared.ways.Given.{Given}
@@ -75,7 +74,7 @@ module _ {L : Type 0} (held : L → Holders) (place : L → LockerKind) where
     n_is = one_less new.guards.items old.guards.items row popped
 
     -- what a row shows that is not in hand
-    shows : (hand g : ℕ) → g ≢ hand → slot_row hand m g ≡ guard_row m (numbered g m.guards)
+    shows : (hand g : ℕ) → g ≢ hand → slot_row hand m g ≡ guard_row (numbered g m.guards)
     shows hand g ne = let no : (g == hand) ≡ false = grind (arith, ne) in rw no refl
 
     pub pops : IsPopped held place row new
@@ -85,6 +84,7 @@ module _ {L : Type 0} (held : L → Holders) (place : L → LockerKind) where
           stands = record {
             cell = λ c r e. subst (λ s. IsCell held place (seen_at c m) s c r) (sym parks) (can.rests.stands.cell c r (ap (λ cs. slice_get cs.items c) (sym cells) ∙ e));
             counted = λ c r e. can.rests.stands.counted c r (ap (λ cs. slice_get cs.items c) (sym cells) ∙ e);
+            draft = λ c r e. can.rests.stands.draft c r (ap (λ cs. slice_get cs.items c) (sym cells) ∙ e);
             slot = λ g lt. sym (other_at new.guards.items old.guards.items row g popped lt) ∙ can.rests.stands.slot g (let e = n_is in omega (arith, e, lt)) ∙ ap (λ r. Some r) (shows (length old.guards.items) g (let e = n_is in omega (arith, e, lt)) ∙ sym (shows k g (omega (arith, lt))));
             party = λ p lt. ap (λ ps. slice_get ps.items p) parties ∙ can.rests.stands.party p (subst (λ ps. p < length ps.items) parties lt);
             exit = rw (cells, exit) can.rests.stands.exit;
@@ -121,25 +121,25 @@ module _ {L : Type 0} (held : L → Holders) (place : L → LockerKind) where
     pub closes_none : row ≡ guard.Free → CanClose held place v
     closes_none e = by (numbered hand popped.m.guards) refl
       where
-        never : (x : Guard) (b : Bool) → x.writes ≡ b → guard.Free ≡ guard_row popped.m (Some x) → ⊥
+        never : (x : Guard) (b : Bool) → x.writes ≡ b → guard.Free ≡ guard_row (Some x) → ⊥
         never x true w z = let y = rw w at z in cc
         never x false w z = let y = rw w at z in cc
 
         by : (o : Option Guard) → numbered hand popped.m.guards ≡ o → CanClose held place v
         by None q = record { m = popped.m; rests = record { stands = popped.stands; empty = q } }
-        by (Some x) q = absurd (never x x.writes refl (sym e ∙ popped.row_is ∙ ap (guard_row popped.m) q))
+        by (Some x) q = absurd (never x x.writes refl (sym e ∙ popped.row_is ∙ ap guard_row q))
 
     read_in : (p c : ℕ) (l : ReadTicket) → row ≡ guard.Read p c l → (x : Guard) × IsReader held place hand popped.m v x c
-    read_in p c l e = let r = read_row popped.m p c l (numbered hand popped.m.guards) (sym e ∙ popped.row_is) in (r.x, record { stands = popped.stands; found = r.is; at = r.at; reads = r.reads })
+    read_in p c l e = let r = read_row p c l (numbered hand popped.m.guards) (sym e ∙ popped.row_is) in (r.x, record { stands = popped.stands; found = r.is; at = r.at; reads = r.reads })
 
-    write_in : (p c : ℕ) (phase : Phase) (value : Option ℕ) (l : WriteTicket) → row ≡ guard.Write p c phase value l → (x : Guard) × IsWriter held place hand popped.m v x c phase value
-    write_in p c phase value l e = let r = write_row popped.m p c phase value l (numbered hand popped.m.guards) (sym e ∙ popped.row_is) in (r.x, record { stands = popped.stands; found = r.is; at = r.at; writes = r.writes; phase_is = r.phase_is; value_is = r.value_is })
+    write_in : (p c : ℕ) (l : WriteTicket) → row ≡ guard.Write p c l → (x : Guard) × IsWriter held place hand popped.m v x c
+    write_in p c l e = let r = write_row p c l (numbered hand popped.m.guards) (sym e ∙ popped.row_is) in (r.x, record { stands = popped.stands; found = r.is; at = r.at; writes = r.writes })
 
     pub may_read : (p c : ℕ) (l : ReadTicket) → row ≡ guard.Read p c l → MayLeaveRead held place v c
     may_read p c l e = let r = read_in p c l e in record { hand = hand; m = popped.m; x = r.0; is = r.1 }
 
-    pub may_write : (p c : ℕ) (phase : Phase) (value : Option ℕ) (l : WriteTicket) → row ≡ guard.Write p c phase value l → MayLeaveWrite held place v c phase value
-    may_write p c phase value l e = let r = write_in p c phase value l e in record { hand = hand; m = popped.m; x = r.0; is = r.1 }
+    pub may_write : (p c : ℕ) (l : WriteTicket) → row ≡ guard.Write p c l → MayLeaveWrite held place v c
+    may_write p c l e = let r = write_in p c l e in record { hand = hand; m = popped.m; x = r.0; is = r.1 }
 
     pub closes_read : (new : Rows L) (d : Given) (p c : ℕ) (l : ReadTicket) → row ≡ guard.Read p c l → LeavesRead held place v c d new → CanClose held place new × (new.exit.turns.items ≡ v.exit.turns.items)
     closes_read new d p c l e leaves =
@@ -149,9 +149,9 @@ module _ {L : Type 0} (held : L → Holders) (place : L → LockerKind) where
           after.exit.turns_are ∙ sym popped.stands.exit.turns_are,
         )
 
-    pub closes_write : (new : Rows L) (d : Given) (p c : ℕ) (phase : Phase) (value : Option ℕ) (l : WriteTicket) → row ≡ guard.Write p c phase value l → LeavesWrite held place v c phase value d new → CanClose held place new × (new.exit.turns.items ≡ v.exit.turns.items)
-    closes_write new d p c phase value l e leaves =
-        let r = write_in p c phase value l e in
+    pub closes_write : (new : Rows L) (d : Given) (p c : ℕ) (l : WriteTicket) → row ≡ guard.Write p c l → LeavesWrite held place v c d new → CanClose held place new × (new.exit.turns.items ≡ v.exit.turns.items)
+    closes_write new d p c l e leaves =
+        let r = write_in p c l e in
         let after = leaves hand popped.m r.0 r.1 in (
           record { m = left r.0 d popped.m; rests = rests_again hand (left r.0 d popped.m) new after (left_empty held place hand popped.m v r.0 d r.1.stands r.1.found) },
           after.exit.turns_are ∙ sym popped.stands.exit.turns_are,

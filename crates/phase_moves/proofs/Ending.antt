@@ -46,18 +46,19 @@ use Rattle.phase_moves.specs.declared.rows.CellRow.{CellRow}
 use Rattle.phase_moves.specs.declared.rows.OpenRun.{OpenRun}
 use Rattle.phase_moves.specs.declared.rows.PartyRow.{PartyRow}
 use Rattle.phase_moves.specs.declared.rows.Rows.{Rows}
-use Rattle.phase_moves.specs.Standing.{Standing, run_in, reads_in, writes_in, runner_of, run_closed, guarded, writer_of}
-use Rattle.phase_moves.specs.Stands.{Seen, seen_at, IsCell, IsLocked, Stands, form_as, run_as, section_of, stays_in, target_of, want_of}
+use Rattle.phase_moves.specs.Standing.{Standing, run_in, reads_in, writes_in, runner_of, run_closed, guarded, seen_by, writer_of}
+use Rattle.phase_moves.specs.Stands.{Seen, draft_of, seen_at, IsCell, IsLocked, Stands, form_as, run_as, section_of, stays_in, target_of, want_of}
 use Rattle.phase_moves.specs.Ends.{IsEnding, EndsAs, GoesAs}
 use Rattle.phase_moves.proofs.Known.{change_known, stays_known}
 use Rattle.phase_locker.proofs.Leaving.{write_has_no_reader}
 use Rattle.phase_moves.proofs.Leaving.{parked_few, parked_fewer}
 use Rattle.phase_moves.proofs.Lockers.{locked_write, locked_down, hands_writers, downgrades_writers}
+use Rattle.phase_moves.proofs.Drafts.{keeps_first, keeps_none}
 use Rattle.phase_moves.proofs.Guards.{target_given}
 use Rattle.phase_moves.proofs.Opening.{guard_opened, seen_reader}
 use Rattle.phase_moves.specs.Gifts.{MayGive, MayGiveDown}
 use Rattle.phase_moves.proofs.Giving.{gives_closed, gives_down}
-use Rattle.phase_moves.proofs.Innermost.{in_cells, cell_here, runs_here, o_is, its_row, write_open, seen_closed, seen_without, closed_moved, without_moved, without_it, cell_ended, counted_ended, parties_ended}
+use Rattle.phase_moves.proofs.Innermost.{in_cells, cell_here, runs_here, o_is, its_row, write_open, seen_closed, seen_without, closed_moved, without_moved, without_it, cell_ended, counted_ended, no_writers, parties_ended}
 use Rattle.phase_moves.proofs.Moved.{HasParties, exit_kept, moved}
 
 -- ---- what the end of a run answers
@@ -205,6 +206,9 @@ module _ {L : Type 0} (held : L → Holders) (place : L → LockerKind) (m : Sta
     inside : c < length v.cells.items
     inside = in_cells held place m v p c s is.inner row row_is
 
+    unwritten : count (writes_cell c) m.guards ≡ 0
+    unwritten = no_writers held place m v p c s is.inner row row_is
+
     -- what is seen of the cell then, where nothing was given yet
     seen_gone : seen_at c (run_closed s made given.Nobody m) ≡ record { plan = cell_at m.plans c; content = made_as; reads = 0; writes = 0; run = None }
     seen_gone = seen_closed held place m v p c s is.inner row row_is (Ran s.is_open made ∷ []) given.Nobody
@@ -225,6 +229,7 @@ module _ {L : Type 0} (held : L → Holders) (place : L → LockerKind) (m : Sta
           (subst (λ (z : Seen). IsCell held place z v'.parks c row') (sym (seen_closed held place m v p c s is.inner row row_is (Ran s.is_open made ∷ []) r.1))
           (cell_now made_as 0 0 value known_made (locked_write (place row.seq.locker) (place row'.seq.locker) (held row.seq.locker) (held row'.seq.locker) v.parks v'.parks c made_as.phase (reached its.stays d) r.1 hands unread closed left_here.fits (phase_is d d_is) here.locked.limit (parked_few held place n m v ok c inside))))
           (counted_ended held place m v p c s is.inner row row_is row' r.1 calm)
+          (keeps_none c (run_closed s made r.1 m) row' unwritten)
           (closed_moved held place m v p c s is.inner row row_is (Ran s.is_open made ∷ []) r.1 m.turns v' left_here guards (exit_kept (length v.cells.items) m m v.exit v'.exit exit refl refl refl ok.exit) (hands_writers c _ v.parks r.1 _ v'.parks hands) (listed_hand c _ v.parks r.1 hands.may) hands.rows)
           (parties_now (run_closed s made r.1 m) refl (λ x. target_given s.cell r.1 m.waits x))
 
@@ -270,6 +275,7 @@ module _ {L : Type 0} (held : L → Holders) (place : L → LockerKind) (m : Sta
               (subst (λ (z : Seen). IsCell held place z v'.parks c row') (sym seen)
               (cell_now made_as 1 0 (value ∙ made_value d.0) known_made (locked_down (place row'.seq.locker) (held row.seq.locker) (held row'.seq.locker) v.parks v'.parks c made_as.phase (reached its.stays true) r.1 d.3 (reads_here (finished.Read l q) e) (stands_here (finished.Read l q) e).0 left_here.fits (phase_is true d.0) (write_has_no_reader (place row.seq.locker) (held row.seq.locker) v.parks c here.locked.fits (write_open held place m v p c s is.inner row row_is)) (parked_fewer held place n m v ok c inside (end_room o taken b made_is d.0)))))
               (counted_ended held place m v p c s is.inner row row_is row' r.1 calm)
+              (keeps_none c (guarded (reader n s.party s.cell) (run_closed s made r.1 m)) row' unwritten)
               (guard_opened held place c n n n m (run_closed s made r.1 m) v v' (reader n s.party s.cell)
               (closed_moved held place m v p c s is.inner row row_is (Ran s.is_open made ∷ []) r.1 m.turns v' left_here guards (exit_kept (length v.cells.items) m m v.exit v'.exit exit refl refl refl ok.exit) (downgrades_writers c _ (held row.seq.locker) v.parks r.1 (held row'.seq.locker) v'.parks d.3) (listed_share c v.parks r.1 d.3.may) d.3.rows)
               refl is.inner.at (omega arith) is.inner.rests.empty is.inner.rests.empty inside)
@@ -289,8 +295,8 @@ module _ {L : Type 0} (held : L → Holders) (place : L → LockerKind) (m : Sta
         going (Some x) z f = f
 
     -- its call writes on
-    pub ends_write : (l : WriteTicket) (q : Phase) → r.0 ≡ finished.Write l q → row'.value ≡ row.value → EndsAs held place m v s made (Some (finished.Write l q, r.1)) v'
-    ends_write l q e value =
+    pub ends_write : (l : WriteTicket) (q : Phase) → r.0 ≡ finished.Write l q → row'.value ≡ row.value → row'.draft ≡ record { phase = q; value = made } → EndsAs held place m v s made (Some (finished.Write l q, r.1)) v'
+    ends_write l q e value draft =
         let d = how (finished.Write l q) e in
         record {
           stands = moved held place c n n m (guarded (writer_of n s made) gone) v v' row' ok inside cells
@@ -306,6 +312,7 @@ module _ {L : Type 0} (held : L → Holders) (place : L → LockerKind) (m : Sta
                 limit = subst (λ (h : Holders). h.readers ≤ most_readers) (sym d.3) here.locked.limit;
               })))
               (counted_ended held place m v p c s is.inner row row_is row' given.Nobody calm)
+              (keeps_first c gone row' (writer_of n s made) unwritten (draft ∙ drafted (told_as q (d.2 ∙ phase_is true d.0)) (subst (IsMadeAs made) d.0 made_is)))
               (guard_opened held place c n n n m gone v v' (writer_of n s made) (without_moved held place m v p c s is.inner row row_is v' left_here guards exit d.4) refl is.inner.at (omega arith) is.inner.rests.empty is.inner.rests.empty inside)
               (parties_now (guarded (writer_of n s made) gone) refl (λ x. refl));
           told = going made (subst (IsMadeAs made) d.0 made_is) (runs_as want.Write d.1, told_as q (d.2 ∙ phase_is true d.0), d.5);
@@ -320,6 +327,14 @@ module _ {L : Type 0} (held : L → Holders) (place : L → LockerKind) (m : Sta
             let e : (s.cell == c) ≡ true = (let q = is.inner.at in grind (arith, q)) in
             let more : count (writes_cell c) m.guards + 1 + count (runs_in c) (without_innermost s.party m.sections) ≡ writes_in c gone + 1 = omega arith in
             rw e ((λ i. record { plan = cell_at m.plans c; content = m.content c; reads = reads_in c m; writes = more i; run = run_in c (without_innermost s.party m.sections) }) ∙ ap (λ (w : Seen). record { plan = w.plan; content = w.content; reads = w.reads; writes = w.writes + 1; run = w.run }) (seen_without held place m v p c s is.inner row row_is))
+
+        -- its holder sees what was made
+        drafted : q ≡ told_of made → IsMadeAs made true → record { phase = q; value = made } ≡ draft_of (seen_by gone (writer_of n s made))
+        drafted f = by made f
+          where
+            by : (x : Option ℕ) → q ≡ told_of x → IsMadeAs x true → record { phase = q; value = x } ≡ draft_of (seen_by gone (writer_of n s x))
+            by None f k = absurd (cc)
+            by (Some x) f k = ap (λ z. record { phase = z; value = Some x }) f
 
         going : (x : Option ℕ) → IsMadeAs x true → (run_as (cell_at m.plans s.cell).kind s.want ≡ want.Write) × (q ≡ told_of x) × (r.1 ≡ given.Nobody) → GoesAs (run_as (cell_at m.plans s.cell).kind s.want) x (told_of x) (finished.Write l q) r.1
         going None z f = absurd (cc)

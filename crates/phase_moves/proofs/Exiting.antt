@@ -22,7 +22,7 @@ first_below P (x ∷ xs) ys c all e = let same : x ≡ c = cc in subst P same (a
 module _ {L : Type 0} (held : L → Holders) (place : L → LockerKind) (hand : ℕ) (m : Standing) (v : Rows L) (t : Stands held place hand m v) where
   -- where nothing else is touched, the rows stand for what is open as before
   pub exited : (r : Registry) (o : Option ℕ) (ts : List Turned) (x : Exit) → IsExit (length v.cells.items) (record m { registry = r; owner = o; turns = ts }) x → Stands held place hand (record m { registry = r; owner = o; turns = ts }) (record v { exit = x })
-  exited r o ts x k = record { cell = t.cell; counted = t.counted; slot = t.slot; party = t.party; exit = k; waits = t.waits; guards = t.guards; sections = t.sections; sizes = t.sizes }
+  exited r o ts x k = record { cell = t.cell; counted = t.counted; draft = t.draft; slot = t.slot; party = t.party; exit = k; waits = t.waits; guards = t.guards; sections = t.sections; sizes = t.sizes }
 
   pub owns : (p : ℕ) → Stands held place hand (owned p m) (record v { exit = record v.exit { owner = Some p } })
   owns p = exited m.registry (Some p) m.turns _ (record { registry_is = t.exit.registry_is; owner_is = refl; turns_are = t.exit.turns_are; cells_are = t.exit.cells_are })

@@ -33,10 +33,11 @@ use Rattle.phase_moves.specs.Ends.{IsFinalizing, FinalizesAs}
 use Rattle.phase_moves.proofs.Known.{change_known}
 use Rattle.phase_moves.proofs.Leaving.{parked_few}
 use Rattle.phase_moves.proofs.Lockers.{locked_write, hands_writers}
+use Rattle.phase_moves.proofs.Drafts.{keeps_none}
 use Rattle.phase_moves.proofs.Guards.{target_given}
 use Rattle.phase_moves.specs.Gifts.{MayGive}
 use Rattle.phase_moves.proofs.Giving.{gives_closed}
-use Rattle.phase_moves.proofs.Innermost.{in_cells, cell_here, runs_here, o_is, its_row, write_open, seen_closed, closed_moved, cell_ended, counted_ended, parties_ended}
+use Rattle.phase_moves.proofs.Innermost.{in_cells, cell_here, runs_here, o_is, its_row, write_open, seen_closed, closed_moved, cell_ended, counted_ended, no_writers, parties_ended}
 use Rattle.phase_moves.proofs.Moved.{moved}
 
 pub asked_final : (q : Kind) (w : Want) → is_turn w ≡ true → finalizes (run_as q w) ≡ true
@@ -101,6 +102,7 @@ module _ {L : Type 0} (held : L → Holders) (place : L → LockerKind) (m : Sta
               (cell_ended held place m v p c s is.inner row row_is v' row' y 0 0 plan run (running ∙ here.runner ∙ ap runner_of (runs_here held place m v p c s is.inner row row_is) ∙ (let t = is.turn in rw t refl)) left_here.place (value ∙ (λ i. value_finalized (here.planned i).kind left (here.valued i))) (change_known (cell_at m.plans c) (Ended fine left) (m.content c) here.known)
               (locked_write (place row.seq.locker) (place row'.seq.locker) (held row.seq.locker) (held row'.seq.locker) v.parks v'.parks c y.phase (finalized_phase (held row.seq.locker).phase fine) r.1 hands (subst (λ d. open_reads (held row'.seq.locker) v'.parks d ≡ 0) at_c reads) (subst (λ d. IsWriteOpen (held row'.seq.locker) v'.parks d → ⊥) at_c closed) left_here.fits phase_is here.locked.limit (parked_few held place n m v is.inner.rests.stands c (in_cells held place m v p c s is.inner row row_is)))))
               (counted_ended held place m v p c s is.inner row row_is row' r.1 calm)
+              (keeps_none c (finalized s fine left r.1 m) row' (no_writers held place m v p c s is.inner row row_is))
               (closed_moved held place m v p c s is.inner row row_is (Ended fine left ∷ []) r.1 _ v' left_here guards exit_now (hands_writers c _ v.parks r.1 _ v'.parks hands) (listed_hand c _ v.parks r.1 hands.may) hands.rows)
               (parties_ended held place m v p c s is.inner row row_is v' of of' of_is parties o taken of'_is (finalized s fine left r.1 m) refl (λ x. target_given s.cell r.1 m.waits x));
           told = finishes.phase ∙ phase_is ∙ (λ i. phase_of (phase_finalized (m.content (sym is.inner.at i)).phase fine));

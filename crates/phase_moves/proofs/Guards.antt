@@ -2,8 +2,6 @@
 use Rattle.std.proofs.Common.{◌≡◌, ◌≢◌, ◌==◌, ◌≤◌, ◌+◌, ◌∙◌, ℕ, List, ◌∷◌, ap, sym, refl, arith, Bool, true, false, cond, None, Some, inl, inr}
 use Rattle.std.proofs.lemmas.Bool.{cases_eq}
 use Rattle.std.specs.declared.option.Option.{Option}
-use Rattle.schedule_rules.specs.Changes.{effect}
-use Rattle.schedule_rules.specs.Kinds.{cell_at}
 use Rattle.schedule_rules.specs.History.{count}
 use Rattle.schedule_rules.specs.Guards.{Guard, numbered, without_guard}
 use Rattle.schedule_rules.specs.Holds.{reads_cell, writes_cell}
@@ -14,7 +12,7 @@ use Rattle.phase_locker.specs.declared.ways.Given.{Given}
 use Rattle.phase_locker.specs.declared.ways.Given.TheVariants as given
 use Rattle.waiting_rows.specs.Given.{given_on}
 use Rattle.waiting_rows.proofs.Finding.{changed, wait_readers, wait_writer}
-use Rattle.phase_moves.specs.Standing.{Standing, seen_by}
+use Rattle.phase_moves.specs.Standing.{Standing}
 use Rattle.phase_moves.specs.Stands.{guard_row, slot_row, target_of}
 
 -- a guard has its number
@@ -72,28 +70,13 @@ count_same t g gs x e f = let all = count_removed t g gs x e in let no = ap (λ 
 pub count_less : (t : Guard → Bool) (g : ℕ) (gs : List Guard) (x : Guard) → numbered g gs ≡ Some x → t x ≡ true → count t gs ≡ count t (without_guard g gs) + 1
 count_less t g gs x e f = let all = count_removed t g gs x e in let yes = ap (λ b. cond {A = ℕ} b 1 0) f in omega (arith, all, yes)
 
--- the row of a guard stays where, if it writes, what is published of its cell does
-pub guard_row_same : (m m' : Standing) (o : Option Guard) → m'.plans ≡ m.plans → ((x : Guard) → o ≡ Some x → x.writes ≡ true → m'.content x.cell ≡ m.content x.cell) → guard_row m' o ≡ guard_row m o
-guard_row_same m m' None plans same = refl
-guard_row_same m m' (Some x) plans same = by x.writes refl
-  where
-    seen : x.writes ≡ true → seen_by m' x ≡ seen_by m x
-    seen w = λ i. effect (cell_at (plans i) x.cell) x.changes (same x refl w i)
-
-    by : (b : Bool) → x.writes ≡ b → guard_row m' (Some x) ≡ guard_row m (Some x)
-    by true w = let s = seen w in rw (w, s) refl
-    by false w = rw w refl
-
--- so do all rows, where the guards are the same but for the one in hand
-pub slots_same : (m m' : Standing) (hand g : ℕ) → m'.plans ≡ m.plans → (g ≢ hand → numbered g m'.guards ≡ numbered g m.guards) → ((x : Guard) → g ≢ hand → numbered g m'.guards ≡ Some x → x.writes ≡ true → m'.content x.cell ≡ m.content x.cell) → slot_row hand m' g ≡ slot_row hand m g
-slots_same m m' hand g plans guards same = by (g == hand) refl
+-- all rows stay where the guards are the same but for the one in hand
+pub slots_same : (m m' : Standing) (hand g : ℕ) → (g ≢ hand → numbered g m'.guards ≡ numbered g m.guards) → slot_row hand m' g ≡ slot_row hand m g
+slots_same m m' hand g guards = by (g == hand) refl
   where
     by : (b : Bool) → (g == hand) ≡ b → slot_row hand m' g ≡ slot_row hand m g
     by true e = rw e refl
-    by false e =
-        let ne : g ≢ hand = grind (arith, e) in
-        let r : guard_row m' (numbered g m'.guards) ≡ guard_row m (numbered g m.guards) = guard_row_same m m' (numbered g m'.guards) plans (λ x f w. same x ne f w) ∙ ap (guard_row m) (guards ne) in
-        rw e r
+    by false e = let r : guard_row (numbered g m'.guards) ≡ guard_row (numbered g m.guards) = ap guard_row (guards (grind (arith, e))) in rw e r
 
 -- what the calls that wait ask stays at a gift
 target_changed : (f : Wait → Wait) → ((w : Wait) → target_of (Some (f w)) ≡ target_of (Some w)) → (o : Option Wait) → target_of (changed f o) ≡ target_of o

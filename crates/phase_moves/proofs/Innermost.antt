@@ -15,7 +15,6 @@ use Rattle.schedule_rules.specs.Changes.{Content, Change, effect}
 use Rattle.schedule_rules.specs.Replay.{Back}
 use Rattle.schedule_rules.specs.History.{count}
 use Rattle.schedule_rules.specs.Sections.{Section, innermost, without_innermost, runs_in}
-use Rattle.schedule_rules.specs.Guards.{Guard, numbered}
 use Rattle.schedule_rules.specs.Holds.{writes_cell}
 use Rattle.schedule_rules.specs.Waits.{wait_of, cell_of_section}
 use Rattle.schedule_rules.proofs.Found.{found_counts, found_passes}
@@ -31,7 +30,6 @@ use Rattle.phase_moves.specs.Standing.{Standing, Run, run_in, reads_in, closed}
 use Rattle.phase_moves.specs.Stands.{CountsWaits, seen_at, IsCell, IsLocked, IsExit, AreShown, party_row, open_run, section_of, target_of}
 use Rattle.phase_moves.specs.Ends.{IsInnermost}
 use Rattle.phase_moves.proofs.Lockers.{writing_alone}
-use Rattle.phase_moves.proofs.Guards.{slots_same, writes_here}
 use Rattle.phase_moves.proofs.Leaving.{sound}
 use Rattle.phase_moves.proofs.Runs.{none_runs, run_kept, run_top, inside_ended, inside_found}
 use Rattle.phase_moves.proofs.Moved.{IsMoved, HasParties, exit_kept, parties_set}
@@ -89,7 +87,7 @@ module _ {L : Type 0} (held : L → Holders) (place : L → LockerKind) (m : Sta
   ended_runs : (d : ℕ) → count (runs_in d) m.sections ≡ count (runs_in d) (without_innermost s.party m.sections) + cond (runs_in d s) 1 0
   ended_runs d = subst (λ q. count (runs_in d) m.sections ≡ count (runs_in d) (without_innermost q m.sections) + cond {A = ℕ} (runs_in d s) 1 0) (sym its_party) (count_ended (runs_in d) p m.sections s is.found)
 
-  no_writers : count (writes_cell c) m.guards ≡ 0
+  pub no_writers : count (writes_cell c) m.guards ≡ 0
   no_writers = let one = cell_here.locked.one in let some = some_run in omega (arith, one, some)
 
   no_reads : reads_in c m ≡ 0
@@ -127,6 +125,7 @@ module _ {L : Type 0} (held : L → Holders) (place : L → LockerKind) (m : Sta
       let st = is.rests.stands in
       record {
         counts = λ d ne. refl;
+        drafts = λ g x e w ne. e;
         around = λ d ne. (let w = runs_beside d ne in let r = run_beside d ne in λ i. record { plan = cell_at m.plans d; content = m.content d; reads = reads_in d m; writes = count (writes_cell d) m.guards + w i; run = r i });
         others = k.others;
         same = k.same;
@@ -170,12 +169,13 @@ module _ {L : Type 0} (held : L → Holders) (place : L → LockerKind) (m : Sta
         let st = is.rests.stands in
         record {
           counts = λ d ne. count_given d s.cell g m.waits;
+          drafts = λ g' x e w ne. e;
           around = λ d ne. (let a = content_beside d ne in let w = runs_beside d ne in let r = run_beside d ne in λ i. record { plan = cell_at m.plans d; content = a i; reads = reads_in d m; writes = count (writes_cell d) m.guards + w i; run = r i });
           others = k.others;
           same = k.same;
           lists = lists;
           guards = guards;
-          slots = λ g' lt. slots_same m (record (closed s (Some (record { cell = s.cell; changes = chs })) g m) { turns = ts }) n g' refl (λ ne. refl) (λ x ne e w. content_beside x.cell (not_here g' x e w));
+          slots = λ g' lt. refl;
           exit = record { registry_is = exit.registry_is; owner_is = exit.owner_is; turns_are = exit.turns_are; cells_are = exit.cells_are };
           waits =
               record {
@@ -189,9 +189,6 @@ module _ {L : Type 0} (held : L → Holders) (place : L → LockerKind) (m : Sta
       where
         in_parks : c < length v.parks.readers
         in_parks = let a = in_cells in let b = is.rests.stands.sizes.readers in omega (arith, a, b)
-
-        not_here : (g' : ℕ) (x : Guard) → numbered g' m.guards ≡ Some x → x.writes ≡ true → x.cell ≢ c
-        not_here g' x e w q = let some = found_counts (λ (z : Guard). z.number == g') (writes_cell c) m.guards x e (ap (λ d. writes_cell d x) (sym q) ∙ writes_here x w) in let none = no_writers in omega (arith, some, none)
 
   -- ---- the rows
 

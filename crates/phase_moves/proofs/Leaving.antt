@@ -1,7 +1,6 @@
 -- A guard in hand is given back.
 use Rattle.std.proofs.Common.{◌≡◌, ◌≢◌, ◌==◌, ◌<◌, ◌≤◌, ◌+◌, ◌∙◌, ℕ, length, get_or, ap, sym, subst, refl, arith, Bool, true, false, cond, None, Some}
 use Rattle.std.specs.Prelude.{slice_get}
-use Rattle.std.specs.declared.option.Option.{Option}
 use Rattle.phase_bits.specs.declared.holders.Holders.{Holders}
 use Rattle.phase_bits.specs.declared.phase.Phase.{Phase}
 use Rattle.phase_bits.specs.Number.{phase_of, IsKnown}
@@ -24,11 +23,13 @@ use Rattle.waiting_rows.specs.Given.{given_on, IsListed}
 use Rattle.waiting_rows.proofs.GivenOn.{shows_on, single_on, within_on, listed_hand, listed_share}
 use Rattle.waiting_rows.proofs.Sound.{sound_of}
 use Rattle.phase_moves.specs.declared.rows.CellRow.{CellRow}
+use Rattle.phase_moves.specs.declared.rows.Draft.{Draft}
 use Rattle.phase_moves.specs.declared.rows.Rows.{Rows}
 use Rattle.phase_moves.specs.Standing.{Standing, left, downgraded, reads_in, writes_in, seen_by, run_in, runner_of}
-use Rattle.phase_moves.specs.Stands.{CountsWaits, Seen, seen_at, IsCell, IsLocked, Stands, slot_row, party_row, open_run}
+use Rattle.phase_moves.specs.Stands.{CountsWaits, draft_of, Seen, seen_at, IsCell, IsLocked, Stands, slot_row, party_row, open_run}
 use Rattle.phase_locker.specs.Left.{Left}
 use Rattle.phase_moves.specs.Moves.{IsReader, IsWriter}
+use Rattle.phase_moves.proofs.Drafts.{keeps_none, keeps_still}
 use Rattle.phase_moves.proofs.Guards.{its_number, found_itself, gone, once_without, left_there, reads_elsewhere, writes_elsewhere, writes_here, reads_here, never_reads, never_writes, count_same, count_less, slots_same, target_given}
 use Rattle.phase_moves.proofs.Lockers.{locked_read, locked_write, locked_down, writing_alone, hands_writers, downgrades_writers}
 use Rattle.phase_moves.proofs.Opening.{guard_opened, seen_reader}
@@ -76,39 +77,27 @@ module _ {L : Type 0} (held : L → Holders) (place : L → LockerKind) (hand : 
       let w = count_same (writes_cell d) x.number m.guards x itself (writes_elsewhere x d ne) in
       λ i. record { plan = cell_at m.plans d; content = a i; reads = r i; writes = w i + count (runs_in d) m.sections; run = run_in d m.sections }
 
-  -- no other guard writes its cell
-  pub alone : (j : ℕ) (y : Guard) → j ≢ x.number → numbered j m.guards ≡ Some y → y.writes ≡ true → x.writes ≡ true → writes_in x.cell m ≤ 1 → y.cell ≢ x.cell
-  alone j y ne e wy wx one same =
-      let two = count_less (writes_cell x.cell) x.number m.guards x itself (writes_here x wx) in
-      let some = found_counts (λ (z : Guard). z.number == j) (writes_cell x.cell) (without_guard x.number m.guards) y (guard_kept x.number j m.guards ne ∙ e) (ap (λ d. writes_cell d y) (sym same) ∙ writes_here y wy) in
-      omega (arith, two, some, one)
+  -- a guard that is left was there
+  pub still_there : (g : Given) (j : ℕ) (y : Guard) → numbered j (left x g m).guards ≡ Some y → (j ≢ x.number) × (numbered j m.guards ≡ Some y)
+  still_there g j y e = left_there x.number j m.guards x y itself (t.guards.once x.number) e
 
   -- the rows of other guards stay
-  slots : (g : Given) → writes_in x.cell m ≤ 1 → (j : ℕ) → slot_row hand (left x g m) j ≡ slot_row hand m j
-  slots g one j = slots_same m (left x g m) hand j refl guards drafts
-    where
-      guards : j ≢ hand → numbered j (without_guard x.number m.guards) ≡ numbered j m.guards
-      guards ne = guard_kept x.number j m.guards (λ e. ne (e ∙ its_number hand m.guards x found))
-
-      drafts : (y : Guard) → j ≢ hand → numbered j (without_guard x.number m.guards) ≡ Some y → y.writes ≡ true → (left x g m).content y.cell ≡ m.content y.cell
-      drafts y ne e wy = by x.writes refl
-        where
-          by : (b : Bool) → x.writes ≡ b → (left x g m).content y.cell ≡ m.content y.cell
-          by true wx = content_beside g y.cell (alone j y (λ q. ne (q ∙ its_number hand m.guards x found)) (sym (guards ne) ∙ e) wy wx one)
-          by false wx = rw wx refl
+  slots : (g : Given) → (j : ℕ) → slot_row hand (left x g m) j ≡ slot_row hand m j
+  slots g j = slots_same m (left x g m) hand j (λ ne. guard_kept x.number j m.guards (λ e. ne (e ∙ its_number hand m.guards x found)))
 
   -- what a release changes besides the row of the cell
-  pub left_moved : (g : Given) (v' : Rows L) {l l' : L} → writes_in x.cell m ≤ 1 → v'.guards ≡ v.guards → v'.exit ≡ v.exit → length v'.parks.writers ≡ length v.parks.writers → Left held place x.cell l l' v.parks v'.parks → IsListed x.cell v.parks g
+  pub left_moved : (g : Given) (v' : Rows L) {l l' : L} → v'.guards ≡ v.guards → v'.exit ≡ v.exit → length v'.parks.writers ≡ length v.parks.writers → Left held place x.cell l l' v.parks v'.parks → IsListed x.cell v.parks g
       → v'.parks ≡ rows_handed x.cell g v.parks → IsMoved held place x.cell hand hand m (left x g m) v v'
-  left_moved g v' one guards exit sizes k listed rows =
+  left_moved g v' guards exit sizes k listed rows =
       record {
         around = around g;
         counts = λ d ne. count_given d x.cell g m.waits;
+        drafts = λ j y e w ne. (still_there g j y e).1;
         others = k.others;
         same = k.same;
         lists = sizes;
         guards = guards;
-        slots = λ j lt. slots g one j;
+        slots = λ j lt. slots g j;
         exit = exit_kept (length v.cells.items) m (left x g m) v.exit v'.exit exit refl refl refl t.exit;
         waits =
             record {
@@ -119,8 +108,8 @@ module _ {L : Type 0} (held : L → Holders) (place : L → LockerKind) (hand : 
         numbers =
             record {
               once = λ j. once_without x.number j m.guards x itself (t.guards.once j);
-              in_rows = λ j y e ne. t.guards.in_rows j y (left_there x.number j m.guards x y itself (t.guards.once x.number) e).1 ne;
-              in_cells = λ j y e. t.guards.in_cells j y (left_there x.number j m.guards x y itself (t.guards.once x.number) e).1;
+              in_rows = λ j y e ne. t.guards.in_rows j y (still_there g j y e).1 ne;
+              in_cells = λ j y e. t.guards.in_cells j y (still_there g j y e).1;
             };
         sections = t.sections;
       }
@@ -147,9 +136,6 @@ module _ {L : Type 0} (held : L → Holders) (place : L → LockerKind) (hand : 
   write_open w =
       let some = found_counts (λ (z : Guard). z.number == x.number) (writes_cell x.cell) m.guards x there (writes_here x w) in
       its_cell.locked.write_is (omega (arith, some))
-
-  pub one : writes_in x.cell m ≤ 1
-  one = its_cell.locked.one
 
   -- what is published after a read guard is given back
   kept_back : (g : Given) → x.writes ≡ false → (left x g m).content x.cell ≡ m.content x.cell
@@ -257,7 +243,7 @@ module _ {L : Type 0} (held : L → Holders) (place : L → LockerKind) (hand : 
 
   gone_back : length v'.parks.writers ≡ length v.parks.writers → IsListed x.cell v.parks g → v'.parks ≡ rows_handed x.cell g v.parks → IsMoved held place x.cell hand hand m (left x g m) v v'
   gone_back lists listed rows =
-      left_moved held place hand m v x t found g v' (one held place hand m v x t found row k.row_at) k.guards k.exit lists k.left listed rows
+      left_moved held place hand m v x t found g v' k.guards k.exit lists k.left listed rows
 
   -- a read guard
   pub leaves_read : x.writes ≡ false → row'.value ≡ row.value → Hands x.cell (leave_read (held row.seq.locker)) v.parks g (held row'.seq.locker) v'.parks → open_reads (held row'.seq.locker) v'.parks x.cell + 1 ≡ open_reads (held row.seq.locker) v.parks x.cell → (IsWriteOpen (held row'.seq.locker) v'.parks x.cell → ⊥) → Stands held place hand (left x g m) v'
@@ -265,16 +251,21 @@ module _ {L : Type 0} (held : L → Holders) (place : L → LockerKind) (hand : 
       moved held place x.cell hand hand m (left x g m) v v' row' t (inside held place hand m v x t found) k.cells
       (read_back held place hand m v x t found row k.row_at g row' v'.parks r k.plan value k.run k.running hands less closed k.left)
       calm
+      (keeps_still x.cell m row (left x g m) row' (t.draft x.cell row k.row_at) k.draft refl (λ j y e w. (still_there held place hand m v x t found g j y e).1) (λ j y e w. rw r refl))
       (gone_back (hands_writers x.cell _ v.parks g _ v'.parks hands) (listed_hand x.cell _ v.parks g hands.may) hands.rows)
       (parties_left held place hand m v v' x t k.parties g)
 
   module _ (w : x.writes ≡ true) (q : Phase) (phase : q ≡ phase_of (seen_by m x).phase) (value : row'.value ≡ (seen_by m x).value) (closed : IsWriteOpen (held row'.seq.locker) v'.parks x.cell → ⊥) where
+    unwritten : count (writes_cell x.cell) (without_guard x.number m.guards) ≡ 0
+    unwritten = let none = no_writes held place hand m v x t found row k.row_at w g in omega (arith, none)
+
     -- a write guard
     pub leaves_write : Hands x.cell (leave_write q (held row.seq.locker)) v.parks g (held row'.seq.locker) v'.parks → open_reads (held row'.seq.locker) v'.parks x.cell ≡ 0 → Stands held place hand (left x g m) v'
     leaves_write hands none =
         moved held place x.cell hand hand m (left x g m) v v' row' t (inside held place hand m v x t found) k.cells
         (write_back held place hand m v x t found row k.row_at w g row' v'.parks q k.plan phase value k.run k.running hands none closed k.left)
         calm
+        (keeps_none x.cell (left x g m) row' unwritten)
         (gone_back (hands_writers x.cell _ v.parks g _ v'.parks hands) (listed_hand x.cell _ v.parks g hands.may) hands.rows)
         (parties_left held place hand m v v' x t k.parties g)
 
@@ -284,6 +275,7 @@ module _ {L : Type 0} (held : L → Holders) (place : L → LockerKind) (hand : 
         moved held place x.cell hand n m (downgraded n x g m) v v' row' t (inside held place hand m v x t found) k.cells
         (down_back held place hand m v x t found row k.row_at w n g row' v'.parks q k.plan phase value k.run k.running down reads closed k.left free)
         calm
+        (keeps_none x.cell (downgraded n x g m) row' unwritten)
         (guard_opened held place x.cell hand hand n m (left x g m) v v' (reader n x.party x.cell)
         (gone_back (downgrades_writers x.cell q (held row.seq.locker) v.parks g (held row'.seq.locker) v'.parks down) (listed_share x.cell v.parks g down.may) down.rows)
         refl refl room fresh (ap (λ i. numbered i (without_guard x.number m.guards)) (sym (its_number hand m.guards x found)) ∙ gone x.number m.guards x (found_itself hand m.guards x found) (t.guards.once x.number)) (inside held place hand m v x t found))
@@ -297,8 +289,8 @@ module _ {L : Type 0} (held : L → Holders) (place : L → LockerKind) (v : Row
   pub reader_row : (hand : ℕ) (m : Standing) (x : Guard) → IsReader held place hand m v x c → slice_get v.cells.items c ≡ Some row
   reader_row hand m x is = row_in (subst (λ d. d < length v.cells.items) is.at (inside held place hand m v x is.stands is.found))
 
-  pub writer_row : (hand : ℕ) (m : Standing) (x : Guard) (q : Phase) (y : Option ℕ) → IsWriter held place hand m v x c q y → slice_get v.cells.items c ≡ Some row
-  writer_row hand m x q y is = row_in (subst (λ d. d < length v.cells.items) is.at (inside held place hand m v x is.stands is.found))
+  pub writer_row : (hand : ℕ) (m : Standing) (x : Guard) → IsWriter held place hand m v x c → slice_get v.cells.items c ≡ Some row
+  writer_row hand m x is = row_in (subst (λ d. d < length v.cells.items) is.at (inside held place hand m v x is.stands is.found))
 
   pub row_fits : (hand : ℕ) (m : Standing) → Stands held place hand m v → slice_get v.cells.items c ≡ Some row → Fits (place row.seq.locker) (held row.seq.locker) v.parks c
   row_fits hand m t e = (t.cell c row e).locked.fits
@@ -306,12 +298,16 @@ module _ {L : Type 0} (held : L → Holders) (place : L → LockerKind) (v : Row
   pub reader_open : (hand : ℕ) (m : Standing) (x : Guard) → IsReader held place hand m v x c → 0 < open_reads (held row.seq.locker) v.parks c
   reader_open hand m x is = subst (λ d. 0 < open_reads (held row.seq.locker) v.parks d) is.at (read_open held place hand m v x is.stands is.found row (ap (λ d. slice_get v.cells.items d) is.at ∙ reader_row hand m x is) is.reads)
 
-  pub writer_open : (hand : ℕ) (m : Standing) (x : Guard) (q : Phase) (y : Option ℕ) → IsWriter held place hand m v x c q y → IsWriteOpen (held row.seq.locker) v.parks c
-  writer_open hand m x q y is = subst (λ d. IsWriteOpen (held row.seq.locker) v.parks d) is.at (write_open held place hand m v x is.stands is.found row (ap (λ d. slice_get v.cells.items d) is.at ∙ writer_row hand m x q y is) is.writes)
+  pub writer_open : (hand : ℕ) (m : Standing) (x : Guard) → IsWriter held place hand m v x c → IsWriteOpen (held row.seq.locker) v.parks c
+  writer_open hand m x is = subst (λ d. IsWriteOpen (held row.seq.locker) v.parks d) is.at (write_open held place hand m v x is.stands is.found row (ap (λ d. slice_get v.cells.items d) is.at ∙ writer_row hand m x is) is.writes)
 
-  pub writer_known : (hand : ℕ) (m : Standing) (x : Guard) (q : Phase) (y : Option ℕ) → IsWriter held place hand m v x c q y → IsKnown q
-  writer_known hand m x q y is =
-      subst IsKnown (sym is.phase_is) (effect_known (cell_at m.plans x.cell) x.changes (m.content x.cell) (is.stands.cell x.cell row (ap (λ d. slice_get v.cells.items d) is.at ∙ writer_row hand m x q y is)).known)
+  -- what the row keeps is what its holder sees
+  pub writer_draft : (hand : ℕ) (m : Standing) (x : Guard) → IsWriter held place hand m v x c → row.draft ≡ draft_of (seen_by m x)
+  writer_draft hand m x is = is.stands.draft c row (writer_row hand m x is) hand x is.found is.writes is.at
+
+  pub writer_known : (hand : ℕ) (m : Standing) (x : Guard) → IsWriter held place hand m v x c → IsKnown row.draft.phase
+  writer_known hand m x is =
+      subst (λ (d : Draft). IsKnown d.phase) (sym (writer_draft hand m x is)) (effect_known (cell_at m.plans x.cell) x.changes (m.content x.cell) (is.stands.cell x.cell row (ap (λ d. slice_get v.cells.items d) is.at ∙ writer_row hand m x is)).known)
 
 -- the same, at the cell that the code names
 module _ {L : Type 0} (held : L → Holders) (place : L → LockerKind) (m : Standing) (v v' : Rows L) (c hand : ℕ) (x : Guard) (row row' : CellRow L) (g : Given) (k : IsCalled held place c row row' v v') where
@@ -320,13 +316,13 @@ module _ {L : Type 0} (held : L → Holders) (place : L → LockerKind) (m : Sta
       subst (λ d. IsCalled held place d row row' v v' → Hands d (leave_read (held row.seq.locker)) v.parks g (held row'.seq.locker) v'.parks → open_reads (held row'.seq.locker) v'.parks d + 1 ≡ open_reads (held row.seq.locker) v.parks d → (IsWriteOpen (held row'.seq.locker) v'.parks d → ⊥) → Stands held place hand (left x g m) v') is.at
       (λ k hands less closed. leaves_read held place hand m v v' x row row' g is.stands is.found k is.reads value hands less closed) k
 
-  module _ (q : Phase) (y : Option ℕ) (is : IsWriter held place hand m v x c q y) (value : row'.value ≡ y) where
-    pub write_left : Hands c (leave_write q (held row.seq.locker)) v.parks g (held row'.seq.locker) v'.parks → open_reads (held row'.seq.locker) v'.parks c ≡ 0 → (IsWriteOpen (held row'.seq.locker) v'.parks c → ⊥) → Stands held place hand (left x g m) v'
+  module _ (is : IsWriter held place hand m v x c) (draft : row.draft ≡ draft_of (seen_by m x)) (value : row'.value ≡ row.draft.value) where
+    pub write_left : Hands c (leave_write row.draft.phase (held row.seq.locker)) v.parks g (held row'.seq.locker) v'.parks → open_reads (held row'.seq.locker) v'.parks c ≡ 0 → (IsWriteOpen (held row'.seq.locker) v'.parks c → ⊥) → Stands held place hand (left x g m) v'
     write_left =
-        subst (λ d. IsCalled held place d row row' v v' → Hands d (leave_write q (held row.seq.locker)) v.parks g (held row'.seq.locker) v'.parks → open_reads (held row'.seq.locker) v'.parks d ≡ 0 → (IsWriteOpen (held row'.seq.locker) v'.parks d → ⊥) → Stands held place hand (left x g m) v') is.at
-        (λ k hands none closed. leaves_write held place hand m v v' x row row' g is.stands is.found k is.writes q is.phase_is (value ∙ is.value_is) closed hands none) k
+        subst (λ d. IsCalled held place d row row' v v' → Hands d (leave_write row.draft.phase (held row.seq.locker)) v.parks g (held row'.seq.locker) v'.parks → open_reads (held row'.seq.locker) v'.parks d ≡ 0 → (IsWriteOpen (held row'.seq.locker) v'.parks d → ⊥) → Stands held place hand (left x g m) v') is.at
+        (λ k hands none closed. leaves_write held place hand m v v' x row row' g is.stands is.found k is.writes row.draft.phase (ap (λ (d : Draft). d.phase) draft) (value ∙ ap (λ (d : Draft). d.value) draft) closed hands none) k
 
-    pub write_down : Downgrades c q (held row.seq.locker) v.parks g (held row'.seq.locker) v'.parks → open_reads (held row'.seq.locker) v'.parks c ≡ 1 → (IsWriteOpen (held row'.seq.locker) v'.parks c → ⊥) → HasFree v.parks → (n : ℕ) → length v.guards.items ≤ n → numbered n (without_guard x.number m.guards) ≡ None → Stands held place n (downgraded n x g m) v'
+    pub write_down : Downgrades c row.draft.phase (held row.seq.locker) v.parks g (held row'.seq.locker) v'.parks → open_reads (held row'.seq.locker) v'.parks c ≡ 1 → (IsWriteOpen (held row'.seq.locker) v'.parks c → ⊥) → HasFree v.parks → (n : ℕ) → length v.guards.items ≤ n → numbered n (without_guard x.number m.guards) ≡ None → Stands held place n (downgraded n x g m) v'
     write_down =
-        subst (λ d. IsCalled held place d row row' v v' → Downgrades d q (held row.seq.locker) v.parks g (held row'.seq.locker) v'.parks → open_reads (held row'.seq.locker) v'.parks d ≡ 1 → (IsWriteOpen (held row'.seq.locker) v'.parks d → ⊥) → HasFree v.parks → (n : ℕ) → length v.guards.items ≤ n → numbered n (without_guard x.number m.guards) ≡ None → Stands held place n (downgraded n x g m) v') is.at
-        (λ k down reads closed free. leaves_down held place hand m v v' x row row' g is.stands is.found k is.writes q is.phase_is (value ∙ is.value_is) closed down reads free) k
+        subst (λ d. IsCalled held place d row row' v v' → Downgrades d row.draft.phase (held row.seq.locker) v.parks g (held row'.seq.locker) v'.parks → open_reads (held row'.seq.locker) v'.parks d ≡ 1 → (IsWriteOpen (held row'.seq.locker) v'.parks d → ⊥) → HasFree v.parks → (n : ℕ) → length v.guards.items ≤ n → numbered n (without_guard x.number m.guards) ≡ None → Stands held place n (downgraded n x g m) v') is.at
+        (λ k down reads closed free. leaves_down held place hand m v v' x row row' g is.stands is.found k is.writes row.draft.phase (ap (λ (d : Draft). d.phase) draft) (value ∙ ap (λ (d : Draft). d.value) draft) closed down reads free) k

@@ -19,10 +19,8 @@ use Rattle.schedule_rules.specs.declared.plan.CellPlan.{CellPlan}
 use Rattle.schedule_rules.specs.Changes.{Content, Change, effect}
 use Rattle.schedule_rules.specs.Guards.{Guard, numbered}
 use Rattle.schedule_rules.specs.History.{count}
-use Rattle.schedule_rules.specs.Holds.{writes_cell}
 use Rattle.schedule_rules.specs.Kinds.{cell_at}
 use Rattle.schedule_rules.specs.Waits.{Wait, drains_on, shares_read, shares_write, waits_at}
-use Rattle.schedule_rules.proofs.Found.{found_counts}
 use Rattle.waiting_rows.proofs.RowCounts.{claims_shown, shares_shown}
 use Rattle.phase_moves.specs.declared.lend.Lent.{Lent}
 use Rattle.phase_moves.specs.declared.lend.Lent.TheVariants as lent
@@ -34,7 +32,7 @@ use Rattle.phase_moves.specs.Lends.{Finds, IsFound, IsLending, IsLent, changed, 
 use Rattle.phase_moves.specs.Standing.{Standing, reads_in, writes_in, run_in}
 use Rattle.phase_moves.specs.Stands.{seen_at, IsCell, IsLocked, AreShown, Stands, open_run}
 use Rattle.phase_moves.proofs.Calling.{answered_moved}
-use Rattle.phase_moves.proofs.Guards.{writes_here}
+use Rattle.phase_moves.proofs.Drafts.{keeps_still, none_writes}
 use Rattle.phase_moves.proofs.Leaving.{parked_few}
 use Rattle.phase_moves.proofs.Lockers.{locked_write}
 use Rattle.phase_moves.proofs.Moved.{exit_kept, moved, parties_same}
@@ -162,7 +160,7 @@ module _ {L : Type 0} (held : L → Holders) (place : L → LockerKind) (hand : 
 
   -- ---- the rows then
 
-  module _ (v' : Rows L) (row' : CellRow L) (cells : v'.cells.items ≡ set v.cells.items c row') (guards : v'.guards ≡ v.guards) (parties : v'.parties ≡ v.parties) (exit : v'.exit ≡ v.exit) (plan : row'.plan ≡ row.plan) (calm : row'.waiting ≡ row.waiting) (run : row'.run ≡ row.run) (running : row'.seq.running ≡ row.seq.running) (stays : place row'.seq.locker ≡ place row.seq.locker) (parks : v'.parks ≡ v.parks) where
+  module _ (v' : Rows L) (row' : CellRow L) (cells : v'.cells.items ≡ set v.cells.items c row') (guards : v'.guards ≡ v.guards) (parties : v'.parties ≡ v.parties) (exit : v'.exit ≡ v.exit) (plan : row'.plan ≡ row.plan) (calm : row'.waiting ≡ row.waiting) (draft : row'.draft ≡ row.draft) (run : row'.run ≡ row.run) (running : row'.seq.running ≡ row.seq.running) (stays : place row'.seq.locker ≡ place row.seq.locker) (parks : v'.parks ≡ v.parks) where
     -- it holds something else, which no write guard shows
     held_now : (f : ℕ → Content) → ((d : ℕ) → d ≢ c → f d ≡ m.content d) → ((g : ℕ) (x : Guard) → numbered g m.guards ≡ Some x → x.writes ≡ true → f x.cell ≡ m.content x.cell) → row'.value ≡ (f c).value → IsKnown (phase_of (f c).phase)
         → IsLocked (place row'.seq.locker) (held row'.seq.locker) v'.parks c (reads_in c m) (writes_in c m) (f c).phase → row'.run ≡ open_run (cell_at m.plans c) c (f c).phase (run_in c m.sections) → Stands held place hand (record m { content = f }) v'
@@ -170,8 +168,9 @@ module _ {L : Type 0} (held : L → Holders) (place : L → LockerKind) (hand : 
         moved held place c hand hand m (record m { content = f }) v v' row' is.stands is.inside cells
         (record { planned = plan ∙ here.planned; valued = value; known = known; locked = locked; placed = stays ∙ here.placed; runner = running ∙ here.runner; runs = runs })
         (calm ∙ many)
+        (keeps_still c m row (record m { content = f }) row' (is.stands.draft c row row_at) draft refl (λ g x e w. e) drafts)
         (answered_moved held place c hand m v v' m.waits f m.registry is.stands (subst (λ (s : Parking). OthersStay c v.parks s) (sym parks) (others_refl c v.parks)) (subst (λ (s : Parking). SameSize v.parks s) (sym parks) (record { parties = refl; cells = refl })) (ap (λ (s : Parking). length s.writers) parks) guards
-        (exit_kept (length v.cells.items) m m v.exit v'.exit exit refl refl refl is.stands.exit) (subst (λ (s : Parking). AreShown (length v.cells.items) m.waits s) (sym parks) is.stands.waits) beside drafts (λ d ne. refl))
+        (exit_kept (length v.cells.items) m m v.exit v'.exit exit refl refl refl is.stands.exit) (subst (λ (s : Parking). AreShown (length v.cells.items) m.waits s) (sym parks) is.stands.waits) beside (λ d ne. refl))
         (parties_same held place hand m (record m { content = f }) v v' is.stands parties (λ p. refl))
 
     -- it is held
@@ -204,7 +203,7 @@ module _ {L : Type 0} (held : L → Holders) (place : L → LockerKind) (hand : 
         let u : was.value ≡ (m.content c).value = f ∙ here.valued in
         λ i. record { phase = q i; value = u i }
 
-    module _ (v' : Rows L) (row' : CellRow L) (cells : v'.cells.items ≡ set v.cells.items c row') (guards : v'.guards ≡ v.guards) (parties : v'.parties ≡ v.parties) (exit : v'.exit ≡ v.exit) (plan : row'.plan ≡ row.plan) (calm : row'.waiting ≡ row.waiting) (run : row'.run ≡ row.run) (running : row'.seq.running ≡ row.seq.running)
+    module _ (v' : Rows L) (row' : CellRow L) (cells : v'.cells.items ≡ set v.cells.items c row') (guards : v'.guards ≡ v.guards) (parties : v'.parties ≡ v.parties) (exit : v'.exit ≡ v.exit) (plan : row'.plan ≡ row.plan) (calm : row'.waiting ≡ row.waiting) (draft : row'.draft ≡ row.draft) (run : row'.run ≡ row.run) (running : row'.seq.running ≡ row.seq.running)
         (p : Published) (value : row'.value ≡ p.value) (known : IsKnown p.phase) (g : Given) (hands : Hands c (leave_write p.phase (held l₁)) s₁ g (held row'.seq.locker) v'.parks) (reads : open_reads (held row'.seq.locker) v'.parks c ≡ 0) (closed : IsWriteOpen (held row'.seq.locker) v'.parks c → ⊥) (k : Left held place c l₁ row'.seq.locker s₁ v'.parks) where
       nobody : g ≡ given.Nobody
       nobody = gives_none c (leave_write p.phase (held l₁)) s₁ g (subst (λ (s : Parking). NobodyParked s c) (sym parks₁) (parked none tried.0)) hands.may
@@ -215,11 +214,11 @@ module _ {L : Type 0} (held : L → Holders) (place : L → LockerKind) (hand : 
       -- it holds that
       left_now : (f : ℕ → Content) → ((d : ℕ) → d ≢ c → f d ≡ m.content d) → f c ≡ content_of p → Stands held place hand (record m { content = f }) v'
       left_now f beside at =
-          held_now v' row' cells guards parties exit plan calm run running (k.place ∙ stays) parks f beside drafts (value ∙ ap (λ (y : Content). y.value) (sym at)) (subst (λ (y : Content). IsKnown (phase_of y.phase)) (sym at) known)
+          held_now v' row' cells guards parties exit plan calm draft run running (k.place ∙ stays) parks f beside drafts (value ∙ ap (λ (y : Content). y.value) (sym at)) (subst (λ (y : Content). IsKnown (phase_of y.phase)) (sym at) known)
           locked runs
         where
           drafts : (j : ℕ) (x : Guard) → numbered j m.guards ≡ Some x → x.writes ≡ true → f x.cell ≡ m.content x.cell
-          drafts j x e w = beside x.cell (λ q. (let some = found_counts (λ (z : Guard). z.number == j) (writes_cell c) m.guards x e (ap (λ d. writes_cell d x) (sym q) ∙ writes_here x w) in let zero = no_writes none tried.0 in absurd (omega (arith, some, zero))))
+          drafts j x e w = beside x.cell (λ q. (let zero = no_writes none tried.0 in absurd (none_writes c j m.guards x (omega (arith, zero)) e w q)))
 
           locked : IsLocked (place row'.seq.locker) (held row'.seq.locker) v'.parks c (reads_in c m) (writes_in c m) (f c).phase
           locked =

@@ -7,6 +7,7 @@ pub mod Registering
 pub mod Moved
 pub mod Waiting
 pub mod Guards
+pub mod Drafts
 pub mod Runs
 pub mod Opening
 -- The moves on guards

@@ -13,12 +13,13 @@ use Rattle.schedule_rules.specs.Sections.{Section, innermost, generates_for, run
 use Rattle.schedule_rules.specs.Waits.{cell_of_section, wait_of, without_wait}
 use Rattle.phase_moves.specs.declared.look_up.Running.{Running}
 use Rattle.phase_moves.specs.declared.rows.CellRow.{CellRow}
+use Rattle.phase_moves.specs.declared.rows.Draft.{Draft}
 use Rattle.phase_moves.specs.declared.rows.GuardRow.{GuardRow}
 use Rattle.phase_moves.specs.declared.rows.PartyRow.{PartyRow}
 use Rattle.phase_moves.specs.declared.rows.Rows.{Rows}
-use Rattle.phase_moves.specs.Standing.{Standing, answered, changes_at, content_back, run_in, runner_of}
-use Rattle.phase_moves.specs.Stands.{guard_row, party_row, CountsWaits, AreInside, AreNumbered, AreShown, AreSized, IsCell, IsExit, Stands, seen_at}
-use Rattle.phase_moves.specs.Reading.{held_of, run_kept, running_kept, running_of, shown_by, value_kept}
+use Rattle.phase_moves.specs.Standing.{Standing, answered, changes_at, content_back, run_in, runner_of, seen_by}
+use Rattle.phase_moves.specs.Stands.{guard_row, party_row, CountsWaits, KeepsDraft, AreInside, AreNumbered, AreShown, AreSized, IsCell, IsExit, Stands, seen_at}
+use Rattle.phase_moves.specs.Reading.{held_of, run_kept, running_kept, running_of, shown_by, value_drafted, value_kept}
 use Rattle.phase_moves.specs.Moves.{Rests}
 use Rattle.phase_moves.proofs.Innermost.{row_run}
 use Rattle.phase_moves.proofs.Places.{read_at}
@@ -85,7 +86,7 @@ module _ {L : Type 0} (held : L → Holders) (place : L → LockerKind) (m : Sta
   pub holds_by : (p g : ℕ) (row : GuardRow) → g < length v.guards.items → row ≡ get_or v.guards.items g row → shown_by v p row ≡ held_of m (guard_of g p m.guards)
   holds_by p g row lt there = ap (shown_by v p) (row_shown held place m v v p g r row (read_at v.guards.items g row lt there) lt) ∙ by (numbered g m.guards) refl
     where
-      by : (o : Option Guard) → numbered g m.guards ≡ o → shown_by v p (guard_row m o) ≡ held_of m (own p o)
+      by : (o : Option Guard) → numbered g m.guards ≡ o → shown_by v p (guard_row o) ≡ held_of m (own p o)
       by None e = refl
       by (Some x) e = at x.writes refl (x.party == p) refl
         where
@@ -93,8 +94,12 @@ module _ {L : Type 0} (held : L → Holders) (place : L → LockerKind) (m : Sta
           value None f = absurd (is_there v.cells.items x.cell (r.stands.guards.in_cells g x e) f)
           value (Some c) f = (r.stands.cell x.cell c f).valued
 
-          at : (w : Bool) → x.writes ≡ w → (b : Bool) → (x.party == p) ≡ b → shown_by v p (guard_row m (Some x)) ≡ held_of m (own p (Some x))
-          at true w true b = rw (w, b) refl
+          drafted : x.writes ≡ true → (q : Option (CellRow L)) → slice_get v.cells.items x.cell ≡ q → value_drafted q ≡ (seen_by m x).value
+          drafted w None f = absurd (is_there v.cells.items x.cell (r.stands.guards.in_cells g x e) f)
+          drafted w (Some c) f = ap (λ (d : Draft). d.value) (r.stands.draft x.cell c f g x e w refl)
+
+          at : (w : Bool) → x.writes ≡ w → (b : Bool) → (x.party == p) ≡ b → shown_by v p (guard_row (Some x)) ≡ held_of m (own p (Some x))
+          at true w true b = rw (w, b) (ap (λ z. Some (record { cell = x.cell; writes = true; value = z })) (drafted w (slice_get v.cells.items x.cell) refl))
           at true w false b = rw (w, b) refl
           at false w true b = rw (w, b) (ap (λ z. Some (record { cell = x.cell; writes = false; value = z })) (value (slice_get v.cells.items x.cell) refl))
           at false w false b = rw (w, b) refl
@@ -158,6 +163,7 @@ module _ {L : Type 0} (held : L → Holders) (place : L → LockerKind) (hand : 
   record AsCells (cs : List (CellRow L)) : Type 0 where
     cell : (c : ℕ) (r : CellRow L) → slice_get cs c ≡ Some r → IsCell held place (seen_at c m) v.parks c r
     counted : (c : ℕ) (r : CellRow L) → slice_get cs c ≡ Some r → CountsWaits c m.waits r
+    draft : (c : ℕ) (r : CellRow L) → slice_get cs c ≡ Some r → KeepsDraft c m r
     exit : IsExit (length cs) m v.exit
     waits : AreShown (length cs) m.waits v.parks
     guards : AreNumbered hand (length v.guards.items) (length cs) m.guards
@@ -167,10 +173,11 @@ module _ {L : Type 0} (held : L → Holders) (place : L → LockerKind) (hand : 
   -- rows that are as they were stand for what they stood for
   stays : (v' : Rows L) → v'.cells.items ≡ v.cells.items → v'.guards ≡ v.guards → v'.parties ≡ v.parties → v'.parks ≡ v.parks → v'.exit ≡ v.exit → Stands held place hand m v → Stands held place hand m v'
   stays v' cells guards parties parks exit st =
-      let k : AsCells v'.cells.items = subst AsCells (sym cells) (record { cell = st.cell; counted = st.counted; exit = st.exit; waits = st.waits; guards = st.guards; sections = st.sections; sizes = st.sizes }) in
+      let k : AsCells v'.cells.items = subst AsCells (sym cells) (record { cell = st.cell; counted = st.counted; draft = st.draft; exit = st.exit; waits = st.waits; guards = st.guards; sections = st.sections; sizes = st.sizes }) in
       record {
         cell = λ c r e. subst (λ z. IsCell held place (seen_at c m) z c r) (sym parks) (k.cell c r e);
         counted = k.counted;
+        draft = k.draft;
         slot = λ g lt. ap (λ (z : _). slice_get z.items g) guards ∙ st.slot g (subst (λ (z : _). g < length z.items) guards lt);
         party = λ q lt. ap (λ (z : _). slice_get z.items q) parties ∙ st.party q (subst (λ (z : _). q < length z.items) parties lt);
         exit = subst (λ z. IsExit (length v'.cells.items) m z) (sym exit) k.exit;

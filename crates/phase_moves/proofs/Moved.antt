@@ -1,5 +1,5 @@
 -- Rows stand for what is open after one cell was called: the one lemma that every move ends in.
-use Rattle.std.proofs.Common.{◌≡◌, ◌≢◌, ◌<◌, ◌∙◌, ℕ, List, length, set, ap, sym, subst, Some, inl, inr, length-set}
+use Rattle.std.proofs.Common.{◌≡◌, ◌≢◌, ◌<◌, ◌∙◌, ℕ, List, length, set, ap, sym, subst, true, Some, inl, inr, length-set}
 use Rattle.std.proofs.lemmas.Bool.{cases_eq}
 use Rattle.std.specs.Prelude.{slice_get, ◌⊎◌}
 use Rattle.phase_bits.specs.declared.holders.Holders.{Holders}
@@ -11,11 +11,13 @@ use Rattle.phase_moves.specs.declared.rows.CellRow.{CellRow}
 use Rattle.phase_moves.specs.declared.rows.Exit.{Exit}
 use Rattle.phase_moves.specs.declared.rows.PartyRow.{PartyRow}
 use Rattle.phase_moves.specs.declared.rows.Rows.{Rows}
-use Rattle.phase_moves.specs.Standing.{Standing}
+use Rattle.phase_moves.specs.Standing.{Standing, seen_by}
+use Rattle.schedule_rules.specs.Changes.{effect}
+use Rattle.schedule_rules.specs.Guards.{Guard, numbered}
 use Rattle.schedule_rules.specs.History.{count}
 use Rattle.schedule_rules.specs.Waits.{waits_at}
 use Rattle.schedule_rules.specs.Transcripts.{most_parties}
-use Rattle.phase_moves.specs.Stands.{CountsWaits, Seen, seen_at, IsCell, Stands, IsExit, AreShown, AreNumbered, slot_row, party_row, AreInside}
+use Rattle.phase_moves.specs.Stands.{CountsWaits, KeepsDraft, draft_of, Seen, seen_at, IsCell, Stands, IsExit, AreShown, AreNumbered, slot_row, party_row, AreInside}
 use Rattle.phase_locker.specs.Left.{Left}
 use Rattle.phase_moves.proofs.Lockers.{locked_same}
 use Rattle.phase_moves.proofs.Places.{slice_get_set_same, slice_get_set_other}
@@ -54,6 +56,7 @@ module _ {L : Type 0} (held : L → Holders) (place : L → LockerKind) where
     pub exit : v'.exit ≡ v.exit
     pub plan : row'.plan ≡ row.plan
     pub waiting : row'.waiting ≡ row.waiting
+    pub draft : row'.draft ≡ row.draft
     pub run : row'.run ≡ row.run
     pub running : row'.seq.running ≡ row.seq.running
     pub left : Left held place c row.seq.locker row'.seq.locker v.parks v'.parks
@@ -62,6 +65,7 @@ module _ {L : Type 0} (held : L → Holders) (place : L → LockerKind) where
   pub record IsMoved (c hand hand' : ℕ) (m m' : Standing) (v v' : Rows L) : Type 0 where
     pub around : (d : ℕ) → d ≢ c → seen_at d m' ≡ seen_at d m
     pub counts : (d : ℕ) → d ≢ c → count (waits_at d) m'.waits ≡ count (waits_at d) m.waits
+    pub drafts : (g : ℕ) (x : Guard) → numbered g m'.guards ≡ Some x → x.writes ≡ true → x.cell ≢ c → numbered g m.guards ≡ Some x
     pub others : OthersStay c v.parks v'.parks
     pub same : SameSize v.parks v'.parks
     pub lists : length v'.parks.writers ≡ length v.parks.writers
@@ -79,11 +83,12 @@ module _ {L : Type 0} (held : L → Holders) (place : L → LockerKind) where
 
   -- the rows stand for it
   pub moved : (c hand hand' : ℕ) (m m' : Standing) (v v' : Rows L) (row : CellRow L) → Stands held place hand m v → c < length v.cells.items → v'.cells.items ≡ set v.cells.items c row
-      → IsCell held place (seen_at c m') v'.parks c row → CountsWaits c m'.waits row → IsMoved c hand hand' m m' v v' → HasParties m' v v' → Stands held place hand' m' v'
-  moved c hand hand' m m' v v' row t lt cells here many k ps =
+      → IsCell held place (seen_at c m') v'.parks c row → CountsWaits c m'.waits row → KeepsDraft c m' row → IsMoved c hand hand' m m' v v' → HasParties m' v v' → Stands held place hand' m' v'
+  moved c hand hand' m m' v v' row t lt cells here many keeps k ps =
       record {
         cell = λ d r e. by d r (cases_eq d c) (ap (λ (xs : List (CellRow L)). slice_get xs d) (sym cells) ∙ e);
         counted = λ d r e. counts d r (cases_eq d c) (ap (λ (xs : List (CellRow L)). slice_get xs d) (sym cells) ∙ e);
+        draft = λ d r e. drafts d r (cases_eq d c) (ap (λ (xs : List (CellRow L)). slice_get xs d) (sym cells) ∙ e);
         slot = λ g l. let l' : g < length v.guards.items = subst (λ (xs : _). g < length xs.items) k.guards l in
             ap (λ (xs : _). slice_get xs.items g) k.guards ∙ t.slot g l' ∙ ap (λ x. Some x) (sym (k.slots g l'));
         party = λ p l. ps.row p (subst (λ n. p < n) ps.count l);
@@ -121,6 +126,21 @@ module _ {L : Type 0} (held : L → Holders) (place : L → LockerKind) where
           subst (λ i. CountsWaits i m'.waits r) (sym q)
           (count_at r (sym (slice_get_set_same v.cells.items c row lt) ∙ ap (λ i. slice_get (set v.cells.items c row) i) (sym q) ∙ e))
       counts d r (inr ne) e = t.counted d r (sym (slice_get_set_other v.cells.items c d row ne) ∙ e) ∙ sym (k.counts d ne)
+
+      keeps_at : (r : CellRow L) → Some row ≡ Some r → KeepsDraft c m' r
+      keeps_at r e = let s : row ≡ r = cc in subst (λ (x : CellRow L). KeepsDraft c m' x) s keeps
+
+      -- the holder of a guard of another cell sees what it saw
+      seen : (x : Guard) → x.cell ≢ c → seen_by m' x ≡ seen_by m x
+      seen x ne = let z = k.around x.cell ne in λ i. effect (z i).plan x.changes (z i).content
+
+      drafts : (d : ℕ) (r : CellRow L) → (d ≡ c) ⊎ (d ≢ c) → slice_get (set v.cells.items c row) d ≡ Some r → KeepsDraft d m' r
+      drafts d r (inl q) e =
+          subst (λ i. KeepsDraft i m' r) (sym q)
+          (keeps_at r (sym (slice_get_set_same v.cells.items c row lt) ∙ ap (λ i. slice_get (set v.cells.items c row) i) (sym q) ∙ e))
+      drafts d r (inr ne) e =
+          λ g x f w at. let beside : x.cell ≢ c = (λ q. ne (sym at ∙ q)) in
+          t.draft d r (sym (slice_get_set_other v.cells.items c d row ne) ∙ e) g x (k.drafts g x f w beside) w at ∙ ap draft_of (sym (seen x beside))
 
   -- a list of rows that is not touched, where what it shows stays
   pub parties_same : (hand : ℕ) (m m' : Standing) (v v' : Rows L) → Stands held place hand m v → v'.parties ≡ v.parties → ((p : ℕ) → party_row m' p ≡ party_row m p) → HasParties m' v v'

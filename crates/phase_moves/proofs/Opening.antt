@@ -20,6 +20,7 @@ use Rattle.phase_moves.specs.Standing.{Standing, guarded, run_in, reads_in, writ
 use Rattle.phase_moves.specs.Stands.{Stands, IsCell, IsExit, AreShown, AreSized, AreInside, seen_at, slot_row, guard_row}
 use Rattle.phase_locker.specs.Rows.{Rows as Parking}
 use Rattle.phase_moves.specs.Moves.{Rests}
+use Rattle.phase_moves.proofs.Drafts.{found_beside}
 use Rattle.phase_moves.proofs.Guards.{once_with, reads_elsewhere, writes_elsewhere}
 use Rattle.phase_moves.proofs.Moved.{IsMoved}
 use Rattle.phase_moves.proofs.Places.{slice_get_set_same, slice_get_set_other}
@@ -63,6 +64,7 @@ module _ {L : Type 0} (held : L → Holders) (place : L → LockerKind) where
       record {
         around = λ d ne. around d ne ∙ k.around d ne;
         counts = k.counts;
+        drafts = drafts;
         others = k.others;
         same = k.same;
         lists = k.lists;
@@ -88,7 +90,13 @@ module _ {L : Type 0} (held : L → Holders) (place : L → LockerKind) where
       slots : (g : ℕ) → g < length v.guards.items → slot_row n (guarded y m') g ≡ slot_row hand' m' g
       slots g l =
           let ne : g ≢ n = λ e. absurd (omega (arith, l, room, e)) in
-          ap (λ o. cond (g == n) guard.Free (guard_row m' o)) (numbered_with y g m'.guards (λ q. ne (q ∙ number))) ∙ empty_hand m' hand' n g empty ne
+          ap (λ o. cond (g == n) guard.Free (guard_row o)) (numbered_with y g m'.guards (λ q. ne (q ∙ number))) ∙ empty_hand m' hand' n g empty ne
+
+      drafts : (g : ℕ) (x : Guard) → numbered g (y ∷ m'.guards) ≡ Some x → x.writes ≡ true → x.cell ≢ c → numbered g m.guards ≡ Some x
+      drafts g x e w ne = elim (found_beside y g m'.guards x e) [
+        | inl q ↦ absurd (ne (ap (λ (z : Guard). z.cell) (sym q) ∙ at))
+        | inr f ↦ k.drafts g x f w ne
+      ]
 
       other : (g : ℕ) (x : Guard) → numbered g m'.guards ≡ Some x → g ≢ hand'
       other g x e = λ q. let n : None ≡ Some x = sym empty ∙ ap (λ i. numbered i m'.guards) (sym q) ∙ e in absurd (cc)
@@ -104,6 +112,7 @@ module _ {L : Type 0} (held : L → Holders) (place : L → LockerKind) where
       record {
         cell = λ c r e. subst (λ (s : Parking). IsCell held place (seen_at c m) s c r) (sym parks) (t.cell c r (ap (λ (xs : _). slice_get xs.items c) (sym cells) ∙ e));
         counted = λ c r e. t.counted c r (ap (λ (xs : _). slice_get xs.items c) (sym cells) ∙ e);
+        draft = λ c r e. t.draft c r (ap (λ (xs : _). slice_get xs.items c) (sym cells) ∙ e);
         slot = slot;
         party = λ p l. ap (λ (xs : _). slice_get xs.items p) parties ∙ t.party p (subst (λ (xs : _). p < length xs.items) parties l);
         exit = subst (λ (xs : _). IsExit (length xs.items) m v'.exit) (sym cells) (subst (λ x. IsExit (length v.cells.items) m x) (sym exit) t.exit);
@@ -120,7 +129,7 @@ module _ {L : Type 0} (held : L → Holders) (place : L → LockerKind) where
       (λ g x e ne. t.guards.in_rows g x e (λ q. let f : None ≡ Some x = sym none ∙ ap (λ i. numbered i m.guards) (sym q) ∙ e in absurd (cc)))
 
   -- the row of the step is pushed
-  pub pushed : (m : Standing) (v v' : Rows L) (row : GuardRow) → Stands held place (length v.guards.items) m v → row ≡ guard_row m (numbered (length v.guards.items) m.guards) → v'.guards.items ≡ v.guards.items ++ row ∷ [] → v'.cells ≡ v.cells → v'.parties ≡ v.parties → v'.parks ≡ v.parks → v'.exit ≡ v.exit
+  pub pushed : (m : Standing) (v v' : Rows L) (row : GuardRow) → Stands held place (length v.guards.items) m v → row ≡ guard_row (numbered (length v.guards.items) m.guards) → v'.guards.items ≡ v.guards.items ++ row ∷ [] → v'.cells ≡ v.cells → v'.parties ≡ v.parties → v'.parks ≡ v.parks → v'.exit ≡ v.exit
       → Stands held place (length v.guards.items + 1) m v'
   pushed m v v' row t is guards cells parties parks exit =
       reslotted n (n + 1) m v v' t cells parties parks exit (λ g l. ap (λ (xs : List GuardRow). slice_get xs g) guards ∙ by g (cases_lt g n) (subst (λ i. g < i) size l)) in_rows
@@ -131,10 +140,10 @@ module _ {L : Type 0} (held : L → Holders) (place : L → LockerKind) where
       size : length v'.guards.items ≡ n + 1
       size = ap (λ (xs : List GuardRow). length xs) guards ∙ grind (arith, common_steps)
 
-      next : (g : ℕ) → g < n + 1 → slot_row (n + 1) m g ≡ guard_row m (numbered g m.guards)
+      next : (g : ℕ) → g < n + 1 → slot_row (n + 1) m g ≡ guard_row (numbered g m.guards)
       next g l = let no : (g == n + 1) ≡ false = grind (arith, l) in rw no refl
 
-      before : (g : ℕ) → g < n → slot_row n m g ≡ guard_row m (numbered g m.guards)
+      before : (g : ℕ) → g < n → slot_row n m g ≡ guard_row (numbered g m.guards)
       before g l = let no : (g == n) ≡ false = grind (arith, l) in rw no refl
 
       last : (xs : List GuardRow) (r : GuardRow) → slice_get (xs ++ r ∷ []) (length xs) ≡ Some r
@@ -147,7 +156,7 @@ module _ {L : Type 0} (held : L → Holders) (place : L → LockerKind) where
       by g (inl l) k = first v.guards.items row g l ∙ t.slot g l ∙ ap (λ x. Some x) (before g l ∙ sym (next g k))
       by g (inr l) k =
           let q : g ≡ n = omega (arith, l, k) in
-          ap (λ i. slice_get (v.guards.items ++ row ∷ []) i) q ∙ last v.guards.items row ∙ ap (λ x. Some x) (is ∙ ap (λ i. guard_row m (numbered i m.guards)) (sym q) ∙ sym (next g k))
+          ap (λ i. slice_get (v.guards.items ++ row ∷ []) i) q ∙ last v.guards.items row ∙ ap (λ x. Some x) (is ∙ ap (λ i. guard_row (numbered i m.guards)) (sym q) ∙ sym (next g k))
 
       in_rows : (g : ℕ) (x : Guard) → numbered g m.guards ≡ Some x → g ≢ n + 1 → g < length v'.guards.items
       in_rows g x e ne =
@@ -183,7 +192,7 @@ module _ {L : Type 0} (held : L → Holders) (place : L → LockerKind) where
           ]
 
   -- so nothing is in hand
-  pub pushed_rests : (m : Standing) (v v' : Rows L) (row : GuardRow) → Stands held place (length v.guards.items) m v → row ≡ guard_row m (numbered (length v.guards.items) m.guards) → v'.guards.items ≡ v.guards.items ++ row ∷ [] → v'.cells ≡ v.cells → v'.parties ≡ v.parties → v'.parks ≡ v.parks → v'.exit ≡ v.exit → Rests held place m v'
+  pub pushed_rests : (m : Standing) (v v' : Rows L) (row : GuardRow) → Stands held place (length v.guards.items) m v → row ≡ guard_row (numbered (length v.guards.items) m.guards) → v'.guards.items ≡ v.guards.items ++ row ∷ [] → v'.cells ≡ v.cells → v'.parties ≡ v.parties → v'.parks ≡ v.parks → v'.exit ≡ v.exit → Rests held place m v'
   pushed_rests m v v' row t is guards cells parties parks exit =
       record { stands = subst (λ i. Stands held place i m v') (sym size) (pushed m v v' row t is guards cells parties parks exit); empty = ap (λ i. numbered i m.guards) size ∙ by (numbered (length v.guards.items + 1) m.guards) refl }
     where
@@ -239,6 +248,7 @@ module _ {L : Type 0} (held : L → Holders) (place : L → LockerKind) where
       record {
         around = λ d ne. around d ne ∙ k.around d ne;
         counts = k.counts;
+        drafts = k.drafts;
         others = k.others;
         same = k.same;
         lists = k.lists;

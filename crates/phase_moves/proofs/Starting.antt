@@ -91,6 +91,7 @@ module _ {L : Type 0} (held : L → Holders) (place : L → LockerKind) where
           record {
             cell = λ c row e. subst (λ (s : Parking). IsCell held place (seen_at c (standing plan.cells.items [])) s c row) (sym parks) (cell_fresh plan.cells.items plan.parties c row (cells.each c row e));
             counted = λ c row e. (cells.each c row e).calm;
+            draft = λ c row e. (λ g x e w at. absurd (cc));
             slot = λ g lt. absurd (let z = ap length guards in omega (arith, lt, z));
             party = λ p lt. ap (λ xs. slice_get xs p) parties ∙ all_same plan.parties p idle_party (let z = ap length parties ∙ length-replicate plan.parties _ in omega (arith, lt, z));
             exit = record { registry_is = registry; owner_is = owner; turns_are = turns; cells_are = length-replicate (length plan.cells.items) _ ∙ sym cells.count };

@@ -37,7 +37,6 @@ use Rattle.schedule_rules.specs.Sections.{Section, innermost, runs_in}
 use Rattle.schedule_rules.specs.Guards.{Guard, numbered, reader}
 use Rattle.schedule_rules.specs.Holds.{writes_cell}
 use Rattle.schedule_rules.specs.Waits.{wait_of, waits_at, without_wait, cell_of_section}
-use Rattle.schedule_rules.proofs.Found.{found_counts}
 use Rattle.schedule_rules.proofs.Opened.{wait_removed, wait_kept}
 use Rattle.waiting_rows.specs.Given.{given_on}
 use Rattle.waiting_rows.proofs.GivenOn.{none_on}
@@ -48,14 +47,15 @@ use Rattle.phase_moves.specs.declared.rows.Rows.{Rows}
 use Rattle.phase_moves.specs.declared.rows.Taken.TheVariants as taken
 use Rattle.phase_moves.specs.Calls.{registry_for, registry_begun}
 use Rattle.phase_moves.specs.Standing.{Standing, Run, run_in, runner_of, reads_in, writes_in, changes_at, called, answered, waiting, guarded, opened, section_asked, writer_asked, registry_asked}
-use Rattle.phase_moves.specs.Stands.{Seen, seen_at, IsCell, IsExit, IsLocked, AreShown, party_row, open_run, run_as, stays_in, target_of}
+use Rattle.phase_moves.specs.Stands.{KeepsDraft, Seen, seen_at, IsCell, IsExit, IsLocked, AreShown, party_row, open_run, run_as, stays_in, target_of}
 use Rattle.phase_moves.specs.Tries.{IsAttempting, IsTook, ask_of, phase_asked, taken_of}
 use Rattle.phase_moves.specs.declared.rows.Taken.{Taken}
 use Rattle.phase_moves.specs.Meets.{IsMet}
 use Rattle.phase_moves.proofs.Asked.{IsAsked, declined, declines_same, asked_left, is_asked, own_same, told_same, registry_still}
 use Rattle.phase_moves.proofs.Attempts.{IsBegun, Tells, declines, phase_left, phase_told, rows_begun, writes_begun, wrote}
 use Rattle.phase_moves.proofs.Calling.{answered_moved}
-use Rattle.phase_moves.proofs.Guards.{target_given, writes_here}
+use Rattle.phase_moves.proofs.Drafts.{keeps_first, keeps_reader, keeps_still, none_writes}
+use Rattle.phase_moves.proofs.Guards.{target_given}
 use Rattle.phase_moves.proofs.Known.{effect_known}
 use Rattle.phase_moves.proofs.Lockers.{handed_writers}
 use Rattle.phase_moves.proofs.Moved.{IsMoved, HasParties, parties_set, moved}
@@ -206,16 +206,16 @@ module _ {L : Type 0} (held : L → Holders) (place : L → LockerKind) where
             let st = is.rests.stands in
             answered_moved held place t.cell n m v v' _ m.content r st k.others k.same (ap (λ (s : Parking). length s.writers) rows ∙ lists_called) guards exit
             (subst (λ (s : Parking). AreShown (length v.cells.items) (given_on t.cell g (without_wait p m.waits)) s) (sym rows) (shown_called (length v.cells.items) who m.waits v.parks g st.waits sizes_in st.sizes.few in_parks party_in d.listed))
-            (λ d ne. refl) (λ g x e w. refl) called_counts
+            (λ d ne. refl) called_counts
 
         waiting_moved : (way : How) → IsExit (length v.cells.items) m v'.exit → v'.parks ≡ rows_waiting way who (rows_handed t.cell g (freed p v.parks)) → IsMoved held place t.cell n n m (waiting p t.cell t.want way (called p t.cell g m)) v v'
         waiting_moved way exit rows =
             let st = is.rests.stands in
             answered_moved held place t.cell n m v v' _ m.content m.registry st k.others k.same (ap (λ (s : Parking). length s.writers) rows ∙ waiting_writers way who (rows_handed t.cell g (freed p v.parks)) ∙ lists_called) guards exit
             (subst (λ (s : Parking). AreShown (length v.cells.items) (record { party = p; cell = t.cell; want = t.want; way = way; woken = false } ∷ given_on t.cell g (without_wait p m.waits)) s) (sym rows) (shown_waiting (length v.cells.items) who m.waits v.parks g st.waits sizes_in st.sizes.few in_parks party_in d.listed is.cell way t.want))
-            (λ d ne. refl) (λ g x e w. refl) (waiting_counts way)
+            (λ d ne. refl) (waiting_counts way)
 
-        -- what is published changes where it is declined, and no write guard shows it then
+        -- what is published changes where it is declined
         abbrev now : ℕ → Content
         now = (answered p t.cell g chs m).content
 
@@ -228,12 +228,19 @@ module _ {L : Type 0} (held : L → Holders) (place : L → LockerKind) where
         now_calm : declined x t.want m.registry.is_open y.phase ≡ false → now t.cell ≡ y
         now_calm e = now_here ∙ left_is ∙ ap (λ b. record { phase = if b then flags_refused else y.phase; value = y.value }) e
 
-        publishes : wrote true b ≡ true → wrote false b ≡ false → IsExit (length v.cells.items) m v'.exit → v'.parks ≡ rows_handed t.cell g (freed p v.parks) → IsMoved held place t.cell n n m (answered p t.cell g chs m) v v'
-        publishes had none_else exit rows =
+        publishes : IsExit (length v.cells.items) m v'.exit → v'.parks ≡ rows_handed t.cell g (freed p v.parks) → IsMoved held place t.cell n n m (answered p t.cell g chs m) v v'
+        publishes exit rows =
             let st = is.rests.stands in
             answered_moved held place t.cell n m v v' _ now m.registry st k.others k.same (ap (λ (s : Parking). length s.writers) rows ∙ lists_called) guards exit
             (subst (λ (s : Parking). AreShown (length v.cells.items) (given_on t.cell g (without_wait p m.waits)) s) (sym rows) (shown_called (length v.cells.items) who m.waits v.parks g st.waits sizes_in st.sizes.few in_parks party_in d.listed))
-            now_beside drafts called_counts
+            now_beside called_counts
+
+        -- the row keeps what it kept
+        kept_called : row'.draft ≡ row.draft → KeepsDraft t.cell (called p t.cell g m) row'
+        kept_called same = keeps_still t.cell m row (called p t.cell g m) row' (is.rests.stands.draft t.cell row (read_at v.cells.items t.cell row is.cell row_is)) same refl (λ j z e w. e) (λ j z e w. refl)
+
+        kept_answered : wrote true b ≡ true → row'.draft ≡ row.draft → KeepsDraft t.cell (answered p t.cell g chs m) row'
+        kept_answered had same = keeps_still t.cell m row (answered p t.cell g chs m) row' (is.rests.stands.draft t.cell row (read_at v.cells.items t.cell row is.cell row_is)) same refl (λ j z e w. e) drafts
           where
             drafts : (j : ℕ) (z : Guard) → numbered j m.guards ≡ Some z → z.writes ≡ true → now z.cell ≡ m.content z.cell
             drafts j z e w = elim (cases_eq z.cell t.cell) [
@@ -245,8 +252,7 @@ module _ {L : Type 0} (held : L → Holders) (place : L → LockerKind) where
                 by false f q = now_calm f
                 by true f q =
                     let none = was_none (ap (λ b'. wrote b' b) (d_is ∙ f) ∙ had) in
-                    let some = found_counts (λ (a : Guard). a.number == j) (writes_cell t.cell) m.guards z e (ap (λ c. writes_cell c z) (sym q) ∙ writes_here z w) in
-                    absurd (omega (arith, none, some))
+                    absurd (none_writes t.cell j m.guards z (omega (arith, none)) e w q)
 
         -- ---- the rows of parties
 
@@ -299,27 +305,27 @@ module _ {L : Type 0} (held : L → Holders) (place : L → LockerKind) where
 
         -- ---- the arms
 
-        pub took_nothing : (q : Phase) → b ≡ begun.Nothing q → of' ≡ record { waiting = None; innermost = of.innermost } → row'.run ≡ row.run → row'.waiting ≡ count (waits_at t.cell) (given_on t.cell g (without_wait p m.waits)) → IsTook held place m v p t (taken.Nothing q) g v'
-        took_nothing q e o run many =
+        pub took_nothing : (q : Phase) → b ≡ begun.Nothing q → of' ≡ record { waiting = None; innermost = of.innermost } → row'.run ≡ row.run → row'.waiting ≡ count (waits_at t.cell) (given_on t.cell g (without_wait p m.waits)) → row'.draft ≡ row.draft → IsTook held place m v p t (taken.Nothing q) g v'
+        took_nothing q e o run many draft =
             let had : wrote true b ≡ true = ap (wrote true) e in
             record {
               stands = moved held place t.cell n n m (answered p t.cell g chs m) v v' row' is.rests.stands is.cell cells
                   (cell_as (answered p t.cell g chs m) (effect x chs y) (run_in t.cell m.sections) (seen_now ∙ with_holds (effect x chs y) 0 0 (run_in t.cell m.sections) (ap reads_begun e) (ap writes_begun e)) (phase_as (begun.Nothing q) e ∙ told_phase) value_now known_now (kept_runner (ap (λ x. running_after x row.seq.running) e)) (runs_now had run))
-                  many
-                  (publishes had (ap (wrote false) e) (exit_still (ap is_run e)) (rows_as (begun.Nothing q) e)) (called_parties (answered p t.cell g chs m) refl refl o);
+                  many (kept_answered had draft)
+                  (publishes (exit_still (ap is_run e)) (rows_as (begun.Nothing q) e)) (called_parties (answered p t.cell g chs m) refl refl o);
               told = told_as (begun.Nothing q) e ∙ told_phase;
               cyclic = cyclic_as (begun.Nothing q) e;
               met = tell (taken.Nothing q) (ap taken_of e);
             }
 
-        pub took_read : (l : ReadTicket) (q : Phase) → b ≡ begun.Read l q → of' ≡ record { waiting = None; innermost = of.innermost } → row'.run ≡ row.run → row'.waiting ≡ count (waits_at t.cell) (given_on t.cell g (without_wait p m.waits)) → IsTook held place m v p t (taken.Read l q) g v'
-        took_read l q e o run many =
+        pub took_read : (l : ReadTicket) (q : Phase) → b ≡ begun.Read l q → of' ≡ record { waiting = None; innermost = of.innermost } → row'.run ≡ row.run → row'.waiting ≡ count (waits_at t.cell) (given_on t.cell g (without_wait p m.waits)) → row'.draft ≡ row.draft → IsTook held place m v p t (taken.Read l q) g v'
+        took_read l q e o run many draft =
             let had : wrote true b ≡ true = ap (wrote true) e in
             record {
               stands = moved held place t.cell n n m (guarded (reader n p t.cell) (answered p t.cell g chs m)) v v' row' is.rests.stands is.cell cells
                   (cell_as (guarded (reader n p t.cell) (answered p t.cell g chs m)) (effect x chs y) (run_in t.cell m.sections) (seen ∙ with_holds (effect x chs y) 1 0 (run_in t.cell m.sections) (ap reads_begun e) (ap writes_begun e)) (phase_as (begun.Read l q) e ∙ told_phase) value_now known_now (kept_runner (ap (λ x. running_after x row.seq.running) e)) (runs_now had run))
-                  many
-                  (guard_opened held place t.cell n n n m (answered p t.cell g chs m) v v' (reader n p t.cell) (publishes had (ap (wrote false) e) (exit_still (ap is_run e)) (rows_as (begun.Read l q) e)) refl refl (omega arith) is.rests.empty is.rests.empty is.cell)
+                  many (keeps_reader t.cell (answered p t.cell g chs m) row' n p (kept_answered had draft))
+                  (guard_opened held place t.cell n n n m (answered p t.cell g chs m) v v' (reader n p t.cell) (publishes (exit_still (ap is_run e)) (rows_as (begun.Read l q) e)) refl refl (omega arith) is.rests.empty is.rests.empty is.cell)
                   (called_parties (guarded (reader n p t.cell) (answered p t.cell g chs m)) refl refl o);
               told = told_as (begun.Read l q) e ∙ told_phase;
               cyclic = cyclic_as (begun.Read l q) e;
@@ -331,12 +337,12 @@ module _ {L : Type 0} (held : L → Holders) (place : L → LockerKind) where
                 seen_reader n p t.cell (answered p t.cell g chs m)
                 ∙ (let w : writes_in t.cell m ≡ writes_in t.cell m + 0 = omega arith in λ i. record { plan = x; content = now_here i; reads = reads_in t.cell m + 1; writes = w i; run = run_in t.cell m.sections })
 
-        pub took_write : (l : WriteTicket) (q : Phase) → b ≡ begun.Write l q → of' ≡ record { waiting = None; innermost = of.innermost } → row'.run ≡ row.run → row'.waiting ≡ count (waits_at t.cell) (given_on t.cell g (without_wait p m.waits)) → IsTook held place m v p t (taken.Write l q) g v'
-        took_write l q e o run many =
+        pub took_write : (l : WriteTicket) (q : Phase) → b ≡ begun.Write l q → of' ≡ record { waiting = None; innermost = of.innermost } → row'.run ≡ row.run → row'.waiting ≡ count (waits_at t.cell) (given_on t.cell g (without_wait p m.waits)) → row'.draft ≡ record { phase = q; value = row.value } → IsTook held place m v p t (taken.Write l q) g v'
+        took_write l q e o run many draft =
             record {
               stands = moved held place t.cell n n m (guarded (writer_asked n p t.cell chs) (called p t.cell g m)) v v' row' is.rests.stands is.cell cells
                   (cell_as (guarded (writer_asked n p t.cell chs) (called p t.cell g m)) y (run_in t.cell m.sections) (seen ∙ with_holds y 0 1 (run_in t.cell m.sections) (ap reads_begun e) (ap writes_begun e)) (kept_phase (phase_as (begun.Write l q) e)) refl cell_here.known (kept_runner (ap (λ x. running_after x row.seq.running) e)) (run ∙ cell_here.runs))
-                  many
+                  many (keeps_first t.cell (called p t.cell g m) row' (writer_asked n p t.cell chs) unwritten (draft ∙ (λ i. record { phase = (told_as (begun.Write l q) e ∙ told_phase) i; value = (cell_here.valued ∙ sym value_now) i })))
                   (guard_opened held place t.cell n n n m (called p t.cell g m) v v' (writer_asked n p t.cell chs) (called_moved m.registry (exit_still (ap is_run e)) (rows_as (begun.Write l q) e)) refl refl (omega arith) is.rests.empty is.rests.empty is.cell)
                   (called_parties (guarded (writer_asked n p t.cell chs) (called p t.cell g m)) refl refl o);
               told = told_as (begun.Write l q) e ∙ told_phase;
@@ -344,6 +350,9 @@ module _ {L : Type 0} (held : L → Holders) (place : L → LockerKind) where
               met = tell (taken.Write l q) (ap taken_of e);
             }
           where
+            unwritten : count (writes_cell t.cell) m.guards ≡ 0
+            unwritten = let none = was_none (ap (wrote _) e) in omega (arith, none)
+
             seen : seen_at t.cell (guarded (writer_asked n p t.cell chs) (called p t.cell g m)) ≡ seen_as y 0 1 (run_in t.cell m.sections)
             seen =
                 seen_writer n p t.cell chs (called p t.cell g m)
@@ -352,12 +361,12 @@ module _ {L : Type 0} (held : L → Holders) (place : L → LockerKind) where
         abbrev waiting_m : How → Standing
         waiting_m way = waiting p t.cell t.want way (called p t.cell g m)
 
-        pub took_wait : (way : How) → b ≡ begun.Wait way → of' ≡ record { waiting = Some (record { cell = t.cell; want = t.want }); innermost = of.innermost } → row'.run ≡ row.run → row'.waiting ≡ count (waits_at t.cell) (given_on t.cell g (without_wait p m.waits)) + 1 → IsTook held place m v p t (taken.Wait way) g v'
-        took_wait way e o run many =
+        pub took_wait : (way : How) → b ≡ begun.Wait way → of' ≡ record { waiting = Some (record { cell = t.cell; want = t.want }); innermost = of.innermost } → row'.run ≡ row.run → row'.waiting ≡ count (waits_at t.cell) (given_on t.cell g (without_wait p m.waits)) + 1 → row'.draft ≡ row.draft → IsTook held place m v p t (taken.Wait way) g v'
+        took_wait way e o run many draft =
             record {
               stands = moved held place t.cell n n m (waiting_m way) v v' row' is.rests.stands is.cell cells
                   (cell_as (waiting_m way) y (run_in t.cell m.sections) (seen_still y ∙ with_holds y 0 0 (run_in t.cell m.sections) (ap reads_begun e) (ap writes_begun e)) (kept_phase (phase_as (begun.Wait way) e)) refl cell_here.known (kept_runner (ap (λ x. running_after x row.seq.running) e)) (run ∙ cell_here.runs))
-                  (many ∙ sym one_more)
+                  (many ∙ sym one_more) (kept_called draft)
                   (waiting_moved way (exit_still (ap is_run e)) (rows_as (begun.Wait way) e))
                   (parties_set held place n m (waiting_m way) v v' p of' is.rests.stands parties (o ∙ (λ i. record { waiting = Some (record { cell = t.cell; want = t.want }); innermost = (of_here i).innermost }) ∙ ap (λ w. record { waiting = target_of w; innermost = (party_row m p).innermost }) (sym itself))
                   (λ q ne. (λ i. record { waiting = target_of (beside q ne i); innermost = (party_row m q).innermost }) ∙ (λ i. record { waiting = others_wait q ne i; innermost = (party_row m q).innermost })));
@@ -383,12 +392,12 @@ module _ {L : Type 0} (held : L → Holders) (place : L → LockerKind) where
         run_r = record { section = section_asked n p t.cell t.want m; outer = cell_of_section (innermost p m.sections) }
 
         pub took_run : (s : SeqSection) → reads_begun b ≡ 0 → writes_begun b ≡ 1 → (held row'.seq.locker).phase ≡ (held row.seq.locker).phase → v'.parks ≡ rows_handed t.cell g (freed p v.parks) → IsExit (length v.cells.items) (record m { registry = registry_asked t.cell t.want m }) v'.exit → row'.seq.running ≡ runner_of (Some run_r)
-            → s ≡ section_by who (run_as x.kind t.want) (stays_in x t.want m.registry.is_open y.phase) write_ticket → false ≡ (initializes x.kind t.want && seq_runs p (runner_of (run_in t.cell m.sections))) → IsMet p t taken.Runs g m → of' ≡ record { waiting = None; innermost = Some t.cell } → row'.run ≡ Some (record { run = record { party = p; want = t.want; outer = of.innermost }; section = s }) → row'.waiting ≡ count (waits_at t.cell) (given_on t.cell g (without_wait p m.waits)) → IsTook held place m v p t taken.Runs g v'
-        took_run s none one phase rows exit runner section turned told o run many =
+            → s ≡ section_by who (run_as x.kind t.want) (stays_in x t.want m.registry.is_open y.phase) write_ticket → false ≡ (initializes x.kind t.want && seq_runs p (runner_of (run_in t.cell m.sections))) → IsMet p t taken.Runs g m → of' ≡ record { waiting = None; innermost = Some t.cell } → row'.run ≡ Some (record { run = record { party = p; want = t.want; outer = of.innermost }; section = s }) → row'.waiting ≡ count (waits_at t.cell) (given_on t.cell g (without_wait p m.waits)) → row'.draft ≡ row.draft → IsTook held place m v p t taken.Runs g v'
+        took_run s none one phase rows exit runner section turned told o run many draft =
             record {
               stands = moved held place t.cell n n m run_m v v' row' is.rests.stands is.cell cells
                   (cell_as run_m y (Some run_r) (seen ∙ with_holds y 0 1 (Some run_r) none one) (kept_phase phase) refl cell_here.known runner (run ∙ (λ i. Some (record { run = record { party = p; want = t.want; outer = (of_here i).innermost }; section = section i }))))
-                  many
+                  many (kept_called draft)
                   (section_opened held place t.cell n n m (record (called p t.cell g m) { registry = registry_asked t.cell t.want m }) v v' sec (called_moved (registry_asked t.cell t.want m) exit rows) refl is.cell)
                   (parties_set held place n m run_m v v' p of' is.rests.stands parties (o ∙ (λ i. record { waiting = target_of (sym gone i); innermost = Some t.cell }) ∙ ap (λ w. record { waiting = target_of (wait_of p (called p t.cell g m).waits); innermost = cell_of_section w }) (sym itself))
                   (λ q ne. (λ i. record { waiting = target_of (wait_of q (called p t.cell g m).waits); innermost = cell_of_section (beside q ne i) }) ∙ (λ i. record { waiting = others_wait q ne i; innermost = (party_row m q).innermost })));

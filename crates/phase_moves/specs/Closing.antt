@@ -35,7 +35,7 @@ module _ {L : Type 0} (held : L → Holders) (place : L → LockerKind) where
   pub record IsPopped (row : GuardRow) (v : Rows L) : Type 0 where
     pub m : Standing
     pub stands : Stands held place (length v.guards.items) m v
-    pub row_is : row ≡ guard_row m (numbered (length v.guards.items) m.guards)
+    pub row_is : row ≡ guard_row (numbered (length v.guards.items) m.guards)
 
   -- ---- sections
 

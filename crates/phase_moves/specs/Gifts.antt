@@ -4,8 +4,6 @@ use Rattle.phase_bits.specs.declared.holders.Holders.{Holders}
 use Rattle.phase_locker.specs.declared.ways.LockerKind.{LockerKind}
 use Rattle.phase_locker.specs.declared.ways.Given.{Given}
 use Rattle.phase_locker.specs.declared.ways.Given.TheVariants as given
-use Rattle.phase_bits.specs.declared.phase.Phase.{Phase}
-use Rattle.std.specs.declared.option.Option.{Option}
 use Rattle.schedule_rules.specs.Kinds.{cell_at, is_parking}
 use Rattle.schedule_rules.specs.History.{count}
 use Rattle.schedule_rules.specs.Guards.{Guard}
@@ -46,8 +44,8 @@ module _ {L : Type 0} (held : L → Holders) (place : L → LockerKind) where
   abbrev pub GivesRead : Rows L → ℕ → Given → Type 0
   GivesRead old c g = (hand : ℕ) (m : Standing) (x : Guard) → IsReader held place hand m old x c → MayGive x.cell (left x given.Nobody m) g
 
-  abbrev pub GivesWrite : Rows L → ℕ → Phase → Option ℕ → Given → Type 0
-  GivesWrite old c phase value g = (hand : ℕ) (m : Standing) (x : Guard) → IsWriter held place hand m old x c phase value → MayGive x.cell (left x given.Nobody m) g
+  abbrev pub GivesWrite : Rows L → ℕ → Given → Type 0
+  GivesWrite old c g = (hand : ℕ) (m : Standing) (x : Guard) → IsWriter held place hand m old x c → MayGive x.cell (left x given.Nobody m) g
 
-  abbrev pub GivesDown : Rows L → ℕ → Phase → Option ℕ → Given → Type 0
-  GivesDown old c phase value g = (hand : ℕ) (m : Standing) (x : Guard) → IsWriter held place hand m old x c phase value → MayGiveDown x.cell m g
+  abbrev pub GivesDown : Rows L → ℕ → Given → Type 0
+  GivesDown old c g = (hand : ℕ) (m : Standing) (x : Guard) → IsWriter held place hand m old x c → MayGiveDown x.cell m g

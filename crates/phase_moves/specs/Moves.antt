@@ -3,9 +3,7 @@
 use Rattle.std.specs.Prelude.{ℕ, true, false, ◌≡◌, ◌≤◌, ◌+◌, length, vec_capacity}
 use Rattle.std.specs.declared.option.Option.{Option}
 use Rattle.std.specs.declared.option.Option.TheVariants.{None, Some}
-use Rattle.phase_bits.specs.declared.phase.Phase.{Phase}
 use Rattle.phase_bits.specs.declared.holders.Holders.{Holders}
-use Rattle.phase_bits.specs.Number.{phase_of}
 use Rattle.phase_bits.specs.Records.{most_readers}
 use Rattle.phase_locker.specs.declared.ways.LockerKind.{LockerKind}
 use Rattle.phase_locker.specs.declared.ways.Given.{Given}
@@ -16,7 +14,7 @@ use Rattle.schedule_rules.specs.History.{count}
 use Rattle.schedule_rules.specs.Waits.{shares_read}
 use Rattle.phase_moves.specs.declared.rows.GuardRow.{GuardRow}
 use Rattle.phase_moves.specs.declared.rows.Rows.{Rows}
-use Rattle.phase_moves.specs.Standing.{Standing, left, seen_by, downgraded, cloned, put, reads_in}
+use Rattle.phase_moves.specs.Standing.{Standing, left, downgraded, cloned, put, reads_in}
 use Rattle.phase_moves.specs.Stands.{Stands, guard_row}
 
 -- the readers of the cell are at their limit: its read guards and its read shares
@@ -48,14 +46,12 @@ module _ {L : Type 0} (held : L → Holders) (place : L → LockerKind) where
     pub at : x.cell ≡ c
     pub reads : x.writes ≡ false
 
-  -- the lock in hand is that of this write guard, on the cell, and its holder sees this
-  pub record IsWriter (hand : ℕ) (m : Standing) (v : Rows L) (x : Guard) (c : ℕ) (phase : Phase) (value : Option ℕ) : Type 0 where
+  -- the lock in hand is that of this write guard, on the cell
+  pub record IsWriter (hand : ℕ) (m : Standing) (v : Rows L) (x : Guard) (c : ℕ) : Type 0 where
     pub stands : Stands held place hand m v
     pub found : numbered hand m.guards ≡ Some x
     pub at : x.cell ≡ c
     pub writes : x.writes ≡ true
-    pub phase_is : phase ≡ phase_of (seen_by m x).phase
-    pub value_is : value ≡ (seen_by m x).value
 
   -- ---- it is given back
 
@@ -68,14 +64,14 @@ module _ {L : Type 0} (held : L → Holders) (place : L → LockerKind) where
   abbrev pub LeavesRead : Rows L → ℕ → Given → Rows L → Type 0
   LeavesRead old c g new = (hand : ℕ) (m : Standing) (x : Guard) → IsReader hand m old x c → Stands held place hand (left x g m) new
 
-  pub record MayLeaveWrite (v : Rows L) (c : ℕ) (phase : Phase) (value : Option ℕ) : Type 0 where
+  pub record MayLeaveWrite (v : Rows L) (c : ℕ) : Type 0 where
     pub hand : ℕ
     pub m : Standing
     pub x : Guard
-    pub is : IsWriter hand m v x c phase value
+    pub is : IsWriter hand m v x c
 
-  abbrev pub LeavesWrite : Rows L → ℕ → Phase → Option ℕ → Given → Rows L → Type 0
-  LeavesWrite old c phase value g new = (hand : ℕ) (m : Standing) (x : Guard) → IsWriter hand m old x c phase value → Stands held place hand (left x g m) new
+  abbrev pub LeavesWrite : Rows L → ℕ → Given → Rows L → Type 0
+  LeavesWrite old c g new = (hand : ℕ) (m : Standing) (x : Guard) → IsWriter hand m old x c → Stands held place hand (left x g m) new
 
   -- ---- the rows of guards
 
@@ -87,7 +83,7 @@ module _ {L : Type 0} (held : L → Holders) (place : L → LockerKind) where
   -- the row of the step, which the guard in hand is that of, is pushed
   abbrev pub Pushes : Rows L → GuardRow → Rows L → Type 0
   Pushes old row new =
-      (m : Standing) → Stands held place (length old.guards.items) m old → row ≡ guard_row m (numbered (length old.guards.items) m.guards)
+      (m : Standing) → Stands held place (length old.guards.items) m old → row ≡ guard_row (numbered (length old.guards.items) m.guards)
       → Rests m new
 
   -- the guard that a party has by this number is taken into the hand
@@ -96,7 +92,7 @@ module _ {L : Type 0} (held : L → Holders) (place : L → LockerKind) where
   TakenAs old g (Some x) m new = Stands held place g m new × (numbered g m.guards ≡ Some x)
 
   pub record IsTaken (old : Rows L) (p g : ℕ) (row : GuardRow) (new : Rows L) (m : Standing) : Type 0 where
-    pub row_is : row ≡ guard_row m (guard_of g p m.guards)
+    pub row_is : row ≡ guard_row (guard_of g p m.guards)
     pub taken : TakenAs old g (guard_of g p m.guards) m new
 
   abbrev pub Takes : Rows L → ℕ → ℕ → GuardRow → Rows L → Type 0
@@ -105,16 +101,16 @@ module _ {L : Type 0} (held : L → Holders) (place : L → LockerKind) where
   -- ---- a guard more
 
   -- the write guard in hand is given back, and a read guard is opened at step n
-  pub record MayDowngrade (v : Rows L) (c : ℕ) (phase : Phase) (value : Option ℕ) : Type 0 where
+  pub record MayDowngrade (v : Rows L) (c : ℕ) : Type 0 where
     pub hand : ℕ
     pub m : Standing
     pub x : Guard
-    pub is : IsWriter hand m v x c phase value
+    pub is : IsWriter hand m v x c
     pub room : HasFree v.parks
 
-  abbrev pub Downgrades : Rows L → ℕ → Phase → Option ℕ → Given → Rows L → Type 0
-  Downgrades old c phase value g new =
-      (hand n : ℕ) (m : Standing) (x : Guard) → IsWriter hand m old x c phase value → length old.guards.items ≤ n → numbered n (without_guard x.number m.guards) ≡ None
+  abbrev pub Downgrades : Rows L → ℕ → Given → Rows L → Type 0
+  Downgrades old c g new =
+      (hand n : ℕ) (m : Standing) (x : Guard) → IsWriter hand m old x c → length old.guards.items ≤ n → numbered n (without_guard x.number m.guards) ≡ None
       → Stands held place n (downgraded n x g m) new
 
   -- a read guard of this number is open
@@ -145,10 +141,12 @@ module _ {L : Type 0} (held : L → Holders) (place : L → LockerKind) where
     pub found : numbered g m.guards ≡ Some x
     pub writes : x.writes ≡ true
 
-  pub record MaySet (v : Rows L) (g : ℕ) : Type 0 where
+  pub record MaySet (v : Rows L) (c : ℕ) : Type 0 where
     pub m : Standing
+    pub g : ℕ
     pub x : Guard
     pub is : IsOpenWriter m v g x
+    pub at : x.cell ≡ c
 
   abbrev pub Sets : Rows L → ℕ → ℕ → Rows L → Type 0
-  Sets old g value new = (m : Standing) (x : Guard) → IsOpenWriter m old g x → Rests (put g value m) new
+  Sets old c value new = (m : Standing) (g : ℕ) (x : Guard) → IsOpenWriter m old g x → x.cell ≡ c → Rests (put g value m) new

@@ -27,18 +27,17 @@ use Rattle.phase_moves.specs.Moves.{Rests}
 abbrev pub is_row_of : ℕ → GuardRow → Bool
 is_row_of p guard.Free = false
 is_row_of p (guard.Read q c lock) = q == p
-is_row_of p (guard.Write q c phase value lock) = q == p
-
--- the row with this value, where it is that of a write guard
-abbrev pub row_put : ℕ → GuardRow → GuardRow
-row_put v guard.Free = guard.Free
-row_put v (guard.Read p c lock) = guard.Read p c lock
-row_put v (guard.Write p c phase value lock) = guard.Write p c phase (Some v) lock
+is_row_of p (guard.Write q c lock) = q == p
 
 -- the published value
 abbrev pub value_kept : {L : Type 0} → Option (CellRow L) → Option ℕ
 value_kept None = None
 value_kept (Some row) = row.value
+
+-- the value that the holder of a write guard sees
+abbrev pub value_drafted : {L : Type 0} → Option (CellRow L) → Option ℕ
+value_drafted None = None
+value_drafted (Some row) = row.draft.value
 
 -- what runs in a cell of this kind
 abbrev pub running_kept : Kind → ℕ → Option OpenRun → Option Running
@@ -53,7 +52,7 @@ run_kept c (Some row) = running_kept row.plan.kind c row.run
 abbrev pub shown_by : {L : Type 0} → Rows L → ℕ → GuardRow → Option Held
 shown_by v p guard.Free = None
 shown_by v p (guard.Read q c lock) = if q == p then Some (record { cell = c; writes = false; value = value_kept (slice_get v.cells.items c) }) else None
-shown_by v p (guard.Write q c phase value lock) = if q == p then Some (record { cell = c; writes = true; value = value }) else None
+shown_by v p (guard.Write q c lock) = if q == p then Some (record { cell = c; writes = true; value = value_drafted (slice_get v.cells.items c) }) else None
 
 -- ---- of what stands open
 

@@ -1,5 +1,5 @@
 -- When rows stand for what is open.
-use Rattle.std.specs.Prelude.{ℕ, Bool, List, [], ◌∷◌, ◌≡◌, ◌≢◌, ◌≤◌, ◌<◌, ◌==◌, length, slice_get, if◌then◌else◌}
+use Rattle.std.specs.Prelude.{ℕ, Bool, true, List, [], ◌∷◌, ◌≡◌, ◌≢◌, ◌≤◌, ◌<◌, ◌==◌, length, slice_get, if◌then◌else◌}
 use Rattle.std.specs.Option.{unwrap_or}
 use Rattle.std.specs.declared.option.Option.{Option}
 use Rattle.std.specs.declared.option.Option.TheVariants.{None, Some}
@@ -37,6 +37,7 @@ use Rattle.schedule_rules.specs.Waits.{Wait, wait_of, waits_at, cell_of_section}
 use Rattle.schedule_rules.specs.Transcripts.{most_parties}
 use Rattle.waiting_rows.specs.Shown.{Shows, IsSingle, AreWithin}
 use Rattle.phase_moves.specs.declared.rows.CellRow.{CellRow}
+use Rattle.phase_moves.specs.declared.rows.Draft.{Draft}
 use Rattle.phase_moves.specs.declared.rows.Exit.{Exit}
 use Rattle.phase_moves.specs.declared.rows.GuardRow.{GuardRow}
 use Rattle.phase_moves.specs.declared.rows.GuardRow.TheVariants as guard
@@ -85,16 +86,13 @@ open_run x c phase (Some r) =
     Some (record { run = record { party = r.section.party; want = r.section.want; outer = r.outer }; section = section_of x c phase r.section })
 
 -- the row of a guard
-abbrev pub guard_row : Standing → Option Guard → GuardRow
-guard_row m None = guard.Free
-guard_row m (Some x) =
-    if x.writes
-    then guard.Write x.party x.cell (phase_of (seen_by m x).phase) (seen_by m x).value write_ticket
-    else guard.Read x.party x.cell read_ticket
+abbrev pub guard_row : Option Guard → GuardRow
+guard_row None = guard.Free
+guard_row (Some x) = if x.writes then guard.Write x.party x.cell write_ticket else guard.Read x.party x.cell read_ticket
 
 -- the row at a number, while the lock of the guard with the number hand is in the hand of the step
 abbrev pub slot_row : ℕ → Standing → ℕ → GuardRow
-slot_row hand m g = if g == hand then guard.Free else guard_row m (numbered g m.guards)
+slot_row hand m g = if g == hand then guard.Free else guard_row (numbered g m.guards)
 
 -- what waits
 abbrev pub target_of : Option Wait → Option Target
@@ -150,6 +148,14 @@ pub record IsCell {L : Type 0} (held : L → Holders) (place : L → LockerKind)
 abbrev pub CountsWaits : {L : Type 0} → ℕ → List Wait → CellRow L → Type 0
 CountsWaits c ws row = row.waiting ≡ count (waits_at c) ws
 
+-- what the holder of a write guard sees, as the row of its cell keeps it
+abbrev pub draft_of : Content → Draft
+draft_of y = record { phase = phase_of y.phase; value = y.value }
+
+-- the row of the cell keeps what the holder of its write guard sees
+abbrev pub KeepsDraft : {L : Type 0} → ℕ → Standing → CellRow L → Type 0
+KeepsDraft c m row = (g : ℕ) (x : Guard) → numbered g m.guards ≡ Some x → x.writes ≡ true → x.cell ≡ c → row.draft ≡ draft_of (seen_by m x)
+
 -- the sections are in one of the first cells, so many
 abbrev pub AreInside : ℕ → List Section → Type 0
 AreInside n [] = Unit {0}
@@ -189,6 +195,7 @@ pub record AreSized (cells parties : ℕ) (s : Parking) : Type 0 where
 pub record Stands {L : Type 0} (held : L → Holders) (place : L → LockerKind) (hand : ℕ) (m : Standing) (v : Rows L) : Type 0 where
   pub cell : (c : ℕ) (row : CellRow L) → slice_get v.cells.items c ≡ Some row → IsCell held place (seen_at c m) v.parks c row
   pub counted : (c : ℕ) (row : CellRow L) → slice_get v.cells.items c ≡ Some row → CountsWaits c m.waits row
+  pub draft : (c : ℕ) (row : CellRow L) → slice_get v.cells.items c ≡ Some row → KeepsDraft c m row
   pub slot : (g : ℕ) → g < length v.guards.items → slice_get v.guards.items g ≡ Some (slot_row hand m g)
   pub party : (p : ℕ) → p < length v.parties.items → slice_get v.parties.items p ≡ Some (party_row m p)
   pub exit : IsExit (length v.cells.items) m v.exit

@@ -23,6 +23,7 @@ use Rattle.schedule_rules.specs.Calls.{initializes, is_fast, seeks}
 use Rattle.schedule_rules.specs.Kinds.{is_owned}
 use Rattle.schedule_rules.specs.Kinds.{cell_at, tolerance_of}
 use Rattle.schedule_rules.specs.Waits.{Wait, wait_of}
+use Rattle.phase_moves.specs.declared.rows.Draft.{Draft}
 use Rattle.phase_moves.specs.declared.rows.OpenRun.{OpenRun}
 use Rattle.phase_moves.specs.declared.rows.PartyRow.{PartyRow}
 use Rattle.phase_moves.specs.declared.rows.Rows.{Rows}
@@ -110,6 +111,17 @@ waiting_after (begun.Read l q) was n = waiting_with was false n
 waiting_after (begun.Write l q) was n = waiting_with was false n
 waiting_after (begun.Run o) was n = waiting_with was false n
 waiting_after (begun.Final o) was n = waiting_with was false n
+
+-- what the holder of the cell's write guard sees then, where this is published: what the lock was got at
+abbrev pub draft_after : Begun → Option ℕ → Draft → Draft
+draft_after (begun.Wait way) value draft = draft
+draft_after begun.Missed value draft = draft
+draft_after begun.Cyclic value draft = draft
+draft_after (begun.Nothing q) value draft = draft
+draft_after (begun.Read l q) value draft = draft
+draft_after (begun.Write l q) value draft = record { phase = q; value = value }
+draft_after (begun.Run o) value draft = draft
+draft_after (begun.Final o) value draft = draft
 
 -- ---- what an attempt requires and tells
 

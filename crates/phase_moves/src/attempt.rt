@@ -5,10 +5,10 @@ ghost use Rattle.schedule_rules.specs.Kinds.{is_owned, tolerance_of};
 ghost use Rattle.schedule_rules.specs.Transcripts.{most_parties};
 ghost use Rattle.phase_moves.specs.declared.rows.Taken.TheVariants.{Runs};
 ghost use Rattle.phase_moves.specs.Moves.{KeptGuards};
-ghost use Rattle.phase_moves.specs.Tries.{MayAttempt, Attempts, ask_of, has_want, opens_section, party_after, party_running, run_after, run_of, taken_of, waiting_after, waiting_with};
+ghost use Rattle.phase_moves.specs.Tries.{MayAttempt, Attempts, ask_of, draft_after, has_want, opens_section, party_after, party_running, run_after, run_of, taken_of, waiting_after, waiting_with};
 
 use crate::calls::{call, finish_final};
-use crate::rows::{CellRow, OpenRun, PartyRow, Rows, RunRow, Taken, Target};
+use crate::rows::{CellRow, Draft, OpenRun, PartyRow, Rows, RunRow, Taken, Target};
 use phase_locker::{Given, Parks, PhaseLocker, Who};
 use phase_seq::{Ask, Begun, Section, Tolerance};
 use schedule_rules::{CellPlan, Place, Want};
@@ -129,7 +129,7 @@ impl<L: PhaseLocker> CellRow<L> {
         requires few { self.old.waiting < most_parties }
         ensures taken { result ≡ taken_of begun }
         ensures party { of.new ≡ party_after target begun of.old }
-        ensures row { self.new ≡ record self.old { run = run_after party target of.old begun self.old.run; waiting = waiting_after begun (is_some of.old.waiting) self.old.waiting } }
+        ensures row { self.new ≡ record self.old { run = run_after party target of.old begun self.old.run; waiting = waiting_after begun (is_some of.old.waiting) self.old.waiting; draft = draft_after begun self.old.value self.old.draft } }
         ensures parks { parks.new ≡ parks.old }
     {
         match begun {
@@ -149,6 +149,10 @@ impl<L: PhaseLocker> CellRow<L> {
             }
             Begun::Write(lock, phase) => {
                 self.awaits(of, None);
+                self.draft = Draft {
+                    phase,
+                    value: self.value,
+                };
                 Taken::Write(lock, phase)
             }
             Begun::Run(section) => self.runs(of, parks, party, target, section),

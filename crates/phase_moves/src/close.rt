@@ -67,11 +67,9 @@ impl<L: PhaseLocker> Rows<L> {
             GuardRow::Write {
                 party: _,
                 cell,
-                phase,
-                value,
                 lock,
             } => {
-                let _given = self.leave_write(cell, lock, phase, value);
+                let _given = self.leave_write(cell, lock);
             }
         }
     }
@@ -96,6 +94,7 @@ fn close_cell<L: PhaseLocker>(cell: u32, row: CellRow<L>, parks: &mut Parks)
     let CellRow {
         plan: _,
         value: _,
+        draft: _,
         run,
         waiting: _,
         mut seq,

@@ -7,7 +7,7 @@ ghost use Rattle.phase_moves.specs.Moves.{KeptGuards};
 ghost use Rattle.phase_moves.specs.Standing.{turn_of};
 
 use crate::calls::{finish, finish_final};
-use crate::rows::{CellRow, OpenRun, Rows};
+use crate::rows::{CellRow, Draft, OpenRun, Rows};
 use phase_bits::Phase;
 use phase_locker::{Given, PhaseLocker};
 use phase_seq::Finished;
@@ -61,7 +61,10 @@ impl<L: PhaseLocker> Rows<L> {
                 row.value = made;
                 Some((Finished::Read(lock, phase), given))
             }
-            Finished::Write(lock, phase) => Some((Finished::Write(lock, phase), given)),
+            Finished::Write(lock, phase) => {
+                row.draft = Draft { phase, value: made };
+                Some((Finished::Write(lock, phase), given))
+            }
             Finished::Failed(phase) => Some((Finished::Failed(phase), given)),
         }
     }

@@ -6,7 +6,7 @@ ghost use Rattle.schedule_rules.specs.Transcripts.{most_parties};
 ghost use Rattle.phase_moves.specs.Fresh.{TakesPlaces, AreFresh, AreFreshCells, IsFreshCell, idle_party};
 ghost use Rattle.phase_moves.specs.Stands.{kind_at};
 
-use crate::rows::{CellRow, Exit, OpenRun, PartyRow, Rows, Target};
+use crate::rows::{CellRow, Draft, Exit, OpenRun, PartyRow, Rows, Target};
 use exit_registry::ExitRegistry;
 use lazy_cells::primed;
 use phase_bits::Phase;
@@ -46,6 +46,10 @@ fn fresh_cell<L: PhaseLocker>(plan: CellPlan) -> CellRow<L>
     CellRow {
         plan,
         value: opening_value(plan),
+        draft: Draft {
+            phase: Phase::empty(),
+            value: None,
+        },
         run,
         waiting: 0,
         seq: LazySequentializer::new(L::new(kind_of(plan.place), Phase::empty())),

@@ -17,4 +17,4 @@ mod rows;
 
 pub use lend::{Lent, Loan};
 pub use look_up::{Held, Running};
-pub use rows::{CellRow, Exit, GuardRow, OpenRun, PartyRow, Rows, RunRow, Taken, Target};
+pub use rows::{CellRow, Draft, Exit, GuardRow, OpenRun, PartyRow, Rows, RunRow, Taken, Target};

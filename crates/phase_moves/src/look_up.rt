@@ -1,7 +1,7 @@
 //! What is read off the rows.
 
 ghost use Rattle.std.specs.Prelude.{◌≡◌, slice_get};
-ghost use Rattle.phase_moves.specs.Reading.{AwaitsBy, HoldsBy, RunsBy, run_kept, shown_by, value_kept};
+ghost use Rattle.phase_moves.specs.Reading.{AwaitsBy, HoldsBy, RunsBy, run_kept, shown_by, value_drafted, value_kept};
 
 use crate::rows::{GuardRow, Rows, Target};
 use phase_locker::PhaseLocker;
@@ -47,6 +47,16 @@ impl<L: PhaseLocker> Rows<L> {
         match self.cells.get(cell as usize) {
             None => None,
             Some(row) => row.value,
+        }
+    }
+
+    /// The value that the holder of a cell's write guard sees.
+    fn drafted(&self, cell: u32) -> Option<u64>
+        ensures { result ≡ value_drafted (slice_get self.now.cells.items cell) }
+    {
+        match self.cells.get(cell as usize) {
+            None => None,
+            Some(row) => row.draft.value,
         }
     }
 
@@ -113,7 +123,6 @@ impl<L: PhaseLocker> Rows<L> {
             GuardRow::Write {
                 party: owner,
                 cell,
-                value,
                 ..
             } => {
                 if *owner != party {
@@ -122,7 +131,7 @@ impl<L: PhaseLocker> Rows<L> {
                 Some(Held {
                     cell: *cell,
                     writes: true,
-                    value: *value,
+                    value: self.drafted(*cell),
                 })
             }
         }

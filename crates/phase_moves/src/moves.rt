@@ -1,13 +1,12 @@
 //! The moves on guards.
 
 ghost use Rattle.std.specs.Prelude.{◌≡◌, ◌<◌, vec_capacity, length};
-ghost use Rattle.phase_moves.specs.Reading.{is_row_of, row_put};
+ghost use Rattle.phase_moves.specs.Reading.{is_row_of};
 ghost use Rattle.phase_moves.specs.Gifts.{GivesRead, GivesWrite, GivesDown};
 ghost use Rattle.phase_moves.specs.Moves.{KeptGuards, KeptWith, MayLeaveRead, LeavesRead, MayLeaveWrite, LeavesWrite, Pushes, Takes, MayDowngrade, Downgrades, MayClone, Clones, MaySet, Sets};
 
 use crate::calls::{clone_read, downgrade, release_read, release_write};
 use crate::rows::{GuardRow, Rows};
-use phase_bits::Phase;
 use phase_locker::{Given, PhaseLocker, ReadTicket, WriteTicket};
 use std::mem;
 
@@ -20,17 +19,6 @@ impl GuardRow {
             GuardRow::Free => false,
             GuardRow::Read { party: owner, .. } => *owner == party,
             GuardRow::Write { party: owner, .. } => *owner == party,
-        }
-    }
-
-    /// The holder of a write guard sets the value.
-    fn put(&mut self, value: u64)
-        ensures { self.new ≡ row_put value self.old }
-    {
-        match self {
-            GuardRow::Free => {}
-            GuardRow::Read { .. } => {}
-            GuardRow::Write { value: seen, .. } => *seen = Some(value),
         }
     }
 }
@@ -71,39 +59,29 @@ impl<L: PhaseLocker> Rows<L> {
     }
 
     /// The write guard in hand is given back, and what its holder sees is published.
-    pub fn leave_write(
-        &mut self,
-        cell: u32,
-        lock: WriteTicket,
-        phase: Phase,
-        value: Option<u64>,
-    ) -> Given
-        requires { MayLeaveWrite L.held L.place self.old cell phase value }
-        ensures leaves { LeavesWrite L.held L.place self.old cell phase value result self.new }
-        ensures gives { GivesWrite L.held L.place self.old cell phase value result }
+    pub fn leave_write(&mut self, cell: u32, lock: WriteTicket) -> Given
+        requires { MayLeaveWrite L.held L.place self.old cell }
+        ensures leaves { LeavesWrite L.held L.place self.old cell result self.new }
+        ensures gives { GivesWrite L.held L.place self.old cell result }
         ensures kept { KeptGuards self.old self.new }
     {
         let row = &mut self.cells[cell as usize];
-        row.value = value;
-        release_write(&mut row.seq, &mut self.parks, cell, lock, phase)
+        let draft = row.draft;
+        row.value = draft.value;
+        release_write(&mut row.seq, &mut self.parks, cell, lock, draft.phase)
     }
 
     /// The write guard in hand is given back, what its holder sees is published, and its holder reads on.
-    pub fn downgrade(
-        &mut self,
-        cell: u32,
-        lock: WriteTicket,
-        phase: Phase,
-        value: Option<u64>,
-    ) -> (ReadTicket, Given)
-        requires { MayDowngrade L.held L.place self.old cell phase value }
-        ensures downgrades { Downgrades L.held L.place self.old cell phase value result.1 self.new }
-        ensures gives { GivesDown L.held L.place self.old cell phase value result.1 }
+    pub fn downgrade(&mut self, cell: u32, lock: WriteTicket) -> (ReadTicket, Given)
+        requires { MayDowngrade L.held L.place self.old cell }
+        ensures downgrades { Downgrades L.held L.place self.old cell result.1 self.new }
+        ensures gives { GivesDown L.held L.place self.old cell result.1 }
         ensures kept { KeptGuards self.old self.new }
     {
         let row = &mut self.cells[cell as usize];
-        row.value = value;
-        downgrade(&mut row.seq, &mut self.parks, cell, lock, phase)
+        let draft = row.draft;
+        row.value = draft.value;
+        downgrade(&mut row.seq, &mut self.parks, cell, lock, draft.phase)
     }
 
     /// One more read guard beside this one, unless the readers of its cell are at their limit.
@@ -118,12 +96,12 @@ impl<L: PhaseLocker> Rows<L> {
         clone_read(&mut self.cells[cell as usize].seq, lock)
     }
 
-    /// The holder of this write guard sets the value, which is published when the guard is given back.
-    pub fn set(&mut self, guard: u32, value: u64)
-        requires { MaySet L.held L.place self.old guard }
-        ensures sets { Sets L.held L.place self.old guard value self.new }
-        ensures kept { KeptWith 0 self.old self.new }
+    /// The holder of the cell's write guard sets the value, which is published when the guard is given back.
+    pub fn set(&mut self, cell: u32, value: u64)
+        requires { MaySet L.held L.place self.old cell }
+        ensures sets { Sets L.held L.place self.old cell value self.new }
+        ensures kept { KeptGuards self.old self.new }
     {
-        self.guards[guard as usize].put(value);
+        self.cells[cell as usize].draft.value = Some(value);
     }
 }

@@ -23,11 +23,20 @@ pub struct OpenRun {
     pub section: Section,
 }
 
+/// What the holder of a write guard sees, which is published when the guard is given back.
+#[derive(Clone, Copy, PartialEq, Eq, Debug)]
+pub struct Draft {
+    pub phase: Phase,
+    pub value: Option<u64>,
+}
+
 /// What is kept of a cell.
 pub struct CellRow<L> {
     pub plan: CellPlan,
     /// The published value.
     pub value: Option<u64>,
+    /// What the holder of the cell's write guard sees. Without meaning while none is open.
+    pub draft: Draft,
     /// The section that runs.
     pub run: Option<OpenRun>,
     /// How many calls and turns wait here.
@@ -46,12 +55,10 @@ pub enum GuardRow {
         cell: u32,
         lock: ReadTicket,
     },
-    /// A write guard of the party on the cell, and what its holder sees, which is published when the guard is given back.
+    /// A write guard of the party on the cell. The cell's row keeps what its holder sees.
     Write {
         party: u32,
         cell: u32,
-        phase: Phase,
-        value: Option<u64>,
         lock: WriteTicket,
     },
 }

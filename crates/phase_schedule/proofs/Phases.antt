@@ -1,6 +1,6 @@
 -- The phases that legal histories publish and tell have no bit above the eight flags.
 use Rattle.std.proofs.Common.{ℕ, List, [], ◌∷◌, sym, subst, arith, Bool, true, false, not, ◌&&◌, None, Some}
-use Rattle.std.specs.Prelude.{◌==◌, if◌then◌else◌}
+use Rattle.std.specs.Prelude.{◌==◌, if◌then◌else◌, is_none}
 use Rattle.std.specs.declared.option.Option.{Option}
 use Rattle.phase_bits.specs.Number.{IsKnown, phase_of}
 use Rattle.exit_registry.specs.declared.registry.Look.{Look}
@@ -25,13 +25,13 @@ use Rattle.schedule_rules.specs.declared.step.Act.TheVariants as act
 use Rattle.schedule_rules.specs.declared.step.Step.{Step}
 use Rattle.schedule_rules.specs.declared.step.Want.{Want}
 use Rattle.schedule_rules.specs.declared.step.Want.TheVariants.{Calls, Turns}
-use Rattle.schedule_rules.specs.Answers.{Meeting, answer_admitted, answer_at, answer_barred, answer_made, answer_of_attempt, answer_of_made, begins_run, call_answer_admitted, drains_by, turn_answer_admitted, way_parked}
+use Rattle.schedule_rules.specs.Answers.{Meeting, answer_admitted, answer_at, answer_barred, answer_lent, answer_made, answer_made_to_lend, answer_of_attempt, answer_of_made, begins_run, call_answer_admitted, drains_by, turn_answer_admitted, way_parked}
 use Rattle.schedule_rules.specs.Calls.{initializes, is_fast, lock_wanted}
-use Rattle.schedule_rules.specs.Changes.{Content, Ran, Ended, content_asked, is_declined, effect}
+use Rattle.schedule_rules.specs.Changes.{Content, Ran, RanIfAsked, Ended, asks_to_lend, content_asked, content_to_lend, is_declined, effect}
 use Rattle.schedule_rules.specs.Due.{answer_of_look, due_answer, due_clone, due_finished, due_look, due_made, due_tried, meeting, phase_made}
 use Rattle.schedule_rules.specs.Exits.{registry}
 use Rattle.schedule_rules.specs.Guards.{Guard, guards, numbered}
-use Rattle.schedule_rules.specs.History.{Event}
+use Rattle.schedule_rules.specs.History.{Event, accepts}
 use Rattle.schedule_rules.specs.Holds.{holding_with, is_barred}
 use Rattle.schedule_rules.specs.Kinds.{cell_at, tolerance_of}
 use Rattle.schedule_rules.specs.Legal.{First, IsLegalLine, Last, Moment, answer_of, due_at}
@@ -149,6 +149,16 @@ module _ (cells : List CellPlan) where
       by true = tt
       by false = tt
 
+  lent_known : (q : Kind) (y : Content) → IsKnown (phase_of y.phase) → TellsKnown (answer_lent q y)
+  lent_known q y known = at_known Shown (is_accessible q y.phase) y known
+
+  made_to_lend_known : (x : CellPlan) (is_open : Bool) (made : Option ℕ) (y : Content) → IsKnown (phase_of y.phase) → TellsKnown (answer_made_to_lend x.kind (tolerance_of x) is_open made y)
+  made_to_lend_known x is_open made y known = by (asks_to_lend x.kind (tolerance_of x) y.phase && is_none made)
+    where
+      by : (b : Bool) → TellsKnown (if b then answer.Failed else answer_lent x.kind (content_to_lend x.kind (tolerance_of x) is_open made y))
+      by true = tt
+      by false = lent_known x.kind (content_to_lend x.kind (tolerance_of x) is_open made y) (change_known x (RanIfAsked is_open made) y known)
+
   due_known : (h : List Event) (p : ℕ) (a : Act) (ws : List Wait) (chosen : Bool) → TellsKnown (due_answer cells h (record { party = p; act = a }) ws chosen)
   due_known h p (act.Call c k) ws chosen = tried_known h p (attempt cells h (record { party = p; act = act.Call c k })) ws chosen
   due_known h p act.Again ws chosen = tried_known h p (attempt cells h (record { party = p; act = act.Again })) ws chosen
@@ -156,6 +166,8 @@ module _ (cells : List CellPlan) where
   due_known h p act.MadeFailed ws chosen = tt
   due_known h p (act.Finished left) ws chosen = finished_known h true (innermost p (sections h))
   due_known h p (act.FinishFailed left) ws chosen = finished_known h false (innermost p (sections h))
+  due_known h p (act.GetMut c made left) ws chosen = made_to_lend_known (cell_at cells c) (accepts h) made (replay cells c h) (published_known c h)
+  due_known h p (act.TryGetMut c left) ws chosen = lent_known (cell_at cells c).kind (replay cells c h) (published_known c h)
   due_known h p act.Exit ws chosen = tried_known h p (attempt cells h (record { party = p; act = act.Exit })) ws chosen
   due_known h p (act.Look g) ws chosen = seen_known h (numbered g (guards h))
   due_known h p (act.Set g v) ws chosen = tt

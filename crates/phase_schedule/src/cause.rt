@@ -2,7 +2,7 @@
 
 ghost use Rattle.std.specs.Prelude.{◌≡◌, ◌<◌, ◌^◌, length};
 ghost use Rattle.schedule_rules.specs.Kinds.{is_placed};
-ghost use Rattle.schedule_rules.specs.Transcripts.{schedule_of};
+ghost use Rattle.schedule_rules.specs.Transcripts.{names_known_cell, schedule_of};
 ghost use Rattle.phase_schedule.specs.Errors.{cause_of, cause_of_plan, first_found, misplaced_of, unknown_of};
 
 use crate::error::RunError;
@@ -117,10 +117,21 @@ fn unknown(plan: &Plan, n: u32, s: &Step) -> Option<RunError>
     if s.party >= plan.parties {
         return Some(RunError::UnknownParty { step: n });
     }
-    match s.act {
-        Act::Call { cell, .. } if cell as usize >= plan.cells.len() => {
-            Some(RunError::UnknownCell { step: n })
-        },
-        _ => None,
+    if names_known_cell(plan.cells.len(), s.act) {
+        None
+    } else {
+        Some(RunError::UnknownCell { step: n })
+    }
+}
+
+/// Whether the act names no cell, or one of so many.
+fn names_known_cell(cells: usize, act: Act) -> bool
+    ensures { result ≡ names_known_cell cells act }
+{
+    match act {
+        Act::Call { cell, .. } => (cell as usize) < cells,
+        Act::GetMut { cell, .. } => (cell as usize) < cells,
+        Act::TryGetMut { cell, .. } => (cell as usize) < cells,
+        _ => true,
     }
 }

@@ -93,6 +93,20 @@ pub fn clone(party: u32, guard: u32) -> Step {
     }
 }
 
+pub fn get_mut(party: u32, cell: u32, made: Option<u64>, left: u64) -> Step {
+    Step {
+        party,
+        act: Act::GetMut { cell, made, left },
+    }
+}
+
+pub fn try_get_mut(party: u32, cell: u32, left: u64) -> Step {
+    Step {
+        party,
+        act: Act::TryGetMut { cell, left },
+    }
+}
+
 pub fn exit(party: u32) -> Step {
     let act = Act::Exit;
     Step { party, act }

@@ -3,14 +3,20 @@
 use crate::error::RunError;
 use crate::run::run_schedule;
 use crate::test_runs::{
-    Row, again, call, clone, downgrade, empty, expect_rows, expect_waits, gives, left, look, made,
-    made_failed, plan, plan_of, release, row, set,
+    Row, again, call, clone, downgrade, empty, expect_rows, expect_waits, get_mut, gives, left,
+    look, made, made_failed, plan, plan_of, release, row, set, try_get_mut,
 };
 use phase_bits::Phase;
 use phase_locker::Waiting;
+use phase_moves::GuardRow;
 use schedule_rules::{Answer, Call, CellPlan, Given, How, Kind, Place, Refusal};
 use std::process::Abort;
 use std::test::Fail;
+
+#[test]
+fn a_row_of_a_guard_takes_twelve_bytes(rt: HostRuntime) {
+    assert_eq!(rt; std::mem::size_of::<GuardRow>(), 12);
+}
 
 #[test]
 fn answers_are_those_known(rt: HostRuntime) -> Result<(), Fail> {
@@ -165,12 +171,55 @@ fn readers_and_writers_park(rt: HostRuntime) -> Result<(), Fail> {
 }
 
 #[test]
+fn values_are_lent(rt: HostRuntime) -> Result<(), Fail> {
+    let alloc = rt.alloc();
+    let lazy = CellPlan {
+        kind: Kind::Lazy,
+        retry: true,
+        leak: false,
+        place: Place::Spin,
+        prime: 0,
+    };
+    let plan = plan_of(alloc, 1, 1, lazy)?;
+    let rows = [
+        row(try_get_mut(0, 0, 3), Answer::Access(Phase::empty())),
+        row(get_mut(0, 0, None, 3), Answer::Failed),
+        row(get_mut(0, 0, Some(8), 3), Answer::Value(8)),
+        row(call(0, 0, Call::TryGet), Answer::Value(3)),
+        row(call(0, 0, Call::Read), Answer::Refused(Refusal::NoSuchCall)),
+    ];
+    let is_left = [left(Phase::INITIALIZED, 3)];
+    expect_rows(&rt, alloc, &plan, &rows, &is_left, &[])
+}
+
+#[test]
+fn no_value_in_use_is_lent(rt: HostRuntime) -> Result<(), Fail> {
+    let rows = [
+        row(call(0, 0, Call::Write), Answer::Running),
+        row(made(0, 3), Answer::WriteGuard),
+        row(call(1, 0, Call::Read), Answer::Waiting(How::Spin)),
+        row(get_mut(2, 0, Some(1), 2), Answer::Refused(Refusal::InUse)),
+        row(release(0, 1), Answer::Done),
+        row(get_mut(2, 0, Some(1), 2), Answer::Refused(Refusal::InUse)),
+        row(again(1), Answer::ReadGuard),
+        row(try_get_mut(2, 0, 2), Answer::Refused(Refusal::InUse)),
+        row(release(1, 6), Answer::Done),
+        row(get_mut(2, 0, Some(1), 2), Answer::Value(3)),
+        row(try_get_mut(2, 0, 6), Answer::Value(2)),
+    ];
+    let plan = plan(rt.alloc(), 3, 1, Place::Spin)?;
+    let is_left = [left(Phase::INITIALIZED, 6)];
+    expect_rows(&rt, rt.alloc(), &plan, &rows, &is_left, &[])
+}
+
+#[test]
 fn causes_are_found(rt: HostRuntime) -> Result<(), Fail> {
     let alloc = rt.alloc();
     let many = plan(alloc, 1 << 20, 1, Place::Park)?;
     let one = plan(alloc, 1, 1, Place::Park)?;
     let stranger = [call(5, 9, Call::Read)];
     let far = [call(0, 0, Call::Read), call(0, 9, Call::Read)];
+    let lent = [get_mut(0, 1, None, 2)];
     let is_found = matches!(
         run_schedule(alloc, &many, &stranger),
         Err(RunError::TooManyParties)
@@ -184,6 +233,11 @@ fn causes_are_found(rt: HostRuntime) -> Result<(), Fail> {
     let is_found = matches!(
         run_schedule(alloc, &one, &far),
         Err(RunError::UnknownCell { step: 1 })
+    );
+    assert!(rt; is_found);
+    let is_found = matches!(
+        run_schedule(alloc, &one, &lent),
+        Err(RunError::UnknownCell { step: 0 })
     );
     assert!(rt; is_found);
     Ok(())

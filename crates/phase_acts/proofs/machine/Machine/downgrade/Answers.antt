@@ -9,13 +9,13 @@ pub returns-then-not-held : goal.returns-then-not-held
 returns-then-not-held g c = λ cells h is. c.refuse-then-not-held.ensures cells h _ is.next (down_no_writer g.L.PhaseLocker.held g.L.PhaseLocker.place c.args.self.now.rows c.args.party c.args.guard c.held.result c.held.ensures cells h is c.in-Some.held c.in-Some.is (turned_true c.in-Some.held.writes c.if-not-held.true))
 
 pub downgrade-given-requires : goal.downgrade-given-requires
-downgrade-given-requires g c = may_downgrade g.L.PhaseLocker.held g.L.PhaseLocker.place c.args.self.now.rows c.args.party c.args.guard c.held.result c.held.ensures c.requires.cells c.requires.h c.requires.is c.in-Some.held c.in-Some.is (turned_false c.in-Some.held.writes c.if-not-held.false) c.take.new.self c.take.result c.take.ensures.takes c.take.ensures.kept c.in-Write.party c.in-Write.cell c.in-Write.phase c.in-Write.value c.in-Write.lock c.in-Write.is
+downgrade-given-requires g c = may_downgrade g.L.PhaseLocker.held g.L.PhaseLocker.place c.args.self.now.rows c.args.party c.args.guard c.held.result c.held.ensures c.requires.cells c.requires.h c.requires.is c.in-Some.held c.in-Some.is (turned_false c.in-Some.held.writes c.if-not-held.false) c.take.new.self c.take.result c.take.ensures.takes c.take.ensures.kept c.in-Write.party c.in-Write.cell c.in-Write.lock c.in-Write.is
 
 pub leave_read-given-requires : goal.leave_read-given-requires
 leave_read-given-requires g c = absurd (never_reader g.L.PhaseLocker.held g.L.PhaseLocker.place c.args.self.now.rows c.args.party c.args.guard c.held.result c.held.ensures c.requires.cells c.requires.h c.requires.is c.in-Some.held c.in-Some.is (turned_false c.in-Some.held.writes c.if-not-held.false) c.take.new.self c.take.result c.take.ensures.takes c.take.ensures.kept c.in-Read.party c.in-Read.cell c.in-Read.lock c.in-Read.is)
 
 pub returns-in-Write : goal.returns-in-Write
-returns-in-Write g c = λ cells h is. let r = c.downgrade-given.ensures in let e = c.end_step.ensures in read_on g.L.PhaseLocker.held g.L.PhaseLocker.place c.args.self.now.rows c.args.party c.args.guard c.held.result c.held.ensures cells h is c.in-Some.held c.in-Some.is (turned_false c.in-Some.held.writes c.if-not-held.false) c.take.new.self c.take.result c.take.ensures.takes c.take.ensures.kept c.in-Write.party c.in-Write.cell c.in-Write.phase c.in-Write.value c.in-Write.lock c.in-Write.is _ _ c.downgrade-given.result.1 r.downgrades r.gives r.kept c.downgrade-given.result.0 c.end_step.result e.line e.pushes e.kept
+returns-in-Write g c = λ cells h is. let r = c.downgrade-given.ensures in let e = c.end_step.ensures in read_on g.L.PhaseLocker.held g.L.PhaseLocker.place c.args.self.now.rows c.args.party c.args.guard c.held.result c.held.ensures cells h is c.in-Some.held c.in-Some.is (turned_false c.in-Some.held.writes c.if-not-held.false) c.take.new.self c.take.result c.take.ensures.takes c.take.ensures.kept c.in-Write.party c.in-Write.cell c.in-Write.lock c.in-Write.is _ _ c.downgrade-given.result.1 r.downgrades r.gives r.kept c.downgrade-given.result.0 c.end_step.result e.line e.pushes e.kept
 
 pub returns-in-Read : goal.returns-in-Read
 returns-in-Read g c = λ cells h is. absurd (never_reader g.L.PhaseLocker.held g.L.PhaseLocker.place c.args.self.now.rows c.args.party c.args.guard c.held.result c.held.ensures cells h is c.in-Some.held c.in-Some.is (turned_false c.in-Some.held.writes c.if-not-held.false) c.take.new.self c.take.result c.take.ensures.takes c.take.ensures.kept c.in-Read.party c.in-Read.cell c.in-Read.lock c.in-Read.is)

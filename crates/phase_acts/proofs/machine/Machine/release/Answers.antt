@@ -10,7 +10,7 @@ pub leave_read-given-requires : goal.leave_read-given-requires
 leave_read-given-requires g c = may_leave_read g.L.PhaseLocker.held g.L.PhaseLocker.place c.args.self.now.rows c.take.new.self c.args.party c.args.guard c.take.result c.take.ensures.takes c.take.ensures.kept (standing c.requires.cells c.requires.h) c.requires.is.next.follows.rests c.in-Read.party c.in-Read.cell c.in-Read.lock c.in-Read.is
 
 pub leave_write-given-requires : goal.leave_write-given-requires
-leave_write-given-requires g c = may_leave_write g.L.PhaseLocker.held g.L.PhaseLocker.place c.args.self.now.rows c.take.new.self c.args.party c.args.guard c.take.result c.take.ensures.takes c.take.ensures.kept (standing c.requires.cells c.requires.h) c.requires.is.next.follows.rests c.in-Write.party c.in-Write.cell c.in-Write.phase c.in-Write.value c.in-Write.lock c.in-Write.is
+leave_write-given-requires g c = may_leave_write g.L.PhaseLocker.held g.L.PhaseLocker.place c.args.self.now.rows c.take.new.self c.args.party c.args.guard c.take.result c.take.ensures.takes c.take.ensures.kept (standing c.requires.cells c.requires.h) c.requires.is.next.follows.rests c.in-Write.party c.in-Write.cell c.in-Write.lock c.in-Write.is
 
 pub returns-in-Free : goal.returns-in-Free
 returns-in-Free g c = λ cells h is.
@@ -25,4 +25,4 @@ returns-in-Read g c = λ cells h is.
 pub returns-in-Write : goal.returns-in-Write
 returns-in-Write g c = λ cells h is.
     let e = c.end_step-in-Write.ensures in
-    released_write g.L.PhaseLocker.held g.L.PhaseLocker.place c.args.self.now.rows c.take.new.self c.args.party c.args.guard c.take.result c.take.ensures.takes c.take.ensures.kept cells h is _ _ c.leave_write-given.result c.end_step-in-Write.result e.line c.leave_write-given.ensures.kept e.pushes e.kept c.in-Write.party c.in-Write.cell c.in-Write.phase c.in-Write.value c.in-Write.lock c.in-Write.is c.leave_write-given.ensures.leaves c.leave_write-given.ensures.gives
+    released_write g.L.PhaseLocker.held g.L.PhaseLocker.place c.args.self.now.rows c.take.new.self c.args.party c.args.guard c.take.result c.take.ensures.takes c.take.ensures.kept cells h is _ _ c.leave_write-given.result c.end_step-in-Write.result e.line c.leave_write-given.ensures.kept e.pushes e.kept c.in-Write.party c.in-Write.cell c.in-Write.lock c.in-Write.is c.leave_write-given.ensures.leaves c.leave_write-given.ensures.gives

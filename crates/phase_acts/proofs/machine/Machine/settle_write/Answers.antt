@@ -8,10 +8,10 @@ index-row-requires g c =
     grind arith
 
 pub downgrade-last-requires : goal.downgrade-last-requires
-downgrade-last-requires g c = may_read_on g.L.PhaseLocker.held g.L.PhaseLocker.place c.requires.m c.args.self.now.rows c.args.self.now.rows c.args.party c.args.target c.args.given (record { answer = c.answer_left-answer.result; given = c.args.given }) c.args.lock c.args.phase c.requires.is c.index-row.result.now c.index-row.ensures
+downgrade-last-requires g c = may_read_on g.L.PhaseLocker.held g.L.PhaseLocker.place c.requires.m c.args.self.now.rows c.args.self.now.rows c.args.party c.args.target c.args.given (record { answer = c.answer_left-answer.result; given = c.args.given }) c.args.lock c.args.phase c.requires.is
 
 pub leave_write-last-requires : goal.leave_write-last-requires
-leave_write-last-requires g c = may_give_write g.L.PhaseLocker.held g.L.PhaseLocker.place c.requires.m c.args.self.now.rows c.args.self.now.rows c.args.party c.args.target c.args.given (record { answer = c.answer_left-answer.result; given = c.args.given }) c.args.lock c.args.phase c.requires.is c.index-row.result.now c.index-row.ensures
+leave_write-last-requires g c = may_give_write g.L.PhaseLocker.held g.L.PhaseLocker.place c.requires.m c.args.self.now.rows c.args.self.now.rows c.args.party c.args.target c.args.given (record { answer = c.answer_left-answer.result; given = c.args.given }) c.args.lock c.args.phase c.requires.is
 
 pub returns-then-writes_on-clause-settles : goal.returns-then-writes_on-clause-settles
 returns-then-writes_on-clause-settles g c = λ m is. keeps_write g.L.PhaseLocker.held g.L.PhaseLocker.place m c.args.self.now.rows _ c.args.party c.args.target c.args.given c.end_step.result c.args.lock c.args.phase is c.index-row.result.now c.index-row.ensures c.answer_left-answer.result c.answer_left-answer.ensures (sym c.writes_on.ensures ∙ c.if-writes_on.true) c.end_step.ensures.line c.end_step.ensures.pushes

@@ -8,4 +8,4 @@ clone_read-requires g c = clone_readers g.L.PhaseLocker.held g.L.PhaseLocker.pla
 pub returns-clause-clones : goal.returns-clause-clones
 returns-clause-clones g c = λ m x is at.
     let r = c.clone_read.ensures in
-    clones g.L.PhaseLocker.held g.L.PhaseLocker.place m c.args.self.now _ c.args.guard c.args.cell x is at c.index_mut.result.now _ c.index_mut.ensures.value c.clone_read.result refl refl refl refl refl refl refl refl refl r.running r.place r.most r.some r.none r.fits
+    clones g.L.PhaseLocker.held g.L.PhaseLocker.place m c.args.self.now _ c.args.guard c.args.cell x is at c.index_mut.result.now _ c.index_mut.ensures.value c.clone_read.result refl refl refl refl refl refl refl refl refl refl r.running r.place r.most r.some r.none r.fits

@@ -31,7 +31,7 @@ returns-in-Write-clause-ends g c = λ m s is.
     let r = c.finish-finished.ensures in
     let e = c.take_run.ensures.row in
     ends_write g.L.PhaseLocker.held g.L.PhaseLocker.place m c.args.self.now c.args.party c.args.cell c.args.made s is c.index_mut-row.result.now c.index_mut-row.ensures.value _ _ c.index_mut.result.now _ c.index_mut.ensures.value c.in-Some.open (sym c.take_run.ensures.run ∙ c.in-Some.is) refl refl refl refl refl
-    (ap (λ (x : CellRow _). x.plan) e) (ap (λ (x : CellRow _). x.waiting) e) (ap (λ (x : CellRow _). x.run) e) r.running c.is_some.result (is_made c.args.made c.is_some.result c.is_some.ensures) c.finish-finished.result (rw e at r.finishes) r.stands r.reads (rw e at r.left) c.in-Write.lock c.in-Write.phase c.in-Write.is (ap (λ (x : CellRow _). x.value) e)
+    (ap (λ (x : CellRow _). x.plan) e) (ap (λ (x : CellRow _). x.waiting) e) (ap (λ (x : CellRow _). x.run) e) r.running c.is_some.result (is_made c.args.made c.is_some.result c.is_some.ensures) c.finish-finished.result (rw e at r.finishes) r.stands r.reads (rw e at r.left) c.in-Write.lock c.in-Write.phase c.in-Write.is (ap (λ (x : CellRow _). x.value) e) refl
 
 pub returns-in-Failed-clause-ends : goal.returns-in-Failed-clause-ends
 returns-in-Failed-clause-ends g c = λ m s is.

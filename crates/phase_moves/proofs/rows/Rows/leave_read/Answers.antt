@@ -14,7 +14,7 @@ pub returns-clause-leaves : goal.returns-clause-leaves
 returns-clause-leaves g c = λ hand m x is.
     let r = c.release_read.ensures in
     read_left g.L.PhaseLocker.held g.L.PhaseLocker.place m c.args.self.now _ c.args.cell hand x c.index_mut-row.result.now _ c.release_read.result
-    (record { row_at = reader_row g.L.PhaseLocker.held g.L.PhaseLocker.place c.args.self.now _ _ c.index_mut-row.ensures.value _ _ _ is; cells = refl; guards = refl; parties = refl; exit = refl; plan = refl; waiting = refl; run = refl; running = r.running; left = r.left })
+    (record { row_at = reader_row g.L.PhaseLocker.held g.L.PhaseLocker.place c.args.self.now _ _ c.index_mut-row.ensures.value _ _ _ is; cells = refl; guards = refl; parties = refl; exit = refl; plan = refl; waiting = refl; draft = refl; run = refl; running = r.running; left = r.left })
     is refl r.hands r.reads r.closed
 
 pub returns-clause-gives : goal.returns-clause-gives
