@@ -3,23 +3,31 @@ use Rattle.std.proofs.Common.{◌≡◌, ℕ, ◌+◌, ◌-◌, ◌/◌, ◌%◌
 use Rattle.std.specs.Prelude.{replicate, if◌then◌else◌}
 use Rattle.std.specs.Fmt.{decimal}
 use Rattle.std.proofs.Math.ListN.{set}
-use Rattle.std.proofs.Math.Seq.{take-append-add, take-append_seam, get_or-append_seam, set-append_seam}
+use Rattle.std.proofs.Math.Seq.{take-append-add, take-append_seam, drop-append_seam, get_or-append_seam, set-append_seam}
 use Rattle.std.proofs.lemmas.Bool.{ltb-true, ltb-false, lt-ltb, le-ltb}
-use Rattle.std.proofs.lemmas.List.{length-append, get_or-drop, drop-set-add}
+use Rattle.std.proofs.lemmas.List.{length-append, drop-drop, get_or-drop, drop-set-add}
 use Rattle.std.proofs.lemmas.Fmt.{decimal_digit, decimal_step}
 use Rattle.schedule_text.specs.Numerals.{most_digits, IsRow}
 
 -- a number, and the byte that ends it, stand in the row from its first digit on
-pub row_piece : (end start n k : ℕ) (row : List ℕ) → IsRow end start row n → k ≡ 21 → take (21 - start) (take k (drop start row)) ≡ decimal n ++ (end ∷ [])
+pub row_piece : (end start n k : ℕ) (row : List ℕ) → IsRow end start row n → k ≡ 24 → take (21 - start) (take k (drop start row)) ≡ decimal n ++ (end ∷ [])
 row_piece end start n k row r all =
     let d : List ℕ = decimal n ++ (end ∷ []) in
-    let rest : List ℕ = replicate 20 end in
+    let rest : List ℕ = replicate 23 end in
     let long : length d ≡ 21 - start = omega (arith, r.width, length-append (decimal n) (end ∷ [])) in
     let parts : drop start row ≡ d ++ rest = r.digits ∙ sym (append_assoc (decimal n) (end ∷ []) rest) in
-    let whole : k ≡ length d + start = omega (arith, r.width, long) in
-    let taken : take k (drop start row) ≡ d ++ take start rest =
-    ap (take k) parts ∙ ap (λ (i : ℕ). take i (d ++ rest)) whole ∙ take-append-add d rest start in
-    ap (take (21 - start)) taken ∙ ap (λ (i : ℕ). take i (d ++ take start rest)) (sym long) ∙ take-append_seam d (take start rest)
+    let whole : k ≡ length d + (start + 3) = omega (arith, r.width, long) in
+    let taken : take k (drop start row) ≡ d ++ take (start + 3) rest =
+    ap (take k) parts ∙ ap (λ (i : ℕ). take i (d ++ rest)) whole ∙ take-append-add d rest (start + 3) in
+    ap (take (21 - start)) taken ∙ ap (λ (i : ℕ). take i (d ++ take (start + 3) rest)) (sym long) ∙ take-append_seam d (take (start + 3) rest)
+
+-- behind the digits of a row stays what was there when others are written
+pub rewritten : (end start n from m : ℕ) (row new : List ℕ) → IsRow end start row n → from + length (decimal m) ≡ most_digits → drop from new ≡ decimal m ++ drop 20 row → IsRow end from new m
+rewritten end start n from m row new r width digits =
+    let rest : drop 20 row ≡ replicate 24 end =
+    ap (λ (i : ℕ). drop i row) (sym r.width) ∙ sym (drop-drop (length (decimal n)) start row)
+    ∙ ap (drop (length (decimal n))) r.digits ∙ drop-append_seam (decimal n) (replicate 24 end) in
+    record { width = width; digits = digits ∙ ap (λ (l : List ℕ). decimal m ++ l) rest }
 
 -- the digits of a number before its last one
 before_last : ℕ → List ℕ
@@ -62,7 +70,7 @@ counted_up start n m row r follows small low = record { width = wide; digits = d
     x = 48 + n % 10
 
     spaces : List ℕ
-    spaces = replicate 21 32
+    spaces = replicate 24 32
 
     now : decimal n ≡ d ++ (x ∷ [])
     now = last_is n (omega arith)
@@ -84,7 +92,7 @@ counted_up start n m row r follows small low = record { width = wide; digits = d
     wide : start + length (decimal m) ≡ most_digits
     wide = omega (arith, place, ap length next, length-append d ((x + 1) ∷ []))
 
-    digits : drop start (set row 19 (get_or row 19 0 + 1)) ≡ decimal m ++ replicate 21 32
+    digits : drop start (set row 19 (get_or row 19 0 + 1)) ≡ decimal m ++ replicate 24 32
     digits =
         ap (λ (v : ℕ). drop start (set row 19 (v + 1))) read
         ∙ ap (λ (i : ℕ). drop start (set row i (x + 1))) (sym place)

@@ -10,4 +10,4 @@ most_digits = 20
 -- the byte that ends it, over and over
 pub record IsRow (end start : ℕ) (row : List ℕ) (n : ℕ) : Type 0 where
   pub width : start + length (decimal n) ≡ most_digits
-  pub digits : drop start row ≡ decimal n ++ replicate 21 end
+  pub digits : drop start row ≡ decimal n ++ replicate 24 end

@@ -1,6 +1,6 @@
 //! The answers of steps.
 
-ghost use Rattle.std.specs.Prelude.{◌≡◌, ◌≤◌, [], ◌∷◌, ◌++◌, codes, length};
+ghost use Rattle.std.specs.Prelude.{◌≡◌, ◌≤◌, [], ◌∷◌, ◌++◌, codes};
 ghost use Rattle.std.specs.Fmt.{decimal};
 ghost use Rattle.phase_bits.specs.Number.{number};
 ghost use Rattle.phase_bits.specs.Text.{phase_text};
@@ -21,21 +21,21 @@ impl Page {
     {
         match answer {
             Answer::Phase(phase) => self.put_phase_answer(phase),
-            Answer::Value(value) => self.put_numbered(b"value ", value),
-            Answer::ReadGuard => self.put(b"read-guard\n"),
-            Answer::ErrGuard => self.put(b"err-guard\n"),
-            Answer::WriteGuard => self.put(b"write-guard\n"),
-            Answer::Running => self.put(b"running\n"),
-            Answer::Finalizing(cell) => self.put_numbered(b"finalizing ", u64::from(cell)),
-            Answer::Skipped(cell) => self.put_numbered(b"skipped ", u64::from(cell)),
-            Answer::Round(cells) => self.put_numbered(b"round ", u64::from(cells)),
-            Answer::Closed => self.put(b"closed\n"),
-            Answer::Done => self.put(b"done\n"),
+            Answer::Value(value) => self.put_numbered(*b"value ", value),
+            Answer::ReadGuard => self.put_word(*b"read-guard\n"),
+            Answer::ErrGuard => self.put_word(*b"err-guard\n"),
+            Answer::WriteGuard => self.put_word(*b"write-guard\n"),
+            Answer::Running => self.put_word(*b"running\n"),
+            Answer::Finalizing(cell) => self.put_numbered(*b"finalizing ", u64::from(cell)),
+            Answer::Skipped(cell) => self.put_numbered(*b"skipped ", u64::from(cell)),
+            Answer::Round(cells) => self.put_numbered(*b"round ", u64::from(cells)),
+            Answer::Closed => self.put_word(*b"closed\n"),
+            Answer::Done => self.put_word(*b"done\n"),
             Answer::Access(phase) => self.put_access(phase),
-            Answer::Failed => self.put(b"failed\n"),
-            Answer::Cyclic => self.put(b"cyclic\n"),
-            Answer::Borrowed => self.put(b"borrowed\n"),
-            Answer::Missed => self.put(b"none\n"),
+            Answer::Failed => self.put_word(*b"failed\n"),
+            Answer::Cyclic => self.put_word(*b"cyclic\n"),
+            Answer::Borrowed => self.put_word(*b"borrowed\n"),
+            Answer::Missed => self.put_word(*b"none\n"),
             Answer::Waiting(way) => self.put_waiting(way),
             Answer::Refused(reason) => self.put_refusal(reason),
         }
@@ -47,9 +47,9 @@ impl Page {
         ensures text { self.new ≡ self.old ++ line_text (codes "phase" ∷ phase_text (number phase) ∷ []) }
         ensures room { GrowsBy 175 self.old self.new }
     {
-        self.put(b"phase ");
+        self.put_word(*b"phase ");
         self.put_phase(phase);
-        self.put(b"\n");
+        self.put_word(*b"\n");
     }
 
     /// Puts that a value may not be accessed at a phase, and ends the line.
@@ -58,19 +58,19 @@ impl Page {
         ensures text { self.new ≡ self.old ++ line_text (codes "access" ∷ phase_text (number phase) ∷ []) }
         ensures room { GrowsBy 176 self.old self.new }
     {
-        self.put(b"access ");
+        self.put_word(*b"access ");
         self.put_phase(phase);
-        self.put(b"\n");
+        self.put_word(*b"\n");
     }
 
     /// Puts a word with the space behind it, and a number, and ends the line.
-    fn put_numbered(&mut self, word: &[u8], number: u64)
-        requires short { length word.now ≤ 14 }
-        requires room { HasRoom 35 self.old }
-        ensures text { self.new ≡ self.old ++ (word.now ++ (decimal number ++ 10 ∷ [])) }
+    fn put_numbered<const N: usize>(&mut self, word: [u8; N], number: u64)
+        requires short { N ≤ 14 }
+        requires room { HasRoom 38 self.old }
+        ensures text { self.new ≡ self.old ++ (word.entry ++ (decimal number ++ 10 ∷ [])) }
         ensures room { GrowsBy 35 self.old self.new }
     {
-        self.put(word);
+        self.put_word(word);
         self.put_decimal(number, b'\n');
     }
 
@@ -81,10 +81,10 @@ impl Page {
         ensures room { GrowsBy 14 self.old self.new }
     {
         match way {
-            How::Spin => self.put(b"waiting spin\n"),
-            How::ParkedRead => self.put(b"waiting read\n"),
-            How::ParkedWrite => self.put(b"waiting write\n"),
-            How::Drain => self.put(b"waiting drain\n"),
+            How::Spin => self.put_word(*b"waiting spin\n"),
+            How::ParkedRead => self.put_word(*b"waiting read\n"),
+            How::ParkedWrite => self.put_word(*b"waiting write\n"),
+            How::Drain => self.put_word(*b"waiting drain\n"),
         }
     }
 
@@ -95,17 +95,17 @@ impl Page {
         ensures room { GrowsBy 21 self.old self.new }
     {
         match reason {
-            Refusal::Waits => self.put(b"refused 1 Waits\n"),
-            Refusal::NotWaiting => self.put(b"refused 2 NotWaiting\n"),
-            Refusal::NotOwner => self.put(b"refused 3 NotOwner\n"),
-            Refusal::NoSuchCall => self.put(b"refused 4 NoSuchCall\n"),
-            Refusal::NoGuard => self.put(b"refused 5 NoGuard\n"),
-            Refusal::NotWriter => self.put(b"refused 6 NotWriter\n"),
-            Refusal::NoSection => self.put(b"refused 7 NoSection\n"),
-            Refusal::NoOutcome => self.put(b"refused 8 NoOutcome\n"),
-            Refusal::InUse => self.put(b"refused 9 InUse\n"),
-            Refusal::ExitBegun => self.put(b"refused 10 ExitBegun\n"),
-            Refusal::Inside => self.put(b"refused 11 Inside\n"),
+            Refusal::Waits => self.put_word(*b"refused 1 Waits\n"),
+            Refusal::NotWaiting => self.put_word(*b"refused 2 NotWaiting\n"),
+            Refusal::NotOwner => self.put_word(*b"refused 3 NotOwner\n"),
+            Refusal::NoSuchCall => self.put_word(*b"refused 4 NoSuchCall\n"),
+            Refusal::NoGuard => self.put_word(*b"refused 5 NoGuard\n"),
+            Refusal::NotWriter => self.put_word(*b"refused 6 NotWriter\n"),
+            Refusal::NoSection => self.put_word(*b"refused 7 NoSection\n"),
+            Refusal::NoOutcome => self.put_word(*b"refused 8 NoOutcome\n"),
+            Refusal::InUse => self.put_word(*b"refused 9 InUse\n"),
+            Refusal::ExitBegun => self.put_word(*b"refused 10 ExitBegun\n"),
+            Refusal::Inside => self.put_word(*b"refused 11 Inside\n"),
         }
     }
 }

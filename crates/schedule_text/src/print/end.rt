@@ -18,7 +18,7 @@ impl Page {
         requires { has_line_room self.old ≡ true }
         ensures { self.new ≡ self.old ++ line_text title_words }
     {
-        self.put(b"transcript 1\n");
+        self.put_word(*b"transcript 1\n");
     }
 
     /// Puts the last line.
@@ -26,7 +26,7 @@ impl Page {
         requires { has_line_room self.old ≡ true }
         ensures { self.new ≡ self.old ++ line_text end_words }
     {
-        self.put(b"end\n");
+        self.put_word(*b"end\n");
     }
 
     /// Puts the line of the cell with this number, by what it is left with.
@@ -34,7 +34,7 @@ impl Page {
         requires { has_line_room self.old ≡ true }
         ensures { self.new ≡ self.old ++ line_text (final_words cell left.now) }
     {
-        self.put(b"cell ");
+        self.put_word(*b"cell ");
         self.put_decimal(cell, b' ');
         self.put_phase(left.phase);
         self.put_value(left.value);
@@ -42,13 +42,13 @@ impl Page {
 
     /// Puts the value that a cell is left with, behind its phase, and ends the line.
     fn put_value(&mut self, value: Option<u64>)
-        requires { HasRoom 22 self.old }
+        requires { HasRoom 25 self.old }
         ensures { self.new ≡ self.old ++ 32 ∷ line_text (value_word value ∷ []) }
     {
         match value {
-            None => self.put(b" none\n"),
+            None => self.put_word(*b" none\n"),
             Some(value) => {
-                self.put(b" ");
+                self.put_word(*b" ");
                 self.put_decimal(value, b'\n');
             }
         }
@@ -60,12 +60,12 @@ impl Page {
         requires ended { turned.now.turn ≢ turn.Busy }
         ensures { self.new ≡ self.old ++ line_text (exit_words turned.now) }
     {
-        self.put(b"exit ");
+        self.put_word(*b"exit ");
         self.put_decimal(u64::from(turned.cell), b' ');
         match turned.turn {
-            Turn::Done => self.put(b"done\n"),
-            Turn::Skipped => self.put(b"skipped\n"),
-            Turn::Failed => self.put(b"failed\n"),
+            Turn::Done => self.put_word(*b"done\n"),
+            Turn::Skipped => self.put_word(*b"skipped\n"),
+            Turn::Failed => self.put_word(*b"failed\n"),
             Turn::Busy => {}
         }
     }

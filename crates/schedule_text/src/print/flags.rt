@@ -18,12 +18,12 @@ impl Page {
     {
         let bits = phase.bits();
         if bits & 0xff == 0 {
-            self.put(b"Phase (not initialized)");
+            self.put_word(*b"Phase (not initialized)");
         } else {
-            self.put(b"Phase (");
+            self.put_word(*b"Phase (");
             self.put_lower(bits);
             self.put_upper(bits);
-            self.put(b")");
+            self.put_word(*b")");
         }
     }
 
@@ -65,7 +65,7 @@ impl Page {
             return;
         }
         if bits & (flag - 1) != 0 {
-            self.put(b" | ");
+            self.put_word(*b" | ");
         }
         self.put(name);
     }

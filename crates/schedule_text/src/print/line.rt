@@ -30,11 +30,11 @@ impl Page {
             Given::Nobody => {}
             Given::Readers => {
                 self.take_off(1);
-                self.put(b" gives readers\n");
+                self.put_word(*b" gives readers\n");
             }
             Given::Writer(party) => {
                 self.take_off(1);
-                self.put(b" gives writer ");
+                self.put_word(*b" gives writer ");
                 self.put_decimal(u64::from(party), b'\n');
             }
         }

@@ -2,29 +2,18 @@
 
 ghost use Rattle.std.specs.Prelude.{◌≡◌, ◌≤◌, ◌+◌, ◌<◌, [], ◌∷◌, ◌++◌, take, IsTrue, ◌↔◌};
 ghost use Rattle.std.specs.Fmt.{decimal};
-ghost use Rattle.schedule_text.specs.Numerals.{IsRow};
 
 use itoa::write_digits;
 use std::marker::Model;
 
 /// The most digits that a number has.
-const MOST_DIGITS: usize = 20;
+pub(crate) const MOST_DIGITS: usize = 20;
 
-/// The most bytes of a number with the byte that ends it.
-pub(crate) const NUMERAL_BYTES: usize = MOST_DIGITS + 1;
+/// So many bytes are copied of a row, where a number has at most `MOST_DIGITS` and the byte that ends it: eight at a time.
+pub(crate) const NUMERAL_BYTES: usize = 24;
 
 /// The digits of a number end at `MOST_DIGITS` of a row. So from their first one on, the row has `NUMERAL_BYTES` bytes.
 pub(crate) const ROW_BYTES: usize = MOST_DIGITS + NUMERAL_BYTES;
-
-/// Writes the digits of a number into a row, and tells where they begin.
-#[inline(always)]
-pub(crate) fn write_row(number: u64, end: u8) -> ([u8; ROW_BYTES], usize)
-    ensures { IsRow end result.1 result.0 number }
-{
-    let mut row = [end; ROW_BYTES];
-    let start = write_digits(number, &mut row, MOST_DIGITS);
-    (row, start)
-}
 
 /// A number and its row of digits, with spaces behind them. The number that follows mostly differs in the last digit alone.
 ///
@@ -53,7 +42,8 @@ impl Numeral {
     pub(crate) fn of(number: u64) -> Numeral
         ensures { result ≡ number }
     {
-        let (row, start) = write_row(number, b' ');
+        let mut row = [b' '; ROW_BYTES];
+        let start = write_digits(number, &mut row, MOST_DIGITS);
         Numeral { number, row, start }
     }
 
@@ -70,7 +60,16 @@ impl Numeral {
                 return;
             }
         }
-        *self = Numeral::of(number);
+        self.write(number);
+    }
+
+    /// Writes all digits of this number.
+    fn write(&mut self, number: u64)
+        ensures { self.new ≡ number }
+    {
+        let start = write_digits(number, &mut self.row, MOST_DIGITS);
+        self.start = start;
+        self.number = number;
     }
 
     /// Whether the number is the one that follows.
@@ -91,6 +90,6 @@ impl Numeral {
     {
         let mut text = [b' '; NUMERAL_BYTES];
         text.copy_from_slice(&self.row[self.start..self.start + NUMERAL_BYTES]);
-        (text, NUMERAL_BYTES - self.start)
+        (text, MOST_DIGITS + 1 - self.start)
     }
 }

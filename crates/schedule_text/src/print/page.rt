@@ -4,7 +4,8 @@ ghost use Rattle.std.specs.Prelude.{◌≡◌, ◌≤◌, ◌<◌, ◌-◌, [], 
 ghost use Rattle.std.specs.Fmt.{decimal};
 ghost use Rattle.schedule_text.specs.Pages.{GrowsBy, HasRoom, has_line_room};
 
-use crate::print::numeral::{NUMERAL_BYTES, Numeral, write_row};
+use crate::print::numeral::{MOST_DIGITS, NUMERAL_BYTES, Numeral, ROW_BYTES};
+use itoa::write_digits;
 use std::alloc::{AllocError, Global};
 use std::marker::Model;
 
@@ -84,6 +85,15 @@ impl Page {
         self.len = end;
     }
 
+    /// Puts a word. Its length is known where it is put, and nothing else lends it, so that a few moves write it.
+    #[inline(always)]
+    pub(crate) fn put_word<const N: usize>(&mut self, word: [u8; N])
+        requires { HasRoom N self.old }
+        ensures { self.new ≡ self.old ++ word.entry }
+    {
+        self.put(&word);
+    }
+
     /// Puts so many bytes of the front of these, which are copied whole. A copy of a fixed size takes the least time.
     #[inline(always)]
     pub(crate) fn put_front(&mut self, text: &[u8], count: usize)
@@ -107,18 +117,19 @@ impl Page {
     /// Puts a number in decimal, and a byte that ends it.
     #[inline(always)]
     pub(crate) fn put_decimal(&mut self, number: u64, end: u8)
-        requires { HasRoom 21 self.old }
+        requires { HasRoom 24 self.old }
         ensures text { self.new ≡ self.old ++ (decimal number ++ end ∷ []) }
         ensures room { GrowsBy 21 self.old self.new }
     {
-        let (row, start) = write_row(number, end);
-        self.put_front(&row[start..start + NUMERAL_BYTES], NUMERAL_BYTES - start);
+        let mut row = [end; ROW_BYTES];
+        let start = write_digits(number, &mut row, MOST_DIGITS);
+        self.put_front(&row[start..start + NUMERAL_BYTES], MOST_DIGITS + 1 - start);
     }
 
     /// Puts the number of a step, and a space. It is kept, since the number of the next step is mostly made of it.
     #[inline(always)]
     pub(crate) fn put_counted(&mut self, number: u64)
-        requires { HasRoom 21 self.old }
+        requires { HasRoom 24 self.old }
         ensures text { self.new ≡ self.old ++ (decimal number ++ 32 ∷ []) }
         ensures room { GrowsBy 21 self.old self.new }
     {

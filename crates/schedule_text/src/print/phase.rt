@@ -16,15 +16,17 @@ impl Page {
         ensures room { GrowsBy 168 self.old self.new }
     {
         match phase.bits() {
-            0 => self.put(b"Phase (not initialized)"),
-            1 => self.put(b"Phase (Initialized)"),
-            6 => self.put(b"Phase (Initialization panicked | Initialization skiped)"),
-            9 => self.put(b"Phase (Initialized | Registered)"),
+            0 => self.put_word(*b"Phase (not initialized)"),
+            1 => self.put_word(*b"Phase (Initialized)"),
+            6 => self.put_word(*b"Phase (Initialization panicked | Initialization skiped)"),
+            9 => self.put_word(*b"Phase (Initialized | Registered)"),
             14 => {
-                self.put(b"Phase (Initialization panicked | Initialization skiped | Registered)")
+                self.put_word(
+                    *b"Phase (Initialization panicked | Initialization skiped | Registered)",
+                )
             }
-            36 => self.put(b"Phase (Initialization skiped | Registration refused)"),
-            73 => self.put(b"Phase (Initialized | Registered | Finalized)"),
+            36 => self.put_word(*b"Phase (Initialization skiped | Registration refused)"),
+            73 => self.put_word(*b"Phase (Initialized | Registered | Finalized)"),
             _ => self.put_flags(phase),
         }
     }
