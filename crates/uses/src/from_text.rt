@@ -37,5 +37,6 @@ pub fn run_text(alloc: Global, text: &[u8]) -> Result<Vec<u8>, TextError>
     if plan.cells.len() > MOST_BYTES || steps.len() > MOST_BYTES {
         return Err(TextError::Long);
     }
+    let steps = steps.to_vec(alloc).map_err(RunError::from)?;
     Ok(run_and_print(alloc, &plan, &steps)?)
 }
