@@ -63,7 +63,7 @@ use Rattle.phase_moves.proofs.Opening.{guard_opened, seen_reader, seen_writer, a
 use Rattle.phase_moves.proofs.Parking.{shown_called, shown_waiting, freed_writers, waiting_writers}
 use Rattle.phase_moves.proofs.Places.{itself_eq, read_at}
 use Rattle.phase_moves.proofs.Runs.{none_runs}
-use Rattle.phase_moves.proofs.Waiting.{count_beside, waited_here}
+use Rattle.phase_moves.proofs.Waiting.{count_beside, count_elsewhere, count_one_more, waited_here}
 
 module _ {L : Type 0} (held : L → Holders) (place : L → LockerKind) where
   module _ (m : Standing) (v v' : Rows L) (p : ℕ) (t : Target) (waits : Bool) (is : IsAttempting held place m v p t waits) (row row' : CellRow L) (row_is : row ≡ get_or v.cells.items t.cell row) (of of' : PartyRow) (of_is : of ≡ get_or v.parties.items p of)
@@ -194,12 +194,8 @@ module _ {L : Type 0} (held : L → Holders) (place : L → LockerKind) where
         lists_called : length (rows_handed t.cell g (freed p v.parks)).writers ≡ length v.parks.writers
         lists_called = handed_writers g t.cell (freed p v.parks) ∙ freed_writers p v.parks
 
-        -- at other cells as many wait as before
         called_counts : (c : ℕ) → c ≢ t.cell → count (waits_at c) (given_on t.cell g (without_wait p m.waits)) ≡ count (waits_at c) m.waits
         called_counts = count_beside p t.cell m.waits is.rests.stands.waits.single g (waited_here waits t.cell (wait_of p m.waits) is.waited)
-
-        waiting_counts : (way : How) (c : ℕ) → c ≢ t.cell → count (waits_at c) (waiting p t.cell t.want way (called p t.cell g m)).waits ≡ count (waits_at c) m.waits
-        waiting_counts way c ne = let e : (t.cell == c) ≡ false = grind (arith, ne) in rw e (called_counts c ne)
 
         called_moved : (r : Registry) → IsExit (length v.cells.items) (record m { registry = r }) v'.exit → v'.parks ≡ rows_handed t.cell g (freed p v.parks) → IsMoved held place t.cell n n m (record (called p t.cell g m) { registry = r }) v v'
         called_moved r exit rows =
@@ -213,7 +209,7 @@ module _ {L : Type 0} (held : L → Holders) (place : L → LockerKind) where
             let st = is.rests.stands in
             answered_moved held place t.cell n m v v' _ m.content m.registry st k.others k.same (ap (λ (s : Parking). length s.writers) rows ∙ waiting_writers way who (rows_handed t.cell g (freed p v.parks)) ∙ lists_called) guards exit
             (subst (λ (s : Parking). AreShown (length v.cells.items) (record { party = p; cell = t.cell; want = t.want; way = way; woken = false } ∷ given_on t.cell g (without_wait p m.waits)) s) (sym rows) (shown_waiting (length v.cells.items) who m.waits v.parks g st.waits sizes_in st.sizes.few in_parks party_in d.listed is.cell way t.want))
-            (λ d ne. refl) (λ g x e w. refl) (waiting_counts way)
+            (λ d ne. refl) (λ g x e w. refl) (λ c ne. count_elsewhere c (record { party = p; cell = t.cell; want = t.want; way = way; woken = false }) (called p t.cell g m).waits ne ∙ called_counts c ne)
 
         -- what is published changes where it is declined, and no write guard shows it then
         abbrev now : ℕ → Content
@@ -230,8 +226,7 @@ module _ {L : Type 0} (held : L → Holders) (place : L → LockerKind) where
 
         publishes : wrote true b ≡ true → wrote false b ≡ false → IsExit (length v.cells.items) m v'.exit → v'.parks ≡ rows_handed t.cell g (freed p v.parks) → IsMoved held place t.cell n n m (answered p t.cell g chs m) v v'
         publishes had none_else exit rows =
-            let st = is.rests.stands in
-            answered_moved held place t.cell n m v v' _ now m.registry st k.others k.same (ap (λ (s : Parking). length s.writers) rows ∙ lists_called) guards exit
+            let st = is.rests.stands in answered_moved held place t.cell n m v v' _ now m.registry st k.others k.same (ap (λ (s : Parking). length s.writers) rows ∙ lists_called) guards exit
             (subst (λ (s : Parking). AreShown (length v.cells.items) (given_on t.cell g (without_wait p m.waits)) s) (sym rows) (shown_called (length v.cells.items) who m.waits v.parks g st.waits sizes_in st.sizes.few in_parks party_in d.listed))
             now_beside drafts called_counts
           where
@@ -301,11 +296,9 @@ module _ {L : Type 0} (held : L → Holders) (place : L → LockerKind) where
 
         pub took_nothing : (q : Phase) → b ≡ begun.Nothing q → of' ≡ record { waiting = None; innermost = of.innermost } → row'.run ≡ row.run → row'.waiting ≡ count (waits_at t.cell) (given_on t.cell g (without_wait p m.waits)) → IsTook held place m v p t (taken.Nothing q) g v'
         took_nothing q e o run many =
-            let had : wrote true b ≡ true = ap (wrote true) e in
-            record {
+            let had : wrote true b ≡ true = ap (wrote true) e in record {
               stands = moved held place t.cell n n m (answered p t.cell g chs m) v v' row' is.rests.stands is.cell cells
-                  (cell_as (answered p t.cell g chs m) (effect x chs y) (run_in t.cell m.sections) (seen_now ∙ with_holds (effect x chs y) 0 0 (run_in t.cell m.sections) (ap reads_begun e) (ap writes_begun e)) (phase_as (begun.Nothing q) e ∙ told_phase) value_now known_now (kept_runner (ap (λ x. running_after x row.seq.running) e)) (runs_now had run))
-                  many
+                  (cell_as (answered p t.cell g chs m) (effect x chs y) (run_in t.cell m.sections) (seen_now ∙ with_holds (effect x chs y) 0 0 (run_in t.cell m.sections) (ap reads_begun e) (ap writes_begun e)) (phase_as (begun.Nothing q) e ∙ told_phase) value_now known_now (kept_runner (ap (λ x. running_after x row.seq.running) e)) (runs_now had run)) many
                   (publishes had (ap (wrote false) e) (exit_still (ap is_run e)) (rows_as (begun.Nothing q) e)) (called_parties (answered p t.cell g chs m) refl refl o);
               told = told_as (begun.Nothing q) e ∙ told_phase;
               cyclic = cyclic_as (begun.Nothing q) e;
@@ -314,11 +307,9 @@ module _ {L : Type 0} (held : L → Holders) (place : L → LockerKind) where
 
         pub took_read : (l : ReadTicket) (q : Phase) → b ≡ begun.Read l q → of' ≡ record { waiting = None; innermost = of.innermost } → row'.run ≡ row.run → row'.waiting ≡ count (waits_at t.cell) (given_on t.cell g (without_wait p m.waits)) → IsTook held place m v p t (taken.Read l q) g v'
         took_read l q e o run many =
-            let had : wrote true b ≡ true = ap (wrote true) e in
-            record {
+            let had : wrote true b ≡ true = ap (wrote true) e in record {
               stands = moved held place t.cell n n m (guarded (reader n p t.cell) (answered p t.cell g chs m)) v v' row' is.rests.stands is.cell cells
-                  (cell_as (guarded (reader n p t.cell) (answered p t.cell g chs m)) (effect x chs y) (run_in t.cell m.sections) (seen ∙ with_holds (effect x chs y) 1 0 (run_in t.cell m.sections) (ap reads_begun e) (ap writes_begun e)) (phase_as (begun.Read l q) e ∙ told_phase) value_now known_now (kept_runner (ap (λ x. running_after x row.seq.running) e)) (runs_now had run))
-                  many
+                  (cell_as (guarded (reader n p t.cell) (answered p t.cell g chs m)) (effect x chs y) (run_in t.cell m.sections) (seen ∙ with_holds (effect x chs y) 1 0 (run_in t.cell m.sections) (ap reads_begun e) (ap writes_begun e)) (phase_as (begun.Read l q) e ∙ told_phase) value_now known_now (kept_runner (ap (λ x. running_after x row.seq.running) e)) (runs_now had run)) many
                   (guard_opened held place t.cell n n n m (answered p t.cell g chs m) v v' (reader n p t.cell) (publishes had (ap (wrote false) e) (exit_still (ap is_run e)) (rows_as (begun.Read l q) e)) refl refl (omega arith) is.rests.empty is.rests.empty is.cell)
                   (called_parties (guarded (reader n p t.cell) (answered p t.cell g chs m)) refl refl o);
               told = told_as (begun.Read l q) e ∙ told_phase;
@@ -335,8 +326,7 @@ module _ {L : Type 0} (held : L → Holders) (place : L → LockerKind) where
         took_write l q e o run many =
             record {
               stands = moved held place t.cell n n m (guarded (writer_asked n p t.cell chs) (called p t.cell g m)) v v' row' is.rests.stands is.cell cells
-                  (cell_as (guarded (writer_asked n p t.cell chs) (called p t.cell g m)) y (run_in t.cell m.sections) (seen ∙ with_holds y 0 1 (run_in t.cell m.sections) (ap reads_begun e) (ap writes_begun e)) (kept_phase (phase_as (begun.Write l q) e)) refl cell_here.known (kept_runner (ap (λ x. running_after x row.seq.running) e)) (run ∙ cell_here.runs))
-                  many
+                  (cell_as (guarded (writer_asked n p t.cell chs) (called p t.cell g m)) y (run_in t.cell m.sections) (seen ∙ with_holds y 0 1 (run_in t.cell m.sections) (ap reads_begun e) (ap writes_begun e)) (kept_phase (phase_as (begun.Write l q) e)) refl cell_here.known (kept_runner (ap (λ x. running_after x row.seq.running) e)) (run ∙ cell_here.runs)) many
                   (guard_opened held place t.cell n n n m (called p t.cell g m) v v' (writer_asked n p t.cell chs) (called_moved m.registry (exit_still (ap is_run e)) (rows_as (begun.Write l q) e)) refl refl (omega arith) is.rests.empty is.rests.empty is.cell)
                   (called_parties (guarded (writer_asked n p t.cell chs) (called p t.cell g m)) refl refl o);
               told = told_as (begun.Write l q) e ∙ told_phase;
@@ -356,8 +346,7 @@ module _ {L : Type 0} (held : L → Holders) (place : L → LockerKind) where
         took_wait way e o run many =
             record {
               stands = moved held place t.cell n n m (waiting_m way) v v' row' is.rests.stands is.cell cells
-                  (cell_as (waiting_m way) y (run_in t.cell m.sections) (seen_still y ∙ with_holds y 0 0 (run_in t.cell m.sections) (ap reads_begun e) (ap writes_begun e)) (kept_phase (phase_as (begun.Wait way) e)) refl cell_here.known (kept_runner (ap (λ x. running_after x row.seq.running) e)) (run ∙ cell_here.runs))
-                  (many ∙ sym one_more)
+                  (cell_as (waiting_m way) y (run_in t.cell m.sections) (seen_still y ∙ with_holds y 0 0 (run_in t.cell m.sections) (ap reads_begun e) (ap writes_begun e)) (kept_phase (phase_as (begun.Wait way) e)) refl cell_here.known (kept_runner (ap (λ x. running_after x row.seq.running) e)) (run ∙ cell_here.runs)) (many ∙ sym (count_one_more (record { party = p; cell = t.cell; want = t.want; way = way; woken = false }) (called p t.cell g m).waits))
                   (waiting_moved way (exit_still (ap is_run e)) (rows_as (begun.Wait way) e))
                   (parties_set held place n m (waiting_m way) v v' p of' is.rests.stands parties (o ∙ (λ i. record { waiting = Some (record { cell = t.cell; want = t.want }); innermost = (of_here i).innermost }) ∙ ap (λ w. record { waiting = target_of w; innermost = (party_row m p).innermost }) (sym itself))
                   (λ q ne. (λ i. record { waiting = target_of (beside q ne i); innermost = (party_row m q).innermost }) ∙ (λ i. record { waiting = others_wait q ne i; innermost = (party_row m q).innermost })));
@@ -366,9 +355,6 @@ module _ {L : Type 0} (held : L → Holders) (place : L → LockerKind) where
               met = tell (taken.Wait way) (ap taken_of e);
             }
           where
-            one_more : count (waits_at t.cell) (waiting_m way).waits ≡ count (waits_at t.cell) (given_on t.cell g (without_wait p m.waits)) + 1
-            one_more = let q = itself_eq t.cell in rw q refl
-
             itself : wait_of p (waiting_m way).waits ≡ Some (record { party = p; cell = t.cell; want = t.want; way = way; woken = false })
             itself = let q = itself_eq p in rw q refl
 
@@ -387,8 +373,7 @@ module _ {L : Type 0} (held : L → Holders) (place : L → LockerKind) where
         took_run s none one phase rows exit runner section turned told o run many =
             record {
               stands = moved held place t.cell n n m run_m v v' row' is.rests.stands is.cell cells
-                  (cell_as run_m y (Some run_r) (seen ∙ with_holds y 0 1 (Some run_r) none one) (kept_phase phase) refl cell_here.known runner (run ∙ (λ i. Some (record { run = record { party = p; want = t.want; outer = (of_here i).innermost }; section = section i }))))
-                  many
+                  (cell_as run_m y (Some run_r) (seen ∙ with_holds y 0 1 (Some run_r) none one) (kept_phase phase) refl cell_here.known runner (run ∙ (λ i. Some (record { run = record { party = p; want = t.want; outer = (of_here i).innermost }; section = section i })))) many
                   (section_opened held place t.cell n n m (record (called p t.cell g m) { registry = registry_asked t.cell t.want m }) v v' sec (called_moved (registry_asked t.cell t.want m) exit rows) refl is.cell)
                   (parties_set held place n m run_m v v' p of' is.rests.stands parties (o ∙ (λ i. record { waiting = target_of (sym gone i); innermost = Some t.cell }) ∙ ap (λ w. record { waiting = target_of (wait_of p (called p t.cell g m).waits); innermost = cell_of_section w }) (sym itself))
                   (λ q ne. (λ i. record { waiting = target_of (wait_of q (called p t.cell g m).waits); innermost = cell_of_section (beside q ne i) }) ∙ (λ i. record { waiting = others_wait q ne i; innermost = (party_row m q).innermost })));
