@@ -63,7 +63,7 @@ use Rattle.phase_moves.proofs.Opening.{guard_opened, seen_reader, seen_writer, a
 use Rattle.phase_moves.proofs.Parking.{shown_called, shown_waiting, freed_writers, waiting_writers}
 use Rattle.phase_moves.proofs.Places.{itself_eq, read_at}
 use Rattle.phase_moves.proofs.Runs.{none_runs}
-use Rattle.phase_moves.proofs.Waiting.{count_beside, waited_here}
+use Rattle.phase_moves.proofs.Waiting.{count_beside, count_elsewhere, count_one_more, waited_here}
 
 module _ {L : Type 0} (held : L → Holders) (place : L → LockerKind) where
   module _ (m : Standing) (v v' : Rows L) (p : ℕ) (t : Target) (waits : Bool) (is : IsAttempting held place m v p t waits) (row row' : CellRow L) (row_is : row ≡ get_or v.cells.items t.cell row) (of of' : PartyRow) (of_is : of ≡ get_or v.parties.items p of)
@@ -198,9 +198,6 @@ module _ {L : Type 0} (held : L → Holders) (place : L → LockerKind) where
         called_counts : (c : ℕ) → c ≢ t.cell → count (waits_at c) (given_on t.cell g (without_wait p m.waits)) ≡ count (waits_at c) m.waits
         called_counts = count_beside p t.cell m.waits is.rests.stands.waits.single g (waited_here waits t.cell (wait_of p m.waits) is.waited)
 
-        waiting_counts : (way : How) (c : ℕ) → c ≢ t.cell → count (waits_at c) (waiting p t.cell t.want way (called p t.cell g m)).waits ≡ count (waits_at c) m.waits
-        waiting_counts way c ne = let e : (t.cell == c) ≡ false = grind (arith, ne) in rw e (called_counts c ne)
-
         called_moved : (r : Registry) → IsExit (length v.cells.items) (record m { registry = r }) v'.exit → v'.parks ≡ rows_handed t.cell g (freed p v.parks) → IsMoved held place t.cell n n m (record (called p t.cell g m) { registry = r }) v v'
         called_moved r exit rows =
             let st = is.rests.stands in
@@ -213,7 +210,7 @@ module _ {L : Type 0} (held : L → Holders) (place : L → LockerKind) where
             let st = is.rests.stands in
             answered_moved held place t.cell n m v v' _ m.content m.registry st k.others k.same (ap (λ (s : Parking). length s.writers) rows ∙ waiting_writers way who (rows_handed t.cell g (freed p v.parks)) ∙ lists_called) guards exit
             (subst (λ (s : Parking). AreShown (length v.cells.items) (record { party = p; cell = t.cell; want = t.want; way = way; woken = false } ∷ given_on t.cell g (without_wait p m.waits)) s) (sym rows) (shown_waiting (length v.cells.items) who m.waits v.parks g st.waits sizes_in st.sizes.few in_parks party_in d.listed is.cell way t.want))
-            (λ d ne. refl) (waiting_counts way)
+            (λ d ne. refl) (λ c ne. count_elsewhere c (record { party = p; cell = t.cell; want = t.want; way = way; woken = false }) (called p t.cell g m).waits ne ∙ called_counts c ne)
 
         -- what is published changes where it is declined
         abbrev now : ℕ → Content
@@ -307,8 +304,7 @@ module _ {L : Type 0} (held : L → Holders) (place : L → LockerKind) where
 
         pub took_nothing : (q : Phase) → b ≡ begun.Nothing q → of' ≡ record { waiting = None; innermost = of.innermost } → row'.run ≡ row.run → row'.waiting ≡ count (waits_at t.cell) (given_on t.cell g (without_wait p m.waits)) → row'.draft ≡ row.draft → IsTook held place m v p t (taken.Nothing q) g v'
         took_nothing q e o run many draft =
-            let had : wrote true b ≡ true = ap (wrote true) e in
-            record {
+            let had : wrote true b ≡ true = ap (wrote true) e in record {
               stands = moved held place t.cell n n m (answered p t.cell g chs m) v v' row' is.rests.stands is.cell cells
                   (cell_as (answered p t.cell g chs m) (effect x chs y) (run_in t.cell m.sections) (seen_now ∙ with_holds (effect x chs y) 0 0 (run_in t.cell m.sections) (ap reads_begun e) (ap writes_begun e)) (phase_as (begun.Nothing q) e ∙ told_phase) value_now known_now (kept_runner (ap (λ x. running_after x row.seq.running) e)) (runs_now had run))
                   many (kept_answered had draft)
@@ -320,8 +316,7 @@ module _ {L : Type 0} (held : L → Holders) (place : L → LockerKind) where
 
         pub took_read : (l : ReadTicket) (q : Phase) → b ≡ begun.Read l q → of' ≡ record { waiting = None; innermost = of.innermost } → row'.run ≡ row.run → row'.waiting ≡ count (waits_at t.cell) (given_on t.cell g (without_wait p m.waits)) → row'.draft ≡ row.draft → IsTook held place m v p t (taken.Read l q) g v'
         took_read l q e o run many draft =
-            let had : wrote true b ≡ true = ap (wrote true) e in
-            record {
+            let had : wrote true b ≡ true = ap (wrote true) e in record {
               stands = moved held place t.cell n n m (guarded (reader n p t.cell) (answered p t.cell g chs m)) v v' row' is.rests.stands is.cell cells
                   (cell_as (guarded (reader n p t.cell) (answered p t.cell g chs m)) (effect x chs y) (run_in t.cell m.sections) (seen ∙ with_holds (effect x chs y) 1 0 (run_in t.cell m.sections) (ap reads_begun e) (ap writes_begun e)) (phase_as (begun.Read l q) e ∙ told_phase) value_now known_now (kept_runner (ap (λ x. running_after x row.seq.running) e)) (runs_now had run))
                   many (keeps_reader t.cell (answered p t.cell g chs m) row' n p (kept_answered had draft))
@@ -366,7 +361,7 @@ module _ {L : Type 0} (held : L → Holders) (place : L → LockerKind) where
             record {
               stands = moved held place t.cell n n m (waiting_m way) v v' row' is.rests.stands is.cell cells
                   (cell_as (waiting_m way) y (run_in t.cell m.sections) (seen_still y ∙ with_holds y 0 0 (run_in t.cell m.sections) (ap reads_begun e) (ap writes_begun e)) (kept_phase (phase_as (begun.Wait way) e)) refl cell_here.known (kept_runner (ap (λ x. running_after x row.seq.running) e)) (run ∙ cell_here.runs))
-                  (many ∙ sym one_more) (kept_called draft)
+                  (many ∙ sym (count_one_more (record { party = p; cell = t.cell; want = t.want; way = way; woken = false }) (called p t.cell g m).waits)) (kept_called draft)
                   (waiting_moved way (exit_still (ap is_run e)) (rows_as (begun.Wait way) e))
                   (parties_set held place n m (waiting_m way) v v' p of' is.rests.stands parties (o ∙ (λ i. record { waiting = Some (record { cell = t.cell; want = t.want }); innermost = (of_here i).innermost }) ∙ ap (λ w. record { waiting = target_of w; innermost = (party_row m p).innermost }) (sym itself))
                   (λ q ne. (λ i. record { waiting = target_of (beside q ne i); innermost = (party_row m q).innermost }) ∙ (λ i. record { waiting = others_wait q ne i; innermost = (party_row m q).innermost })));
@@ -375,9 +370,6 @@ module _ {L : Type 0} (held : L → Holders) (place : L → LockerKind) where
               met = tell (taken.Wait way) (ap taken_of e);
             }
           where
-            one_more : count (waits_at t.cell) (waiting_m way).waits ≡ count (waits_at t.cell) (given_on t.cell g (without_wait p m.waits)) + 1
-            one_more = let q = itself_eq t.cell in rw q refl
-
             itself : wait_of p (waiting_m way).waits ≡ Some (record { party = p; cell = t.cell; want = t.want; way = way; woken = false })
             itself = let q = itself_eq p in rw q refl
 
