@@ -1,7 +1,7 @@
 -- What the row of a cell keeps of the guard that writes the cell.
-use Rattle.std.proofs.Common.{◌≡◌, ◌≢◌, ◌∙◌, ℕ, ◌∷◌, ap, sym, arith, true, false, Some, inl, inr}
+use Rattle.std.proofs.Common.{◌≡◌, ◌≢◌, ◌∙◌, ℕ, ◌∷◌, ap, subst, sym, arith, true, false, Some, inl, inr}
 use Rattle.std.proofs.lemmas.Bool.{cases_eq}
-use Rattle.schedule_rules.specs.Changes.{effect}
+use Rattle.schedule_rules.specs.Changes.{Content, effect}
 use Rattle.schedule_rules.specs.Kinds.{cell_at}
 use Rattle.schedule_rules.specs.History.{count}
 use Rattle.schedule_rules.specs.Guards.{Guard, numbered, without_guard, reader}
@@ -25,6 +25,13 @@ pub alone : (g : ℕ) (gs : List Guard) (x : Guard) → numbered x.number gs ≡
 alone g gs x there wx one y ne e wy =
     let two = count_less (writes_cell x.cell) x.number gs x there (writes_here x wx) in
     none_writes x.cell g (without_guard x.number gs) y (omega (arith, two, one)) (guard_kept x.number g gs ne ∙ e) wy
+
+-- what is published stays that a write guard shows, where it stays at other cells, and at this one where a guard writes it
+pub shown_still : (c : ℕ) (m : Standing) (f : ℕ → Content) → ((d : ℕ) → d ≢ c → f d ≡ m.content d) → (count (writes_cell c) m.guards ≢ 0 → f c ≡ m.content c) → (g : ℕ) (x : Guard) → numbered g m.guards ≡ Some x → x.writes ≡ true → f x.cell ≡ m.content x.cell
+shown_still c m f beside here g x e w = elim (cases_eq x.cell c) [
+  | inr ne ↦ beside x.cell ne
+  | inl q ↦ subst (λ d. f d ≡ m.content d) (sym q) (here (λ z. none_writes c g m.guards x z e w q))
+]
 
 -- a write guard that is found beside one more is that one, or was there
 pub found_beside : (y : Guard) (g : ℕ) (gs : List Guard) (x : Guard) → numbered g (y ∷ gs) ≡ Some x → (y ≡ x) ⊎ (numbered g gs ≡ Some x)

@@ -1,7 +1,6 @@
 -- The rows stand for what is open after an attempt.
-use Rattle.std.proofs.Common.{◌≡◌, ◌≢◌, ◌==◌, ◌<◌, ◌≤◌, ◌+◌, ◌∙◌, ℕ, List, ◌∷◌, length, set, get_or, ap, sym, subst, refl, arith, Bool, true, false, None, Some, inl, inr}
+use Rattle.std.proofs.Common.{◌≡◌, ◌≢◌, ◌==◌, ◌<◌, ◌≤◌, ◌+◌, ◌∙◌, ℕ, List, ◌∷◌, length, set, get_or, ap, sym, subst, refl, arith, Bool, true, false, None, Some}
 use Rattle.std.specs.Prelude.{if◌then◌else◌, ◌&&◌}
-use Rattle.std.proofs.lemmas.Bool.{cases_eq}
 use Rattle.std.specs.declared.option.Option.{Option}
 use Rattle.phase_bits.specs.declared.phase.Phase.{Phase}
 use Rattle.phase_bits.specs.declared.holders.Holders.{Holders}
@@ -34,7 +33,7 @@ use Rattle.schedule_rules.specs.Kinds.{cell_at}
 use Rattle.schedule_rules.specs.Changes.{Content, Change, effect}
 use Rattle.schedule_rules.specs.History.{count}
 use Rattle.schedule_rules.specs.Sections.{Section, innermost, runs_in}
-use Rattle.schedule_rules.specs.Guards.{Guard, numbered, reader}
+use Rattle.schedule_rules.specs.Guards.{reader}
 use Rattle.schedule_rules.specs.Holds.{writes_cell}
 use Rattle.schedule_rules.specs.Waits.{wait_of, waits_at, without_wait, cell_of_section}
 use Rattle.schedule_rules.proofs.Opened.{wait_removed, wait_kept}
@@ -54,7 +53,7 @@ use Rattle.phase_moves.specs.Meets.{IsMet}
 use Rattle.phase_moves.proofs.Asked.{IsAsked, declined, declines_same, asked_left, is_asked, own_same, told_same, registry_still}
 use Rattle.phase_moves.proofs.Attempts.{IsBegun, Tells, declines, phase_left, phase_told, rows_begun, writes_begun, wrote}
 use Rattle.phase_moves.proofs.Calling.{answered_moved}
-use Rattle.phase_moves.proofs.Drafts.{keeps_first, keeps_reader, keeps_still, none_writes}
+use Rattle.phase_moves.proofs.Drafts.{keeps_first, keeps_reader, keeps_still, shown_still}
 use Rattle.phase_moves.proofs.Guards.{target_given}
 use Rattle.phase_moves.proofs.Known.{effect_known}
 use Rattle.phase_moves.proofs.Lockers.{handed_writers}
@@ -63,7 +62,7 @@ use Rattle.phase_moves.proofs.Opening.{guard_opened, seen_reader, seen_writer, a
 use Rattle.phase_moves.proofs.Parking.{shown_called, shown_waiting, freed_writers, waiting_writers}
 use Rattle.phase_moves.proofs.Places.{itself_eq, read_at}
 use Rattle.phase_moves.proofs.Runs.{none_runs}
-use Rattle.phase_moves.proofs.Waiting.{count_beside, waited_here}
+use Rattle.phase_moves.proofs.Waiting.{count_beside, count_elsewhere, count_one_more, waited_here}
 
 module _ {L : Type 0} (held : L → Holders) (place : L → LockerKind) where
   module _ (m : Standing) (v v' : Rows L) (p : ℕ) (t : Target) (waits : Bool) (is : IsAttempting held place m v p t waits) (row row' : CellRow L) (row_is : row ≡ get_or v.cells.items t.cell row) (of of' : PartyRow) (of_is : of ≡ get_or v.parties.items p of)
@@ -198,22 +197,17 @@ module _ {L : Type 0} (held : L → Holders) (place : L → LockerKind) where
         called_counts : (c : ℕ) → c ≢ t.cell → count (waits_at c) (given_on t.cell g (without_wait p m.waits)) ≡ count (waits_at c) m.waits
         called_counts = count_beside p t.cell m.waits is.rests.stands.waits.single g (waited_here waits t.cell (wait_of p m.waits) is.waited)
 
-        waiting_counts : (way : How) (c : ℕ) → c ≢ t.cell → count (waits_at c) (waiting p t.cell t.want way (called p t.cell g m)).waits ≡ count (waits_at c) m.waits
-        waiting_counts way c ne = let e : (t.cell == c) ≡ false = grind (arith, ne) in rw e (called_counts c ne)
-
         called_moved : (r : Registry) → IsExit (length v.cells.items) (record m { registry = r }) v'.exit → v'.parks ≡ rows_handed t.cell g (freed p v.parks) → IsMoved held place t.cell n n m (record (called p t.cell g m) { registry = r }) v v'
         called_moved r exit rows =
-            let st = is.rests.stands in
-            answered_moved held place t.cell n m v v' _ m.content r st k.others k.same (ap (λ (s : Parking). length s.writers) rows ∙ lists_called) guards exit
+            let st = is.rests.stands in answered_moved held place t.cell n m v v' _ m.content r st k.others k.same (ap (λ (s : Parking). length s.writers) rows ∙ lists_called) guards exit
             (subst (λ (s : Parking). AreShown (length v.cells.items) (given_on t.cell g (without_wait p m.waits)) s) (sym rows) (shown_called (length v.cells.items) who m.waits v.parks g st.waits sizes_in st.sizes.few in_parks party_in d.listed))
             (λ d ne. refl) called_counts
 
         waiting_moved : (way : How) → IsExit (length v.cells.items) m v'.exit → v'.parks ≡ rows_waiting way who (rows_handed t.cell g (freed p v.parks)) → IsMoved held place t.cell n n m (waiting p t.cell t.want way (called p t.cell g m)) v v'
         waiting_moved way exit rows =
-            let st = is.rests.stands in
-            answered_moved held place t.cell n m v v' _ m.content m.registry st k.others k.same (ap (λ (s : Parking). length s.writers) rows ∙ waiting_writers way who (rows_handed t.cell g (freed p v.parks)) ∙ lists_called) guards exit
+            let st = is.rests.stands in answered_moved held place t.cell n m v v' _ m.content m.registry st k.others k.same (ap (λ (s : Parking). length s.writers) rows ∙ waiting_writers way who (rows_handed t.cell g (freed p v.parks)) ∙ lists_called) guards exit
             (subst (λ (s : Parking). AreShown (length v.cells.items) (record { party = p; cell = t.cell; want = t.want; way = way; woken = false } ∷ given_on t.cell g (without_wait p m.waits)) s) (sym rows) (shown_waiting (length v.cells.items) who m.waits v.parks g st.waits sizes_in st.sizes.few in_parks party_in d.listed is.cell way t.want))
-            (λ d ne. refl) (waiting_counts way)
+            (λ d ne. refl) (λ c ne. count_elsewhere c (record { party = p; cell = t.cell; want = t.want; way = way; woken = false }) (called p t.cell g m).waits ne ∙ called_counts c ne)
 
         -- what is published changes where it is declined
         abbrev now : ℕ → Content
@@ -230,8 +224,7 @@ module _ {L : Type 0} (held : L → Holders) (place : L → LockerKind) where
 
         publishes : IsExit (length v.cells.items) m v'.exit → v'.parks ≡ rows_handed t.cell g (freed p v.parks) → IsMoved held place t.cell n n m (answered p t.cell g chs m) v v'
         publishes exit rows =
-            let st = is.rests.stands in
-            answered_moved held place t.cell n m v v' _ now m.registry st k.others k.same (ap (λ (s : Parking). length s.writers) rows ∙ lists_called) guards exit
+            let st = is.rests.stands in answered_moved held place t.cell n m v v' _ now m.registry st k.others k.same (ap (λ (s : Parking). length s.writers) rows ∙ lists_called) guards exit
             (subst (λ (s : Parking). AreShown (length v.cells.items) (given_on t.cell g (without_wait p m.waits)) s) (sym rows) (shown_called (length v.cells.items) who m.waits v.parks g st.waits sizes_in st.sizes.few in_parks party_in d.listed))
             now_beside called_counts
 
@@ -240,19 +233,11 @@ module _ {L : Type 0} (held : L → Holders) (place : L → LockerKind) where
         kept_called same = keeps_still t.cell m row (called p t.cell g m) row' (is.rests.stands.draft t.cell row (read_at v.cells.items t.cell row is.cell row_is)) same refl (λ j z e w. e) (λ j z e w. refl)
 
         kept_answered : wrote true b ≡ true → row'.draft ≡ row.draft → KeepsDraft t.cell (answered p t.cell g chs m) row'
-        kept_answered had same = keeps_still t.cell m row (answered p t.cell g chs m) row' (is.rests.stands.draft t.cell row (read_at v.cells.items t.cell row is.cell row_is)) same refl (λ j z e w. e) drafts
+        kept_answered had same = keeps_still t.cell m row (answered p t.cell g chs m) row' (is.rests.stands.draft t.cell row (read_at v.cells.items t.cell row is.cell row_is)) same refl (λ j z e w. e) (shown_still t.cell m now now_beside (λ some. by some (declined x t.want m.registry.is_open y.phase) refl))
           where
-            drafts : (j : ℕ) (z : Guard) → numbered j m.guards ≡ Some z → z.writes ≡ true → now z.cell ≡ m.content z.cell
-            drafts j z e w = elim (cases_eq z.cell t.cell) [
-              | inr ne ↦ now_beside z.cell ne
-              | inl q ↦ subst (λ c. now c ≡ m.content c) (sym q) (by (declined x t.want m.registry.is_open y.phase) refl q)
-            ]
-              where
-                by : (o : Bool) → declined x t.want m.registry.is_open y.phase ≡ o → z.cell ≡ t.cell → now t.cell ≡ y
-                by false f q = now_calm f
-                by true f q =
-                    let none = was_none (ap (λ b'. wrote b' b) (d_is ∙ f) ∙ had) in
-                    absurd (none_writes t.cell j m.guards z (omega (arith, none)) e w q)
+            by : count (writes_cell t.cell) m.guards ≢ 0 → (o : Bool) → declined x t.want m.registry.is_open y.phase ≡ o → now t.cell ≡ y
+            by some false f = now_calm f
+            by some true f = let none = was_none (ap (λ b'. wrote b' b) (d_is ∙ f) ∙ had) in absurd (some (omega (arith, none)))
 
         -- ---- the rows of parties
 
@@ -307,11 +292,9 @@ module _ {L : Type 0} (held : L → Holders) (place : L → LockerKind) where
 
         pub took_nothing : (q : Phase) → b ≡ begun.Nothing q → of' ≡ record { waiting = None; innermost = of.innermost } → row'.run ≡ row.run → row'.waiting ≡ count (waits_at t.cell) (given_on t.cell g (without_wait p m.waits)) → row'.draft ≡ row.draft → IsTook held place m v p t (taken.Nothing q) g v'
         took_nothing q e o run many draft =
-            let had : wrote true b ≡ true = ap (wrote true) e in
-            record {
+            let had : wrote true b ≡ true = ap (wrote true) e in record {
               stands = moved held place t.cell n n m (answered p t.cell g chs m) v v' row' is.rests.stands is.cell cells
-                  (cell_as (answered p t.cell g chs m) (effect x chs y) (run_in t.cell m.sections) (seen_now ∙ with_holds (effect x chs y) 0 0 (run_in t.cell m.sections) (ap reads_begun e) (ap writes_begun e)) (phase_as (begun.Nothing q) e ∙ told_phase) value_now known_now (kept_runner (ap (λ x. running_after x row.seq.running) e)) (runs_now had run))
-                  many (kept_answered had draft)
+                  (cell_as (answered p t.cell g chs m) (effect x chs y) (run_in t.cell m.sections) (seen_now ∙ with_holds (effect x chs y) 0 0 (run_in t.cell m.sections) (ap reads_begun e) (ap writes_begun e)) (phase_as (begun.Nothing q) e ∙ told_phase) value_now known_now (kept_runner (ap (λ x. running_after x row.seq.running) e)) (runs_now had run)) many (kept_answered had draft)
                   (publishes (exit_still (ap is_run e)) (rows_as (begun.Nothing q) e)) (called_parties (answered p t.cell g chs m) refl refl o);
               told = told_as (begun.Nothing q) e ∙ told_phase;
               cyclic = cyclic_as (begun.Nothing q) e;
@@ -320,11 +303,9 @@ module _ {L : Type 0} (held : L → Holders) (place : L → LockerKind) where
 
         pub took_read : (l : ReadTicket) (q : Phase) → b ≡ begun.Read l q → of' ≡ record { waiting = None; innermost = of.innermost } → row'.run ≡ row.run → row'.waiting ≡ count (waits_at t.cell) (given_on t.cell g (without_wait p m.waits)) → row'.draft ≡ row.draft → IsTook held place m v p t (taken.Read l q) g v'
         took_read l q e o run many draft =
-            let had : wrote true b ≡ true = ap (wrote true) e in
-            record {
+            let had : wrote true b ≡ true = ap (wrote true) e in record {
               stands = moved held place t.cell n n m (guarded (reader n p t.cell) (answered p t.cell g chs m)) v v' row' is.rests.stands is.cell cells
-                  (cell_as (guarded (reader n p t.cell) (answered p t.cell g chs m)) (effect x chs y) (run_in t.cell m.sections) (seen ∙ with_holds (effect x chs y) 1 0 (run_in t.cell m.sections) (ap reads_begun e) (ap writes_begun e)) (phase_as (begun.Read l q) e ∙ told_phase) value_now known_now (kept_runner (ap (λ x. running_after x row.seq.running) e)) (runs_now had run))
-                  many (keeps_reader t.cell (answered p t.cell g chs m) row' n p (kept_answered had draft))
+                  (cell_as (guarded (reader n p t.cell) (answered p t.cell g chs m)) (effect x chs y) (run_in t.cell m.sections) (seen ∙ with_holds (effect x chs y) 1 0 (run_in t.cell m.sections) (ap reads_begun e) (ap writes_begun e)) (phase_as (begun.Read l q) e ∙ told_phase) value_now known_now (kept_runner (ap (λ x. running_after x row.seq.running) e)) (runs_now had run)) many (keeps_reader t.cell (answered p t.cell g chs m) row' n p (kept_answered had draft))
                   (guard_opened held place t.cell n n n m (answered p t.cell g chs m) v v' (reader n p t.cell) (publishes (exit_still (ap is_run e)) (rows_as (begun.Read l q) e)) refl refl (omega arith) is.rests.empty is.rests.empty is.cell)
                   (called_parties (guarded (reader n p t.cell) (answered p t.cell g chs m)) refl refl o);
               told = told_as (begun.Read l q) e ∙ told_phase;
@@ -341,8 +322,7 @@ module _ {L : Type 0} (held : L → Holders) (place : L → LockerKind) where
         took_write l q e o run many draft =
             record {
               stands = moved held place t.cell n n m (guarded (writer_asked n p t.cell chs) (called p t.cell g m)) v v' row' is.rests.stands is.cell cells
-                  (cell_as (guarded (writer_asked n p t.cell chs) (called p t.cell g m)) y (run_in t.cell m.sections) (seen ∙ with_holds y 0 1 (run_in t.cell m.sections) (ap reads_begun e) (ap writes_begun e)) (kept_phase (phase_as (begun.Write l q) e)) refl cell_here.known (kept_runner (ap (λ x. running_after x row.seq.running) e)) (run ∙ cell_here.runs))
-                  many (keeps_first t.cell (called p t.cell g m) row' (writer_asked n p t.cell chs) unwritten (draft ∙ (λ i. record { phase = (told_as (begun.Write l q) e ∙ told_phase) i; value = (cell_here.valued ∙ sym value_now) i })))
+                  (cell_as (guarded (writer_asked n p t.cell chs) (called p t.cell g m)) y (run_in t.cell m.sections) (seen ∙ with_holds y 0 1 (run_in t.cell m.sections) (ap reads_begun e) (ap writes_begun e)) (kept_phase (phase_as (begun.Write l q) e)) refl cell_here.known (kept_runner (ap (λ x. running_after x row.seq.running) e)) (run ∙ cell_here.runs)) many (keeps_first t.cell (called p t.cell g m) row' (writer_asked n p t.cell chs) unwritten (draft ∙ (λ i. record { phase = (told_as (begun.Write l q) e ∙ told_phase) i; value = (cell_here.valued ∙ sym value_now) i })))
                   (guard_opened held place t.cell n n n m (called p t.cell g m) v v' (writer_asked n p t.cell chs) (called_moved m.registry (exit_still (ap is_run e)) (rows_as (begun.Write l q) e)) refl refl (omega arith) is.rests.empty is.rests.empty is.cell)
                   (called_parties (guarded (writer_asked n p t.cell chs) (called p t.cell g m)) refl refl o);
               told = told_as (begun.Write l q) e ∙ told_phase;
@@ -365,8 +345,7 @@ module _ {L : Type 0} (held : L → Holders) (place : L → LockerKind) where
         took_wait way e o run many draft =
             record {
               stands = moved held place t.cell n n m (waiting_m way) v v' row' is.rests.stands is.cell cells
-                  (cell_as (waiting_m way) y (run_in t.cell m.sections) (seen_still y ∙ with_holds y 0 0 (run_in t.cell m.sections) (ap reads_begun e) (ap writes_begun e)) (kept_phase (phase_as (begun.Wait way) e)) refl cell_here.known (kept_runner (ap (λ x. running_after x row.seq.running) e)) (run ∙ cell_here.runs))
-                  (many ∙ sym one_more) (kept_called draft)
+                  (cell_as (waiting_m way) y (run_in t.cell m.sections) (seen_still y ∙ with_holds y 0 0 (run_in t.cell m.sections) (ap reads_begun e) (ap writes_begun e)) (kept_phase (phase_as (begun.Wait way) e)) refl cell_here.known (kept_runner (ap (λ x. running_after x row.seq.running) e)) (run ∙ cell_here.runs)) (many ∙ sym (count_one_more (record { party = p; cell = t.cell; want = t.want; way = way; woken = false }) (called p t.cell g m).waits)) (kept_called draft)
                   (waiting_moved way (exit_still (ap is_run e)) (rows_as (begun.Wait way) e))
                   (parties_set held place n m (waiting_m way) v v' p of' is.rests.stands parties (o ∙ (λ i. record { waiting = Some (record { cell = t.cell; want = t.want }); innermost = (of_here i).innermost }) ∙ ap (λ w. record { waiting = target_of w; innermost = (party_row m p).innermost }) (sym itself))
                   (λ q ne. (λ i. record { waiting = target_of (beside q ne i); innermost = (party_row m q).innermost }) ∙ (λ i. record { waiting = others_wait q ne i; innermost = (party_row m q).innermost })));
@@ -375,9 +354,6 @@ module _ {L : Type 0} (held : L → Holders) (place : L → LockerKind) where
               met = tell (taken.Wait way) (ap taken_of e);
             }
           where
-            one_more : count (waits_at t.cell) (waiting_m way).waits ≡ count (waits_at t.cell) (given_on t.cell g (without_wait p m.waits)) + 1
-            one_more = let q = itself_eq t.cell in rw q refl
-
             itself : wait_of p (waiting_m way).waits ≡ Some (record { party = p; cell = t.cell; want = t.want; way = way; woken = false })
             itself = let q = itself_eq p in rw q refl
 
@@ -396,8 +372,7 @@ module _ {L : Type 0} (held : L → Holders) (place : L → LockerKind) where
         took_run s none one phase rows exit runner section turned told o run many draft =
             record {
               stands = moved held place t.cell n n m run_m v v' row' is.rests.stands is.cell cells
-                  (cell_as run_m y (Some run_r) (seen ∙ with_holds y 0 1 (Some run_r) none one) (kept_phase phase) refl cell_here.known runner (run ∙ (λ i. Some (record { run = record { party = p; want = t.want; outer = (of_here i).innermost }; section = section i }))))
-                  many (kept_called draft)
+                  (cell_as run_m y (Some run_r) (seen ∙ with_holds y 0 1 (Some run_r) none one) (kept_phase phase) refl cell_here.known runner (run ∙ (λ i. Some (record { run = record { party = p; want = t.want; outer = (of_here i).innermost }; section = section i })))) many (kept_called draft)
                   (section_opened held place t.cell n n m (record (called p t.cell g m) { registry = registry_asked t.cell t.want m }) v v' sec (called_moved (registry_asked t.cell t.want m) exit rows) refl is.cell)
                   (parties_set held place n m run_m v v' p of' is.rests.stands parties (o ∙ (λ i. record { waiting = target_of (sym gone i); innermost = Some t.cell }) ∙ ap (λ w. record { waiting = target_of (wait_of p (called p t.cell g m).waits); innermost = cell_of_section w }) (sym itself))
                   (λ q ne. (λ i. record { waiting = target_of (wait_of q (called p t.cell g m).waits); innermost = cell_of_section (beside q ne i) }) ∙ (λ i. record { waiting = others_wait q ne i; innermost = (party_row m q).innermost })));

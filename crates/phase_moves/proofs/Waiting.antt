@@ -1,5 +1,5 @@
 -- How many calls and turns wait at a cell.
-use Rattle.std.proofs.Common.{◌≡◌, ◌≢◌, ◌==◌, ◌<◌, ◌≤◌, ◌+◌, ◌∙◌, ℕ, List, length, ap, sym, refl, arith, Bool, true, false, cond, None, Some}
+use Rattle.std.proofs.Common.{◌∷◌, ◌≡◌, ◌≢◌, ◌==◌, ◌<◌, ◌≤◌, ◌+◌, ◌∙◌, ℕ, List, length, ap, sym, refl, arith, Bool, true, false, cond, None, Some}
 use Rattle.std.proofs.lemmas.List.Sums.{count_by-le-length}
 use Rattle.std.specs.Prelude.{MatchBool, if◌then◌else◌, is_some}
 use Rattle.std.specs.declared.option.Option.{Option}
@@ -69,6 +69,14 @@ few_wait c ws s single shows =
     let all = count_rows (stands_at c) ws s.rows refl single shows.row ∙ count_test (λ (w : Wait). stands_at c (wait_row (Some w))) (waits_at c) ws (row_waits c) in
     let most = count_by-le-length (stands_at c) s.rows in
     omega (arith, all, most)
+
+-- ---- one more waits, at its cell and at no other
+
+pub count_one_more : (w : Wait) (ws : List Wait) → count (waits_at w.cell) (w ∷ ws) ≡ count (waits_at w.cell) ws + 1
+count_one_more w ws = let q : (w.cell == w.cell) ≡ true = grind arith in rw q refl
+
+pub count_elsewhere : (d : ℕ) (w : Wait) (ws : List Wait) → d ≢ w.cell → count (waits_at d) (w ∷ ws) ≡ count (waits_at d) ws
+count_elsewhere d w ws ne = let q : (w.cell == d) ≡ false = grind (arith, ne) in rw q refl
 
 -- ---- an attempt at a cell, of a party that waits there or nowhere
 
