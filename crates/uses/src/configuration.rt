@@ -1,6 +1,6 @@
 //! A service's configuration, read when it is first asked for.
 
-ghost use Rattle.std.specs.Prelude.{◌≡◌, ℕ, Some, Ok};
+ghost use Rattle.std.specs.Prelude.{◌≡◌, ℕ, Some, Ok, true, false};
 
 use lazy_cells::UnSyncLazy;
 use phase_seq::{Generator, InitError};
@@ -80,8 +80,9 @@ mod tests {
 
     #[test]
     fn a_port_is_changed_where_it_is_known(rt: HostRuntime) {
-        let mut configuration: UnSyncLazy<u64, Late> =
-            UnSyncLazy::from_generator(Late { failed: false });
+        let mut configuration: UnSyncLazy<u64, Late> = UnSyncLazy::from_generator(Late {
+            failed: false,
+        });
         assert!(rt; UnSyncLazy::try_get_mut(&mut configuration).is_err());
         assert!(rt; UnSyncLazy::phase(&configuration).is_empty());
         let found = UnSyncLazy::get_mut(&mut configuration).map(|port| *port);
