@@ -1,6 +1,6 @@
 //! The attempts of calls and turns.
 
-ghost use Rattle.std.specs.Prelude.{◌≡◌};
+ghost use Rattle.std.specs.Prelude.{◌≡◌, true, false};
 ghost use Rattle.schedule_rules.specs.Kinds.{is_of_other};
 ghost use Rattle.phase_moves.specs.Moves.{KeptWith};
 ghost use Rattle.phase_acts.specs.Steps.{MayAct, Acts};
@@ -23,14 +23,34 @@ pub(crate) fn is_of_other(place: Place, party: u32) -> bool
 }
 
 impl<L: PhaseLocker> Machine<L> {
-    /// One attempt of a call or a turn, to the end of the step.
-    pub(crate) fn tries(&mut self, party: u32, target: Target, waits: bool) -> Line
+    /// One attempt of a call or a turn, to the end of the step. It stands in the place of each of its three calls, so that
+    /// what differs between a first attempt and a further one is known there.
+    #[inline(always)]
+    fn tries(&mut self, party: u32, target: Target, waits: bool) -> Line
         requires { MayTry L.held L.place self.old.rows party target waits }
         ensures tries { Tries L.held L.place self.old.rows party target waits result self.new.rows }
         ensures kept { KeptWith 1 self.old.rows self.new.rows }
     {
         let (taken, given) = self.rows.attempt(party, target, waits);
         self.settle(party, target, taken, given)
+    }
+
+    /// A further attempt of a party that waits.
+    pub(crate) fn again(&mut self, party: u32, target: Target) -> Line
+        requires { MayTry L.held L.place self.old.rows party target true }
+        ensures tries { Tries L.held L.place self.old.rows party target true result self.new.rows }
+        ensures kept { KeptWith 1 self.old.rows self.new.rows }
+    {
+        self.tries(party, target, true)
+    }
+
+    /// The first attempt of a turn.
+    pub(crate) fn turn(&mut self, party: u32, target: Target) -> Line
+        requires { MayTry L.held L.place self.old.rows party target false }
+        ensures tries { Tries L.held L.place self.old.rows party target false result self.new.rows }
+        ensures kept { KeptWith 1 self.old.rows self.new.rows }
+    {
+        self.tries(party, target, false)
     }
 
     /// A call of a party that does not wait. It is refused on a cell of another party, and where cells of its kind do

@@ -47,11 +47,11 @@ impl<L: PhaseLocker> Machine<L> {
         self.rows.own(party);
         match self.rows.next_turn() {
             Some(cell) => {
-                let turn = Target {
+                let target = Target {
                     cell,
                     want: Want::Turns,
                 };
-                self.tries(party, turn, false)
+                self.turn(party, target)
             }
             None => {
                 let look = self.rows.look();

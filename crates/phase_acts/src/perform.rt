@@ -16,7 +16,7 @@ impl<L: PhaseLocker> Machine<L> {
         match self.rows.waiting(step.party) {
             None => self.perform_awake(step),
             Some(target) => match step.act {
-                Act::Again => self.tries(step.party, target, true),
+                Act::Again => self.again(step.party, target),
                 _ => self.refuse(Refusal::Waits),
             },
         }

@@ -96,6 +96,7 @@ fn writes_on(answer: Answer) -> bool
 impl<L: PhaseLocker> Machine<L> {
     /// The step of an attempt ends, which took this and gave so: a lock that it got is kept in a guard, or given back
     /// where the value may not be accessed.
+    #[inline(always)]
     pub(crate) fn settle(&mut self, party: u32, target: Target, taken: Taken, given: Given) -> Line
         requires { MaySettle L.held L.place self.old.rows party target taken given }
         ensures settles { Settles L.held L.place self.old.rows party target taken given result self.new.rows }

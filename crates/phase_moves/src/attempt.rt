@@ -57,6 +57,7 @@ fn ask_of(plan: CellPlan, want: Want) -> Option<Ask>
 
 impl<L: PhaseLocker> CellRow<L> {
     /// Opens a section in a cell where none runs. One that ran would be given back.
+    #[inline(always)]
     fn open(&mut self, parks: &mut Parks, run: OpenRun)
         requires { self.old.run ≡ None }
         ensures row { self.new ≡ record self.old { run = Some run } }
@@ -72,6 +73,7 @@ impl<L: PhaseLocker> CellRow<L> {
     }
 
     /// The party waits here with this from now on, or waits no longer.
+    #[inline(always)]
     fn awaits(&mut self, of: &mut PartyRow, waiting: Option<Target>)
         requires counted { is_some of.old.waiting ≡ true → 0 < self.old.waiting }
         requires few { self.old.waiting < most_parties }
@@ -88,6 +90,7 @@ impl<L: PhaseLocker> CellRow<L> {
     }
 
     /// The party runs a section here.
+    #[inline(always)]
     fn runs(
         &mut self,
         of: &mut PartyRow,
@@ -116,6 +119,7 @@ impl<L: PhaseLocker> CellRow<L> {
     }
 
     /// What an attempt of the party took of what it began here.
+    #[inline(always)]
     fn takes(
         &mut self,
         of: &mut PartyRow,
@@ -165,6 +169,7 @@ impl<L: PhaseLocker> Rows<L> {
     /// One attempt of a party, which waits at the cell or does not wait. A call that is admitted and asks for a run
     /// registers its cell for the exit, where the cell's kind is registered. A lock that is got is in the hand of the
     /// step then.
+    #[inline(always)]
     pub fn attempt(&mut self, party: u32, target: Target, waits: bool) -> (Taken, Given)
         requires { MayAttempt L.held L.place self.old party target waits }
         ensures attempts { Attempts L.held L.place self.old party target waits result self.new }

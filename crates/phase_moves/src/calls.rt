@@ -104,6 +104,7 @@ pub fn clone_read<L: PhaseLocker>(
 }
 
 /// A call of a party that waits or not. It is handed the registry where the cell's kind is registered for the exit.
+#[inline(always)]
 pub fn call<L: PhaseLocker>(
     cell: &mut LazySequentializer<L, ()>,
     parks: &mut Parks,

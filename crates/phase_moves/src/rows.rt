@@ -33,16 +33,16 @@ pub struct Draft {
 /// What is kept of a cell.
 pub struct CellRow<L> {
     pub plan: CellPlan,
-    /// The published value.
-    pub value: Option<u64>,
-    /// What the holder of the cell's write guard sees. Without meaning while none is open.
-    pub draft: Draft,
-    /// The section that runs.
-    pub run: Option<OpenRun>,
-    /// How many calls and turns wait here.
-    pub waiting: u32,
     /// Who runs the generator, and the locker, with the published phase.
     pub seq: LazySequentializer<L, ()>,
+    /// The published value.
+    pub value: Option<u64>,
+    /// How many calls and turns wait here.
+    pub waiting: u32,
+    /// The section that runs.
+    pub run: Option<OpenRun>,
+    /// What the holder of the cell's write guard sees. Without meaning while none is open.
+    pub draft: Draft,
 }
 
 /// What is kept of a step: the guard that it opened, with its lock, while that is open.

@@ -43,8 +43,8 @@ impl<'a> StepIter<'a> {
         ensures { TakesFirst self.old result self.new }
     {
         let (row, rows) = self.rows.split_first()?;
-        let step = row.step(self.values);
-        self.values = &self.values[row.code.values()..];
+        let (step, count) = row.step(self.values);
+        self.values = &self.values[count..];
         self.rows = rows;
         Some(step)
     }

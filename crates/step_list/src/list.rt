@@ -81,11 +81,9 @@ impl StepList {
         ensures pushed { IfOk result (λ _. self.new ≡ self.old ++ step ∷ []) }
         ensures stays { IfErr result (λ _. self.new ≡ self.old) }
     {
-        let row = StepRow::new(step);
-        self.values.reserve(row.code.values())?;
         self.rows.reserve(1)?;
-        push_values(&mut self.values, step.act);
-        self.rows.push_reserved(row);
+        push_values(&mut self.values, step.act)?;
+        self.rows.push_reserved(StepRow::new(step));
         Ok(())
     }
 
@@ -124,9 +122,9 @@ impl StepList {
         ensures { TakesFirst self.old result self.new }
     {
         let row = *self.rows.get(self.row)?;
-        let step = row.step(&self.values[self.value..]);
+        let (step, count) = row.step(&self.values[self.value..]);
         self.row += 1;
-        self.value += row.code.values();
+        self.value += count;
         Some(step)
     }
 }

@@ -1,10 +1,11 @@
 //! One step as a row, beside the values that it has.
 
-ghost use Rattle.std.specs.Prelude.{◌≡◌, ◌++◌, ◌+◌, ◌≤◌, length, vec_capacity};
+ghost use Rattle.std.specs.Prelude.{◌≡◌, ◌++◌, ◌+◌, ◌≤◌, length, vec_capacity, IfOk, IfErr};
 ghost use Rattle.step_list.specs.Rows.{count_if, value_if, row_of, step_of, values_in, values_if, values_of};
 
 use lazy_cells::Call;
 use schedule_rules::{Act, Step};
+use std::alloc::AllocError;
 
 /// What a step does, without the cell or the guard that it names and without its values.
 #[derive(Clone, Copy)]
@@ -37,27 +38,6 @@ pub struct StepRow {
     pub target: u32,
     /// What it does.
     pub code: Code,
-}
-
-impl Code {
-    /// How many values a step has that does this.
-    pub fn values(self) -> usize
-        ensures { result ≡ values_of self }
-    {
-        match self {
-            Code::Made | Code::Set | Code::TryGetMut => 1,
-            Code::GetMut { makes } => usize::from(makes) + 1,
-            Code::Finished { leaves } | Code::FinishFailed { leaves } => usize::from(leaves),
-            Code::Call(_)
-            | Code::Again
-            | Code::MadeFailed
-            | Code::Look
-            | Code::Release
-            | Code::Downgrade
-            | Code::Clone
-            | Code::Exit => 0,
-        }
-    }
 }
 
 impl StepRow {
@@ -103,48 +83,60 @@ impl StepRow {
         }
     }
 
-    /// The step of this row, whose values are the first of these.
-    pub fn step(self, values: &[u64]) -> Step
+    /// The step of this row, whose values are the first of these, and how many values that are.
+    pub fn step(self, values: &[u64]) -> (Step, usize)
         requires { values_of self.code ≤ length values.now }
-        ensures { result ≡ step_of self values.now }
+        ensures step { result.0 ≡ step_of self values.now }
+        ensures count { result.1 ≡ values_of self.code }
     {
-        let act = match self.code {
-            Code::Call(call) => Act::Call {
-                cell: self.target,
-                call,
-            },
-            Code::Again => Act::Again,
-            Code::Made => Act::Made { value: values[0] },
-            Code::MadeFailed => Act::MadeFailed,
-            Code::Finished { leaves } => Act::Finished {
-                left: value_if(leaves, values),
-            },
-            Code::FinishFailed { leaves } => Act::FinishFailed {
-                left: value_if(leaves, values),
-            },
-            Code::Look => Act::Look { guard: self.target },
-            Code::Set => Act::Set {
-                guard: self.target,
-                value: values[0],
-            },
-            Code::Release => Act::Release { guard: self.target },
-            Code::Downgrade => Act::Downgrade { guard: self.target },
-            Code::Clone => Act::Clone { guard: self.target },
-            Code::GetMut { makes } => Act::GetMut {
-                cell: self.target,
-                made: value_if(makes, &values[1..]),
-                left: values[0],
-            },
-            Code::TryGetMut => Act::TryGetMut {
-                cell: self.target,
-                left: values[0],
-            },
-            Code::Exit => Act::Exit,
+        let target = self.target;
+        let (act, count) = match self.code {
+            Code::Call(call) => (Act::Call { cell: target, call }, 0),
+            Code::Again => (Act::Again, 0),
+            Code::Made => (Act::Made { value: values[0] }, 1),
+            Code::MadeFailed => (Act::MadeFailed, 0),
+            Code::Finished { leaves } => {
+                let left = value_if(leaves, values);
+                (Act::Finished { left }, usize::from(leaves))
+            }
+            Code::FinishFailed { leaves } => {
+                let left = value_if(leaves, values);
+                (Act::FinishFailed { left }, usize::from(leaves))
+            }
+            Code::Look => (Act::Look { guard: target }, 0),
+            Code::Set => {
+                let value = values[0];
+                (
+                    Act::Set {
+                        guard: target,
+                        value,
+                    },
+                    1,
+                )
+            }
+            Code::Release => (Act::Release { guard: target }, 0),
+            Code::Downgrade => (Act::Downgrade { guard: target }, 0),
+            Code::Clone => (Act::Clone { guard: target }, 0),
+            Code::GetMut { makes } => {
+                let made = value_if(makes, &values[1..]);
+                let left = values[0];
+                (
+                    Act::GetMut {
+                        cell: target,
+                        made,
+                        left,
+                    },
+                    usize::from(makes) + 1,
+                )
+            }
+            Code::TryGetMut => {
+                let left = values[0];
+                (Act::TryGetMut { cell: target, left }, 1)
+            }
+            Code::Exit => (Act::Exit, 0),
         };
-        Step {
-            party: self.party,
-            act,
-        }
+        let party = self.party;
+        (Step { party, act }, count)
     }
 }
 
@@ -156,21 +148,37 @@ fn value_if(is_there: bool, values: &[u64]) -> Option<u64>
     if is_there { Some(values[0]) } else { None }
 }
 
-/// Puts the values of an act behind these, which have room for them.
-pub fn push_values(values: &mut Vec<u64>, act: Act)
-    requires { length values.old.items + length (values_in act) ≤ vec_capacity values.old }
-    ensures { values.new.items ≡ values.old.items ++ values_in act }
+/// Puts the values of an act behind these.
+///
+/// # Errors
+///
+/// `AllocError` where there is no room and memory is short. The values stay as they were.
+pub fn push_values(values: &mut Vec<u64>, act: Act) -> Result<(), AllocError>
+    ensures pushed { IfOk result (λ _. values.new.items ≡ values.old.items ++ values_in act) }
+    ensures stays { IfErr result (λ _. values.new.items ≡ values.old.items) }
 {
     match act {
-        Act::Made { value } | Act::Set { value, .. } => values.push_reserved(value),
+        Act::Made { value } | Act::Set { value, .. } => values.push(value)?,
+        Act::Finished { left } | Act::FinishFailed { left } => {
+            values.reserve(1)?;
+            push_if(values, left);
+        }
         Act::GetMut { made, left, .. } => {
+            values.reserve(2)?;
             values.push_reserved(left);
             push_if(values, made);
         }
-        Act::TryGetMut { left, .. } => values.push_reserved(left),
-        Act::Finished { left } | Act::FinishFailed { left } => push_if(values, left),
-        _ => {}
+        Act::TryGetMut { left, .. } => values.push(left)?,
+        Act::Call { .. }
+        | Act::Again
+        | Act::MadeFailed
+        | Act::Look { .. }
+        | Act::Release { .. }
+        | Act::Downgrade { .. }
+        | Act::Clone { .. }
+        | Act::Exit => {}
     }
+    Ok(())
 }
 
 /// Puts this value behind these, where it is there. They have room for it.

@@ -9,8 +9,8 @@ returns-then-is_begun g c = λ cells h is. c.refuse.ensures cells h _ is.next (e
 pub returns-then-is_some : goal.returns-then-is_some
 returns-then-is_some g c = λ cells h is. c.refuse-then-is_some.ensures cells h _ is.next (exit_inside g.L.PhaseLocker.held g.L.PhaseLocker.place c.args.self.now.rows c.args.party cells h is c.is_begun.result c.is_begun.ensures c.if-is_begun.false c.innermost.result c.innermost.ensures (sym c.is_some.ensures ∙ c.if-is_some.true))
 
-pub tries-requires : goal.tries-requires
-tries-requires g c = may_turn g.L.PhaseLocker.held g.L.PhaseLocker.place c.args.self.now.rows c.args.party c.requires.cells c.requires.h c.requires.is c.is_begun.result c.is_begun.ensures c.if-is_begun.false c.innermost.result c.innermost.ensures (sym c.is_some.ensures ∙ c.if-is_some.false) c.own.new.self c.next_turn.new.self c.own.ensures.owns c.own.ensures.kept c.next_turn.result c.next_turn.ensures.takes c.next_turn.ensures.kept c.in-Some.cell c.in-Some.is
+pub turn-requires : goal.turn-requires
+turn-requires g c = may_turn g.L.PhaseLocker.held g.L.PhaseLocker.place c.args.self.now.rows c.args.party c.requires.cells c.requires.h c.requires.is c.is_begun.result c.is_begun.ensures c.if-is_begun.false c.innermost.result c.innermost.ensures (sym c.is_some.ensures ∙ c.if-is_some.false) c.own.new.self c.next_turn.new.self c.own.ensures.owns c.own.ensures.kept c.next_turn.result c.next_turn.ensures.takes c.next_turn.ensures.kept c.in-Some.cell c.in-Some.is
 
 pub look-look-requires : goal.look-look-requires
 look-look-requires g c = may_look g.L.PhaseLocker.held g.L.PhaseLocker.place c.args.self.now.rows c.args.party c.requires.cells c.requires.h c.requires.is c.is_begun.result c.is_begun.ensures c.if-is_begun.false c.innermost.result c.innermost.ensures (sym c.is_some.ensures ∙ c.if-is_some.false) c.own.new.self c.next_turn.new.self c.own.ensures.owns c.own.ensures.kept c.next_turn.result c.next_turn.ensures.takes c.next_turn.ensures.kept c.in-None.is
@@ -18,7 +18,7 @@ look-look-requires g c = may_look g.L.PhaseLocker.held g.L.PhaseLocker.place c.a
 pub returns-in-Some : goal.returns-in-Some
 returns-in-Some g c = λ cells h is.
     did_turn g.L.PhaseLocker.held g.L.PhaseLocker.place c.args.self.now.rows c.args.party cells h is c.is_begun.result c.is_begun.ensures c.if-is_begun.false c.innermost.result c.innermost.ensures (sym c.is_some.ensures ∙ c.if-is_some.false) c.own.new.self c.next_turn.new.self c.own.ensures.owns c.own.ensures.kept c.next_turn.result c.next_turn.ensures.takes c.next_turn.ensures.kept c.in-Some.cell c.in-Some.is
-    c.tries.result _ c.tries.ensures.tries c.tries.ensures.kept
+    c.turn.result _ c.turn.ensures.tries c.turn.ensures.kept
 
 pub returns-in-None : goal.returns-in-None
 returns-in-None g c = λ cells h is.

@@ -13,8 +13,8 @@ perform_awake-requires g c =
 pub returns-in-None : goal.returns-in-None
 returns-in-None g c = λ cells h next. c.perform_awake.ensures cells h (awake g.L.PhaseLocker.held g.L.PhaseLocker.place cells h c.args.self.now.rows c.args.step.now next c.waiting.result c.waiting.ensures c.in-None.is)
 
-pub tries-requires : goal.tries-requires
-tries-requires g c =
+pub again-requires : goal.again-requires
+again-requires g c =
     record {
       m = standing c.requires.cells c.requires.h;
       is = may_go_on g.L.PhaseLocker.held g.L.PhaseLocker.place c.requires.cells c.requires.h c.args.self.now.rows c.args.step.now c.requires.next c.waiting.result c.waiting.ensures c.in-Some.target c.in-Some.is c.in-Again.is;
@@ -23,8 +23,8 @@ tries-requires g c =
 
 pub returns-in-Again : goal.returns-in-Again
 returns-in-Again g c = λ cells h next.
-    went_on g.L.PhaseLocker.held g.L.PhaseLocker.place cells h c.args.self.now.rows c.args.step.now next c.waiting.result c.waiting.ensures c.in-Some.target c.in-Some.is c.in-Again.is c.tries.result c.tries.new.self.rows
-    (c.tries.ensures.tries (standing cells h) (may_go_on g.L.PhaseLocker.held g.L.PhaseLocker.place cells h c.args.self.now.rows c.args.step.now next c.waiting.result c.waiting.ensures c.in-Some.target c.in-Some.is c.in-Again.is)) c.tries.ensures.kept
+    went_on g.L.PhaseLocker.held g.L.PhaseLocker.place cells h c.args.self.now.rows c.args.step.now next c.waiting.result c.waiting.ensures c.in-Some.target c.in-Some.is c.in-Again.is c.again.result c.again.new.self.rows
+    (c.again.ensures.tries (standing cells h) (may_go_on g.L.PhaseLocker.held g.L.PhaseLocker.place cells h c.args.self.now.rows c.args.step.now next c.waiting.result c.waiting.ensures c.in-Some.target c.in-Some.is c.in-Again.is)) c.again.ensures.kept
 
 pub returns-in_default : goal.returns-in_default
 returns-in_default g c = λ cells h next. c.refuse.ensures cells h c.args.step.now next (waits_refused g.L.PhaseLocker.held g.L.PhaseLocker.place cells h c.args.self.now.rows c.args.step.now next c.waiting.result c.waiting.ensures c.in-Some.target c.in-Some.is c.in_default.not-Again)

@@ -6,7 +6,7 @@ use Rattle.step_list.proofs.list.StepList.push.Goals as goal
 pub invariant_of-self-2 : goal.invariant_of-self-2
 invariant_of-self-2 c =
     let i = c.self.inside in
-    let rows : c.push_reserved.new.self.items ≡ i.rows.items ++ row_of c.args.step ∷ [] = cc (c.push_reserved.ensures.items, c.new-row.ensures, c.reserve-2.ensures.items) in
+    let rows : c.push_reserved.new.self.items ≡ i.rows.items ++ row_of c.args.step ∷ [] = cc (c.push_reserved.ensures.items, c.new.ensures, c.reserve-2.ensures.items) in
     let values : c.push_values.new.values.items ≡ i.values.items ++ values_in c.args.step.act = cc (c.push_values.ensures, c.reserve.ensures.items) in
     record {
       row = rows_pushed i.row i.value i.rows.items _ i.values.items _ c.args.step c.self.invariant.row c.self.invariant.value rows values;
@@ -16,6 +16,6 @@ invariant_of-self-2 c =
 pub returns-clause-pushed : goal.returns-clause-pushed
 returns-clause-pushed c =
     let i = c.self.inside in
-    let rows : c.push_reserved.new.self.items ≡ i.rows.items ++ row_of c.args.step ∷ [] = cc (c.push_reserved.ensures.items, c.new-row.ensures, c.reserve-2.ensures.items) in
+    let rows : c.push_reserved.new.self.items ≡ i.rows.items ++ row_of c.args.step ∷ [] = cc (c.push_reserved.ensures.items, c.new.ensures, c.reserve-2.ensures.items) in
     let values : c.push_values.new.values.items ≡ i.values.items ++ values_in c.args.step.act = cc (c.push_values.ensures, c.reserve.ensures.items) in
     rw (← c.self.view_is) (steps_pushed i.row i.value i.rows.items _ i.values.items _ c.args.step c.self.invariant.row c.self.invariant.value rows values)
