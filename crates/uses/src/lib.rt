@@ -6,6 +6,7 @@
 //! - `shared_value`: a value is made once, and read by two.
 //! - `stepping`: a harness makes the steps of an engine one by one, over lockers of its own, and looks at who waits.
 //! - `built`: a schedule is built in code, run and printed.
+//! - `kept_steps`: the steps of a schedule are kept small, and taken one by one.
 //! - `from_text`: a schedule is read from text, and its errors are told.
 //! - `parked`: a reader waits behind a writer.
 //! - `access`: a phase says whether a value may be read.
@@ -17,6 +18,7 @@ mod built;
 mod configuration;
 mod from_text;
 mod in_memory;
+mod kept_steps;
 mod kinds;
 mod parked;
 mod plugins;
@@ -32,6 +34,7 @@ pub use built::{a_reader_waits, run_and_print, two_parties};
 pub use configuration::port;
 pub use from_text::{TextError, run_text};
 pub use in_memory::{Ended, run_in_memory};
+pub use kept_steps::take_first;
 pub use kinds::{count, enqueue, log_file, setting};
 pub use parked::{Barred, read_behind_a_writer};
 pub use plugins::{Plugin, run_host};

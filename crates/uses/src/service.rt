@@ -111,22 +111,3 @@ pub fn serve(alloc: Global) -> Result<Served, ServiceError>
     let log = stop(alloc, pool, &mut registry)?;
     Ok(Served { connections, log })
 }
-
-#[cfg(test)]
-mod tests {
-    use super::serve;
-    use exit_registry::{Turn, Turned};
-    use std::test::Fail;
-
-    #[test]
-    fn a_service_starts_and_stops(rt: HostRuntime) -> Result<(), Fail> {
-        let Ok(served) = serve(rt.alloc()) else {
-            return Err("it runs".into());
-        };
-        assert_eq!(rt; served.connections, 1);
-        let turn = Turn::Done;
-        let due = [Turned { cell: 0, turn }];
-        assert_eq!(rt; served.log.entries(), due.as_slice());
-        Ok(())
-    }
-}

@@ -2,13 +2,15 @@
 
 use crate::{
     Plugin, a_reader_waits, count_together, read_at, read_behind_a_writer, read_by_two,
-    run_and_print, run_host, run_in_memory, run_text, two_parties, watch_a_reader,
+    run_and_print, run_host, run_in_memory, run_text, serve, take_first, two_parties,
+    watch_a_reader,
 };
 use exit_registry::{Finalizable, Turn, Turned};
 use phase_bits::Phase;
 use phase_locker::Given;
 use phase_run::Status;
 use phase_schedule::{HolderLocker, Waiting};
+use schedule_rules::{Act, Step};
 use std::test::Fail;
 
 /// A schedule of a writer and a reader.
@@ -111,5 +113,34 @@ fn errors_are_told(rt: HostRuntime) -> Result<(), Fail> {
 #[test]
 fn no_addition_is_lost(rt: HostRuntime) -> Result<(), Fail> {
     assert_eq!(rt; count_together(&rt, rt.alloc(), 1000)?, (2000, 2000));
+    Ok(())
+}
+
+#[test]
+fn a_service_starts_and_stops(rt: HostRuntime) -> Result<(), Fail> {
+    let Ok(served) = serve(rt.alloc()) else {
+        return Err("it runs".into());
+    };
+    assert_eq!(rt; served.connections, 1);
+    let turn = Turn::Done;
+    let due = [Turned { cell: 0, turn }];
+    assert_eq!(rt; served.log.entries(), due.as_slice());
+    Ok(())
+}
+
+#[test]
+fn the_first_step_is_taken(rt: HostRuntime) -> Result<(), Fail> {
+    let value = 9;
+    let first = Step {
+        party: 3,
+        act: Act::Made { value },
+    };
+    let second = Step {
+        party: 4,
+        act: Act::Exit,
+    };
+    let (taken, left) = take_first(rt.alloc(), &[first, second])?;
+    assert_eq!(rt; taken, Some(first));
+    assert_eq!(rt; left, 1);
     Ok(())
 }
