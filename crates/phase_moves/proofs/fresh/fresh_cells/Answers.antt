@@ -1,5 +1,7 @@
-use Rattle.std.proofs.Common.{◌∙◌, ◌≤◌, ap, length, subst, sym}
+use Rattle.std.proofs.Common.{◌≡◌, ◌∙◌, ◌≤◌, ap, length, subst, sym, true}
+use Rattle.schedule_rules.specs.declared.plan.CellPlan.{CellPlan}
 use Rattle.phase_moves.specs.Fresh.{IsFreshCell}
+use Rattle.phase_moves.specs.Stands.{kind_at}
 use Rattle.phase_moves.proofs.Starting.{planned_at, row_more, size_more}
 use Rattle.phase_moves.proofs.fresh.fresh_cells.Goals as goal
 
@@ -11,3 +13,6 @@ loop-plan-preserved g c =
           (subst (λ x. IsFreshCell g.L.PhaseLocker.held g.L.PhaseLocker.place x c.fresh_cell.result) (planned_at c.args.plans.now c.loop-plan.plan-index _ c.loop-plan-test.true) c.fresh_cell.ensures) c.push_reserved.ensures.items;
       room = subst (λ n. length c.args.plans.now ≤ n) (sym c.push_reserved.ensures.capacity) c.loop-plan.invariant.room;
     }
+
+pub fresh_cell-requires : goal.fresh_cell-requires
+fresh_cell-requires g c = subst (λ (x : CellPlan). g.L.PhaseLocker.takes (kind_at x.place) ≡ true) (sym (planned_at c.args.plans.now c.loop-plan.plan-index _ c.loop-plan-test.true)) (c.requires c.loop-plan.plan-index c.loop-plan-test.true)
