@@ -16,3 +16,4 @@ pub mod Others
 pub mod Fresh
 pub mod Standing
 pub mod Opening
+pub mod Spinning

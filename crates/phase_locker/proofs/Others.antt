@@ -196,6 +196,13 @@ hands_others g c h s h' s' inside sound hands = record {
   rows = λ p waits m. rows_elsewhere c s s' p m (hands_rows g c h s h' s' inside sound hands p);
 }
 
+-- a party that waits at the cell no longer
+pub freed_others : (c p : ℕ) (s : Rows) → p < length s.rows → (row_of s p).cell ≡ c → OthersStay c s (freed p s)
+freed_others c p s inside here = record {
+  cells = λ d m. freed_same c p s d inside here m;
+  rows = λ q waits m. freed_row p s q (λ e. m (ap (λ r. (row_of s r).cell) e ∙ here));
+}
+
 -- nothing at all
 pub others_refl : (c : ℕ) (s : Rows) → OthersStay c s s
 others_refl c s = record { cells = λ d m. same_refl d s; rows = λ p waits m. refl }

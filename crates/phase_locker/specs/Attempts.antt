@@ -1,5 +1,5 @@
 -- What a call that may wait does to the record of its cell and to the rows.
-use Rattle.std.specs.Prelude.{◌≡◌, ◌==◌, Bool, true, false, not, MatchBool}
+use Rattle.std.specs.Prelude.{◌≡◌, ◌==◌, Bool, true, false, ◌&&◌, not, MatchBool}
 use Rattle.phase_bits.specs.declared.phase.Phase.{Phase}
 use Rattle.phase_bits.specs.declared.holders.Holders.{Holders}
 use Rattle.phase_bits.specs.Records.{leave_read, drain, give_up}
@@ -77,6 +77,11 @@ pub record Locks (post : Phase → LockNature → Type 0) (k : LockerKind) (w : 
   pub given : r.1 ≡ Nobody
 
 -- ---- a call of a party that waits
+
+-- the call spins on: it spins where calls do not park, and is barred again
+abbrev pub spins_on : LockerKind → Waiting → LockNature → Holders → Bool
+spins_on k waiting.Spin n h = not (is_park k) && bars h n
+spins_on k w n h = false
 
 -- the call keeps what it has: a share of the nature that it wants now, or a drain that no reader is left beside
 abbrev pub keeps : Waiting → LockNature → Holders → Bool

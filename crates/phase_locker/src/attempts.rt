@@ -9,7 +9,7 @@ ghost use Rattle.phase_locker.specs.Natures.{MayJudge, bars, admitted, got, Trie
 ghost use Rattle.phase_locker.specs.Rows.{row_of, freed, SameSize};
 ghost use Rattle.phase_locker.specs.Fits.{Fits, KeepsFit, ParkedOnPark};
 ghost use Rattle.phase_locker.specs.Gifts.{ReadersFirst};
-ghost use Rattle.phase_locker.specs.Attempts.{ParksBy, rows_waiting, Judged, Locks, keeps, given_up, Keeps, Again, NeverDrains, WaitsBy};
+ghost use Rattle.phase_locker.specs.Attempts.{ParksBy, rows_waiting, Judged, Locks, spins_on, keeps, given_up, Keeps, Again, NeverDrains, WaitsBy};
 ghost use Rattle.phase_locker.specs.Others.{RowsStayBeside};
 ghost use Rattle.phase_locker.specs.Stands.{MayCall, MayCallAgain, Stands, Opens, reads_opened, opens_write};
 ghost use Rattle.phase_locker.specs.Left.{Left};
@@ -68,6 +68,9 @@ pub(crate) fn again<S: Store, F: Fn(Phase) -> LockNature>(
 {
     let nature = how(store.stored_phase());
     let waiting = parks.waiting(who.party);
+    if spins_on(store, waiting, nature) {
+        return (Attempt::Wait(How::Spin), Given::Nobody);
+    }
     if keeps(store, waiting, nature) {
         return (keep(store, parks, who, nature), Given::Nobody);
     }
@@ -178,6 +181,17 @@ fn wait<S: Store>(store: &S, parks: &mut Parks, who: Who, wake: LockNature) -> H
     } else {
         parks.park_reader(who.cell, who.party);
         How::ParkedRead
+    }
+}
+
+/// Whether a call that waits so spins on: its row and the record stay as they are, so that it need not leave and come back.
+#[inline(always)]
+fn spins_on<S: Store>(store: &S, waiting: Waiting, nature: LockNature) -> bool
+    ensures { result ≡ spins_on (S.place store.now) waiting nature (S.kept store.now) }
+{
+    match waiting {
+        Waiting::Spin => store.place() != LockerKind::Park && store.bars(nature),
+        _ => false,
     }
 }
 

@@ -1,10 +1,26 @@
 use Rattle.std.proofs.Common.{◌∙◌, arith, sym}
 use Rattle.phase_locker.proofs.Keeping.{again_fits, freed_size, gives_up_freed}
-use Rattle.phase_locker.proofs.Others.{again_others, again_rows}
+use Rattle.phase_locker.proofs.Others.{again_others, again_rows, freed_others}
+use Rattle.phase_locker.proofs.Spinning.{spins_again}
 use Rattle.phase_locker.proofs.Standing.{Between, keeps_stands, between, again_stands}
 use Rattle.phase_locker.proofs.Opening.{keeps_opens, again_opens, between_only}
 use Rattle.phase_locker.proofs.attempts.again.Given as given
 use Rattle.phase_locker.proofs.attempts.again.Goals as goal
+
+pub returns-then-spins_on-clause-again : goal.returns-then-spins_on-clause-again
+returns-then-spins_on-clause-again g c = record {
+  nature = c.how-nature.result;
+  allowed = rw (← c.stored_phase.ensures.phase) c.how-nature.ensures;
+  steps = spins_again (g.S.Store.place c.args.store.now) c.args.who c.args.wake c.how-nature.result (g.S.Store.kept c.args.store.now) c.args.parks.now c.requires.calls.here c.requires.fits (rw c.waiting-waiting.ensures.waiting at (sym c.spins_on.ensures ∙ c.if-spins_on.true));
+}
+
+pub returns-then-keeps-clause-left : goal.returns-then-keeps-clause-left
+returns-then-keeps-clause-left g c = record {
+  others = rw c.keep.ensures.keeps.rows (freed_others c.args.who.cell c.args.who.party c.args.parks.now c.requires.calls.party c.requires.calls.here);
+  fits = c.keep.ensures.fits;
+  place = c.keep.ensures.place;
+  same = c.keep.ensures.same;
+}
 
 pub returns-clause-left : goal.returns-clause-left
 returns-clause-left g c = record {
