@@ -4,7 +4,7 @@ ghost use Rattle.std.specs.Prelude.{◌≡◌, ◌++◌, ◌∷◌, [], length, 
 ghost use Rattle.step_list.specs.Steps.{TakesFirst};
 
 use crate::iter::StepIter;
-use crate::row::{StepRow, push_values};
+use crate::row::StepRow;
 use schedule_rules::Step;
 use std::alloc::{AllocError, Global};
 use std::marker::Model;
@@ -82,8 +82,8 @@ impl StepList {
         ensures stays { IfErr result (λ _. self.new ≡ self.old) }
     {
         self.rows.reserve(1)?;
-        push_values(&mut self.values, step.act)?;
-        self.rows.push_reserved(StepRow::new(step));
+        let row = StepRow::new(step, &mut self.values)?;
+        self.rows.push_reserved(row);
         Ok(())
     }
 

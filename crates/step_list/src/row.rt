@@ -1,7 +1,7 @@
 //! One step as a row, beside the values that it has.
 
 ghost use Rattle.std.specs.Prelude.{◌≡◌, ◌++◌, ◌+◌, ◌≤◌, length, vec_capacity, IfOk, IfErr};
-ghost use Rattle.step_list.specs.Rows.{count_if, value_if, row_of, step_of, values_in, values_if, values_of};
+ghost use Rattle.step_list.specs.Rows.{count_if, value_if, row_of, step_of, values_in, values_if, values_of, target_of, code_of, is_there};
 
 use lazy_cells::Call;
 use schedule_rules::{Act, Step};
@@ -41,46 +41,23 @@ pub struct StepRow {
 }
 
 impl StepRow {
-    /// The row of a step.
-    pub fn new(step: Step) -> StepRow
-        ensures { result ≡ row_of step }
+    /// The row of a step, whose values are put behind these.
+    ///
+    /// # Errors
+    ///
+    /// `AllocError` where there is no room and memory is short. The values stay as they were.
+    pub fn new(step: Step, values: &mut Vec<u64>) -> Result<StepRow, AllocError>
+        ensures row { IfOk result (λ row. row ≡ row_of step) }
+        ensures pushed { IfOk result (λ _. values.new.items ≡ values.old.items ++ values_in step.act) }
+        ensures stays { IfErr result (λ _. values.new.items ≡ values.old.items) }
     {
-        let (target, code) = match step.act {
-            Act::Call { cell, call } => (cell, Code::Call(call)),
-            Act::Again => (0, Code::Again),
-            Act::Made { .. } => (0, Code::Made),
-            Act::MadeFailed => (0, Code::MadeFailed),
-            Act::Finished { left } => (
-                0,
-                Code::Finished {
-                    leaves: left.is_some(),
-                },
-            ),
-            Act::FinishFailed { left } => (
-                0,
-                Code::FinishFailed {
-                    leaves: left.is_some(),
-                },
-            ),
-            Act::Look { guard } => (guard, Code::Look),
-            Act::Set { guard, .. } => (guard, Code::Set),
-            Act::Release { guard } => (guard, Code::Release),
-            Act::Downgrade { guard } => (guard, Code::Downgrade),
-            Act::Clone { guard } => (guard, Code::Clone),
-            Act::GetMut { cell, made, .. } => (
-                cell,
-                Code::GetMut {
-                    makes: made.is_some(),
-                },
-            ),
-            Act::TryGetMut { cell, .. } => (cell, Code::TryGetMut),
-            Act::Exit => (0, Code::Exit),
-        };
-        StepRow {
-            party: step.party,
+        let party = step.party;
+        let (target, code) = keep(step.act, values)?;
+        Ok(StepRow {
+            party,
             target,
             code,
-        }
+        })
     }
 
     /// The step of this row, whose values are the first of these, and how many values that are.
@@ -89,9 +66,9 @@ impl StepRow {
         ensures step { result.0 ≡ step_of self values.now }
         ensures count { result.1 ≡ values_of self.code }
     {
-        let target = self.target;
+        let (party, cell, guard) = (self.party, self.target, self.target);
         let (act, count) = match self.code {
-            Code::Call(call) => (Act::Call { cell: target, call }, 0),
+            Code::Call(call) => (Act::Call { cell, call }, 0),
             Code::Again => (Act::Again, 0),
             Code::Made => (Act::Made { value: values[0] }, 1),
             Code::MadeFailed => (Act::MadeFailed, 0),
@@ -103,39 +80,25 @@ impl StepRow {
                 let left = value_if(leaves, values);
                 (Act::FinishFailed { left }, usize::from(leaves))
             }
-            Code::Look => (Act::Look { guard: target }, 0),
+            Code::Look => (Act::Look { guard }, 0),
             Code::Set => {
                 let value = values[0];
-                (
-                    Act::Set {
-                        guard: target,
-                        value,
-                    },
-                    1,
-                )
+                (Act::Set { guard, value }, 1)
             }
-            Code::Release => (Act::Release { guard: target }, 0),
-            Code::Downgrade => (Act::Downgrade { guard: target }, 0),
-            Code::Clone => (Act::Clone { guard: target }, 0),
+            Code::Release => (Act::Release { guard }, 0),
+            Code::Downgrade => (Act::Downgrade { guard }, 0),
+            Code::Clone => (Act::Clone { guard }, 0),
             Code::GetMut { makes } => {
                 let made = value_if(makes, &values[1..]);
                 let left = values[0];
-                (
-                    Act::GetMut {
-                        cell: target,
-                        made,
-                        left,
-                    },
-                    usize::from(makes) + 1,
-                )
+                (Act::GetMut { cell, made, left }, usize::from(makes) + 1)
             }
             Code::TryGetMut => {
                 let left = values[0];
-                (Act::TryGetMut { cell: target, left }, 1)
+                (Act::TryGetMut { cell, left }, 1)
             }
             Code::Exit => (Act::Exit, 0),
         };
-        let party = self.party;
         (Step { party, act }, count)
     }
 }
@@ -148,45 +111,64 @@ fn value_if(is_there: bool, values: &[u64]) -> Option<u64>
     if is_there { Some(values[0]) } else { None }
 }
 
-/// Puts the values of an act behind these.
-///
-/// # Errors
-///
-/// `AllocError` where there is no room and memory is short. The values stay as they were.
-pub fn push_values(values: &mut Vec<u64>, act: Act) -> Result<(), AllocError>
+/// What a row keeps of an act, whose values are put behind these.
+fn keep(act: Act, values: &mut Vec<u64>) -> Result<(u32, Code), AllocError>
+    ensures kept { IfOk result (λ kept. kept ≡ (target_of act, code_of act)) }
     ensures pushed { IfOk result (λ _. values.new.items ≡ values.old.items ++ values_in act) }
     ensures stays { IfErr result (λ _. values.new.items ≡ values.old.items) }
 {
-    match act {
-        Act::Made { value } | Act::Set { value, .. } => values.push(value)?,
-        Act::Finished { left } | Act::FinishFailed { left } => {
-            values.reserve(1)?;
-            push_if(values, left);
+    let kept = match act {
+        Act::Call { cell, call } => (cell, Code::Call(call)),
+        Act::Again => (0, Code::Again),
+        Act::Made { value } => {
+            values.push(value)?;
+            (0, Code::Made)
         }
-        Act::GetMut { made, left, .. } => {
+        Act::MadeFailed => (0, Code::MadeFailed),
+        Act::Finished { left } => {
+            values.reserve(1)?;
+            let leaves = push_if(values, left);
+            (0, Code::Finished { leaves })
+        }
+        Act::FinishFailed { left } => {
+            values.reserve(1)?;
+            let leaves = push_if(values, left);
+            (0, Code::FinishFailed { leaves })
+        }
+        Act::Look { guard } => (guard, Code::Look),
+        Act::Set { guard, value } => {
+            values.push(value)?;
+            (guard, Code::Set)
+        }
+        Act::Release { guard } => (guard, Code::Release),
+        Act::Downgrade { guard } => (guard, Code::Downgrade),
+        Act::Clone { guard } => (guard, Code::Clone),
+        Act::GetMut { cell, made, left } => {
             values.reserve(2)?;
             values.push_reserved(left);
-            push_if(values, made);
+            let makes = push_if(values, made);
+            (cell, Code::GetMut { makes })
         }
-        Act::TryGetMut { left, .. } => values.push(left)?,
-        Act::Call { .. }
-        | Act::Again
-        | Act::MadeFailed
-        | Act::Look { .. }
-        | Act::Release { .. }
-        | Act::Downgrade { .. }
-        | Act::Clone { .. }
-        | Act::Exit => {}
-    }
-    Ok(())
+        Act::TryGetMut { cell, left } => {
+            values.push(left)?;
+            (cell, Code::TryGetMut)
+        }
+        Act::Exit => (0, Code::Exit),
+    };
+    Ok(kept)
 }
 
-/// Puts this value behind these, where it is there. They have room for it.
-fn push_if(values: &mut Vec<u64>, more: Option<u64>)
+/// Puts this value behind these, where it is there, and tells whether it is. They have room for it.
+fn push_if(values: &mut Vec<u64>, more: Option<u64>) -> bool
     requires { length values.old.items + length (values_if more) ≤ vec_capacity values.old }
-    ensures { values.new.items ≡ values.old.items ++ values_if more }
+    ensures pushed { values.new.items ≡ values.old.items ++ values_if more }
+    ensures there { result ≡ is_there more }
 {
-    if let Some(value) = more {
-        values.push_reserved(value);
+    match more {
+        Some(value) => {
+            values.push_reserved(value);
+            true
+        }
+        None => false,
     }
 }

@@ -18,6 +18,7 @@ fn cell_of(call: Call, text: &[u8]) -> Option<(Act, &[u8])>
 
 /// The call whose word stands at the front, and the bytes after it: a row for each call, tried in order. Of those whose first
 /// letter no other call has.
+#[inline(always)]
 fn plain_call(text: &[u8]) -> Option<(Call, &[u8])>
     ensures { Gives (λ found. (found.0, found.1.now)) result (first_word plain_calls text.now) }
 {

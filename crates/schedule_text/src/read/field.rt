@@ -6,6 +6,7 @@ ghost use Rattle.schedule_text.specs.ReadFields.{Gives, bytes_after, digits_from
 ghost use Rattle.schedule_text.specs.ReadSteps.{last_number_at, last_name_at};
 
 /// The bytes after a word that stands at the front.
+#[inline(always)]
 pub(super) fn after_word<'a>(text: &'a [u8], word: &[u8]) -> Option<&'a [u8]>
     ensures { Gives (λ rest. rest.now) result (bytes_after word.now text.now) }
 {

@@ -142,6 +142,7 @@ fn step(text: &[u8]) -> Option<(Step, &[u8])>
 }
 
 /// The lines of cells, up to one that is none.
+#[inline(never)]
 pub(super) fn cells(alloc: Global, text: &[u8]) -> Result<(Vec<CellPlan>, &[u8]), AllocError>
     ensures taken { IfOk result (λ found. text.now ≡ flat_map cell_text found.0.items ++ found.1.now) }
     ensures fit { IfOk result (λ found. AllByRecursion CellFits found.0.items) }
@@ -157,6 +158,7 @@ pub(super) fn cells(alloc: Global, text: &[u8]) -> Result<(Vec<CellPlan>, &[u8])
 }
 
 /// The lines of steps, up to one that is none.
+#[inline(never)]
 pub(super) fn steps(alloc: Global, text: &[u8]) -> Result<(StepList, &[u8]), AllocError>
     ensures taken { IfOk result (λ found. text.now ≡ flat_map step_text found.0 ++ found.1.now) }
     ensures fit { IfOk result (λ found. AllByRecursion StepFits found.0) }
