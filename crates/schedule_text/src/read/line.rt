@@ -141,7 +141,8 @@ fn step(text: &[u8]) -> Option<(Step, &[u8])>
     Some((Step { party, act }, rest))
 }
 
-/// The lines of cells, up to one that is none.
+/// The lines of cells, up to one that is none. It stands apart from its caller, so that what the loop goes by stays in
+/// registers.
 #[inline(never)]
 pub(super) fn cells(alloc: Global, text: &[u8]) -> Result<(Vec<CellPlan>, &[u8]), AllocError>
     ensures taken { IfOk result (λ found. text.now ≡ flat_map cell_text found.0.items ++ found.1.now) }
@@ -157,7 +158,7 @@ pub(super) fn cells(alloc: Global, text: &[u8]) -> Result<(Vec<CellPlan>, &[u8])
     Ok((cells, rest))
 }
 
-/// The lines of steps, up to one that is none.
+/// The lines of steps, up to one that is none. It stands apart as that of cells does.
 #[inline(never)]
 pub(super) fn steps(alloc: Global, text: &[u8]) -> Result<(StepList, &[u8]), AllocError>
     ensures taken { IfOk result (λ found. text.now ≡ flat_map step_text found.0 ++ found.1.now) }
