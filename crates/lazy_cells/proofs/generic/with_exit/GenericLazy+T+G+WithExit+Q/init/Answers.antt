@@ -1,5 +1,4 @@
-use Rattle.std.proofs.Common.{Bool, Some, ap, ◌∙◌}
-use Rattle.std.proofs.lemmas.Option.{same_Some}
+use Rattle.std.proofs.Common.{Bool, Some, ap}
 use Rattle.phase_seq.specs.Registers.{after_asking}
 use Rattle.phase_seq.specs.Direct.{tolerance, enlisted}
 use Rattle.lazy_cells.proofs.Flags.{enlisted_lack}
@@ -33,4 +32,4 @@ returns-clause-registry g c =
     let h = c.this.inside.sequentializer.locker in
     let t = tolerance g.G.GeneratorTolerance.INIT_FAILURE g.G.GeneratorTolerance.FINAL_REGISTRATION_FAILURE in
     let m = c.args.registry.now in
-    rw (← c.this.view_is) (same_Some _ _ c.generate-told.ensures.registry ∙ ap (λ (b : Bool). after_asking b c.this.inside.marker.cell h.phase m) (due_idle t h c.this.invariant.idle))
+    rw (← c.this.view_is) (cc (c.generate-told.ensures.registry, ap (λ (b : Bool). after_asking b c.this.inside.marker.cell h.phase m) (due_idle t h c.this.invariant.idle)))
