@@ -1,6 +1,5 @@
 -- Calls on the cell of one party that run its generator or finalizer at once.
 use Rattle.std.specs.Prelude.{◌≡◌, ℕ, ◌<◌, Bool, true, false, ◌&&◌, not, if◌then◌else◌, MatchBool, Option, Some, None, Result, Ok, Err}
-use Rattle.std.specs.Borrow.{MutBor}
 use Rattle.phase_bits.specs.declared.phase.Phase.{Phase}
 use Rattle.phase_bits.specs.declared.holders.Holders.{Holders}
 use Rattle.phase_bits.specs.Flags.{has, initialized}
@@ -27,7 +26,7 @@ use Rattle.phase_seq.specs.declared.section.Finished.TheVariants as finished
 use Rattle.phase_seq.specs.Asks.{asks_run, nature_of}
 use Rattle.phase_seq.specs.Phases.{unregistered, staying, refused, reached, finalized}
 use Rattle.phase_seq.specs.Finishes.{left_on, left_with, ended_with}
-use Rattle.phase_seq.specs.Registers.{after_asking, is_refused}
+use Rattle.phase_seq.specs.Registers.{is_refused}
 
 -- ---- the registry
 
@@ -35,22 +34,6 @@ use Rattle.phase_seq.specs.Registers.{after_asking, is_refused}
 pub record MayEnlist (c : ℕ) (h : Holders) (m : Registry) : Type 0 where
   pub inside : c < cells_of m
   pub unknown : number h.phase ≡ 0 → ¬ IsHeldToWrite h → is_known m c ≡ false
-
--- the registry that a call was given
-abbrev pub registry_in : Option (ℕ × MutBor Registry) → Option Registry
-registry_in None = None
-registry_in (Some e) = Some e.1.now
-
--- the registry that a call was given, after it: where a run was due and admitted, registration is tried if the phase is
--- empty
-abbrev pub registry_after : Bool → Phase → Option (ℕ × MutBor Registry) → Option Registry
-registry_after due p None = None
-registry_after due p (Some e) = Some (after_asking due e.0 p e.1.now)
-
--- the registry that a call was given, as it was left
-abbrev pub registry_left : Option (ℕ × (MutBor Registry × Unit {0})) → Option Registry
-registry_left None = None
-registry_left (Some e) = Some e.1.0.now
 
 -- ---- a run
 

@@ -34,5 +34,5 @@ pub use laws::{
 };
 pub use once::OnceGenerator;
 pub use section::{Begun, Finished, Section};
-pub use sequentializer::{Exit, LazySequentializer};
+pub use sequentializer::LazySequentializer;
 pub use tolerance::{Tolerance, shall_init, tolerance_of};

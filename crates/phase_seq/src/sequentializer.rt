@@ -28,10 +28,7 @@ use std::marker::PhantomData;
 mod attempts;
 mod closures;
 mod direct;
-mod owning;
 mod settling;
-
-pub use closures::Exit;
 
 /// The locker of a cell, and the party that runs the cell's generator. It is static_init's `LazySequentializer`, for one
 /// event at a time.

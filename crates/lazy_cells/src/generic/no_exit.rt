@@ -36,7 +36,7 @@ impl<T: Drop, G: Generator<T>, Q> GenericLazy<T, G, NoExit<Q>> {
         ensures again { G.may_call this.new.generator }
         ensures asks { Asks G.attempts say_phase (tolerance G.INIT_FAILURE G.FINAL_REGISTRATION_FAILURE) (Some unregistered) this.old result this.new }
     {
-        let told = this.sequentializer.generate(&mut this.generator);
+        let told = this.sequentializer.generate(0, None, &mut this.generator);
         fill(&mut this.body, told)
     }
 

@@ -46,7 +46,7 @@ impl<T: Drop, G: Generator<T>, Q> GenericLazy<T, G, WithExit<Q>> {
         let cell = this.marker.cell;
         let told = this
             .sequentializer
-            .generate_registered(cell, registry, &mut this.generator);
+            .generate(cell, Some(registry), &mut this.generator);
         fill(&mut this.body, told)
     }
 

@@ -53,7 +53,9 @@ impl<T: Drop, G: Generator<T>, P> Guarded<T, G, P> {
         ensures again { G.may_call self.new.generator }
         ensures marker { self.new.marker ≡ self.old.marker }
     {
-        let told = self.sequentializer.generate_then_read(&mut self.generator);
+        let told = self
+            .sequentializer
+            .generate_then_read(0, None, &mut self.generator);
         put_in(&mut self.body, told)
     }
 
@@ -64,7 +66,9 @@ impl<T: Drop, G: Generator<T>, P> Guarded<T, G, P> {
         ensures again { G.may_call self.new.generator }
         ensures marker { self.new.marker ≡ self.old.marker }
     {
-        let told = self.sequentializer.generate_then_write(&mut self.generator);
+        let told = self
+            .sequentializer
+            .generate_then_write(0, None, &mut self.generator);
         let entered = put_in(&mut self.body, told);
         self.next = next_after(&entered, self.next);
         entered
@@ -87,7 +91,7 @@ impl<T: Drop, G: Generator<T>, Q> Guarded<T, G, WithExit<Q>> {
         let cell = self.marker.cell;
         let told = self
             .sequentializer
-            .generate_registered_then_read(cell, registry, &mut self.generator);
+            .generate_then_read(cell, Some(registry), &mut self.generator);
         put_in(&mut self.body, told)
     }
 
@@ -106,7 +110,7 @@ impl<T: Drop, G: Generator<T>, Q> Guarded<T, G, WithExit<Q>> {
         let cell = self.marker.cell;
         let told = self
             .sequentializer
-            .generate_registered_then_write(cell, registry, &mut self.generator);
+            .generate_then_write(cell, Some(registry), &mut self.generator);
         let entered = put_in(&mut self.body, told);
         self.next = next_after(&entered, self.next);
         entered

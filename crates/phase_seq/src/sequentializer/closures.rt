@@ -2,14 +2,14 @@
 //! a value never leads to `Failed`, one that promises a fault never to a value.
 
 ghost use Rattle.std.specs.Prelude.{◌≡◌, Some};
-ghost use Rattle.std.specs.Option.{ForSome};
+ghost use Rattle.std.specs.Option.{ForSome, option_map, option_copied_mut};
 ghost use Rattle.phase_locker.specs.Natures.{MayJudge, IsRule, Tries};
 ghost use Rattle.phase_locker.specs.Fits.{IsIdle};
 ghost use Rattle.phase_bits.specs.Records.{admit_write};
-ghost use Rattle.phase_seq.specs.Registers.{left_behind};
-ghost use Rattle.phase_seq.specs.Direct.{MayEnlist, tolerance, registry_in, registry_after, registry_left, enlisted, is_due_at, Calls, by_call, unless_borrowed, TriesCall, CallsUnique, Finalizes, told, told_read, told_write};
+ghost use Rattle.phase_seq.specs.declared.ask.Want.{Want};
+ghost use Rattle.phase_seq.specs.Registers.{left_behind, after_asking};
+ghost use Rattle.phase_seq.specs.Direct.{MayEnlist, tolerance, enlisted, is_due_at, Calls, by_call, unless_borrowed, TriesCall, CallsUnique, Finalizes, told, told_read, told_write};
 
-use crate::ask::Want;
 use crate::finalizer::FinalFault;
 use crate::generator::{GeneratorTolerance, InitFault};
 use crate::init_error::InitError;
@@ -21,9 +21,6 @@ use phase_bits::Phase;
 use phase_locker::{
     LockNature, LockResult, PhaseLocker, ReadTicket, UnSyncPhaseLocker, WriteTicket,
 };
-
-/// The registry of a cell that is registered for the exit, with the cell's number in it; `None` for a cell that is not.
-pub type Exit<'r> = Option<(u32, &'r mut ExitRegistry)>;
 
 /// The answer of a call that answers nothing where it is barred.
 fn tried<A>(answer: Result<A, InitError>) -> Option<Result<A, InitError>>
@@ -39,9 +36,9 @@ impl<G: GeneratorTolerance> LazySequentializer<UnSyncPhaseLocker, G> {
     /// Initializes the cell: where a run is due, the closure runs, and the value that it made is handed back. No lock is
     /// left.
     ///
-    /// `exit` names the registry of a cell that is registered for the exit. The cell is registered before the closure
-    /// runs, where its phase is empty. Where it can't be, and does not put up with that, no closure runs, and the phase
-    /// says so.
+    /// `reg` is the registry of a cell that is registered for the exit, and `cell` its number there; it is `None` for a
+    /// cell that is not, and then the number says nothing. The cell is registered before the closure runs, where its
+    /// phase is empty. Where it can't be, and does not put up with that, no closure runs, and the phase says so.
     ///
     /// # Errors
     ///
@@ -49,22 +46,20 @@ impl<G: GeneratorTolerance> LazySequentializer<UnSyncPhaseLocker, G> {
     /// the closure failed in this call; the lock is given back with the phase that says so.
     pub fn init<V, F: FnOnce() -> Result<V, InitFault> + Drop>(
         &mut self,
-        exit: Exit<'_>,
+        cell: u32,
+        reg: Option<&mut ExitRegistry>,
         run: F,
     ) -> Result<(Phase, Option<V>), InitError>
         requires callable { F.IsAlwaysCallable run }
-        requires exit { ForSome exit (λ e. MayEnlist e.0 self.old.locker e.1.now) }
-        ensures calls { Calls (by_call F.post) told Want.Init (tolerance G.INIT_FAILURE G.FINAL_REGISTRATION_FAILURE) (enlisted G.FINAL_REGISTRATION_FAILURE (registry_in exit.entry) self.old.locker.phase) self.old.locker run result self.new.locker run }
-        ensures registry { registry_left (left_behind exit.exit) ≡ registry_after (is_due_at Want.Init (tolerance G.INIT_FAILURE G.FINAL_REGISTRATION_FAILURE) self.old.locker) self.old.locker.phase exit.entry }
+        requires exit { ForSome reg (λ m. MayEnlist cell self.old.locker m.now) }
+        ensures calls { Calls (by_call F.post) told Want.Init (tolerance G.INIT_FAILURE G.FINAL_REGISTRATION_FAILURE) (enlisted G.FINAL_REGISTRATION_FAILURE (option_copied_mut reg.entry) self.old.locker.phase) self.old.locker run result self.new.locker run }
+        ensures registry { option_copied_mut (left_behind reg.exit) ≡ option_map (after_asking (is_due_at Want.Init (tolerance G.INIT_FAILURE G.FINAL_REGISTRATION_FAILURE) self.old.locker) cell self.old.locker.phase) (option_copied_mut reg.entry) }
         ensures running { self.new.running ≡ self.old.running }
     {
         let mut once = OnceGenerator::new(run);
-        match exit {
-            None => self.init_beside(Some(Phase::empty()), &mut once),
-            Some(at) => {
-                let stays = self.enlist(Want::Init, at.0, at.1);
-                self.init_beside(stays, &mut once)
-            }
+        match reg {
+            None => self.generate(cell, None, &mut once),
+            Some(registry) => self.generate(cell, Some(registry), &mut once),
         }
     }
 
@@ -76,22 +71,20 @@ impl<G: GeneratorTolerance> LazySequentializer<UnSyncPhaseLocker, G> {
     /// the closure failed in this call; the lock is given back with the phase that says so.
     pub fn init_then_read_guard<V, F: FnOnce() -> Result<V, InitFault> + Drop>(
         &mut self,
-        exit: Exit<'_>,
+        cell: u32,
+        reg: Option<&mut ExitRegistry>,
         run: F,
     ) -> Result<(ReadTicket, Phase, Option<V>), InitError>
         requires callable { F.IsAlwaysCallable run }
-        requires exit { ForSome exit (λ e. MayEnlist e.0 self.old.locker e.1.now) }
-        ensures calls { Calls (by_call F.post) told_read Want.Read (tolerance G.INIT_FAILURE G.FINAL_REGISTRATION_FAILURE) (enlisted G.FINAL_REGISTRATION_FAILURE (registry_in exit.entry) self.old.locker.phase) self.old.locker run result self.new.locker run }
-        ensures registry { registry_left (left_behind exit.exit) ≡ registry_after (is_due_at Want.Read (tolerance G.INIT_FAILURE G.FINAL_REGISTRATION_FAILURE) self.old.locker) self.old.locker.phase exit.entry }
+        requires exit { ForSome reg (λ m. MayEnlist cell self.old.locker m.now) }
+        ensures calls { Calls (by_call F.post) told_read Want.Read (tolerance G.INIT_FAILURE G.FINAL_REGISTRATION_FAILURE) (enlisted G.FINAL_REGISTRATION_FAILURE (option_copied_mut reg.entry) self.old.locker.phase) self.old.locker run result self.new.locker run }
+        ensures registry { option_copied_mut (left_behind reg.exit) ≡ option_map (after_asking (is_due_at Want.Read (tolerance G.INIT_FAILURE G.FINAL_REGISTRATION_FAILURE) self.old.locker) cell self.old.locker.phase) (option_copied_mut reg.entry) }
         ensures running { self.new.running ≡ self.old.running }
     {
         let mut once = OnceGenerator::new(run);
-        match exit {
-            None => self.read_beside(Some(Phase::empty()), &mut once),
-            Some(at) => {
-                let stays = self.enlist(Want::Read, at.0, at.1);
-                self.read_beside(stays, &mut once)
-            }
+        match reg {
+            None => self.generate_then_read(cell, None, &mut once),
+            Some(registry) => self.generate_then_read(cell, Some(registry), &mut once),
         }
     }
 
@@ -103,22 +96,20 @@ impl<G: GeneratorTolerance> LazySequentializer<UnSyncPhaseLocker, G> {
     /// the closure failed in this call; the lock is given back with the phase that says so.
     pub fn init_then_write_guard<V, F: FnOnce() -> Result<V, InitFault> + Drop>(
         &mut self,
-        exit: Exit<'_>,
+        cell: u32,
+        reg: Option<&mut ExitRegistry>,
         run: F,
     ) -> Result<(WriteTicket, Phase, Option<V>), InitError>
         requires callable { F.IsAlwaysCallable run }
-        requires exit { ForSome exit (λ e. MayEnlist e.0 self.old.locker e.1.now) }
-        ensures calls { Calls (by_call F.post) told_write Want.Write (tolerance G.INIT_FAILURE G.FINAL_REGISTRATION_FAILURE) (enlisted G.FINAL_REGISTRATION_FAILURE (registry_in exit.entry) self.old.locker.phase) self.old.locker run result self.new.locker run }
-        ensures registry { registry_left (left_behind exit.exit) ≡ registry_after (is_due_at Want.Write (tolerance G.INIT_FAILURE G.FINAL_REGISTRATION_FAILURE) self.old.locker) self.old.locker.phase exit.entry }
+        requires exit { ForSome reg (λ m. MayEnlist cell self.old.locker m.now) }
+        ensures calls { Calls (by_call F.post) told_write Want.Write (tolerance G.INIT_FAILURE G.FINAL_REGISTRATION_FAILURE) (enlisted G.FINAL_REGISTRATION_FAILURE (option_copied_mut reg.entry) self.old.locker.phase) self.old.locker run result self.new.locker run }
+        ensures registry { option_copied_mut (left_behind reg.exit) ≡ option_map (after_asking (is_due_at Want.Write (tolerance G.INIT_FAILURE G.FINAL_REGISTRATION_FAILURE) self.old.locker) cell self.old.locker.phase) (option_copied_mut reg.entry) }
         ensures running { self.new.running ≡ self.old.running }
     {
         let mut once = OnceGenerator::new(run);
-        match exit {
-            None => self.write_beside(Some(Phase::empty()), &mut once),
-            Some(at) => {
-                let stays = self.enlist(Want::Write, at.0, at.1);
-                self.write_beside(stays, &mut once)
-            }
+        match reg {
+            None => self.generate_then_write(cell, None, &mut once),
+            Some(registry) => self.generate_then_write(cell, Some(registry), &mut once),
         }
     }
 
@@ -129,22 +120,19 @@ impl<G: GeneratorTolerance> LazySequentializer<UnSyncPhaseLocker, G> {
     /// `Failed` exactly where the closure failed in this call.
     pub fn try_init_then_read_guard<V, F: FnOnce() -> Result<V, InitFault> + Drop>(
         &mut self,
-        exit: Exit<'_>,
+        cell: u32,
+        reg: Option<&mut ExitRegistry>,
         run: F,
     ) -> Option<Result<(ReadTicket, Phase, Option<V>), InitError>>
         requires callable { F.IsAlwaysCallable run }
-        requires exit { ForSome exit (λ e. MayEnlist e.0 self.old.locker e.1.now) }
-        ensures tries { TriesCall F.post told_read Want.Read (tolerance G.INIT_FAILURE G.FINAL_REGISTRATION_FAILURE) (enlisted G.FINAL_REGISTRATION_FAILURE (registry_in exit.entry) self.old.locker.phase) self.old.locker run result self.new.locker }
-        ensures registry { registry_left (left_behind exit.exit) ≡ registry_after (is_due_at Want.Read (tolerance G.INIT_FAILURE G.FINAL_REGISTRATION_FAILURE) self.old.locker) self.old.locker.phase exit.entry }
+        requires exit { ForSome reg (λ m. MayEnlist cell self.old.locker m.now) }
+        ensures tries { TriesCall F.post told_read Want.Read (tolerance G.INIT_FAILURE G.FINAL_REGISTRATION_FAILURE) (enlisted G.FINAL_REGISTRATION_FAILURE (option_copied_mut reg.entry) self.old.locker.phase) self.old.locker run result self.new.locker }
+        ensures registry { option_copied_mut (left_behind reg.exit) ≡ option_map (after_asking (is_due_at Want.Read (tolerance G.INIT_FAILURE G.FINAL_REGISTRATION_FAILURE) self.old.locker) cell self.old.locker.phase) (option_copied_mut reg.entry) }
         ensures running { self.new.running ≡ self.old.running }
     {
-        let mut once = OnceGenerator::new(run);
-        match exit {
-            None => tried(self.read_beside(Some(Phase::empty()), &mut once)),
-            Some(at) => {
-                let stays = self.enlist(Want::Read, at.0, at.1);
-                tried(self.read_beside(stays, &mut once))
-            }
+        match reg {
+            None => tried(self.init_then_read_guard(cell, None, run)),
+            Some(registry) => tried(self.init_then_read_guard(cell, Some(registry), run)),
         }
     }
 
@@ -155,22 +143,19 @@ impl<G: GeneratorTolerance> LazySequentializer<UnSyncPhaseLocker, G> {
     /// `Failed` exactly where the closure failed in this call.
     pub fn try_init_then_write_guard<V, F: FnOnce() -> Result<V, InitFault> + Drop>(
         &mut self,
-        exit: Exit<'_>,
+        cell: u32,
+        reg: Option<&mut ExitRegistry>,
         run: F,
     ) -> Option<Result<(WriteTicket, Phase, Option<V>), InitError>>
         requires callable { F.IsAlwaysCallable run }
-        requires exit { ForSome exit (λ e. MayEnlist e.0 self.old.locker e.1.now) }
-        ensures tries { TriesCall F.post told_write Want.Write (tolerance G.INIT_FAILURE G.FINAL_REGISTRATION_FAILURE) (enlisted G.FINAL_REGISTRATION_FAILURE (registry_in exit.entry) self.old.locker.phase) self.old.locker run result self.new.locker }
-        ensures registry { registry_left (left_behind exit.exit) ≡ registry_after (is_due_at Want.Write (tolerance G.INIT_FAILURE G.FINAL_REGISTRATION_FAILURE) self.old.locker) self.old.locker.phase exit.entry }
+        requires exit { ForSome reg (λ m. MayEnlist cell self.old.locker m.now) }
+        ensures tries { TriesCall F.post told_write Want.Write (tolerance G.INIT_FAILURE G.FINAL_REGISTRATION_FAILURE) (enlisted G.FINAL_REGISTRATION_FAILURE (option_copied_mut reg.entry) self.old.locker.phase) self.old.locker run result self.new.locker }
+        ensures registry { option_copied_mut (left_behind reg.exit) ≡ option_map (after_asking (is_due_at Want.Write (tolerance G.INIT_FAILURE G.FINAL_REGISTRATION_FAILURE) self.old.locker) cell self.old.locker.phase) (option_copied_mut reg.entry) }
         ensures running { self.new.running ≡ self.old.running }
     {
-        let mut once = OnceGenerator::new(run);
-        match exit {
-            None => tried(self.write_beside(Some(Phase::empty()), &mut once)),
-            Some(at) => {
-                let stays = self.enlist(Want::Write, at.0, at.1);
-                tried(self.write_beside(stays, &mut once))
-            }
+        match reg {
+            None => tried(self.init_then_write_guard(cell, None, run)),
+            Some(registry) => tried(self.init_then_write_guard(cell, Some(registry), run)),
         }
     }
 
@@ -186,7 +171,7 @@ impl<G: GeneratorTolerance> LazySequentializer<UnSyncPhaseLocker, G> {
         ensures running { self.new.running ≡ self.old.running }
     {
         let mut once = OnceGenerator::new(run);
-        match self.init_beside(Some(Phase::empty()), &mut once) {
+        match self.generate(0, None, &mut once) {
             Ok(told) => told,
             Err(_) => (self.locker.phase(), None),
         }

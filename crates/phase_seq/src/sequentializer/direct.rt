@@ -1,11 +1,10 @@
 //! Calls on the cell of one party, which run its generator or finalizer at once.
 
 ghost use Rattle.std.specs.Prelude.{◌≡◌, ◌<◌, Some, None, true, false, IfOk};
-ghost use Rattle.std.specs.Option.{ForSome};
+ghost use Rattle.std.specs.Option.{ForSome, option_map, option_copied_mut};
 ghost use Rattle.phase_bits.specs.Number.{number, IsKnown};
 ghost use Rattle.exit_registry.specs.Registry.{cells_of, is_known};
-ghost use Rattle.phase_seq.specs.Registers.{after_asking};
-ghost use Rattle.phase_seq.specs.Phases.{unregistered};
+ghost use Rattle.phase_seq.specs.Registers.{left_behind, after_asking};
 ghost use Rattle.phase_seq.specs.Direct.{MayEnlist, tolerance, enlisted, reached_by, Came, is_due_at, Calls, told, told_read, told_write};
 
 use crate::ask::{Ask, Want};
@@ -18,24 +17,6 @@ use crate::tolerance::{shall_init, tolerance_of};
 use exit_registry::ExitRegistry;
 use phase_bits::Phase;
 use phase_locker::{PhaseLocker, ReadTicket, UnSyncPhaseLocker, WriteTicket};
-
-/// Tries the registration of a cell whose phase is empty. Answers the flags that stay where the generator runs, or
-/// `None` where the cell can't be registered, and does not put up with it.
-fn enlist(cell: u32, registry: &mut ExitRegistry, leak: bool, phase: Phase) -> Option<Phase>
-    requires known { IsKnown phase }
-    requires inside { cell < cells_of registry.old }
-    requires unknown { number phase ≡ 0 → is_known registry.old cell ≡ false }
-    ensures stays { result ≡ enlisted leak (Some registry.old) phase }
-    ensures known { ForSome result IsKnown }
-    ensures registry { registry.new ≡ after_asking true cell phase registry.old }
-{
-    let stays = staying(registry, cell, phase);
-    if may_generate(leak, stays) {
-        Some(stays)
-    } else {
-        None
-    }
-}
 
 /// The run of a generator whose cell keeps these flags, or none where there are none. Answers the phase that is reached,
 /// and the value made.
@@ -60,9 +41,9 @@ fn run<V, R: Generator<V>>(
 }
 
 impl<G: GeneratorTolerance> LazySequentializer<UnSyncPhaseLocker, G> {
-    /// Tries the registration of the cell, where a call with this want is admitted and asks for a run. Answers the flags
-    /// that stay where the generator runs, or `None`.
-    pub(crate) fn enlist(&self, want: Want, cell: u32, registry: &mut ExitRegistry) -> Option<Phase>
+    /// Tries the registration of the cell, where a call with this want is admitted and asks for a run, and the phase is
+    /// empty. Answers the flags that stay where the generator then runs, or `None`.
+    fn enlist(&self, want: Want, cell: u32, registry: &mut ExitRegistry) -> Option<Phase>
         requires { MayEnlist cell self.now.locker registry.old }
         ensures stays { is_due_at want (tolerance G.INIT_FAILURE G.FINAL_REGISTRATION_FAILURE) self.now.locker ≡ true → result ≡ enlisted G.FINAL_REGISTRATION_FAILURE (Some registry.old) self.now.locker.phase }
         ensures known { ForSome result IsKnown }
@@ -77,51 +58,95 @@ impl<G: GeneratorTolerance> LazySequentializer<UnSyncPhaseLocker, G> {
         if !ask.asks_run(phase) || self.locker.is_held() {
             return None;
         }
-        enlist(cell, registry, ask.tol.leak, phase)
+        let stays = staying(registry, cell, phase);
+        may_generate(ask.tol.leak, stays).then_some(stays)
     }
 
-    /// Initializes a cell that is not registered for the exit: where a run is due, the generator runs. It is `init` for
-    /// the one that owns the generator.
+    /// Initializes the cell: where a run is due, the generator runs. It is `init` for the one that owns the generator, with
+    /// `cell` and `reg` as there.
     ///
     /// # Errors
     ///
     /// As `init`.
     pub fn generate<V, R: Generator<V>>(
         &mut self,
-        by: &mut R,
-    ) -> Result<(Phase, Option<V>), InitError>
-        requires { R.may_call by.old }
-        ensures calls { Calls R.attempts told Want.Init (tolerance G.INIT_FAILURE G.FINAL_REGISTRATION_FAILURE) (Some unregistered) self.old.locker by.old result self.new.locker by.new }
-        ensures again { R.may_call by.new }
-        ensures running { self.new.running ≡ self.old.running }
-    {
-        self.init_beside(Some(Phase::empty()), by)
-    }
-
-    /// Initializes a cell that is registered for the exit. It is `init` for the one that owns the generator.
-    ///
-    /// # Errors
-    ///
-    /// As `init`.
-    pub fn generate_registered<V, R: Generator<V>>(
-        &mut self,
         cell: u32,
-        registry: &mut ExitRegistry,
+        reg: Option<&mut ExitRegistry>,
         by: &mut R,
     ) -> Result<(Phase, Option<V>), InitError>
         requires callable { R.may_call by.old }
-        requires exit { MayEnlist cell self.old.locker registry.old }
-        ensures calls { Calls R.attempts told Want.Init (tolerance G.INIT_FAILURE G.FINAL_REGISTRATION_FAILURE) (enlisted G.FINAL_REGISTRATION_FAILURE (Some registry.old) self.old.locker.phase) self.old.locker by.old result self.new.locker by.new }
-        ensures registry { registry.new ≡ after_asking (is_due_at Want.Init (tolerance G.INIT_FAILURE G.FINAL_REGISTRATION_FAILURE) self.old.locker) cell self.old.locker.phase registry.old }
+        requires exit { ForSome reg (λ m. MayEnlist cell self.old.locker m.now) }
+        ensures calls { Calls R.attempts told Want.Init (tolerance G.INIT_FAILURE G.FINAL_REGISTRATION_FAILURE) (enlisted G.FINAL_REGISTRATION_FAILURE (option_copied_mut reg.entry) self.old.locker.phase) self.old.locker by.old result self.new.locker by.new }
+        ensures registry { option_copied_mut (left_behind reg.exit) ≡ option_map (after_asking (is_due_at Want.Init (tolerance G.INIT_FAILURE G.FINAL_REGISTRATION_FAILURE) self.old.locker) cell self.old.locker.phase) (option_copied_mut reg.entry) }
         ensures again { R.may_call by.new }
         ensures running { self.new.running ≡ self.old.running }
     {
-        let stays = self.enlist(Want::Init, cell, registry);
-        self.init_beside(stays, by)
+        match reg {
+            None => self.init_beside(Some(Phase::empty()), by),
+            Some(registry) => {
+                let stays = self.enlist(Want::Init, cell, registry);
+                self.init_beside(stays, by)
+            }
+        }
+    }
+
+    /// The same as `generate`, and reads the cell.
+    ///
+    /// # Errors
+    ///
+    /// As `init_then_read_guard`.
+    pub fn generate_then_read<V, R: Generator<V>>(
+        &mut self,
+        cell: u32,
+        reg: Option<&mut ExitRegistry>,
+        by: &mut R,
+    ) -> Result<(ReadTicket, Phase, Option<V>), InitError>
+        requires callable { R.may_call by.old }
+        requires exit { ForSome reg (λ m. MayEnlist cell self.old.locker m.now) }
+        ensures calls { Calls R.attempts told_read Want.Read (tolerance G.INIT_FAILURE G.FINAL_REGISTRATION_FAILURE) (enlisted G.FINAL_REGISTRATION_FAILURE (option_copied_mut reg.entry) self.old.locker.phase) self.old.locker by.old result self.new.locker by.new }
+        ensures registry { option_copied_mut (left_behind reg.exit) ≡ option_map (after_asking (is_due_at Want.Read (tolerance G.INIT_FAILURE G.FINAL_REGISTRATION_FAILURE) self.old.locker) cell self.old.locker.phase) (option_copied_mut reg.entry) }
+        ensures again { R.may_call by.new }
+        ensures running { self.new.running ≡ self.old.running }
+    {
+        match reg {
+            None => self.read_beside(Some(Phase::empty()), by),
+            Some(registry) => {
+                let stays = self.enlist(Want::Read, cell, registry);
+                self.read_beside(stays, by)
+            }
+        }
+    }
+
+    /// The same as `generate`, and writes the cell. The phase is that to give the lock back with.
+    ///
+    /// # Errors
+    ///
+    /// As `init_then_write_guard`.
+    pub fn generate_then_write<V, R: Generator<V>>(
+        &mut self,
+        cell: u32,
+        reg: Option<&mut ExitRegistry>,
+        by: &mut R,
+    ) -> Result<(WriteTicket, Phase, Option<V>), InitError>
+        requires callable { R.may_call by.old }
+        requires exit { ForSome reg (λ m. MayEnlist cell self.old.locker m.now) }
+        ensures calls { Calls R.attempts told_write Want.Write (tolerance G.INIT_FAILURE G.FINAL_REGISTRATION_FAILURE) (enlisted G.FINAL_REGISTRATION_FAILURE (option_copied_mut reg.entry) self.old.locker.phase) self.old.locker by.old result self.new.locker by.new }
+        ensures known { IfOk result (λ a. IsKnown a.1) }
+        ensures registry { option_copied_mut (left_behind reg.exit) ≡ option_map (after_asking (is_due_at Want.Write (tolerance G.INIT_FAILURE G.FINAL_REGISTRATION_FAILURE) self.old.locker) cell self.old.locker.phase) (option_copied_mut reg.entry) }
+        ensures again { R.may_call by.new }
+        ensures running { self.new.running ≡ self.old.running }
+    {
+        match reg {
+            None => self.write_beside(Some(Phase::empty()), by),
+            Some(registry) => {
+                let stays = self.enlist(Want::Write, cell, registry);
+                self.write_beside(stays, by)
+            }
+        }
     }
 
     /// Initializes the cell, whose generator runs beside these flags.
-    pub(crate) fn init_beside<V, R: Generator<V>>(
+    fn init_beside<V, R: Generator<V>>(
         &mut self,
         stays: Option<Phase>,
         by: &mut R,
@@ -148,7 +173,7 @@ impl<G: GeneratorTolerance> LazySequentializer<UnSyncPhaseLocker, G> {
     }
 
     /// Initializes the cell, whose generator runs beside these flags, and reads it.
-    pub(crate) fn read_beside<V, R: Generator<V>>(
+    fn read_beside<V, R: Generator<V>>(
         &mut self,
         stays: Option<Phase>,
         by: &mut R,
@@ -180,7 +205,7 @@ impl<G: GeneratorTolerance> LazySequentializer<UnSyncPhaseLocker, G> {
     }
 
     /// Initializes the cell, whose generator runs beside these flags, and writes it.
-    pub(crate) fn write_beside<V, R: Generator<V>>(
+    fn write_beside<V, R: Generator<V>>(
         &mut self,
         stays: Option<Phase>,
         by: &mut R,

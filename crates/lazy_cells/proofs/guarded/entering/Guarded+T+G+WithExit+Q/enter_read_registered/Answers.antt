@@ -9,5 +9,5 @@ returns-clause-calls g c =
     let h = i.sequentializer.locker in
     let leak = g.G.GeneratorTolerance.FINAL_REGISTRATION_FAILURE in
     let t = tolerance g.G.GeneratorTolerance.INIT_FAILURE leak in
-    let told = c.generate_registered_then_read-told in
+    let told = c.generate_then_read-told in
     rw (← c.self.view_is, c.put_in.ensures.filled, c.put_in.ensures.entered) (entered_read g.G.Generator.attempts t (enlisted leak (Some c.args.registry.now) h.phase) h i.next i.body i.generator i.marker c.self.invariant told.result told.new.self.locker told.new.by told.ensures.calls)

@@ -9,5 +9,5 @@ returns-clause-calls g c =
     let h = i.sequentializer.locker in
     let leak = g.G.GeneratorTolerance.FINAL_REGISTRATION_FAILURE in
     let t = tolerance g.G.GeneratorTolerance.INIT_FAILURE leak in
-    let told = c.generate_registered_then_write-told in
+    let told = c.generate_then_write-told in
     rw (← c.self.view_is, c.next_after-self-inside.ensures, c.put_in-entered.ensures.filled, c.put_in-entered.ensures.entered) (entered_write g.G.Generator.attempts t (enlisted leak (Some c.args.registry.now) h.phase) h i.next i.body i.generator i.marker c.self.invariant told.result told.new.self.locker told.new.by told.ensures.calls)

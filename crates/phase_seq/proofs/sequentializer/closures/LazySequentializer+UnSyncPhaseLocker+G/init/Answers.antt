@@ -1,24 +1,20 @@
-use Rattle.std.proofs.Common.{ℕ, Some, ap}
-use Rattle.phase_bits.specs.Number.{phase_of}
+use Rattle.std.proofs.Common.{Some}
 use Rattle.phase_seq.specs.declared.ask.Want.TheVariants.{Init}
 use Rattle.phase_seq.specs.Phases.{unregistered}
 use Rattle.phase_seq.specs.Direct.{tolerance, enlisted, told}
-use Rattle.phase_seq.proofs.Called.{beside, once_so}
+use Rattle.phase_seq.proofs.Called.{once_so}
 use Rattle.phase_seq.proofs.sequentializer.closures.LazySequentializer+UnSyncPhaseLocker+G.init.Goals as goal
 
 pub returns-in-None-clause-calls : goal.returns-in-None-clause-calls
 returns-in-None-clause-calls g c =
-    let leak = g.G.GeneratorTolerance.FINAL_REGISTRATION_FAILURE in
-    let t = tolerance g.G.GeneratorTolerance.INIT_FAILURE leak in
-    let h = c.args.self.now.locker in
-    rw c.in-None.is (beside _ told Init t (Some c.empty.result) (Some unregistered) h c.args.run c.init_beside.result c.init_beside.new.self.locker c.args.run (λ _. ap (λ (n : ℕ). Some (phase_of n)) c.empty.ensures) (once_so _ told Init t (Some c.empty.result) h c.new-once.result c.args.run c.init_beside.result c.init_beside.new.self.locker c.init_beside.new.by c.new-once.ensures c.init_beside.ensures.calls))
+    let t = tolerance g.G.GeneratorTolerance.INIT_FAILURE g.G.GeneratorTolerance.FINAL_REGISTRATION_FAILURE in
+    rw c.in-None.is (once_so _ told Init t (Some unregistered) c.args.self.now.locker c.new-once.result c.args.run c.generate.result c.generate.new.self.locker c.generate.new.by c.new-once.ensures c.generate.ensures.calls)
 
 pub returns-clause-calls : goal.returns-clause-calls
 returns-clause-calls g c =
     let leak = g.G.GeneratorTolerance.FINAL_REGISTRATION_FAILURE in
-    let t = tolerance g.G.GeneratorTolerance.INIT_FAILURE leak in
     let h = c.args.self.now.locker in
-    rw c.in-Some.is (beside _ told Init t c.enlist-stays.result (enlisted leak (Some c.in-Some.at.1.now) h.phase) h c.args.run c.init_beside-in-Some.result c.init_beside-in-Some.new.self.locker c.args.run c.enlist-stays.ensures.stays (once_so _ told Init t c.enlist-stays.result h c.new-once.result c.args.run c.init_beside-in-Some.result c.init_beside-in-Some.new.self.locker c.init_beside-in-Some.new.by c.new-once.ensures c.init_beside-in-Some.ensures.calls))
+    rw c.in-Some.is (once_so _ told Init (tolerance g.G.GeneratorTolerance.INIT_FAILURE leak) (enlisted leak (Some c.in-Some.registry.now) h.phase) h c.new-once.result c.args.run c.generate-in-Some.result c.generate-in-Some.new.self.locker c.generate-in-Some.new.by c.new-once.ensures c.generate-in-Some.ensures.calls)
 
 pub returns-clause-registry : goal.returns-clause-registry
-returns-clause-registry g c = rw c.in-Some.is (ap Some c.enlist-stays.ensures.registry)
+returns-clause-registry g c = rw c.in-Some.is c.generate-in-Some.ensures.registry

@@ -1,24 +1,10 @@
-use Rattle.std.proofs.Common.{ℕ, Some, ap}
-use Rattle.phase_bits.specs.Number.{phase_of}
-use Rattle.phase_seq.specs.declared.ask.Want.TheVariants.{Write}
-use Rattle.phase_seq.specs.Phases.{unregistered}
-use Rattle.phase_seq.specs.Direct.{tolerance, enlisted, told_write}
-use Rattle.phase_seq.proofs.Called.{beside, once_so}
 use Rattle.phase_seq.proofs.sequentializer.closures.LazySequentializer+UnSyncPhaseLocker+G.try_init_then_write_guard.Goals as goal
 
 pub returns-in-None-clause-tries : goal.returns-in-None-clause-tries
-returns-in-None-clause-tries g c =
-    let leak = g.G.GeneratorTolerance.FINAL_REGISTRATION_FAILURE in
-    let t = tolerance g.G.GeneratorTolerance.INIT_FAILURE leak in
-    let h = c.args.self.now.locker in
-    rw c.in-None.is (record { answer = c.write_beside.result; calls = beside _ told_write Write t (Some c.empty.result) (Some unregistered) h c.args.run c.write_beside.result c.write_beside.new.self.locker c.args.run (λ _. ap (λ (n : ℕ). Some (phase_of n)) c.empty.ensures) (once_so _ told_write Write t (Some c.empty.result) h c.new-once.result c.args.run c.write_beside.result c.write_beside.new.self.locker c.write_beside.new.by c.new-once.ensures c.write_beside.ensures.calls); said = c.tried.ensures })
+returns-in-None-clause-tries g c = rw c.in-None.is (record { answer = c.init_then_write_guard.result; calls = c.init_then_write_guard.ensures.calls; said = c.tried.ensures })
 
-pub returns-clause-tries : goal.returns-clause-tries
-returns-clause-tries g c =
-    let leak = g.G.GeneratorTolerance.FINAL_REGISTRATION_FAILURE in
-    let t = tolerance g.G.GeneratorTolerance.INIT_FAILURE leak in
-    let h = c.args.self.now.locker in
-    rw c.in-Some.is (record { answer = c.write_beside-in-Some.result; calls = beside _ told_write Write t c.enlist-stays.result (enlisted leak (Some c.in-Some.at.1.now) h.phase) h c.args.run c.write_beside-in-Some.result c.write_beside-in-Some.new.self.locker c.args.run c.enlist-stays.ensures.stays (once_so _ told_write Write t c.enlist-stays.result h c.new-once.result c.args.run c.write_beside-in-Some.result c.write_beside-in-Some.new.self.locker c.write_beside-in-Some.new.by c.new-once.ensures c.write_beside-in-Some.ensures.calls); said = c.tried-in-Some.ensures })
+pub returns-in-Some-clause-tries : goal.returns-in-Some-clause-tries
+returns-in-Some-clause-tries g c = rw c.in-Some.is (record { answer = c.init_then_write_guard-in-Some.result; calls = c.init_then_write_guard-in-Some.ensures.calls; said = c.tried-in-Some.ensures })
 
-pub returns-clause-registry : goal.returns-clause-registry
-returns-clause-registry g c = rw c.in-Some.is (ap Some c.enlist-stays.ensures.registry)
+pub returns-in-Some-clause-registry : goal.returns-in-Some-clause-registry
+returns-in-Some-clause-registry g c = rw c.in-Some.is c.init_then_write_guard-in-Some.ensures.registry
