@@ -1,18 +1,7 @@
 -- The registry is open as long as a cell may be registered, and knows of each cell whether it was registered.
-use Rattle.std.proofs.Common.{◌≡◌, ℕ, List, [], ◌∷◌, length, refl, sym, ◌∙◌, ap, subst, Bool, true, false, not}
-use Rattle.std.specs.Prelude.{if◌then◌else◌}
-use Rattle.std.proofs.lemmas.List.{length-set, length-replicate}
-use Rattle.exit_registry.specs.Registry.{Registry, after_register}
-use Rattle.exit_registry.specs.Exits.{closed}
-use Rattle.schedule_rules.specs.declared.plan.CellPlan.{CellPlan}
-use Rattle.schedule_rules.specs.declared.step.Want.TheVariants.{Calls, Turns}
-use Rattle.schedule_rules.specs.Kinds.{cell_at}
-use Rattle.schedule_rules.specs.Phases.{tries_registration}
-use Rattle.schedule_rules.specs.Deeds.{Deed, Opens, Skips, Looks}
-use Rattle.schedule_rules.specs.History.{Event, is_closed, closed_by, accepts, deed_of}
-use Rattle.schedule_rules.specs.Replay.{phase_at}
-use Rattle.schedule_rules.specs.Exits.{registry_taken, registry_of_run, registry_by, registry}
-use Rattle.schedule_rules.specs.Legal.{IsLegal}
+use Rattle.schedule_rules.proofs.Words.{ℕ, ◌≡◌, List, true, Bool, false, refl, ◌∷◌, ◌∙◌, ap, [], sym, subst, not, length, length-replicate, length-set, if◌then◌else◌}
+use Rattle.schedule_rules.proofs.Words.{closed, after_register, Registry, CellPlan, Calls, Turns, cell_at, tries_registration, Deed, Opens, Skips, Looks, Event, accepts}
+use Rattle.schedule_rules.proofs.Words.{deed_of, is_closed, closed_by, phase_at, registry, registry_by, registry_taken, registry_of_run, IsLegal}
 use Rattle.schedule_rules.proofs.Finds.{Finds, finds}
 
 -- a registration changes neither whether the registry is open nor of how many cells it knows

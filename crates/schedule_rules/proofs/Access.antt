@@ -1,40 +1,13 @@
 -- Where a generator runs, and where a value may not be accessed.
-use Rattle.std.proofs.Common.{◌≡◌, ◌≢◌, ◌⊎◌, ℕ, List, [], ◌∷◌, length, refl, sym, ◌∙◌, ap, subst, arith, Bool, true, false, not, ◌&&◌, None, Some, inl, inr}
-use Rattle.std.specs.Prelude.{◌==◌, if◌then◌else◌}
-use Rattle.std.specs.List.{find}
-use Rattle.std.specs.declared.option.Option.{Option}
-use Rattle.exit_registry.specs.Registry.{first_of}
-use Rattle.phase_bits.specs.declared.phase.Phase.{Phase}
-use Rattle.phase_bits.specs.Number.{phase_of}
-use Rattle.phase_seq.specs.Phases.{flags_refused}
-use Rattle.phase_bits.specs.Flags.{has, initialized}
-use Rattle.phase_locker.specs.declared.ways.Given.{Given}
-use Rattle.phase_seq.specs.Asks.{shall_init}
-use Rattle.phase_seq.specs.declared.tolerance.Tolerance.{Tolerance}
-use Rattle.lazy_cells.specs.declared.call.Call.{Call}
-use Rattle.lazy_cells.specs.declared.call.Call.TheVariants as call
-use Rattle.schedule_rules.specs.declared.plan.CellPlan.{CellPlan}
-use Rattle.schedule_rules.specs.declared.step.Act.{Act}
-use Rattle.schedule_rules.specs.declared.step.Act.TheVariants as act
-use Rattle.schedule_rules.specs.declared.step.Step.{Step}
-use Rattle.schedule_rules.specs.declared.step.Want.{Want}
-use Rattle.schedule_rules.specs.declared.step.Want.TheVariants.{Calls, Turns}
-use Rattle.schedule_rules.specs.declared.line.Line.{Line}
-use Rattle.schedule_rules.specs.declared.line.Answer.{Answer}
-use Rattle.schedule_rules.specs.declared.line.Answer.TheVariants as answer
-use Rattle.schedule_rules.specs.Kinds.{cell_at, tolerance_at}
-use Rattle.schedule_rules.specs.Phases.{runs_generator}
-use Rattle.schedule_rules.specs.Changes.{Asked, is_declined, content_asked, effect}
-use Rattle.schedule_rules.specs.Deeds.{deed_visited}
-use Rattle.schedule_rules.specs.History.{Event, act_of, accepts}
-use Rattle.schedule_rules.specs.Sections.{Section, runs_in, generates_for, runs, sections_by, sections}
-use Rattle.schedule_rules.specs.Guards.{guards_by, guards}
-use Rattle.schedule_rules.specs.Exits.{registry}
-use Rattle.schedule_rules.specs.Replay.{Back, back_by, back_of_step, replay, phase_at, content_after_back}
-use Rattle.schedule_rules.specs.Waits.{attempt, cell_of_attempt, attempt_of_turn, cell_concerned}
-use Rattle.schedule_rules.specs.Legal.{IsLegal, IsLegalLine}
-use Rattle.schedule_rules.specs.Causes.{lends_at, runs_to_lend}
-use Rattle.schedule_rules.specs.Laws.{IsTurnedAway, KeepsValues}
+use Rattle.schedule_rules.proofs.Words.{ℕ, ◌≡◌, List, true, Bool, false, refl, Some, ◌∷◌, ◌∙◌, ap, [], sym, arith, subst, None, not, ◌&&◌, ◌⊎◌, inr, inl, length, ◌≢◌}
+use Rattle.schedule_rules.proofs.Words.{find, ◌==◌, if◌then◌else◌, Option, has, initialized, phase_of, Phase, first_of, Given, shall_init, flags_refused, Tolerance, Call}
+use Rattle.schedule_rules.proofs.Words.{Answer, Line, CellPlan, Act, Step, Want, Calls, Turns, cell_at, tolerance_at, runs_generator, effect, Asked, is_declined}
+use Rattle.schedule_rules.proofs.Words.{content_asked, deed_visited, Event, accepts, act_of, Section, sections, runs_in, sections_by, runs, generates_for, guards}
+use Rattle.schedule_rules.proofs.Words.{guards_by, phase_at, replay, Back, content_after_back, back_of_step, back_by, registry, attempt, attempt_of_turn, cell_concerned}
+use Rattle.schedule_rules.proofs.Words.{cell_of_attempt, IsLegal, IsLegalLine, lends_at, runs_to_lend, IsTurnedAway, KeepsValues}
+use Rattle.schedule_rules.proofs.Words.call
+use Rattle.schedule_rules.proofs.Words.act
+use Rattle.schedule_rules.proofs.Words.answer
 use Rattle.schedule_rules.proofs.Found.{found_passes, each_found}
 use Rattle.schedule_rules.proofs.Leaves.{back_here, back_elsewhere, asked_value}
 use Rattle.schedule_rules.proofs.Cases.{IsTrying, Calling, Asking, Resting, AsksToLend, Reach, calling-tries}

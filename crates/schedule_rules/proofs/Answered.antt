@@ -1,41 +1,14 @@
 -- What holds of the answers that are due, by what holds of each that may be.
-use Rattle.std.proofs.Common.{◌≡◌, ℕ, List, Bool, true, false, ◌&&◌, Some, None, refl, ◌∙◌, ap}
-use Rattle.std.specs.Prelude.{if◌then◌else◌, is_none}
-use Rattle.std.specs.declared.option.Option.{Option}
-use Rattle.phase_bits.specs.declared.phase.Phase.{Phase}
-use Rattle.phase_locker.specs.declared.ways.Given.{Given}
-use Rattle.phase_locker.specs.declared.ways.How.{How}
-use Rattle.phase_locker.specs.declared.ways.How.TheVariants as how
-use Rattle.phase_locker.specs.declared.tickets.LockNature.TheVariants as nature
-use Rattle.phase_seq.specs.declared.tolerance.Tolerance.{Tolerance}
-use Rattle.lazy_cells.specs.declared.call.Call.{Call}
-use Rattle.lazy_cells.specs.declared.kind.Kind.{Kind}
-use Rattle.schedule_rules.specs.declared.form.Form.{Form}
-use Rattle.schedule_rules.specs.declared.form.Form.TheVariants.{Told, Shown, Held}
-use Rattle.schedule_rules.specs.declared.plan.CellPlan.{CellPlan}
-use Rattle.schedule_rules.specs.declared.plan.Place.{Place}
-use Rattle.schedule_rules.specs.declared.plan.Place.TheVariants as place
-use Rattle.schedule_rules.specs.declared.step.Step.{Step}
-use Rattle.schedule_rules.specs.declared.step.Want.TheVariants.{Calls, Turns}
-use Rattle.schedule_rules.specs.declared.step.Want.{Want}
-use Rattle.schedule_rules.specs.declared.line.Line.{Line}
-use Rattle.schedule_rules.specs.declared.line.Refusal.{Refusal}
-use Rattle.schedule_rules.specs.declared.line.Answer.{Answer}
-use Rattle.schedule_rules.specs.declared.line.Answer.TheVariants as answer
-use Rattle.schedule_rules.specs.Forms.{form_of}
-use Rattle.schedule_rules.specs.Phases.{is_accessible}
-use Rattle.schedule_rules.specs.Changes.{Content, content_asked, asks_to_lend, content_to_lend}
-use Rattle.schedule_rules.specs.History.{Event}
-use Rattle.schedule_rules.specs.Sections.{Section}
-use Rattle.schedule_rules.specs.Guards.{Guard}
-use Rattle.schedule_rules.specs.Waits.{Wait}
-use Rattle.schedule_rules.specs.Holds.{is_barred, holding_with}
-use Rattle.schedule_rules.specs.Refusals.{refusal}
-use Rattle.schedule_rules.specs.Answers.{answer_opened, answer_denied, answer_made, answer_of_made, answer_barred, begins_run, call_answer_admitted, answer_lent, answer_made_to_lend}
-use Rattle.schedule_rules.specs.Kinds.{cell_at, is_owned}
-use Rattle.schedule_rules.specs.Due.{phase_made, due_finished, due_made, due_look, due_clone, due_answer}
-use Rattle.schedule_rules.specs.Legal.{Moment, First, Last, IsLegalLine, answer_of, due_at}
-use Rattle.schedule_rules.specs.Causes.{waits_judged}
+use Rattle.schedule_rules.proofs.Words.{ℕ, ◌≡◌, List, true, Bool, false, refl, Some, ◌∙◌, ap, None, ◌&&◌, if◌then◌else◌, is_none, Option, Phase, Given, How, Tolerance}
+use Rattle.schedule_rules.proofs.Words.{Call, Kind, Form, Shown, Told, Held, Answer, Line, Refusal, CellPlan, Place, Step, Want, Calls, Turns, cell_at, is_owned, form_of}
+use Rattle.schedule_rules.proofs.Words.{is_accessible, Content, asks_to_lend, content_to_lend, content_asked, Event, Section, Guard, Wait, is_barred, holding_with}
+use Rattle.schedule_rules.proofs.Words.{refusal, answer_denied, answer_opened, answer_barred, answer_made, answer_lent, answer_made_to_lend, answer_of_made}
+use Rattle.schedule_rules.proofs.Words.{call_answer_admitted, begins_run, phase_made, due_answer, due_clone, due_finished, due_made, due_look, IsLegalLine, answer_of}
+use Rattle.schedule_rules.proofs.Words.{due_at, Moment, Last, First, waits_judged}
+use Rattle.schedule_rules.proofs.Words.how
+use Rattle.schedule_rules.proofs.Words.nature
+use Rattle.schedule_rules.proofs.Words.place
+use Rattle.schedule_rules.proofs.Words.answer
 
 -- the answer that is due, where these calls of others wait
 pub due_at-judged : (cells : List CellPlan) (m : Moment) (h : List Event) (s : Step) (g : Given) (chosen : Bool)

@@ -1,49 +1,24 @@
 -- What an attempt at a cell is answered, case by case.
-use Rattle.std.proofs.Common.{◌≡◌, ◌<◌, ◌+◌, ℕ, List, [], ◌∷◌, refl, sym, ◌∙◌, ap, subst, arith, Bool, true, false, not, ◌&&◌, ◌||◌, None, Some}
-use Rattle.std.specs.Prelude.{◌==◌, nat_lt, is_some, if◌then◌else◌}
-use Rattle.std.specs.declared.option.Option.{Option}
-use Rattle.exit_registry.specs.Registry.{first_of, look_at}
-use Rattle.phase_bits.specs.Number.{phase_of}
-use Rattle.phase_bits.specs.Flags.{has, initialized}
-use Rattle.phase_locker.specs.declared.ways.How.{How}
-use Rattle.phase_locker.specs.declared.ways.How.TheVariants as how
-use Rattle.phase_locker.specs.declared.tickets.LockNature.{LockNature}
-use Rattle.phase_locker.specs.declared.tickets.LockNature.TheVariants as nature
-use Rattle.phase_seq.specs.Phases.{flags_refused}
-use Rattle.phase_seq.specs.Asks.{shall_init, nature_where, initializes as run_sought}
+use Rattle.schedule_rules.proofs.Words.{ℕ, ◌≡◌, List, true, Bool, false, refl, Some, ◌∷◌, ◌∙◌, ap, [], sym, arith, subst, None, not, ◌&&◌, ◌<◌, ◌+◌, ◌||◌, ◌==◌}
+use Rattle.schedule_rules.proofs.Words.{if◌then◌else◌, is_some, nat_lt, Option, has, initialized, phase_of, first_of, look_at, LockNature, How, shall_init, nature_where}
+use Rattle.schedule_rules.proofs.Words.{flags_refused, Tolerance, asking, Call, Kind, Answer, CellPlan, Act, Want, Calls, Turns, cell_at, tolerance_at, form_of}
+use Rattle.schedule_rules.proofs.Words.{is_accessible, runs_generator, asks, is_fast, lock_wanted, initializes, seeks, lock_asked, seeks_run, run_asked, Content, Event}
+use Rattle.schedule_rules.proofs.Words.{accepts, count, latest_act, runs, phase_at, replay, registry, waits, Wait, wait_of, attempt_of_turn, attempt_of_wait, act_for}
+use Rattle.schedule_rules.proofs.Words.{shares_write, drains_on, write_holds, is_barred, read_guards, holding_with, readers_with, writers_with, drains_with, keeps}
+use Rattle.schedule_rules.proofs.Words.{readers, refusal, refusal_by, refusal_waiting, refusal_free, answer_denied, answer_opened, answer_barred, answer_admitted}
+use Rattle.schedule_rules.proofs.Words.{answer_at, call_answer_admitted, turn_answer_admitted, due_tried, due_attempt, answer_of_look, IsExclusive}
+use Rattle.schedule_rules.proofs.Words.how
+use Rattle.schedule_rules.proofs.Words.nature
+use Rattle.schedule_rules.proofs.Words.act
+use Rattle.schedule_rules.proofs.Words.answer
+use Rattle.phase_seq.specs.Asks.{initializes as run_sought}
 use Rattle.phase_seq.specs.declared.ask.Want.{Want as Sought}
-use Rattle.phase_seq.specs.declared.ask.Want.TheVariants as sought
-use Rattle.phase_seq.specs.declared.tolerance.Tolerance.{Tolerance}
-use Rattle.lazy_cells.specs.Calls.{asking}
-use Rattle.lazy_cells.specs.declared.call.Call.{Call}
-use Rattle.lazy_cells.specs.declared.kind.Kind.{Kind}
-use Rattle.schedule_rules.specs.declared.plan.CellPlan.{CellPlan}
-use Rattle.schedule_rules.specs.declared.step.Act.{Act}
-use Rattle.schedule_rules.specs.declared.step.Act.TheVariants as act
-use Rattle.schedule_rules.specs.declared.step.Want.{Want}
-use Rattle.schedule_rules.specs.declared.step.Want.TheVariants.{Calls, Turns}
-use Rattle.schedule_rules.specs.declared.line.Answer.{Answer}
-use Rattle.schedule_rules.specs.declared.line.Answer.TheVariants as answer
-use Rattle.schedule_rules.specs.Kinds.{cell_at, tolerance_at}
-use Rattle.schedule_rules.specs.Forms.{form_of}
-use Rattle.schedule_rules.specs.Phases.{is_accessible, runs_generator}
-use Rattle.schedule_rules.specs.Calls.{lock_wanted, lock_asked, run_asked, seeks, seeks_run, asks, initializes, is_fast}
-use Rattle.schedule_rules.specs.Changes.{Content}
-use Rattle.schedule_rules.specs.History.{Event, accepts, latest_act, count}
-use Rattle.schedule_rules.specs.Sections.{runs}
-use Rattle.schedule_rules.specs.Replay.{replay, phase_at}
-use Rattle.schedule_rules.specs.Exits.{registry}
-use Rattle.schedule_rules.specs.Waits.{act_for, Wait, wait_of, waits, attempt_of_wait, attempt_of_turn, shares_write, drains_on}
-use Rattle.schedule_rules.specs.Holds.{is_barred, holding_with, keeps, read_guards, write_holds, readers, readers_with, writers_with, drains_with}
-use Rattle.schedule_rules.specs.Refusals.{refusal, refusal_by, refusal_free, refusal_waiting}
-use Rattle.schedule_rules.specs.Answers.{answer_opened, answer_denied, answer_at, answer_barred, call_answer_admitted, turn_answer_admitted, answer_admitted}
-use Rattle.schedule_rules.specs.Due.{answer_of_look, due_attempt, due_tried}
-use Rattle.schedule_rules.specs.Legal.{IsExclusive}
 use Rattle.schedule_rules.proofs.Found.{found_counts}
 use Rattle.schedule_rules.proofs.GoesOn.{Matches, wait-matches}
 use Rattle.schedule_rules.proofs.Answered.{barred}
 use Rattle.schedule_rules.proofs.Cases.{step, Tries, Cases, Calling, Turning, Asking, Resting}
 use Rattle.schedule_rules.proofs.Facts.{apart, second, same_number}
+use Rattle.phase_seq.specs.declared.ask.Want.TheVariants as sought
 
 -- nothing is written where something drains
 no_writers : (w d : ℕ) → (0 < w → d ≡ 0) → 0 < d → w ≡ 0

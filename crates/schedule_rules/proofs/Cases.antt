@@ -1,38 +1,11 @@
 -- What a legal step may be, case by case.
-use Rattle.std.proofs.Common.{◌≡◌, ℕ, List, [], ◌∷◌, Bool, true, false, Some, None}
-use Rattle.std.specs.Prelude.{length, if◌then◌else◌}
-use Rattle.std.specs.declared.option.Option.{Option}
-use Rattle.phase_bits.specs.Number.{phase_of}
-use Rattle.phase_bits.specs.Flags.{has, initialized}
-use Rattle.phase_locker.specs.declared.ways.How.{How}
-use Rattle.phase_seq.specs.Phases.{flags_refused}
-use Rattle.phase_seq.specs.Asks.{shall_init}
-use Rattle.lazy_cells.specs.Kinds.{lends_value}
-use Rattle.lazy_cells.specs.declared.call.Call.{Call}
-use Rattle.schedule_rules.specs.declared.form.Form.{Form}
-use Rattle.schedule_rules.specs.declared.plan.CellPlan.{CellPlan}
-use Rattle.schedule_rules.specs.declared.step.Act.{Act}
-use Rattle.schedule_rules.specs.declared.step.Act.TheVariants as act
-use Rattle.schedule_rules.specs.declared.step.Step.{Step}
-use Rattle.schedule_rules.specs.declared.step.Want.{Want}
-use Rattle.schedule_rules.specs.declared.step.Want.TheVariants.{Calls, Turns}
-use Rattle.schedule_rules.specs.declared.line.Answer.{Answer}
-use Rattle.schedule_rules.specs.declared.line.Answer.TheVariants as answer
-use Rattle.schedule_rules.specs.Kinds.{cell_at, tolerance_at, is_owned}
-use Rattle.schedule_rules.specs.Forms.{form_of}
-use Rattle.schedule_rules.specs.Phases.{is_accessible, runs_generator, phase_finalized, finishes_so}
-use Rattle.schedule_rules.specs.Calls.{asks, initializes, is_fast}
-use Rattle.schedule_rules.specs.Changes.{asks_to_lend}
-use Rattle.schedule_rules.specs.History.{Event, act_of, accepts, count}
-use Rattle.schedule_rules.specs.Sections.{Section, innermost, is_turn, sections}
-use Rattle.schedule_rules.specs.Guards.{Guard, numbered, guards}
-use Rattle.schedule_rules.specs.Replay.{replay, phase_at, inside}
-use Rattle.schedule_rules.specs.Exits.{registry, finishing}
-use Rattle.schedule_rules.specs.Waits.{waits_at, attempt, waits}
-use Rattle.schedule_rules.specs.Holds.{read_guards, write_holds}
-use Rattle.schedule_rules.specs.Answers.{answer_of_value, answer_opened, answer_denied, answer_made}
-use Rattle.schedule_rules.specs.Due.{phase_made}
-use Rattle.schedule_rules.specs.Legal.{IsExclusive}
+use Rattle.schedule_rules.proofs.Words.{ℕ, ◌≡◌, List, true, Bool, false, Some, ◌∷◌, [], None, length, if◌then◌else◌, Option, has, initialized, phase_of, How, shall_init}
+use Rattle.schedule_rules.proofs.Words.{flags_refused, lends_value, Call, Form, Answer, CellPlan, Act, Step, Want, Calls, Turns, cell_at, tolerance_at, is_owned, form_of}
+use Rattle.schedule_rules.proofs.Words.{is_accessible, runs_generator, phase_finalized, finishes_so, asks, is_fast, initializes, asks_to_lend, Event, accepts, count}
+use Rattle.schedule_rules.proofs.Words.{act_of, Section, sections, innermost, is_turn, Guard, guards, numbered, phase_at, replay, inside, registry, finishing, waits}
+use Rattle.schedule_rules.proofs.Words.{attempt, waits_at, write_holds, read_guards, answer_denied, answer_opened, answer_made, answer_of_value, phase_made, IsExclusive}
+use Rattle.schedule_rules.proofs.Words.act
+use Rattle.schedule_rules.proofs.Words.answer
 
 -- the act is a call, or goes on with one
 abbrev pub IsCalling : Act → Type 0

@@ -1,45 +1,26 @@
 -- Which answer a legal line has, by its cause.
-use Rattle.std.proofs.Common.{◌≡◌, ◌≢◌, ℕ, List, [], ◌∷◌, length, Bool, true, false, not, ◌&&◌, ◌||◌, None, Some, refl, sym, ◌∙◌, ap}
-use Rattle.std.specs.Prelude.{◌==◌, is_none, is_some, if◌then◌else◌}
-use Rattle.std.specs.declared.option.Option.{Option}
-use Rattle.exit_registry.specs.declared.registry.Look.TheVariants as look
-use Rattle.exit_registry.specs.Registry.{is_empty, first_of, look_at}
-use Rattle.phase_bits.specs.Flags.{has, initialized}
-use Rattle.phase_locker.specs.declared.ways.How.{How}
-use Rattle.phase_locker.specs.declared.ways.Given.{Given}
-use Rattle.phase_locker.specs.declared.ways.Given.TheVariants as given
-use Rattle.phase_locker.specs.declared.tickets.LockNature.TheVariants as nature
-use Rattle.lazy_cells.specs.declared.call.Call.{Call}
-use Rattle.schedule_rules.specs.declared.plan.CellPlan.{CellPlan}
-use Rattle.schedule_rules.specs.declared.plan.Place.{Place}
-use Rattle.schedule_rules.specs.declared.plan.Place.TheVariants as place
-use Rattle.schedule_rules.specs.declared.step.Act.{Act}
-use Rattle.schedule_rules.specs.declared.step.Act.TheVariants as act
-use Rattle.schedule_rules.specs.declared.step.Step.{Step}
-use Rattle.schedule_rules.specs.declared.step.Want.TheVariants.{Calls, Turns}
-use Rattle.schedule_rules.specs.declared.line.Line.{Line}
-use Rattle.schedule_rules.specs.declared.line.Answer.{Answer}
-use Rattle.schedule_rules.specs.declared.line.Answer.TheVariants as answer
-use Rattle.schedule_rules.specs.declared.line.Refusal.{Refusal}
-use Rattle.schedule_rules.specs.Kinds.{cell_at, tolerance_at, is_owned}
-use Rattle.schedule_rules.specs.Calls.{lock_wanted, asks, is_fast}
-use Rattle.schedule_rules.specs.History.{Event, is_exit, accepts}
-use Rattle.schedule_rules.specs.Sections.{innermost, is_turn, sections}
-use Rattle.schedule_rules.specs.Guards.{Guard, numbered, guards}
-use Rattle.schedule_rules.specs.Replay.{replay, phase_at}
-use Rattle.schedule_rules.specs.Exits.{registry}
-use Rattle.schedule_rules.specs.Waits.{Attempt, attempt, Wait, wait_of, waits, attempt_of_wait, attempt_of_turn}
-use Rattle.schedule_rules.specs.Holds.{is_barred, holding_with}
-use Rattle.schedule_rules.specs.Gifts.{is_nobody}
-use Rattle.schedule_rules.specs.Refusals.{refusal, refusal_by}
-use Rattle.schedule_rules.specs.Answers.{way_parked, drains_by, answer_barred, answer_admitted}
-use Rattle.schedule_rules.specs.Due.{answer_of_look, keeps_own, due_attempt, due_tried, due_clone, due_answer}
-use Rattle.schedule_rules.specs.Legal.{Moment, IsLegalLine, answer_of, due_at, may_give}
-use Rattle.schedule_rules.specs.Causes.{is_waiting, is_borrowed, is_missed, is_running, is_access, is_cyclic, is_finalizing, is_skipped, is_round, is_closing, is_attempted, waits_judged, is_step_of, is_of_own_run, asks_run, generates, phase_met, is_kept_out, is_barred_attempt, is_admitted, is_barred_clone, is_denied_to_lend, is_barred_step, is_missing_step, is_borrowing_step, is_running_step, is_access_step, is_turn_step, is_cyclic_step, looks, is_round_step, is_closing_step}
-use Rattle.schedule_rules.specs.Laws.{is_initializing}
+use Rattle.schedule_rules.proofs.Words.{ℕ, ◌≡◌, List, true, Bool, false, refl, Some, ◌∷◌, ◌∙◌, ap, [], sym, None, not, ◌&&◌, length, ◌≢◌, ◌||◌, ◌==◌, if◌then◌else◌}
+use Rattle.schedule_rules.proofs.Words.{is_none, is_some, Option, has, initialized, first_of, look_at, is_empty, Given, How, Call, Answer, Line, Refusal, CellPlan, Place}
+use Rattle.schedule_rules.proofs.Words.{Act, Step, Calls, Turns, cell_at, tolerance_at, is_owned, asks, is_fast, lock_wanted, Event, accepts, is_exit, sections}
+use Rattle.schedule_rules.proofs.Words.{innermost, is_turn, Guard, guards, numbered, phase_at, replay, registry, waits, Wait, wait_of, attempt, attempt_of_turn, Attempt}
+use Rattle.schedule_rules.proofs.Words.{attempt_of_wait, is_barred, holding_with, refusal, refusal_by, answer_barred, answer_admitted, way_parked, drains_by, due_answer}
+use Rattle.schedule_rules.proofs.Words.{due_tried, due_clone, due_attempt, answer_of_look, keeps_own, is_nobody, IsLegalLine, answer_of, due_at, Moment, may_give}
+use Rattle.schedule_rules.proofs.Words.{waits_judged, is_attempted, is_waiting, is_cyclic, is_access, is_skipped, is_missed, is_admitted, is_denied_to_lend, is_closing}
+use Rattle.schedule_rules.proofs.Words.{is_running, is_round, is_cyclic_step, phase_met, is_borrowed, is_finalizing, is_access_step, is_barred_attempt, is_turn_step}
+use Rattle.schedule_rules.proofs.Words.{asks_run, is_barred_clone, is_step_of, is_of_own_run, is_round_step, is_kept_out, looks, is_running_step, is_borrowing_step}
+use Rattle.schedule_rules.proofs.Words.{generates, is_missing_step, is_barred_step, is_closing_step, is_initializing}
+use Rattle.schedule_rules.proofs.Words.given
+use Rattle.schedule_rules.proofs.Words.nature
+use Rattle.schedule_rules.proofs.Words.place
+use Rattle.schedule_rules.proofs.Words.act
+use Rattle.schedule_rules.proofs.Words.answer
 use Rattle.schedule_rules.proofs.Answered.{due_at-judged, lent, made_to_lend, made, finished, looked, cloned, legal_by}
 use Rattle.schedule_rules.proofs.Facts.{apart}
-use Rattle.schedule_rules.proofs.Tests.{is_refused, IsBeyond, IsOfTries, of_running, of_access, of_cyclic, of_finalizing, of_skipped, of_round, of_closing, of_waiting, of_missed, of_borrowed, of_refused, beyond_waiting, beyond_missed, beyond_borrowed, beyond_refused, beyond_cyclic, beyond_round, beyond_closing, no_more, same_both, nothing_else, neither, unless_first, is_unlent, unlent_where_denied, shows, makes, admitted_runs, admitted_away, admitted_finalizes, admitted_skips, admitted_fails, FailsBarred, fails_barred, calls_not}
+use Rattle.schedule_rules.proofs.Tests.{is_refused, IsBeyond, IsOfTries, of_running, of_access, of_cyclic, of_finalizing, of_skipped, of_round, of_closing, of_waiting}
+use Rattle.schedule_rules.proofs.Tests.{of_missed, of_borrowed, of_refused, beyond_waiting, beyond_missed, beyond_borrowed, beyond_refused, beyond_cyclic, beyond_round}
+use Rattle.schedule_rules.proofs.Tests.{beyond_closing, no_more, same_both, nothing_else, neither, unless_first, is_unlent, unlent_where_denied, shows, makes}
+use Rattle.schedule_rules.proofs.Tests.{admitted_runs, admitted_away, admitted_finalizes, admitted_skips, admitted_fails, FailsBarred, fails_barred, calls_not}
+use Rattle.exit_registry.specs.declared.registry.Look.TheVariants as look
 
 -- ---- attempts, by whether they are cyclic, barred or admitted
 

@@ -1,21 +1,10 @@
 -- How many calls wait and how many turns there are, after one is taken off or added.
-use Rattle.std.proofs.Common.{◌≡◌, ◌≤◌, ◌+◌, ◌++◌, ℕ, List, [], ◌∷◌, refl, sym, ap, subst, arith, Bool, true, false, not, cond, None, Some}
-use Rattle.std.specs.Prelude.{◌==◌, map, if◌then◌else◌}
-use Rattle.std.specs.declared.option.Option.{Option}
-use Rattle.exit_registry.specs.Registry.{occurs, first_of, rest_of}
-use Rattle.exit_registry.specs.Exits.{cells_of_turns}
-use Rattle.exit_registry.specs.declared.turns.Turn.{Turn}
-use Rattle.exit_registry.specs.declared.turns.Turned.{Turned}
-use Rattle.phase_locker.specs.declared.ways.Given.{Given}
-use Rattle.phase_locker.specs.declared.ways.Given.TheVariants as given
-use Rattle.schedule_rules.specs.declared.plan.CellPlan.{CellPlan}
-use Rattle.schedule_rules.specs.declared.step.Step.{Step}
-use Rattle.schedule_rules.specs.declared.line.Answer.{Answer}
-use Rattle.schedule_rules.specs.declared.line.Answer.TheVariants as answer
-use Rattle.schedule_rules.specs.History.{Event, count}
-use Rattle.schedule_rules.specs.Waits.{Attempt, Wait, wait_of, without_wait, wait_woken, wake_writer, wake_reader, wake_readers, with_wait, attempt_with, cell_concerned_with, waits_given_with, waits_answered, waits, attempt_of_wait, attempt_of_turn}
-use Rattle.schedule_rules.specs.declared.step.Want.{Want}
-use Rattle.schedule_rules.specs.declared.step.Want.TheVariants.{Turns}
+use Rattle.schedule_rules.proofs.Words.{ℕ, ◌≡◌, List, true, Bool, false, refl, Some, ◌∷◌, ap, [], sym, arith, subst, None, not, ◌+◌, cond, ◌≤◌, ◌++◌, ◌==◌, if◌then◌else◌}
+use Rattle.schedule_rules.proofs.Words.{map, Option, cells_of_turns, first_of, rest_of, occurs, Turn, Turned, Given, Answer, CellPlan, Step, Want, Turns, Event, count}
+use Rattle.schedule_rules.proofs.Words.{waits, Wait, wait_of, attempt_of_turn, Attempt, attempt_of_wait, attempt_with, without_wait, cell_concerned_with}
+use Rattle.schedule_rules.proofs.Words.{waits_given_with, waits_answered, with_wait, wake_readers, wake_writer, wait_woken, wake_reader}
+use Rattle.schedule_rules.proofs.Words.given
+use Rattle.schedule_rules.proofs.Words.answer
 
 -- 1 where the test holds
 abbrev pub one_if : Bool → ℕ

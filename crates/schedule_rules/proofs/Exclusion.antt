@@ -1,12 +1,6 @@
 -- The holds of a cell exclude each other: what holds it to write, is all that does.
-use Rattle.std.proofs.Common.{ℕ, List, [], ◌∷◌, refl, arith, ◌≡◌, ◌<◌, ◌+◌, ◌∙◌, ap, true, cond, Some}
-use Rattle.schedule_rules.specs.declared.plan.CellPlan.{CellPlan}
-use Rattle.schedule_rules.specs.History.{Event, count}
-use Rattle.schedule_rules.specs.Legal.{IsLegal, IsExclusive}
-use Rattle.std.specs.Prelude.{◌==◌}
-use Rattle.schedule_rules.specs.Sections.{Section, innermost, without_innermost, runs_in, sections}
-use Rattle.schedule_rules.specs.Guards.{Guard, numbered, without_guard, guards}
-use Rattle.schedule_rules.specs.Holds.{writes_cell}
+use Rattle.schedule_rules.proofs.Words.{ℕ, ◌≡◌, List, true, refl, Some, ◌∷◌, ◌∙◌, ap, [], arith, ◌<◌, ◌+◌, cond, ◌==◌, CellPlan, Event, count, Section, sections}
+use Rattle.schedule_rules.proofs.Words.{innermost, runs_in, without_innermost, Guard, guards, numbered, without_guard, writes_cell, IsLegal, IsExclusive}
 use Rattle.schedule_rules.proofs.Found.{found_counts}
 use Rattle.schedule_rules.proofs.Opened.{count_ended, count_removed}
 use Rattle.schedule_rules.proofs.Facts.{same_number}

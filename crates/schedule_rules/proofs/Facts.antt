@@ -1,6 +1,5 @@
 -- Small facts of truth values and numbers.
-use Rattle.std.proofs.Common.{◌≡◌, ◌≢◌, ◌≤◌, ◌+◌, ℕ, refl, arith, Bool, true, false, ◌&&◌, ◌||◌, cond, ◌⊎◌, inl, inr}
-use Rattle.std.specs.Prelude.{◌==◌}
+use Rattle.schedule_rules.proofs.Words.{ℕ, ◌≡◌, true, Bool, false, refl, arith, ◌&&◌, ◌⊎◌, inr, inl, ◌+◌, cond, ◌≢◌, ◌≤◌, ◌||◌, ◌==◌}
 
 pub apart : true ≡ false → ⊥
 apart x = cc

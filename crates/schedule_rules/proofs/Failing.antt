@@ -1,39 +1,18 @@
 -- What a failed run leaves; and of a value that is lent, that nobody uses its cell, and what the step leaves.
-use Rattle.std.proofs.Common.{ap, subst, arith, Bool, ◌≡◌, ◌≢◌, ◌+◌, ◌⊎◌, inl, inr, ℕ, List, [], ◌∷◌, length, true, false, not, ◌&&◌, ◌||◌, cond, refl, sym, ◌∙◌}
-use Rattle.std.specs.Prelude.{◌==◌, is_none, is_some, if◌then◌else◌}
-use Rattle.std.specs.List.{list_any}
-use Rattle.std.specs.declared.option.Option.{Option}
-use Rattle.std.specs.declared.option.Option.TheVariants.{None, Some}
-use Rattle.phase_locker.specs.declared.ways.Given.{Given}
-use Rattle.phase_locker.specs.declared.ways.Given.TheVariants as given
-use Rattle.phase_seq.specs.Phases.{flags_refused}
-use Rattle.lazy_cells.specs.Kinds.{lends_value}
-use Rattle.schedule_rules.specs.declared.plan.CellPlan.{CellPlan}
-use Rattle.schedule_rules.specs.declared.step.Act.{Act}
-use Rattle.schedule_rules.specs.declared.step.Act.TheVariants as act
-use Rattle.schedule_rules.specs.declared.step.Step.{Step}
-use Rattle.schedule_rules.specs.declared.line.Line.{Line}
-use Rattle.schedule_rules.specs.declared.line.Answer.{Answer}
-use Rattle.schedule_rules.specs.declared.line.Answer.TheVariants as answer
-use Rattle.schedule_rules.specs.declared.line.Refusal.{Refusal}
-use Rattle.schedule_rules.specs.declared.line.Refusal.TheVariants as refused
-use Rattle.schedule_rules.specs.Kinds.{cell_at, tolerance_at, is_parking, is_of_other}
-use Rattle.schedule_rules.specs.Phases.{is_accessible}
-use Rattle.schedule_rules.specs.Changes.{Content, Change, Ran, Put, RanIfAsked, effect}
-use Rattle.schedule_rules.specs.Deeds.{Makes}
-use Rattle.schedule_rules.specs.History.{Event, accepts, deed_of, count}
-use Rattle.schedule_rules.specs.Sections.{Section, innermost, sections_by, sections}
-use Rattle.schedule_rules.specs.Guards.{guards_by, guards}
-use Rattle.schedule_rules.specs.Replay.{Back, back_of_section, back_of_step, replay, phase_at, content_after_back}
-use Rattle.schedule_rules.specs.Exits.{finishing}
-use Rattle.schedule_rules.specs.Waits.{Wait, wait_of, without_wait, waits_at, waits, waits_given_with, waits_answered, other_waits, parks_to_read, parks_to_write, attempt_with, cell_of_section, cell_concerned_with, cell_concerned}
-use Rattle.schedule_rules.specs.Holds.{is_in_use}
-use Rattle.schedule_rules.specs.Refusals.{refusal, refusal_by, refusal_free, refusal_waiting, no_call, no_lending, no_outcome, no_guard, no_writer, no_reader, no_exit}
-use Rattle.schedule_rules.specs.Due.{phase_made, due_answer}
-use Rattle.schedule_rules.specs.Gifts.{reaches, may_give_first, may_give_on, may_give_last}
-use Rattle.schedule_rules.specs.Legal.{Moment, First, Last, IsLegalLine, answer_of, due_at, may_give}
-use Rattle.schedule_rules.specs.Causes.{is_failed, is_refused_in_use, lends_at, is_failure, lends_in_use, is_step_in_use, waits_judged}
-use Rattle.schedule_rules.specs.Laws.{is_lent, EndsRun, RunsAtOnce, IsFailedRun, IsUnused, ChangesCellAlone, Leaves}
+use Rattle.schedule_rules.proofs.Words.{ℕ, ◌≡◌, List, true, Bool, false, refl, Some, ◌∷◌, ◌∙◌, ap, [], sym, arith, subst, None, not, ◌&&◌, ◌⊎◌, inr, inl, ◌+◌, length}
+use Rattle.schedule_rules.proofs.Words.{cond, ◌≢◌, ◌||◌, list_any, ◌==◌, if◌then◌else◌, is_none, is_some, Option, Given, flags_refused, lends_value, Answer, Line}
+use Rattle.schedule_rules.proofs.Words.{Refusal, CellPlan, Act, Step, cell_at, tolerance_at, is_of_other, is_parking, is_accessible, Content, effect, Change, Ran, Put}
+use Rattle.schedule_rules.proofs.Words.{RanIfAsked, Makes, Event, accepts, deed_of, count, Section, sections, innermost, sections_by, guards, guards_by, phase_at, replay}
+use Rattle.schedule_rules.proofs.Words.{Back, content_after_back, back_of_step, back_of_section, finishing, waits, Wait, wait_of, attempt_with, without_wait}
+use Rattle.schedule_rules.proofs.Words.{cell_concerned, cell_concerned_with, cell_of_section, waits_given_with, waits_answered, waits_at, other_waits, parks_to_write}
+use Rattle.schedule_rules.proofs.Words.{parks_to_read, is_in_use, refusal, refusal_by, no_lending, refusal_waiting, refusal_free, no_call, no_reader, no_outcome}
+use Rattle.schedule_rules.proofs.Words.{no_guard, no_writer, no_exit, phase_made, due_answer, may_give_on, may_give_first, may_give_last, reaches, IsLegalLine, answer_of}
+use Rattle.schedule_rules.proofs.Words.{due_at, Moment, Last, First, may_give, lends_at, waits_judged, is_failed, is_refused_in_use, is_step_in_use, is_failure}
+use Rattle.schedule_rules.proofs.Words.{lends_in_use, is_lent, Leaves, EndsRun, IsUnused, RunsAtOnce, ChangesCellAlone, IsFailedRun}
+use Rattle.schedule_rules.proofs.Words.given
+use Rattle.schedule_rules.proofs.Words.act
+use Rattle.schedule_rules.proofs.Words.answer
+use Rattle.schedule_rules.proofs.Words.refused
 use Rattle.schedule_rules.proofs.Cases.{step, IsTrying, trying, form_at, Lendable, Cases, calling-tries, turning-tries}
 use Rattle.schedule_rules.proofs.Attempts.{rests}
 use Rattle.schedule_rules.proofs.Steps.{lendable, lendable_so, allowed}

@@ -1,36 +1,13 @@
 -- What a legal step finds, deed by deed.
-use Rattle.std.proofs.Common.{◌≡◌, ℕ, List, [], ◌∷◌, Bool, true, false, Some, None, refl, sym, ◌∙◌, ap, subst, ◌⊎◌, inl, inr}
-use Rattle.std.specs.Prelude.{if◌then◌else◌}
-use Rattle.std.specs.declared.option.Option.{Option}
-use Rattle.phase_bits.specs.declared.phase.Phase.{Phase}
-use Rattle.phase_bits.specs.Flags.{has, initialized}
-use Rattle.phase_seq.specs.Phases.{flags_refused}
-use Rattle.lazy_cells.specs.declared.call.Call.{Call}
-use Rattle.schedule_rules.specs.declared.form.Form.{Form}
-use Rattle.schedule_rules.specs.declared.form.Form.TheVariants.{Told, Shown, Held}
-use Rattle.schedule_rules.specs.declared.plan.CellPlan.{CellPlan}
-use Rattle.schedule_rules.specs.declared.step.Act.{Act}
-use Rattle.schedule_rules.specs.declared.step.Act.TheVariants as act
-use Rattle.schedule_rules.specs.declared.step.Step.{Step}
-use Rattle.schedule_rules.specs.declared.step.Want.TheVariants.{Calls, Turns}
-use Rattle.schedule_rules.specs.declared.line.Line.{Line}
-use Rattle.schedule_rules.specs.declared.line.Answer.{Answer}
-use Rattle.schedule_rules.specs.declared.line.Answer.TheVariants as answer
-use Rattle.schedule_rules.specs.Kinds.{cell_at}
-use Rattle.schedule_rules.specs.Phases.{is_accessible, finishes_so}
-use Rattle.schedule_rules.specs.Changes.{Change, Ran, Asked, Put, RanIfAsked, content_of_run, content_after, effect}
-use Rattle.schedule_rules.specs.Deeds.{Makes, Finishes, Deed, Quiet, Opens, Holds, Ends, EndsToRead, EndsToWrite, Drops, DropsToRead, Beside, Puts, Visits, Lends, Skips, Takes, Looks, deed_waiting, deed_by}
-use Rattle.schedule_rules.specs.History.{Event, act_of, accepts, is_exit, deed_of}
-use Rattle.schedule_rules.specs.Sections.{Section, innermost, is_turn, sections}
-use Rattle.schedule_rules.specs.Guards.{Guard, numbered, guards}
-use Rattle.schedule_rules.specs.Replay.{replay, phase_at}
-use Rattle.schedule_rules.specs.Exits.{finishing, registry}
-use Rattle.schedule_rules.specs.Holds.{write_holds}
-use Rattle.schedule_rules.specs.Answers.{answer_opened, answer_denied, answer_made}
-use Rattle.schedule_rules.specs.Due.{phase_made}
-use Rattle.schedule_rules.specs.Legal.{IsLegalLine, IsExclusive}
-use Rattle.schedule_rules.specs.Causes.{is_failed, lends_at}
-use Rattle.schedule_rules.specs.Laws.{is_lent}
+use Rattle.schedule_rules.proofs.Words.{ℕ, ◌≡◌, List, true, Bool, false, refl, Some, ◌∷◌, ◌∙◌, ap, [], sym, subst, None, ◌⊎◌, inr, inl, if◌then◌else◌, Option, has}
+use Rattle.schedule_rules.proofs.Words.{initialized, Phase, flags_refused, Call, Form, Shown, Told, Held, Answer, Line, CellPlan, Act, Step, Calls, Turns, cell_at}
+use Rattle.schedule_rules.proofs.Words.{is_accessible, finishes_so, effect, Change, Ran, Asked, Put, RanIfAsked, content_after, content_of_run, Deed, EndsToRead, Visits}
+use Rattle.schedule_rules.proofs.Words.{Ends, Makes, EndsToWrite, DropsToRead, Opens, Drops, Finishes, Lends, Holds, Skips, Beside, deed_waiting, Puts, deed_by, Looks}
+use Rattle.schedule_rules.proofs.Words.{Takes, Quiet, Event, accepts, deed_of, is_exit, act_of, Section, sections, innermost, is_turn, Guard, guards, numbered, phase_at}
+use Rattle.schedule_rules.proofs.Words.{replay, registry, finishing, write_holds, answer_denied, answer_opened, answer_made, phase_made, IsLegalLine, IsExclusive}
+use Rattle.schedule_rules.proofs.Words.{lends_at, is_failed, is_lent}
+use Rattle.schedule_rules.proofs.Words.act
+use Rattle.schedule_rules.proofs.Words.answer
 use Rattle.schedule_rules.proofs.Cases.{Calling, step, Asking, Resting, Lendable, AsksToLend, Reach, form_at, Generating, Finalizing, Cases}
 use Rattle.schedule_rules.proofs.Facts.{first, same_number}
 use Rattle.schedule_rules.proofs.Steps.{made_accessible, of_legal}

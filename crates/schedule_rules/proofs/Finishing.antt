@@ -1,34 +1,11 @@
 -- A finalizer that ends marks the phase of its cell, and nothing else does.
-use Rattle.std.proofs.Common.{◌≡◌, ◌⊎◌, inl, inr, ℕ, List, [], ◌∷◌, refl, sym, ◌∙◌, ap, subst, Bool, true, false, Some}
-use Rattle.std.specs.Prelude.{◌==◌}
-use Rattle.std.specs.Int.RustNames.{bit_or}
-use Rattle.std.proofs.lemmas.Nat.{and_or_apart}
-use Rattle.std.specs.declared.option.Option.{Option}
-use Rattle.phase_bits.specs.declared.phase.Phase.{Phase}
-use Rattle.phase_bits.specs.Number.{phase_of}
-use Rattle.phase_bits.specs.Flags.{has, initialized}
-use Rattle.phase_locker.specs.declared.ways.Given.{Given}
-use Rattle.phase_seq.specs.Phases.{final_outcome}
-use Rattle.schedule_rules.specs.declared.plan.CellPlan.{CellPlan}
-use Rattle.schedule_rules.specs.declared.step.Act.{Act}
-use Rattle.schedule_rules.specs.declared.step.Step.{Step}
-use Rattle.schedule_rules.specs.declared.step.Want.{Want}
-use Rattle.schedule_rules.specs.declared.step.Want.TheVariants.{Calls, Turns}
-use Rattle.schedule_rules.specs.declared.line.Line.{Line}
-use Rattle.schedule_rules.specs.declared.line.Answer.{Answer}
-use Rattle.schedule_rules.specs.declared.line.Answer.TheVariants as answer
-use Rattle.schedule_rules.specs.Kinds.{cell_at}
-use Rattle.schedule_rules.specs.Phases.{phase_finalized}
-use Rattle.schedule_rules.specs.Changes.{Content, Change, Ran, Put, Ended, effect}
-use Rattle.schedule_rules.specs.Deeds.{Makes, Finishes, Deed, Ends, EndsToRead, Drops, DropsToRead, Visits, Lends}
-use Rattle.schedule_rules.specs.History.{Event, accepts, deed_of}
-use Rattle.schedule_rules.specs.Sections.{Section, innermost, is_turn, sections}
-use Rattle.schedule_rules.specs.Guards.{Guard, numbered, guards}
-use Rattle.schedule_rules.specs.Replay.{Back, back_of_section, back_of_step, replay, phase_at}
-use Rattle.schedule_rules.specs.Waits.{cell_of_section, cell_concerned}
-use Rattle.schedule_rules.specs.Legal.{IsLegal, IsLegalLine}
-use Rattle.schedule_rules.specs.Laws.{IsEndedTurn, Finishes as Finishes_so}
-use Rattle.schedule_rules.specs.Exits.{finishing}
+use Rattle.schedule_rules.proofs.Words.{ℕ, ◌≡◌, List, true, Bool, false, refl, Some, ◌∷◌, ◌∙◌, ap, [], sym, subst, ◌⊎◌, inr, inl, and_or_apart, bit_or, ◌==◌, Option, has}
+use Rattle.schedule_rules.proofs.Words.{initialized, phase_of, Phase, Given, final_outcome, Answer, Line, CellPlan, Act, Step, Want, Calls, Turns, cell_at}
+use Rattle.schedule_rules.proofs.Words.{phase_finalized, Content, effect, Change, Ran, Put, Ended, Deed, EndsToRead, Visits, Ends, Makes, DropsToRead, Drops, Finishes}
+use Rattle.schedule_rules.proofs.Words.{Lends, Event, accepts, deed_of, Section, sections, innermost, is_turn, Guard, guards, numbered, phase_at, replay, Back}
+use Rattle.schedule_rules.proofs.Words.{back_of_step, back_of_section, finishing, cell_concerned, cell_of_section, IsLegal, IsLegalLine, IsEndedTurn}
+use Rattle.schedule_rules.proofs.Words.answer
+use Rattle.schedule_rules.specs.Laws.{Finishes as Finishes_so}
 use Rattle.schedule_rules.proofs.Exclusion.{alone}
 use Rattle.schedule_rules.proofs.Found.{each_found}
 use Rattle.schedule_rules.proofs.Leaves.{back_here, back_elsewhere, left_at, GivenAt, GivesOf, moves}

@@ -1,10 +1,6 @@
 -- What a test finds in a list, how many pass it, and what holds of each.
-use Rattle.std.proofs.Common.{◌≡◌, ◌<◌, ◌≤◌, List, [], ◌∷◌, refl, arith, Bool, true, None, Some, ℕ, ◌+◌, false, cond, subst}
-use Rattle.std.specs.List.{find, AllByRecursion}
-use Rattle.schedule_rules.specs.History.{count}
-use Rattle.std.specs.Prelude.{◌==◌}
-use Rattle.schedule_rules.specs.Sections.{Section, without_innermost}
-use Rattle.schedule_rules.specs.Guards.{Guard, without_guard, put_in}
+use Rattle.schedule_rules.proofs.Words.{ℕ, ◌≡◌, List, true, Bool, false, refl, Some, ◌∷◌, [], arith, subst, None, ◌<◌, ◌+◌, cond, ◌≤◌, AllByRecursion, find, ◌==◌, count}
+use Rattle.schedule_rules.proofs.Words.{Section, without_innermost, Guard, without_guard, put_in}
 use Rattle.schedule_rules.proofs.Opened.{put}
 
 -- what a test finds is counted by each test that it passes

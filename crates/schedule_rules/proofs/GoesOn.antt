@@ -1,21 +1,11 @@
 -- A waiting call goes on with what its party did last: its wait says the same call as the party's latest act.
-use Rattle.std.proofs.Common.{subst, ◌≡◌, ◌≢◌, ℕ, List, [], ◌∷◌, refl, sym, ap, ◌∙◌, arith, true, false, None, Some}
-use Rattle.std.specs.Prelude.{Bool, ◌==◌, map, if◌then◌else◌}
-use Rattle.std.specs.declared.option.Option.{Option}
-use Rattle.phase_locker.specs.declared.ways.Given.{Given}
-use Rattle.phase_locker.specs.declared.ways.Given.TheVariants as given
-use Rattle.exit_registry.specs.Registry.{first_of}
-use Rattle.schedule_rules.specs.declared.plan.CellPlan.{CellPlan}
-use Rattle.schedule_rules.specs.declared.step.Act.{Act}
-use Rattle.schedule_rules.specs.declared.step.Act.TheVariants as act
-use Rattle.phase_locker.specs.declared.ways.How.{How}
-use Rattle.schedule_rules.specs.declared.line.Refusal.{Refusal}
-use Rattle.schedule_rules.specs.declared.line.Answer.{Answer}
-use Rattle.schedule_rules.specs.declared.line.Answer.TheVariants as answer
-use Rattle.schedule_rules.specs.declared.step.Step.{Step}
-use Rattle.schedule_rules.specs.History.{Event, latest_act, latest_act_after, newer_act}
-use Rattle.schedule_rules.specs.Exits.{registry}
-use Rattle.schedule_rules.specs.Waits.{Wait, Attempt, attempt, wait_of, without_wait, with_wait, attempt_of_wait, act_for, attempt_of_turn, attempt_with, wake_writer, wake_reader, wake_readers, wait_woken, waits_given_with, waits_answered, waits, cell_concerned_with}
+use Rattle.schedule_rules.proofs.Words.{ℕ, ◌≡◌, List, true, Bool, false, refl, Some, ◌∷◌, ◌∙◌, ap, [], sym, arith, subst, None, ◌≢◌, ◌==◌, if◌then◌else◌, map, Option}
+use Rattle.schedule_rules.proofs.Words.{first_of, Given, How, Answer, Refusal, CellPlan, Act, Step, Event, latest_act, latest_act_after, newer_act, registry, waits, Wait}
+use Rattle.schedule_rules.proofs.Words.{wait_of, attempt, attempt_of_turn, Attempt, attempt_of_wait, attempt_with, without_wait, cell_concerned_with, waits_given_with}
+use Rattle.schedule_rules.proofs.Words.{waits_answered, with_wait, wake_readers, wake_writer, wait_woken, wake_reader, act_for}
+use Rattle.schedule_rules.proofs.Words.given
+use Rattle.schedule_rules.proofs.Words.act
+use Rattle.schedule_rules.proofs.Words.answer
 use Rattle.schedule_rules.proofs.Opened.{wait_removed, wait_kept}
 
 module _ (f : Wait → Wait) (same_party : (w : Wait) → (f w).party ≡ w.party) (same_attempt : (w : Wait) → attempt_of_wait (Some (f w)) ≡ attempt_of_wait (Some w)) where

@@ -1,29 +1,11 @@
 -- What a legal step leaves: each section stands on the phase that it needs, each holder of a write guard sees a value, and
 -- INITIALIZED is never cleared.
-use Rattle.std.proofs.Common.{◌≡◌, ℕ, List, [], ◌∷◌, refl, sym, ◌∙◌, ap, subst, arith, Bool, true, false, not, ◌⊎◌, inl, inr, Some}
-use Rattle.std.specs.Prelude.{◌==◌, if◌then◌else◌}
-use Rattle.std.specs.List.{AllByRecursion}
-use Rattle.std.specs.Int.RustNames.{bit_and, bit_or}
-use Rattle.std.proofs.lemmas.Nat.{and_or_self, and_or_apart}
-use Rattle.phase_bits.specs.Flags.{has, initialized}
-use Rattle.phase_seq.specs.Asks.{shall_init}
-use Rattle.phase_seq.specs.declared.tolerance.Tolerance.{Tolerance}
-use Rattle.std.specs.declared.option.Option.{Option}
-use Rattle.phase_bits.specs.Number.{phase_of}
-use Rattle.lazy_cells.specs.declared.call.Call.TheVariants as call
-use Rattle.lazy_cells.specs.declared.kind.Kind.{Kind}
-use Rattle.schedule_rules.specs.declared.plan.CellPlan.{CellPlan}
-use Rattle.schedule_rules.specs.declared.step.Want.{Want}
-use Rattle.schedule_rules.specs.declared.step.Want.TheVariants.{Calls, Turns}
-use Rattle.schedule_rules.specs.Kinds.{cell_at, tolerance_of, tolerance_at}
-use Rattle.schedule_rules.specs.Phases.{flags_kept}
-use Rattle.schedule_rules.specs.Changes.{Content, Change, Ran, Asked, Put, RanIfAsked, Ended, asks_to_lend, effect}
-use Rattle.schedule_rules.specs.Deeds.{Makes, Finishes, Deed, Opens, Holds, Ends, EndsToRead, EndsToWrite, Drops, DropsToRead, Visits, Lends}
-use Rattle.schedule_rules.specs.History.{Event, accepts, deed_of}
-use Rattle.schedule_rules.specs.Sections.{Section, is_turn, sections}
-use Rattle.schedule_rules.specs.Guards.{Guard, numbered, guards}
-use Rattle.schedule_rules.specs.Replay.{replay, phase_at}
-use Rattle.schedule_rules.specs.Legal.{IsExclusive, IsLegal}
+use Rattle.schedule_rules.proofs.Words.{ℕ, ◌≡◌, List, true, Bool, false, refl, Some, ◌∷◌, ◌∙◌, ap, [], sym, arith, subst, not, ◌⊎◌, inr, inl, and_or_apart, and_or_self}
+use Rattle.schedule_rules.proofs.Words.{bit_and, bit_or, AllByRecursion, ◌==◌, if◌then◌else◌, Option, has, initialized, phase_of, shall_init, Tolerance, Kind, CellPlan}
+use Rattle.schedule_rules.proofs.Words.{Want, Calls, Turns, cell_at, tolerance_at, tolerance_of, flags_kept, Content, effect, Change, Ran, Asked, Put, Ended, RanIfAsked}
+use Rattle.schedule_rules.proofs.Words.{asks_to_lend, Deed, EndsToRead, Visits, Ends, Makes, EndsToWrite, DropsToRead, Opens, Drops, Finishes, Lends, Holds, Event}
+use Rattle.schedule_rules.proofs.Words.{accepts, deed_of, Section, sections, is_turn, Guard, guards, numbered, phase_at, replay, IsLegal, IsExclusive}
+use Rattle.schedule_rules.proofs.Words.call
 use Rattle.schedule_rules.proofs.Found.{each_found}
 use Rattle.schedule_rules.proofs.Cases.{Asking, Resting, AsksToLend, Reach}
 use Rattle.schedule_rules.proofs.Attempts.{asks_due}

@@ -1,23 +1,10 @@
 -- A phase that is not 0 never is 0 again; and a cell that was touched stays so: its phase is not 0, or a section runs in it,
 -- or a guard writes it.
-use Rattle.std.proofs.Common.{◌≡◌, ◌≢◌, ℕ, List, [], ◌∷◌, subst, Bool, true, false, cond, None, Some, ◌<◌, sym, ◌∙◌, arith, ◌⊎◌, inl, inr}
-use Rattle.std.specs.Prelude.{◌==◌}
-use Rattle.std.specs.Int.RustNames.{bit_and, bit_or}
-use Rattle.std.proofs.lemmas.Nat.{and_or_self}
-use Rattle.std.specs.declared.option.Option.{Option}
-use Rattle.schedule_rules.specs.declared.plan.CellPlan.{CellPlan}
-use Rattle.schedule_rules.specs.Kinds.{cell_at, tolerance_of}
-use Rattle.schedule_rules.specs.Phases.{flags_kept}
-use Rattle.schedule_rules.specs.Changes.{Content, Change, Ran, Asked, Put, RanIfAsked, Ended, is_declined, content_of_run, asks_to_lend, content_after, effect}
-use Rattle.schedule_rules.specs.History.{Event, deed_of}
-use Rattle.schedule_rules.specs.Replay.{Back, back_of_step, replay, phase_at, content_after_back}
-use Rattle.std.specs.List.{AllByRecursion}
-use Rattle.phase_bits.specs.Flags.{has, initialized}
-use Rattle.schedule_rules.specs.Deeds.{Makes, Finishes, Deed, Holds, Ends, EndsToRead, EndsToWrite, Drops, DropsToRead, Visits, Lends}
-use Rattle.schedule_rules.specs.Sections.{Section, sections}
-use Rattle.schedule_rules.specs.Guards.{Guard, numbered, guards}
-use Rattle.schedule_rules.specs.Holds.{write_holds}
-use Rattle.schedule_rules.specs.Legal.{IsLegal, IsExclusive}
+use Rattle.schedule_rules.proofs.Words.{ℕ, ◌≡◌, List, true, Bool, false, Some, ◌∷◌, ◌∙◌, [], sym, arith, subst, None, ◌<◌, ◌⊎◌, inr, inl, cond, ◌≢◌, and_or_self, bit_and}
+use Rattle.schedule_rules.proofs.Words.{bit_or, AllByRecursion, ◌==◌, Option, has, initialized, CellPlan, cell_at, tolerance_of, flags_kept, Content, effect, Change, Ran}
+use Rattle.schedule_rules.proofs.Words.{Asked, Put, Ended, is_declined, RanIfAsked, asks_to_lend, content_after, content_of_run, Deed, EndsToRead, Visits, Ends, Makes}
+use Rattle.schedule_rules.proofs.Words.{EndsToWrite, DropsToRead, Drops, Finishes, Lends, Holds, Event, deed_of, Section, sections, Guard, guards, numbered, phase_at}
+use Rattle.schedule_rules.proofs.Words.{replay, Back, content_after_back, back_of_step, write_holds, IsLegal, IsExclusive}
 use Rattle.schedule_rules.proofs.Exclusion.{alone}
 use Rattle.schedule_rules.proofs.Found.{each_of, each_found}
 use Rattle.schedule_rules.proofs.Finds.{Finds, accessed_there, finds}

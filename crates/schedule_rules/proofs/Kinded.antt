@@ -1,38 +1,14 @@
 -- The sections and the guards of a legal history are of calls that the kinds of their cells have.
-use Rattle.std.proofs.Common.{◌≡◌, ℕ, List, [], ◌∷◌, length, refl, sym, ◌∙◌, ap, subst, Bool, true, false, not, None, Some}
-use Rattle.std.specs.Prelude.{◌==◌}
-use Rattle.std.specs.List.{AllByRecursion}
-use Rattle.std.specs.declared.option.Option.{Option}
-use Rattle.phase_bits.specs.Number.{phase_of}
-use Rattle.phase_seq.specs.Phases.{flags_refused}
-use Rattle.lazy_cells.specs.Calls.{has_call}
-use Rattle.lazy_cells.specs.Kinds.{is_plain, is_primed}
-use Rattle.lazy_cells.specs.declared.call.Call.{Call}
-use Rattle.lazy_cells.specs.declared.call.Call.TheVariants as call
-use Rattle.lazy_cells.specs.declared.kind.Kind.{Kind}
-use Rattle.lazy_cells.specs.declared.kind.Kind.TheVariants as kind
-use Rattle.schedule_rules.specs.declared.form.Form.{Form}
-use Rattle.schedule_rules.specs.declared.form.Form.TheVariants.{Told, Shown, Held}
-use Rattle.schedule_rules.specs.declared.plan.CellPlan.{CellPlan}
-use Rattle.schedule_rules.specs.declared.step.Act.{Act}
-use Rattle.schedule_rules.specs.declared.step.Act.TheVariants as act
-use Rattle.schedule_rules.specs.declared.step.Want.TheVariants.{Calls, Turns}
-use Rattle.schedule_rules.specs.declared.line.Answer.{Answer}
-use Rattle.schedule_rules.specs.declared.line.Answer.TheVariants as answer
-use Rattle.schedule_rules.specs.Kinds.{cell_at}
-use Rattle.schedule_rules.specs.Forms.{form_of}
-use Rattle.schedule_rules.specs.Phases.{phase_finalized}
-use Rattle.schedule_rules.specs.Changes.{Content}
-use Rattle.schedule_rules.specs.Deeds.{Deed, Opens, Holds, Ends, EndsToRead, EndsToWrite, Drops, DropsToRead, Beside, Puts, Visits, deed_waiting, deed_by}
-use Rattle.schedule_rules.specs.History.{Event, accepts, is_exit, deed_of}
-use Rattle.schedule_rules.specs.Sections.{Section, innermost, sections_by, sections}
-use Rattle.schedule_rules.specs.Guards.{Guard, numbered, without_guard, reader_made, writer_made, reader_beside, guards_by, guards}
-use Rattle.schedule_rules.specs.Replay.{replay, phase_at}
-use Rattle.schedule_rules.specs.Exits.{finishing}
-use Rattle.schedule_rules.specs.Refusals.{refusal}
-use Rattle.schedule_rules.specs.Answers.{answer_opened, answer_denied, answer_made}
-use Rattle.schedule_rules.specs.Due.{phase_made}
-use Rattle.schedule_rules.specs.Legal.{IsLegal}
+use Rattle.schedule_rules.proofs.Words.{ℕ, ◌≡◌, List, true, Bool, false, refl, Some, ◌∷◌, ◌∙◌, ap, [], sym, subst, None, not, length, AllByRecursion, ◌==◌, Option}
+use Rattle.schedule_rules.proofs.Words.{phase_of, flags_refused, has_call, is_plain, is_primed, Call, Kind, Form, Shown, Told, Held, Answer, CellPlan, Act, Calls, Turns}
+use Rattle.schedule_rules.proofs.Words.{cell_at, form_of, phase_finalized, Content, Deed, EndsToRead, Visits, Ends, EndsToWrite, DropsToRead, Opens, Drops, Holds, Beside}
+use Rattle.schedule_rules.proofs.Words.{deed_waiting, Puts, deed_by, Event, accepts, deed_of, is_exit, Section, sections, innermost, sections_by, Guard, guards, numbered}
+use Rattle.schedule_rules.proofs.Words.{without_guard, guards_by, writer_made, reader_made, reader_beside, phase_at, replay, finishing, refusal, answer_denied}
+use Rattle.schedule_rules.proofs.Words.{answer_opened, answer_made, phase_made, IsLegal}
+use Rattle.schedule_rules.proofs.Words.call
+use Rattle.schedule_rules.proofs.Words.kind
+use Rattle.schedule_rules.proofs.Words.act
+use Rattle.schedule_rules.proofs.Words.answer
 use Rattle.schedule_rules.proofs.Found.{each_found, each_ended, each_removed, each_put}
 use Rattle.schedule_rules.proofs.Cases.{step, Calling, Generating, form_at, Cases}
 use Rattle.schedule_rules.proofs.Finds.{errs}

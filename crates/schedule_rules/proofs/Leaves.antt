@@ -1,21 +1,12 @@
 -- What a deed leaves: what is given back changes its own cell, what is published changes only where nothing holds the cell to
 -- write afterwards, and what stands open keeps what is said of it.
-use Rattle.std.proofs.Common.{◌≡◌, ℕ, List, refl, Bool, true, false, Some, ◌<◌, ◌≤◌, ◌+◌, ◌⊎◌, inl, inr, [], ◌∷◌, length, sym, ◌∙◌, ap, subst, arith, not, ◌&&◌, cond, None}
-use Rattle.std.specs.Prelude.{◌==◌, if◌then◌else◌}
-use Rattle.std.specs.declared.option.Option.{Option}
-use Rattle.lazy_cells.specs.declared.call.Call.{Call}
-use Rattle.schedule_rules.specs.declared.plan.CellPlan.{CellPlan}
-use Rattle.schedule_rules.specs.Kinds.{cell_at, tolerance_of, tolerance_at}
-use Rattle.schedule_rules.specs.Changes.{Content, Asked, is_declined, content_after, effect, Change, Ended}
-use Rattle.schedule_rules.specs.Replay.{Back, content_after_back, change_of, back_of_section, back_of_guard, back_by, replay}
-use Rattle.std.specs.List.{AllByRecursion}
-use Rattle.schedule_rules.specs.Phases.{runs_generator}
-use Rattle.schedule_rules.specs.Deeds.{Ending, Makes, Finishes, Deed, Opens, Holds, Ends, EndsToRead, EndsToWrite, Drops, DropsToRead, Beside, Puts, Visits, Lends}
-use Rattle.schedule_rules.specs.History.{Event, accepts, count}
-use Rattle.schedule_rules.specs.Sections.{Section, innermost, without_innermost, runs_in, sections_by, sections}
-use Rattle.schedule_rules.specs.Guards.{Guard, numbered, without_guard, reader, writer, carrier, reader_made, writer_made, reader_beside, guards_by, guards}
-use Rattle.schedule_rules.specs.Holds.{writes_cell, write_holds}
-use Rattle.schedule_rules.specs.Legal.{IsExclusive}
+use Rattle.schedule_rules.proofs.Words.{ℕ, ◌≡◌, List, true, Bool, false, refl, Some, ◌∷◌, ◌∙◌, ap, [], sym, arith, subst, None, not, ◌&&◌, ◌<◌, ◌⊎◌, inr, inl, ◌+◌}
+use Rattle.schedule_rules.proofs.Words.{length, cond, ◌≤◌, AllByRecursion, ◌==◌, if◌then◌else◌, Option, Call, CellPlan, cell_at, tolerance_at, tolerance_of}
+use Rattle.schedule_rules.proofs.Words.{runs_generator, Content, effect, Change, Asked, Ended, is_declined, content_after, Deed, EndsToRead, Visits, Ends, Makes}
+use Rattle.schedule_rules.proofs.Words.{EndsToWrite, DropsToRead, Opens, Drops, Finishes, Lends, Holds, Beside, Puts, Ending, Event, accepts, count, Section, sections}
+use Rattle.schedule_rules.proofs.Words.{innermost, runs_in, sections_by, without_innermost, Guard, guards, numbered, without_guard, guards_by, writer_made, reader_made}
+use Rattle.schedule_rules.proofs.Words.{reader_beside, reader, carrier, writer, replay, Back, content_after_back, back_of_section, back_by, change_of, back_of_guard}
+use Rattle.schedule_rules.proofs.Words.{write_holds, writes_cell, IsExclusive}
 use Rattle.schedule_rules.proofs.Found.{each_counted, each_found, each_ended, each_removed, each_put}
 use Rattle.schedule_rules.proofs.Opened.{put, count_ended, count_removed, writes_put}
 use Rattle.schedule_rules.proofs.Exclusion.{no_writer_beside, no_run_left, no_run_beside, no_writer_left}

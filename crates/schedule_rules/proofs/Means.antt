@@ -1,33 +1,11 @@
 -- What the answer of a legal line means.
-use Rattle.std.proofs.Common.{◌≡◌, ℕ, List, Bool, true, false, refl, subst, ◌⊎◌, inl, inr, sym}
-use Rattle.std.specs.declared.option.Option.{Option}
-use Rattle.phase_bits.specs.declared.phase.Phase.{Phase}
-use Rattle.phase_bits.specs.Number.{phase_of}
-use Rattle.phase_bits.specs.Flags.{has, initialized}
-use Rattle.phase_seq.specs.Phases.{flags_refused}
-use Rattle.lazy_cells.specs.declared.call.Call.{Call}
-use Rattle.schedule_rules.specs.declared.form.Form.{Form}
-use Rattle.schedule_rules.specs.declared.form.Form.TheVariants.{Told, Shown, Held}
-use Rattle.schedule_rules.specs.declared.plan.CellPlan.{CellPlan}
-use Rattle.schedule_rules.specs.declared.step.Act.{Act}
-use Rattle.schedule_rules.specs.declared.step.Act.TheVariants as act
-use Rattle.schedule_rules.specs.declared.step.Step.{Step}
-use Rattle.schedule_rules.specs.declared.line.Line.{Line}
-use Rattle.schedule_rules.specs.declared.line.Answer.{Answer}
-use Rattle.schedule_rules.specs.declared.line.Answer.TheVariants as answer
-use Rattle.schedule_rules.specs.Phases.{phase_finalized}
-use Rattle.schedule_rules.specs.Changes.{Content}
-use Rattle.schedule_rules.specs.History.{Event}
-use Rattle.schedule_rules.specs.Sections.{Section}
-use Rattle.schedule_rules.specs.Replay.{replay, phase_at}
-use Rattle.schedule_rules.specs.Exits.{finishing}
-use Rattle.schedule_rules.specs.Answers.{answer_opened, answer_denied, answer_made}
-use Rattle.schedule_rules.specs.Due.{phase_made}
-use Rattle.schedule_rules.specs.Legal.{IsLegalLine}
+use Rattle.schedule_rules.proofs.Words.{ℕ, ◌≡◌, List, true, Bool, false, refl, sym, subst, ◌⊎◌, inr, inl, Option, has, initialized, phase_of, Phase, flags_refused, Call}
+use Rattle.schedule_rules.proofs.Words.{Form, Shown, Told, Held, Answer, Line, CellPlan, Act, Step, phase_finalized, Content, Event, Section, phase_at, replay, finishing}
+use Rattle.schedule_rules.proofs.Words.{answer_denied, answer_opened, answer_made, phase_made, IsLegalLine, lends_at, runs_to_lend, IsWithoutEffect, TurnsWhere}
+use Rattle.schedule_rules.proofs.Words.act
+use Rattle.schedule_rules.proofs.Words.answer
 use Rattle.schedule_rules.proofs.Cases.{IsCalling, Calling, Turning, Asking, Resting, Reach, form_at, Finalizing, Cases}
 use Rattle.schedule_rules.proofs.Steps.{of_legal}
-use Rattle.schedule_rules.specs.Causes.{lends_at, runs_to_lend}
-use Rattle.schedule_rules.specs.Laws.{IsWithoutEffect, TurnsWhere}
 use Rattle.schedule_rules.proofs.Facts.{same_number}
 
 module _ (cells : List CellPlan) (h : List Event) (p : ℕ) where

@@ -1,16 +1,8 @@
 -- No turn of the exit that ended is Busy.
-use Rattle.std.proofs.Common.{◌≢◌, ℕ, List, [], ◌∷◌, ◌++◌, Bool, true, false}
-use Rattle.std.specs.declared.option.Option.{Option}
-use Rattle.std.specs.declared.option.Option.TheVariants.{None, Some}
-use Rattle.std.proofs.lemmas.List.Elements.{All-nil, All-cons, All-append}
-use Rattle.exit_registry.specs.declared.turns.Turn.{Turn}
-use Rattle.exit_registry.specs.declared.turns.Turn.TheVariants as turn
-use Rattle.exit_registry.specs.declared.turns.Turned.{Turned}
-use Rattle.schedule_rules.specs.Deeds.{Makes, Finishes, Deed, Ends, Skips}
-use Rattle.schedule_rules.specs.History.{Event, deed_of}
-use Rattle.schedule_rules.specs.Sections.{Section, innermost, sections}
-use Rattle.schedule_rules.specs.Exits.{turn_of, turn_of_section, turns_by, ended_turns, NoneBusy}
-use Rattle.schedule_rules.specs.Transcripts.{Schedule, Account, IsLegalTranscript, told}
+use Rattle.schedule_rules.proofs.Words.{ℕ, List, true, Bool, false, Some, ◌∷◌, [], None, ◌≢◌, ◌++◌, All-nil, All-cons, All-append, Option, Turn, Turned, Deed, Ends}
+use Rattle.schedule_rules.proofs.Words.{Makes, Finishes, Skips, Event, deed_of, Section, sections, innermost, ended_turns, turn_of, turn_of_section, turns_by, NoneBusy}
+use Rattle.schedule_rules.proofs.Words.{IsLegalTranscript, told, Schedule, Account}
+use Rattle.schedule_rules.proofs.Words.turn
 
 -- behind turns of which none is Busy, one more that is not
 one_more : (ts : List Turned) (c : ℕ) (t : Turn) → t ≢ turn.Busy → NoneBusy ts → NoneBusy (ts ++ record { cell = c; turn = t } ∷ [])

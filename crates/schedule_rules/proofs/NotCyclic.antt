@@ -1,23 +1,11 @@
 -- A call that waits asks for no run of a generator that its own party is running.
-use Rattle.std.proofs.Common.{◌≡◌, ◌≢◌, ◌<◌, ◌≤◌, ◌+◌, ℕ, List, [], ◌∷◌, refl, sym, ◌∙◌, ap, subst, arith, Bool, true, false, not, ◌&&◌, cond, None, Some}
-use Rattle.std.specs.Prelude.{◌==◌, if◌then◌else◌, is_none}
-use Rattle.std.specs.List.{find}
-use Rattle.std.specs.declared.option.Option.{Option}
-use Rattle.phase_locker.specs.declared.ways.How.{How}
-use Rattle.schedule_rules.specs.declared.plan.CellPlan.{CellPlan}
-use Rattle.schedule_rules.specs.declared.step.Act.TheVariants as act
-use Rattle.schedule_rules.specs.declared.step.Step.{Step}
-use Rattle.schedule_rules.specs.declared.line.Line.{Line}
-use Rattle.schedule_rules.specs.declared.line.Answer.TheVariants as answer
-use Rattle.schedule_rules.specs.Kinds.{cell_at}
-use Rattle.schedule_rules.specs.Calls.{initializes}
-use Rattle.schedule_rules.specs.Deeds.{Deed, Opens, Ends, EndsToRead, EndsToWrite, deed_waiting}
-use Rattle.schedule_rules.specs.History.{Event, is_exit, deed_of, count}
-use Rattle.schedule_rules.specs.Sections.{Section, without_innermost, sections_by, runs_in, is_turn, generates_for, runs, sections}
-use Rattle.schedule_rules.specs.Waits.{Attempt, attempt_of_wait, attempt, Wait, wait_of, waits}
-use Rattle.schedule_rules.specs.Refusals.{refusal}
-use Rattle.schedule_rules.specs.Legal.{IsLegal, IsLegalLine, IsExclusive}
-use Rattle.schedule_rules.specs.Causes.{is_waiting, is_cyclic, is_cyclic_step, is_attempted, is_made_to_wait, waits_judged}
+use Rattle.schedule_rules.proofs.Words.{ℕ, ◌≡◌, List, true, Bool, false, refl, Some, ◌∷◌, ◌∙◌, ap, [], sym, arith, subst, None, not, ◌&&◌, ◌<◌, ◌+◌, cond, ◌≢◌, ◌≤◌, find}
+use Rattle.schedule_rules.proofs.Words.{◌==◌, if◌then◌else◌, is_none, Option, How, Line, CellPlan, Step, cell_at, initializes, Deed, EndsToRead, Ends, EndsToWrite, Opens}
+use Rattle.schedule_rules.proofs.Words.{deed_waiting, Event, deed_of, count, is_exit, Section, sections, is_turn, runs_in, sections_by, without_innermost, runs}
+use Rattle.schedule_rules.proofs.Words.{generates_for, waits, Wait, wait_of, attempt, Attempt, attempt_of_wait, refusal, IsLegal, IsLegalLine, IsExclusive, waits_judged}
+use Rattle.schedule_rules.proofs.Words.{is_attempted, is_waiting, is_cyclic, is_made_to_wait, is_cyclic_step}
+use Rattle.schedule_rules.proofs.Words.act
+use Rattle.schedule_rules.proofs.Words.answer
 use Rattle.schedule_rules.proofs.Exclusion.{alone}
 use Rattle.schedule_rules.proofs.Facts.{first, second, apart}
 use Rattle.schedule_rules.proofs.Found.{found_counts, found_passes, none_counted, only_one}

@@ -1,24 +1,11 @@
 -- A generator of a cell succeeds at most once.
-use Rattle.std.proofs.Common.{◌≡◌, ◌<◌, ◌≤◌, ◌+◌, ℕ, List, [], ◌∷◌, refl, sym, ◌∙◌, ap, subst, arith, Bool, true, false, ◌&&◌, ◌||◌, cond, ◌⊎◌, inl, inr, None, Some}
-use Rattle.std.specs.Prelude.{◌==◌}
-use Rattle.phase_bits.specs.Flags.{has, initialized}
-use Rattle.schedule_rules.specs.declared.plan.CellPlan.{CellPlan}
-use Rattle.schedule_rules.specs.declared.step.Act.{Act}
-use Rattle.schedule_rules.specs.declared.step.Act.TheVariants as act
-use Rattle.schedule_rules.specs.declared.line.Answer.{Answer}
-use Rattle.schedule_rules.specs.declared.line.Answer.TheVariants as answer
-use Rattle.schedule_rules.specs.Kinds.{cell_at, tolerance_at}
-use Rattle.schedule_rules.specs.Phases.{flags_kept}
-use Rattle.schedule_rules.specs.Changes.{Content, Change, Ran, effect}
-use Rattle.schedule_rules.specs.Deeds.{Makes, Finishes, Deed, EndsToRead, EndsToWrite, Ends, Drops, DropsToRead, Visits, Lends}
-use Rattle.schedule_rules.specs.History.{Event, deed_of, count}
-use Rattle.schedule_rules.specs.Sections.{Section, innermost, is_turn, runs_in, sections}
-use Rattle.schedule_rules.specs.Guards.{Guard, numbered, guards}
-use Rattle.schedule_rules.specs.Replay.{back_of_section, back_by, replay, phase_at}
-use Rattle.schedule_rules.specs.Holds.{writes_cell, write_holds}
-use Rattle.schedule_rules.specs.Legal.{IsLegal}
-use Rattle.schedule_rules.specs.Causes.{is_failed, lends_at, runs_to_lend}
-use Rattle.schedule_rules.specs.Laws.{successes, is_success, is_lent_at}
+use Rattle.schedule_rules.proofs.Words.{ℕ, ◌≡◌, List, true, Bool, false, refl, Some, ◌∷◌, ◌∙◌, ap, [], sym, arith, subst, None, ◌&&◌, ◌<◌, ◌⊎◌, inr, inl, ◌+◌, cond, ◌≤◌}
+use Rattle.schedule_rules.proofs.Words.{◌||◌, ◌==◌, has, initialized, Answer, CellPlan, Act, cell_at, tolerance_at, flags_kept, Content, effect, Change, Ran, Deed}
+use Rattle.schedule_rules.proofs.Words.{EndsToRead, Visits, Ends, Makes, EndsToWrite, DropsToRead, Drops, Finishes, Lends, Event, deed_of, count, Section, sections}
+use Rattle.schedule_rules.proofs.Words.{innermost, is_turn, runs_in, Guard, guards, numbered, phase_at, replay, back_of_section, back_by, write_holds, writes_cell}
+use Rattle.schedule_rules.proofs.Words.{IsLegal, lends_at, runs_to_lend, is_failed, is_success, is_lent_at, successes}
+use Rattle.schedule_rules.proofs.Words.act
+use Rattle.schedule_rules.proofs.Words.answer
 use Rattle.schedule_rules.proofs.Exclusion.{alone}
 use Rattle.schedule_rules.proofs.Found.{found_counts, each_found}
 use Rattle.schedule_rules.proofs.Leaves.{back_here, left_at, guards_left, GivenAt, Writing, writing, GivesOf, moves}

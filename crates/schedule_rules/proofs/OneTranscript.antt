@@ -1,42 +1,17 @@
 -- A schedule of cells that do not park has at most one legal transcript.
-use Rattle.std.proofs.Common.{◌≡◌, ◌<◌, ℕ, List, [], ◌∷◌, length, refl, sym, ◌∙◌, ap, subst, arith, Bool, true, false, ◌&&◌, not}
-use Rattle.std.specs.Prelude.{if◌then◌else◌, nat_lt}
-use Rattle.std.specs.declared.option.Option.{Option}
-use Rattle.std.specs.declared.option.Option.TheVariants.{None, Some}
-use Rattle.std.proofs.lemmas.List.{same_lists}
-use Rattle.std.proofs.lemmas.List.{get_or_past}
+use Rattle.schedule_rules.proofs.Words.{ℕ, ◌≡◌, List, true, Bool, false, refl, Some, ◌∷◌, ◌∙◌, ap, [], sym, arith, subst, None, not, ◌&&◌, ◌<◌, length, get_or_past}
+use Rattle.schedule_rules.proofs.Words.{same_lists, if◌then◌else◌, nat_lt, Option, first_of, LockNature, Given, How, Answer, Line, Refusal, CellPlan, Place, Act, Step}
+use Rattle.schedule_rules.proofs.Words.{Want, Calls, cell_at, tolerance_of, is_parking, no_cell, is_fast, lock_wanted, initializes, Event, registry, ended_turns, waits}
+use Rattle.schedule_rules.proofs.Words.{Wait, wait_of, attempt, attempt_of_turn, Attempt, attempt_of_wait, cell_concerned, other_waits, is_barred, refusal, answer_barred}
+use Rattle.schedule_rules.proofs.Words.{answer_admitted, way_parked, drains_by, answer_of_attempt, Meeting, due_answer, due_tried, meeting, may_give_on, may_give_first}
+use Rattle.schedule_rules.proofs.Words.{is_nobody, may_give_last, IsLegal, IsLegalLine, answer_of, due_at, Moment, Last, First, may_give, IsLegalTranscript, told}
+use Rattle.schedule_rules.proofs.Words.{Schedule, Account, final_of, AreFinals, NoneParks}
+use Rattle.schedule_rules.proofs.Words.answer
+use Rattle.schedule_rules.proofs.Words.given
+use Rattle.schedule_rules.proofs.Words.place
+use Rattle.schedule_rules.proofs.Words.act
 use Rattle.std.proofs.lemmas.Option.{get_or_from_slice_get}
-use Rattle.exit_registry.specs.Registry.{first_of}
-use Rattle.phase_locker.specs.declared.tickets.LockNature.{LockNature}
-use Rattle.schedule_rules.specs.declared.plan.CellPlan.{CellPlan}
-use Rattle.schedule_rules.specs.declared.step.Step.{Step}
-use Rattle.schedule_rules.specs.declared.line.Line.{Line}
-use Rattle.schedule_rules.specs.declared.line.Answer.{Answer}
-use Rattle.schedule_rules.specs.declared.line.Answer.TheVariants as answer
-use Rattle.schedule_rules.specs.declared.line.Refusal.{Refusal}
-use Rattle.phase_locker.specs.declared.ways.Given.{Given}
-use Rattle.phase_locker.specs.declared.ways.Given.TheVariants as given
-use Rattle.phase_locker.specs.declared.ways.How.{How}
-use Rattle.schedule_rules.specs.declared.plan.Place.{Place}
-use Rattle.schedule_rules.specs.declared.plan.Place.TheVariants as place
-use Rattle.schedule_rules.specs.declared.step.Act.{Act}
-use Rattle.schedule_rules.specs.declared.step.Act.TheVariants as act
 use Rattle.schedule_rules.specs.declared.transcript.Final.{Final}
-use Rattle.schedule_rules.specs.History.{Event}
-use Rattle.schedule_rules.specs.Kinds.{no_cell, cell_at, tolerance_of, is_parking}
-use Rattle.schedule_rules.specs.Calls.{lock_wanted, initializes, is_fast}
-use Rattle.schedule_rules.specs.declared.step.Want.{Want}
-use Rattle.schedule_rules.specs.declared.step.Want.TheVariants.{Calls}
-use Rattle.schedule_rules.specs.Exits.{registry, ended_turns}
-use Rattle.schedule_rules.specs.Waits.{Attempt, attempt, Wait, wait_of, attempt_of_wait, attempt_of_turn, waits, other_waits, cell_concerned}
-use Rattle.schedule_rules.specs.Refusals.{refusal}
-use Rattle.schedule_rules.specs.Answers.{way_parked, Meeting, drains_by, answer_barred, answer_admitted, answer_of_attempt}
-use Rattle.schedule_rules.specs.Holds.{is_barred}
-use Rattle.schedule_rules.specs.Due.{meeting, due_tried, due_answer}
-use Rattle.schedule_rules.specs.Gifts.{is_nobody, may_give_on, may_give_first, may_give_last}
-use Rattle.schedule_rules.specs.Legal.{IsLegal, IsLegalLine, Moment, First, Last, answer_of, due_at, may_give}
-use Rattle.schedule_rules.specs.Laws.{NoneParks}
-use Rattle.schedule_rules.specs.Transcripts.{Schedule, Account, told, AreFinals, final_of, IsLegalTranscript}
 
 -- what a legal history goes on from is legal
 legal-behind : (cells : List CellPlan) (ss : List Step) (ls : List Line) (h : List Event) → IsLegal cells (told h ss ls) → IsLegal cells h

@@ -1,12 +1,6 @@
 -- The lists of what is open after one is taken off, or changed.
-use Rattle.std.proofs.Common.{◌≡◌, ◌≢◌, ℕ, ◌+◌, List, [], ◌∷◌, refl, arith, Bool, false, cond, None, Some}
-use Rattle.std.specs.List.{find}
-use Rattle.schedule_rules.specs.Changes.{Put}
-use Rattle.schedule_rules.specs.History.{count}
-use Rattle.schedule_rules.specs.Sections.{Section, innermost, without_innermost, runs_in}
-use Rattle.schedule_rules.specs.Guards.{Guard, numbered, without_guard, put_in}
-use Rattle.schedule_rules.specs.Waits.{Wait, wait_of, without_wait}
-use Rattle.schedule_rules.specs.Holds.{reads_cell, writes_cell}
+use Rattle.schedule_rules.proofs.Words.{ℕ, ◌≡◌, List, Bool, false, refl, Some, ◌∷◌, [], arith, None, ◌+◌, cond, ◌≢◌, find, Put, count, Section, innermost, runs_in}
+use Rattle.schedule_rules.proofs.Words.{without_innermost, Guard, numbered, without_guard, put_in, Wait, wait_of, without_wait, writes_cell, reads_cell}
 
 -- the party's wait is gone
 pub wait_removed : (p : ℕ) (ws : List Wait) → wait_of p (without_wait p ws) ≡ None

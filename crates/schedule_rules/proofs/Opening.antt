@@ -1,34 +1,16 @@
 -- What holds of each open guard: what happened in its section, that it bears the number of an earlier step, and that no
 -- section of a cell is open while a guard reads it.
-use Rattle.std.proofs.Common.{◌≡◌, ℕ, List, [], ◌∷◌, length, refl, None, Some, true, false, sym, ◌∙◌, ap, Bool, ◌<◌, ◌++◌, arith}
-use Rattle.std.specs.List.{AllByRecursion}
-use Rattle.std.specs.declared.option.Option.{Option}
-use Rattle.schedule_rules.specs.Changes.{Change, Ran, Asked, Put, RanIfAsked, Ended, Content, is_declined, effect}
-use Rattle.schedule_rules.specs.Deeds.{Deed, Holds, EndsToRead, EndsToWrite, Drops, DropsToRead, Beside, Puts, Visits, deed_read}
-use Rattle.schedule_rules.specs.History.{Event, deed_of, act_by}
-use Rattle.schedule_rules.specs.Sections.{Section, innermost, sections}
-use Rattle.schedule_rules.specs.Guards.{Guard, numbered, without_guard, reader_made, writer_made, reader_beside, guards_by, guards, reader}
+use Rattle.schedule_rules.proofs.Words.{ℕ, ◌≡◌, List, true, Bool, false, refl, Some, ◌∷◌, ◌∙◌, ap, [], sym, arith, None, ◌<◌, length, ◌++◌, and_or_apart, and_assoc}
+use Rattle.schedule_rules.proofs.Words.{bit_and, AllByRecursion, ◌==◌, if◌then◌else◌, is_some, ◌^◌, ◌-◌, Option, has, Given, registration, final_outcome, is_finalizable}
+use Rattle.schedule_rules.proofs.Words.{CellPlan, Act, Step, tolerance_of, flags_kept, Content, effect, Change, Ran, Asked, Put, Ended, is_declined, RanIfAsked, Deed}
+use Rattle.schedule_rules.proofs.Words.{EndsToRead, Visits, EndsToWrite, DropsToRead, Drops, Holds, Beside, Puts, deed_read, Event, deed_of, act_by, Section, sections}
+use Rattle.schedule_rules.proofs.Words.{innermost, Guard, guards, numbered, without_guard, guards_by, writer_made, reader_made, reader_beside, reader, waits}
+use Rattle.schedule_rules.proofs.Words.{cell_concerned, cell_concerned_with, cell_of_section, cell_of_guard, write_holds, read_guards, reads_cell, turns_to_read, IsLegal}
+use Rattle.schedule_rules.proofs.Words.{read_at}
+use Rattle.schedule_rules.proofs.Words.act
 use Rattle.schedule_rules.proofs.Opened.{put}
 use Rattle.schedule_rules.proofs.Found.{each_removed, each_put, each_mapped, each_found, found_counts, found_passes}
-use Rattle.std.specs.Prelude.{◌==◌, ◌^◌, ◌-◌, if◌then◌else◌, is_some}
-use Rattle.std.specs.Int.RustNames.{bit_and}
-use Rattle.std.proofs.lemmas.Nat.{and_assoc, and_or_apart}
-use Rattle.phase_bits.specs.Flags.{has}
-use Rattle.phase_seq.specs.Phases.{final_outcome, registration}
-use Rattle.schedule_rules.specs.declared.plan.CellPlan.{CellPlan}
-use Rattle.lazy_cells.specs.Kinds.{is_finalizable}
-use Rattle.schedule_rules.specs.Kinds.{tolerance_of}
-use Rattle.schedule_rules.specs.Phases.{flags_kept}
 use Rattle.schedule_rules.proofs.Facts.{apart, same_number}
-use Rattle.phase_locker.specs.declared.ways.Given.{Given}
-use Rattle.schedule_rules.specs.declared.step.Act.{Act}
-use Rattle.schedule_rules.specs.declared.step.Act.TheVariants as act
-use Rattle.schedule_rules.specs.declared.step.Step.{Step}
-use Rattle.schedule_rules.specs.Waits.{cell_of_section, cell_of_guard, cell_concerned_with, cell_concerned, waits}
-use Rattle.schedule_rules.specs.Holds.{reads_cell, read_guards, write_holds}
-use Rattle.schedule_rules.specs.Legal.{IsLegal}
-use Rattle.schedule_rules.specs.Gifts.{turns_to_read}
-use Rattle.schedule_rules.specs.Laws.{read_at}
 use Rattle.schedule_rules.proofs.Exclusion.{alone}
 
 -- a generator ran in the section, or values were set, and no more

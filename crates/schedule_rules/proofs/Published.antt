@@ -1,21 +1,8 @@
 -- What is published changes only while no guard reads the cell, and its phase where a section of the cell is given back.
-use Rattle.std.proofs.Common.{◌≡◌, ◌≢◌, ◌<◌, ℕ, List, ◌∷◌, refl, ◌∙◌, ap, subst, arith, Bool, true, false, not, Some, ◌⊎◌, inl, inr}
-use Rattle.std.specs.Prelude.{◌==◌, if◌then◌else◌}
-use Rattle.schedule_rules.specs.declared.plan.CellPlan.{CellPlan}
-use Rattle.schedule_rules.specs.declared.step.Step.{Step}
-use Rattle.schedule_rules.specs.declared.step.Want.TheVariants.{Calls}
-use Rattle.schedule_rules.specs.declared.line.Answer.{Answer}
-use Rattle.schedule_rules.specs.Kinds.{cell_at, tolerance_at}
-use Rattle.schedule_rules.specs.Changes.{Content, Change, is_declined, effect}
-use Rattle.schedule_rules.specs.Deeds.{Makes, Finishes, Deed, Ends, EndsToRead, Drops, DropsToRead, Visits, Lends}
-use Rattle.schedule_rules.specs.History.{Event, accepts, deed_of, count}
-use Rattle.schedule_rules.specs.Sections.{Section, innermost, runs_in, sections}
-use Rattle.schedule_rules.specs.Guards.{Guard, numbered, guards}
-use Rattle.schedule_rules.specs.Replay.{replay, phase_at}
-use Rattle.schedule_rules.specs.Holds.{writes_cell, read_guards, write_holds}
-use Rattle.schedule_rules.specs.Legal.{IsLegal}
-use Rattle.schedule_rules.specs.Causes.{lends_at}
-use Rattle.schedule_rules.specs.Laws.{GivesBack, DeclinesAt, LendsAt}
+use Rattle.schedule_rules.proofs.Words.{ℕ, ◌≡◌, List, true, Bool, false, refl, Some, ◌∷◌, ◌∙◌, ap, arith, subst, not, ◌<◌, ◌⊎◌, inr, inl, ◌≢◌, ◌==◌, if◌then◌else◌}
+use Rattle.schedule_rules.proofs.Words.{Answer, CellPlan, Step, Calls, cell_at, tolerance_at, Content, effect, Change, is_declined, Deed, EndsToRead, Visits, Ends, Makes}
+use Rattle.schedule_rules.proofs.Words.{DropsToRead, Drops, Finishes, Lends, Event, accepts, deed_of, count, Section, sections, innermost, runs_in, Guard, guards}
+use Rattle.schedule_rules.proofs.Words.{numbered, phase_at, replay, write_holds, read_guards, writes_cell, IsLegal, lends_at, LendsAt, DeclinesAt, GivesBack}
 use Rattle.schedule_rules.proofs.Exclusion.{alone}
 use Rattle.schedule_rules.proofs.Found.{found_counts}
 use Rattle.schedule_rules.proofs.Cases.{Asking, Resting}

@@ -1,21 +1,9 @@
 -- A cell that the registry knows was touched, and is registered at most once.
-use Rattle.std.proofs.Common.{◌≡◌, ◌≢◌, ◌<◌, ◌≤◌, ◌+◌, ℕ, List, [], ◌∷◌, length, refl, sym, subst, ◌∙◌, arith, Bool, true, false, cond, Some, ◌⊎◌, inl, inr, ap}
-use Rattle.std.specs.Prelude.{◌==◌, if◌then◌else◌, slice_set, slice_index_or, replicate, nat_lt}
-use Rattle.std.specs.List.{AllByRecursion}
-use Rattle.std.proofs.lemmas.List.{get_or-set_other, get_or-replicate, get_or_past, length-replicate}
-use Rattle.exit_registry.specs.Registry.{Registry, is_known, first_of, rest_of, after_register}
-use Rattle.lazy_cells.specs.Kinds.{is_finalizable}
-use Rattle.schedule_rules.specs.declared.plan.CellPlan.{CellPlan}
-use Rattle.schedule_rules.specs.declared.step.Want.TheVariants.{Calls, Turns}
-use Rattle.schedule_rules.specs.Kinds.{cell_at, no_cell}
-use Rattle.schedule_rules.specs.Phases.{tries_registration}
-use Rattle.schedule_rules.specs.Deeds.{Deed, Opens, Skips, Takes, Looks}
-use Rattle.schedule_rules.specs.History.{Event, deed_of, count}
-use Rattle.schedule_rules.specs.Sections.{runs_in, sections_by, sections}
-use Rattle.schedule_rules.specs.Replay.{phase_at}
-use Rattle.schedule_rules.specs.Exits.{registry_taken, registry_of_run, registry_by, registry}
-use Rattle.schedule_rules.specs.Holds.{write_holds}
-use Rattle.schedule_rules.specs.Legal.{IsLegal}
+use Rattle.schedule_rules.proofs.Words.{ℕ, ◌≡◌, List, true, Bool, false, refl, Some, ◌∷◌, ◌∙◌, ap, [], sym, arith, subst, ◌<◌, ◌⊎◌, inr, inl, ◌+◌, length, cond, ◌≢◌, ◌≤◌}
+use Rattle.schedule_rules.proofs.Words.{get_or_past, get_or-set_other, length-replicate, get_or-replicate, AllByRecursion, ◌==◌, if◌then◌else◌, nat_lt, slice_index_or}
+use Rattle.schedule_rules.proofs.Words.{slice_set, replicate, first_of, is_known, rest_of, after_register, Registry, is_finalizable, CellPlan, Calls, Turns, cell_at}
+use Rattle.schedule_rules.proofs.Words.{no_cell, tries_registration, Deed, Opens, Skips, Looks, Takes, Event, deed_of, count, sections, runs_in, sections_by, phase_at}
+use Rattle.schedule_rules.proofs.Words.{registry, registry_by, registry_taken, registry_of_run, write_holds, IsLegal}
 use Rattle.schedule_rules.proofs.Facts.{first}
 use Rattle.schedule_rules.proofs.Held.{IsHeld, held-stays}
 

@@ -1,22 +1,9 @@
 -- What a step registers.
-use Rattle.std.proofs.Common.{◌≡◌, ◌<◌, ℕ, List, ◌∷◌, length, refl, sym, ◌∙◌, ap, subst, arith, Bool, true, false, ◌&&◌, ◌||◌, Some, ◌⊎◌, inl, inr}
-use Rattle.std.specs.Prelude.{◌==◌, if◌then◌else◌, slice_set, slice_index_or}
-use Rattle.std.proofs.lemmas.List.{get_or-set_same, get_or-set_other}
-use Rattle.exit_registry.specs.Registry.{is_known, after_register, registered}
-use Rattle.phase_bits.specs.Flags.{without_flags}
-use Rattle.phase_seq.specs.Phases.{flags_generate, registration, initialization_flags}
-use Rattle.lazy_cells.specs.declared.call.Call.{Call}
-use Rattle.schedule_rules.specs.declared.plan.CellPlan.{CellPlan}
-use Rattle.schedule_rules.specs.declared.step.Want.TheVariants.{Calls, Turns}
-use Rattle.lazy_cells.specs.Kinds.{is_finalizable}
-use Rattle.schedule_rules.specs.Kinds.{cell_at, tolerance_of}
-use Rattle.schedule_rules.specs.Phases.{tries_registration, runs_generator}
-use Rattle.schedule_rules.specs.Changes.{Change}
-use Rattle.schedule_rules.specs.Deeds.{Deed, Opens, Visits, Skips}
-use Rattle.schedule_rules.specs.History.{Event, accepts, deed_of}
-use Rattle.schedule_rules.specs.Replay.{phase_at}
-use Rattle.schedule_rules.specs.Exits.{registry_taken, registry_of_run, registry_by, registry}
-use Rattle.schedule_rules.specs.Legal.{IsLegal}
+use Rattle.schedule_rules.proofs.Words.{ℕ, ◌≡◌, List, true, Bool, false, refl, Some, ◌∷◌, ◌∙◌, ap, sym, arith, subst, ◌&&◌, ◌<◌, ◌⊎◌, inr, inl, length, ◌||◌}
+use Rattle.schedule_rules.proofs.Words.{get_or-set_other, get_or-set_same, ◌==◌, if◌then◌else◌, slice_index_or, slice_set, without_flags, is_known, after_register}
+use Rattle.schedule_rules.proofs.Words.{registered, registration, flags_generate, initialization_flags, is_finalizable, Call, CellPlan, Calls, Turns, cell_at}
+use Rattle.schedule_rules.proofs.Words.{tolerance_of, runs_generator, tries_registration, Change, Deed, Visits, Opens, Skips, Event, accepts, deed_of, phase_at, registry}
+use Rattle.schedule_rules.proofs.Words.{registry_by, registry_taken, registry_of_run, IsLegal}
 use Rattle.schedule_rules.proofs.Registrations.{asks_so, visit_registers, deed_registers, shows_registration}
 use Rattle.schedule_rules.proofs.Facts.{first, second}
 use Rattle.schedule_rules.proofs.Cases.{Asking, Resting}

@@ -1,28 +1,8 @@
 -- Which lines show that their step tried to register a cell, and that it is tried at most once at a cell.
-use Rattle.std.specs.Prelude.{ℕ, Bool, false, List, [], ◌∷◌, ◌+◌, if◌then◌else◌, ◌==◌}
-use Rattle.std.specs.declared.option.Option.{Option}
-use Rattle.std.specs.declared.option.Option.TheVariants.{Some}
-use Rattle.schedule_rules.specs.declared.plan.CellPlan.{CellPlan}
-use Rattle.schedule_rules.specs.declared.step.Step.{Step}
-use Rattle.schedule_rules.specs.declared.line.Answer.{Answer}
-use Rattle.schedule_rules.specs.declared.step.Want.TheVariants.{Calls}
-use Rattle.schedule_rules.specs.Changes.{Change, Asked, is_declined, effect}
-use Rattle.schedule_rules.specs.Deeds.{Deed, Opens, Visits}
-use Rattle.schedule_rules.specs.History.{Event, deed_of, accepts}
-use Rattle.schedule_rules.specs.Waits.{Attempt}
-use Rattle.schedule_rules.specs.Causes.{is_attempted}
-use Rattle.schedule_rules.specs.Laws.{asks_registration}
-use Rattle.std.proofs.Common.{◌≡◌, ◌≢◌, ◌<◌, ◌≤◌, ◌+◌, ℕ, List, [], ◌∷◌, refl, sym, ◌∙◌, ap, subst, arith, Bool, true, false, not, cond, Some, ◌⊎◌, inl, inr}
-use Rattle.exit_registry.specs.Registry.{is_known}
-use Rattle.lazy_cells.specs.declared.call.Call.{Call}
-use Rattle.schedule_rules.specs.declared.line.Line.{Line}
-use Rattle.lazy_cells.specs.Kinds.{is_finalizable}
-use Rattle.schedule_rules.specs.Kinds.{cell_at, tolerance_at}
-use Rattle.schedule_rules.specs.Calls.{asks}
-use Rattle.schedule_rules.specs.Exits.{registry}
-use Rattle.schedule_rules.specs.Replay.{replay, phase_at}
-use Rattle.schedule_rules.specs.Holds.{write_holds}
-use Rattle.schedule_rules.specs.Legal.{IsLegal, IsLegalLine, IsExclusive}
+use Rattle.schedule_rules.proofs.Words.{ℕ, ◌≡◌, List, true, Bool, false, refl, Some, ◌∷◌, ◌∙◌, ap, [], sym, arith, subst, not, ◌<◌, ◌⊎◌, inr, inl, ◌+◌, cond, ◌≢◌, ◌≤◌}
+use Rattle.schedule_rules.proofs.Words.{◌==◌, if◌then◌else◌, Option, is_known, is_finalizable, Call, Answer, Line, CellPlan, Step, Calls, cell_at, tolerance_at, asks}
+use Rattle.schedule_rules.proofs.Words.{effect, Change, Asked, is_declined, Deed, Visits, Opens, Event, accepts, deed_of, phase_at, replay, registry, Attempt}
+use Rattle.schedule_rules.proofs.Words.{write_holds, IsLegal, IsLegalLine, IsExclusive, is_attempted, asks_registration}
 use Rattle.schedule_rules.proofs.Exclusion.{alone}
 use Rattle.schedule_rules.proofs.Cases.{Asking, Resting}
 use Rattle.schedule_rules.proofs.Finds.{Visit, Finds, finds}

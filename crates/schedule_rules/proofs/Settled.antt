@@ -1,26 +1,10 @@
 -- A phase that has INITIALIZED changes only where a finalizer of its cell ends, and of a plain cell the value stays.
-use Rattle.std.proofs.Common.{◌≡◌, ◌≢◌, ◌⊎◌, inl, inr, ℕ, List, [], ◌∷◌, ◌++◌, refl, sym, ◌∙◌, ap, subst, arith, Bool, true, false, Some, All}
-use Rattle.std.specs.Prelude.{◌==◌, if◌then◌else◌}
-use Rattle.std.specs.declared.option.Option.{Option}
-use Rattle.std.proofs.lemmas.List.Elements.{All-head, All-tail}
-use Rattle.phase_bits.specs.Flags.{has, initialized}
-use Rattle.lazy_cells.specs.Kinds.{is_plain, is_hard}
-use Rattle.lazy_cells.specs.declared.kind.Kind.{Kind}
-use Rattle.lazy_cells.specs.declared.kind.Kind.TheVariants as kind
-use Rattle.schedule_rules.specs.declared.plan.CellPlan.{CellPlan}
-use Rattle.schedule_rules.specs.declared.step.Act.{Act}
-use Rattle.schedule_rules.specs.declared.line.Answer.{Answer}
-use Rattle.schedule_rules.specs.Kinds.{cell_at, tolerance_at}
-use Rattle.schedule_rules.specs.Changes.{Content, Change, Ran, Asked, Put, RanIfAsked, Ended, effect}
-use Rattle.schedule_rules.specs.Deeds.{Makes, Finishes, Deed, Ends, EndsToRead, Drops, DropsToRead, Visits, Lends}
-use Rattle.schedule_rules.specs.History.{Event, accepts, deed_of}
-use Rattle.schedule_rules.specs.Sections.{innermost, sections}
-use Rattle.schedule_rules.specs.Guards.{Guard, numbered, guards}
-use Rattle.schedule_rules.specs.Replay.{replay, phase_at}
-use Rattle.schedule_rules.specs.Waits.{cell_of_section}
-use Rattle.schedule_rules.specs.Legal.{IsLegal}
-use Rattle.schedule_rules.specs.Causes.{lends_at}
-use Rattle.schedule_rules.specs.Laws.{IsEndedTurn}
+use Rattle.schedule_rules.proofs.Words.{ℕ, ◌≡◌, List, true, Bool, false, refl, Some, ◌∷◌, ◌∙◌, ap, [], sym, arith, subst, ◌⊎◌, inr, inl, ◌≢◌, ◌++◌, All, All-tail}
+use Rattle.schedule_rules.proofs.Words.{All-head, ◌==◌, if◌then◌else◌, Option, has, initialized, is_plain, is_hard, Kind, Answer, CellPlan, Act, cell_at, tolerance_at}
+use Rattle.schedule_rules.proofs.Words.{Content, effect, Change, Ran, Asked, Put, Ended, RanIfAsked, Deed, EndsToRead, Visits, Ends, Makes, DropsToRead, Drops, Finishes}
+use Rattle.schedule_rules.proofs.Words.{Lends, Event, accepts, deed_of, sections, innermost, Guard, guards, numbered, phase_at, replay, cell_of_section, IsLegal}
+use Rattle.schedule_rules.proofs.Words.{lends_at, IsEndedTurn}
+use Rattle.schedule_rules.proofs.Words.kind
 use Rattle.schedule_rules.proofs.Exclusion.{alone}
 use Rattle.schedule_rules.proofs.Found.{each_found}
 use Rattle.schedule_rules.proofs.Cases.{Asking, Resting, AsksToLend, Reach}

@@ -1,40 +1,16 @@
 -- What holds in each case, holds of each legal step.
-use Rattle.std.proofs.Common.{◌≡◌, ◌+◌, ℕ, List, refl, sym, ◌∙◌, ap, subst, arith, Bool, true, false, not, ◌&&◌, None, Some}
-use Rattle.std.specs.Prelude.{◌==◌, is_none, if◌then◌else◌}
-use Rattle.std.specs.declared.option.Option.{Option}
-use Rattle.exit_registry.specs.Registry.{first_of}
-use Rattle.phase_locker.specs.declared.tickets.LockNature.TheVariants as nature
-use Rattle.phase_bits.specs.Number.{phase_of}
-use Rattle.lazy_cells.specs.Kinds.{is_primed, is_finalizable, lends_value}
-use Rattle.lazy_cells.specs.declared.call.Call.{Call}
-use Rattle.lazy_cells.specs.declared.kind.Kind.{Kind}
-use Rattle.lazy_cells.specs.declared.kind.Kind.TheVariants as kind
-use Rattle.schedule_rules.specs.declared.form.Form.TheVariants.{Shown}
-use Rattle.schedule_rules.specs.declared.plan.CellPlan.{CellPlan}
-use Rattle.schedule_rules.specs.declared.step.Act.{Act}
-use Rattle.schedule_rules.specs.declared.step.Act.TheVariants as act
-use Rattle.schedule_rules.specs.declared.step.Step.{Step}
-use Rattle.schedule_rules.specs.declared.step.Want.{Want}
-use Rattle.schedule_rules.specs.declared.step.Want.TheVariants.{Calls, Turns}
-use Rattle.schedule_rules.specs.declared.line.Line.{Line}
-use Rattle.schedule_rules.specs.declared.line.Answer.{Answer}
-use Rattle.schedule_rules.specs.declared.line.Answer.TheVariants as answer
-use Rattle.schedule_rules.specs.declared.line.Refusal.{Refusal}
-use Rattle.schedule_rules.specs.Kinds.{cell_at, tolerance_at, is_of_other}
-use Rattle.schedule_rules.specs.Phases.{Success, is_accessible, phase_reached, finishes_so}
-use Rattle.schedule_rules.specs.Changes.{content_of_run, asks_to_lend}
-use Rattle.schedule_rules.specs.History.{Event, accepts, count}
-use Rattle.schedule_rules.specs.Sections.{Section, innermost, is_turn, sections}
-use Rattle.schedule_rules.specs.Guards.{Guard, numbered, own, guards}
-use Rattle.schedule_rules.specs.Exits.{registry, finishing}
-use Rattle.schedule_rules.specs.Replay.{replay, phase_at}
-use Rattle.schedule_rules.specs.Waits.{Wait, wait_of, waits_at, waits}
-use Rattle.schedule_rules.specs.Holds.{is_barred, read_guards, write_holds, is_in_use, holding_with}
-use Rattle.schedule_rules.specs.Refusals.{refusal, no_guard, no_writer, no_reader, writes_of, no_outcome, ends_run, ends_turn, no_call, no_lending, refusal_to_lend}
-use Rattle.schedule_rules.specs.Answers.{answer_of_value, answer_at, answer_of_made, answer_lent, answer_made_to_lend}
-use Rattle.schedule_rules.specs.Due.{phase_made, due_made, due_finished, due_clone, due_answer}
-use Rattle.schedule_rules.specs.Legal.{IsLegalLine, answer_of, due_at}
-use Rattle.schedule_rules.specs.Causes.{waits_judged}
+use Rattle.schedule_rules.proofs.Words.{ℕ, ◌≡◌, List, true, Bool, false, refl, Some, ◌∙◌, ap, sym, arith, subst, None, not, ◌&&◌, ◌+◌, ◌==◌, if◌then◌else◌, is_none}
+use Rattle.schedule_rules.proofs.Words.{Option, phase_of, first_of, is_finalizable, lends_value, is_primed, Call, Kind, Shown, Answer, Line, Refusal, CellPlan, Act, Step}
+use Rattle.schedule_rules.proofs.Words.{Want, Calls, Turns, cell_at, tolerance_at, is_of_other, is_accessible, finishes_so, phase_reached, Success, asks_to_lend}
+use Rattle.schedule_rules.proofs.Words.{content_of_run, Event, accepts, count, Section, sections, innermost, is_turn, Guard, guards, numbered, own, phase_at, replay}
+use Rattle.schedule_rules.proofs.Words.{registry, finishing, waits, Wait, wait_of, waits_at, write_holds, is_barred, read_guards, holding_with, is_in_use, refusal}
+use Rattle.schedule_rules.proofs.Words.{no_lending, no_call, no_reader, no_outcome, no_guard, no_writer, ends_turn, writes_of, ends_run, refusal_to_lend, answer_lent}
+use Rattle.schedule_rules.proofs.Words.{answer_of_value, answer_at, answer_made_to_lend, answer_of_made, phase_made, due_answer, due_clone, due_finished, due_made}
+use Rattle.schedule_rules.proofs.Words.{IsLegalLine, answer_of, due_at, waits_judged}
+use Rattle.schedule_rules.proofs.Words.nature
+use Rattle.schedule_rules.proofs.Words.kind
+use Rattle.schedule_rules.proofs.Words.act
+use Rattle.schedule_rules.proofs.Words.answer
 use Rattle.schedule_rules.proofs.Cases.{step, Cases, Generating, Lendable, AsksToLend, Reach}
 use Rattle.schedule_rules.proofs.Attempts.{rests, mine_where_none, attempted, again, exits}
 use Rattle.schedule_rules.proofs.Answered.{due_at-judged}

@@ -1,42 +1,17 @@
 -- Tests of answers, and which answers of what is admitted pass them.
-use Rattle.std.proofs.Common.{◌≡◌, ℕ, List, Bool, true, false, not, ◌&&◌, ◌||◌, None, Some, refl, sym, ◌∙◌, ap}
-use Rattle.std.specs.Prelude.{◌==◌, is_none, if◌then◌else◌}
-use Rattle.std.specs.declared.option.Option.{Option}
-use Rattle.phase_bits.specs.declared.phase.Phase.{Phase}
-use Rattle.phase_bits.specs.Flags.{has, initialized}
-use Rattle.phase_locker.specs.declared.tickets.LockNature.{LockNature}
-use Rattle.phase_locker.specs.declared.tickets.LockNature.TheVariants as nature
-use Rattle.phase_seq.specs.Phases.{flags_refused}
-use Rattle.phase_seq.specs.declared.tolerance.Tolerance.{Tolerance}
-use Rattle.lazy_cells.specs.declared.kind.Kind.{Kind}
-use Rattle.schedule_rules.specs.declared.form.Form.{Form}
-use Rattle.schedule_rules.specs.declared.form.Form.TheVariants.{Told, Shown, Held}
-use Rattle.schedule_rules.specs.declared.plan.CellPlan.{CellPlan}
-use Rattle.schedule_rules.specs.declared.step.Act.{Act}
-use Rattle.schedule_rules.specs.declared.step.Act.TheVariants as act
-use Rattle.schedule_rules.specs.declared.step.Want.{Want}
-use Rattle.schedule_rules.specs.declared.step.Want.TheVariants.{Calls, Turns}
-use Rattle.schedule_rules.specs.declared.line.Answer.{Answer}
-use Rattle.schedule_rules.specs.declared.line.Answer.TheVariants as answer
-use Rattle.schedule_rules.specs.Kinds.{cell_at, tolerance_at}
-use Rattle.schedule_rules.specs.Forms.{form_of, denies}
-use Rattle.schedule_rules.specs.Phases.{is_accessible, runs_generator}
-use Rattle.schedule_rules.specs.Calls.{lock_wanted, asks}
-use Rattle.schedule_rules.specs.Changes.{Content, content_of_run, asks_to_lend, content_to_lend}
-use Rattle.schedule_rules.specs.History.{Event, accepts}
-use Rattle.schedule_rules.specs.Replay.{replay, phase_at}
-use Rattle.schedule_rules.specs.Refusals.{refusal}
-use Rattle.schedule_rules.specs.Sections.{is_turn}
-use Rattle.schedule_rules.specs.Answers.{answer_at, answer_lent, answer_made_to_lend, turn_answer_admitted, answer_admitted, answer_barred}
-use Rattle.schedule_rules.specs.Causes.{is_waiting, is_borrowed, is_missed, is_running, is_access, is_cyclic, is_finalizing, is_skipped, is_round, is_closing, want_denies, is_denied_to_lend}
+use Rattle.schedule_rules.proofs.Words.{ℕ, ◌≡◌, List, true, Bool, false, refl, Some, ◌∙◌, ap, sym, None, not, ◌&&◌, ◌||◌, ◌==◌, if◌then◌else◌, is_none, Option, has}
+use Rattle.schedule_rules.proofs.Words.{initialized, Phase, LockNature, How, flags_refused, Tolerance, Call, Kind, Form, Shown, Told, Held, Answer, CellPlan, Place, Act}
+use Rattle.schedule_rules.proofs.Words.{Want, Calls, Turns, cell_at, tolerance_at, form_of, denies, is_accessible, runs_generator, asks, lock_wanted, Content}
+use Rattle.schedule_rules.proofs.Words.{asks_to_lend, content_of_run, content_to_lend, Event, accepts, is_turn, phase_at, replay, refusal, answer_barred, answer_admitted}
+use Rattle.schedule_rules.proofs.Words.{answer_lent, answer_at, answer_made_to_lend, turn_answer_admitted, is_waiting, is_cyclic, is_access, is_skipped, is_missed}
+use Rattle.schedule_rules.proofs.Words.{is_denied_to_lend, is_closing, is_running, is_round, is_borrowed, is_finalizing, want_denies, is_initializing}
+use Rattle.schedule_rules.proofs.Words.nature
+use Rattle.schedule_rules.proofs.Words.act
+use Rattle.schedule_rules.proofs.Words.answer
+use Rattle.schedule_rules.proofs.Words.call
+use Rattle.schedule_rules.proofs.Words.place
 use Rattle.schedule_rules.proofs.Answered.{IsShown, IsTold, either, admitted}
 use Rattle.schedule_rules.proofs.Steps.{made_accessible, lendable}
-use Rattle.phase_locker.specs.declared.ways.How.{How}
-use Rattle.lazy_cells.specs.declared.call.Call.{Call}
-use Rattle.lazy_cells.specs.declared.call.Call.TheVariants as call
-use Rattle.schedule_rules.specs.declared.plan.Place.{Place}
-use Rattle.schedule_rules.specs.declared.plan.Place.TheVariants as place
-use Rattle.schedule_rules.specs.Laws.{is_initializing}
 
 -- a test that no answer passes of a step that attempts nothing, but a clone that is barred, and one that is to lend a value which
 -- may not be accessed, where the test is passed by that

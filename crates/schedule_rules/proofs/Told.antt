@@ -1,32 +1,13 @@
 -- A phase that is not empty tells whether its cell is registered: which flags tell it, what runs and finalizers leave of them,
 -- and that it is so in legal histories.
-use Rattle.std.proofs.Common.{◌≡◌, ◌≢◌, ℕ, refl, sym, ◌∙◌, ap, subst, arith, Bool, true, false, ◌||◌, None, Some, List, [], ◌∷◌, not, ◌&&◌, ◌⊎◌, inl, inr}
-use Rattle.std.specs.Prelude.{◌==◌, ◌^◌, ◌-◌, if◌then◌else◌}
-use Rattle.std.specs.Int.RustNames.{bit_and, bit_or}
-use Rattle.std.proofs.lemmas.Nat.{and_assoc, and_or_apart}
-use Rattle.std.specs.declared.option.Option.{Option}
-use Rattle.phase_bits.specs.Flags.{has, initialized}
-use Rattle.phase_seq.specs.Phases.{registration}
-use Rattle.schedule_rules.specs.declared.plan.CellPlan.{CellPlan}
-use Rattle.lazy_cells.specs.Kinds.{is_finalizable}
-use Rattle.schedule_rules.specs.Kinds.{tolerance_of, cell_at, tolerance_at}
-use Rattle.schedule_rules.specs.Phases.{flags_kept, runs_generator, tries_registration}
-use Rattle.schedule_rules.specs.Changes.{Content, Ran, Ended, content_after, Change, is_declined, effect}
-use Rattle.schedule_rules.specs.Laws.{TellsRegistration}
+use Rattle.schedule_rules.proofs.Words.{ℕ, ◌≡◌, List, true, Bool, false, refl, Some, ◌∷◌, ◌∙◌, ap, [], sym, arith, subst, None, not, ◌&&◌, ◌⊎◌, inr, inl, ◌≢◌, ◌||◌}
+use Rattle.schedule_rules.proofs.Words.{and_or_apart, and_assoc, bit_and, bit_or, AllByRecursion, ◌==◌, if◌then◌else◌, ◌^◌, ◌-◌, Option, has, initialized, is_known}
+use Rattle.schedule_rules.proofs.Words.{registration, is_finalizable, Call, CellPlan, Calls, Turns, cell_at, tolerance_at, tolerance_of, runs_generator}
+use Rattle.schedule_rules.proofs.Words.{tries_registration, flags_kept, asks, Content, effect, Change, Ran, Ended, is_declined, content_after, Deed, EndsToRead, Visits}
+use Rattle.schedule_rules.proofs.Words.{Ends, Makes, EndsToWrite, DropsToRead, Opens, Drops, Finishes, Lends, Holds, Skips, Event, accepts, deed_of, Section, sections}
+use Rattle.schedule_rules.proofs.Words.{is_turn, runs_in, Guard, guards, numbered, phase_at, replay, registry, registry_by, write_holds, writes_cell, IsLegal}
+use Rattle.schedule_rules.proofs.Words.{TellsRegistration}
 use Rattle.schedule_rules.proofs.Facts.{apart}
-use Rattle.std.specs.List.{AllByRecursion}
-use Rattle.exit_registry.specs.Registry.{is_known}
-use Rattle.lazy_cells.specs.declared.call.Call.{Call}
-use Rattle.schedule_rules.specs.declared.step.Want.TheVariants.{Calls, Turns}
-use Rattle.schedule_rules.specs.Calls.{asks}
-use Rattle.schedule_rules.specs.Deeds.{Makes, Finishes, Deed, Opens, Holds, Ends, EndsToRead, EndsToWrite, Drops, DropsToRead, Visits, Lends, Skips}
-use Rattle.schedule_rules.specs.History.{Event, accepts, deed_of}
-use Rattle.schedule_rules.specs.Sections.{Section, is_turn, runs_in, sections}
-use Rattle.schedule_rules.specs.Guards.{Guard, numbered, guards}
-use Rattle.schedule_rules.specs.Replay.{replay, phase_at}
-use Rattle.schedule_rules.specs.Exits.{registry_by, registry}
-use Rattle.schedule_rules.specs.Holds.{writes_cell, write_holds}
-use Rattle.schedule_rules.specs.Legal.{IsLegal}
 use Rattle.schedule_rules.proofs.Exclusion.{alone}
 use Rattle.schedule_rules.proofs.Found.{each_none, each_found}
 use Rattle.schedule_rules.proofs.Cases.{Asking, Resting}

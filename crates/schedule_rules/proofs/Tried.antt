@@ -1,37 +1,13 @@
 -- A legal line shows that its step tried to register a cell exactly where it did.
-use Rattle.std.proofs.Common.{◌≡◌, ◌≤◌, ℕ, List, [], ◌∷◌, refl, sym, ◌∙◌, ap, subst, Bool, true, false, not, ◌&&◌, ◌||◌, None, Some, ◌⊎◌, inl, inr}
-use Rattle.std.specs.Prelude.{◌==◌, ◌+◌, is_none, if◌then◌else◌}
-use Rattle.std.specs.declared.option.Option.{Option}
-use Rattle.exit_registry.specs.Registry.{is_known, first_of}
-use Rattle.phase_locker.specs.declared.ways.How.{How}
-use Rattle.phase_seq.specs.Phases.{flags_refused}
-use Rattle.lazy_cells.specs.declared.call.Call.{Call}
-use Rattle.schedule_rules.specs.declared.form.Form.{Form}
-use Rattle.schedule_rules.specs.declared.form.Form.TheVariants.{Told, Shown, Held}
-use Rattle.schedule_rules.specs.declared.plan.CellPlan.{CellPlan}
-use Rattle.schedule_rules.specs.declared.plan.Place.{Place}
-use Rattle.schedule_rules.specs.declared.plan.Place.TheVariants as place
-use Rattle.schedule_rules.specs.declared.step.Act.{Act}
-use Rattle.schedule_rules.specs.declared.step.Act.TheVariants as act
-use Rattle.schedule_rules.specs.declared.step.Want.TheVariants.{Calls, Turns}
-use Rattle.schedule_rules.specs.declared.step.Step.{Step}
-use Rattle.schedule_rules.specs.declared.line.Line.{Line}
-use Rattle.schedule_rules.specs.declared.line.Answer.{Answer}
-use Rattle.schedule_rules.specs.declared.line.Answer.TheVariants as answer
-use Rattle.schedule_rules.specs.declared.line.Refusal.{Refusal}
-use Rattle.schedule_rules.specs.Kinds.{cell_at}
-use Rattle.schedule_rules.specs.Phases.{tries_registration}
-use Rattle.schedule_rules.specs.Deeds.{deed_waiting, deed_by}
-use Rattle.schedule_rules.specs.History.{Event, is_exit, accepts}
-use Rattle.schedule_rules.specs.Replay.{replay, phase_at}
-use Rattle.schedule_rules.specs.Exits.{finishing, registry}
-use Rattle.schedule_rules.specs.Waits.{Attempt, attempt_of_turn, attempt_with, attempt, Wait, waits}
-use Rattle.schedule_rules.specs.Refusals.{refusal}
-use Rattle.schedule_rules.specs.Answers.{answer_denied, answer_barred}
-use Rattle.schedule_rules.specs.Due.{phase_made, due_attempt, due_tried, due_answer}
-use Rattle.schedule_rules.specs.Legal.{IsLegal, IsLegalLine, answer_of}
-use Rattle.schedule_rules.specs.Causes.{is_attempted, waits_judged, is_admitted}
-use Rattle.schedule_rules.specs.Laws.{tells_declined, asks_registration, tries_to_register, registrations}
+use Rattle.schedule_rules.proofs.Words.{ℕ, ◌≡◌, List, true, Bool, false, refl, Some, ◌∷◌, ◌∙◌, ap, [], sym, subst, None, not, ◌&&◌, ◌⊎◌, inr, inl, ◌+◌, ◌≤◌, ◌||◌, ◌==◌}
+use Rattle.schedule_rules.proofs.Words.{if◌then◌else◌, is_none, Option, first_of, is_known, How, flags_refused, Call, Form, Shown, Told, Held, Answer, Line, Refusal}
+use Rattle.schedule_rules.proofs.Words.{CellPlan, Place, Act, Step, Calls, Turns, cell_at, tries_registration, deed_waiting, deed_by, Event, accepts, is_exit, phase_at}
+use Rattle.schedule_rules.proofs.Words.{replay, registry, finishing, waits, Wait, attempt, attempt_of_turn, Attempt, attempt_with, refusal, answer_denied, answer_barred}
+use Rattle.schedule_rules.proofs.Words.{phase_made, due_answer, due_tried, due_attempt, IsLegal, IsLegalLine, answer_of, waits_judged, is_attempted, is_admitted}
+use Rattle.schedule_rules.proofs.Words.{asks_registration, registrations, tells_declined, tries_to_register}
+use Rattle.schedule_rules.proofs.Words.place
+use Rattle.schedule_rules.proofs.Words.act
+use Rattle.schedule_rules.proofs.Words.answer
 use Rattle.schedule_rules.proofs.Registrations.{asks_so, deed_registers, shows_registration, registrations_shown, tries-unknown, registered-once}
 use Rattle.schedule_rules.proofs.Answered.{due_at-judged, IsShown, IsTold, opened, denied, made_so}
 use Rattle.schedule_rules.proofs.Cases.{step, Calling, Resting, form_at, Cases}

@@ -1,23 +1,10 @@
 -- The turns of a legal history are no more than its cells.
-use Rattle.std.proofs.Common.{◌≡◌, ◌<◌, ◌≤◌, ◌+◌, ◌++◌, ℕ, List, [], ◌∷◌, length, refl, ◌∙◌, ap, arith, Bool, true, false, ◌&&◌, cond, Some, All}
-use Rattle.std.specs.Prelude.{◌==◌, if◌then◌else◌}
-use Rattle.std.proofs.lemmas.List.{get_or_past, length-append, length-map}
-use Rattle.std.proofs.lemmas.List.Elements.{All-nil, All-cons}
-use Rattle.exit_registry.specs.Registry.{is_known, first_of, rest_of, occurs, due}
-use Rattle.exit_registry.specs.Exits.{cells_of_turns}
+use Rattle.schedule_rules.proofs.Words.{ℕ, ◌≡◌, List, true, Bool, false, refl, Some, ◌∷◌, ◌∙◌, ap, [], arith, ◌&&◌, ◌<◌, ◌+◌, length, cond, ◌≤◌, ◌++◌, All, get_or_past}
+use Rattle.schedule_rules.proofs.Words.{length-append, length-map, All-nil, All-cons, ◌==◌, if◌then◌else◌, cells_of_turns, first_of, is_known, rest_of, occurs, due}
+use Rattle.schedule_rules.proofs.Words.{CellPlan, Act, Step, Turns, Event, count, Section, sections, innermost, is_turn, registry, ended_turns, waits, Wait, wait_of}
+use Rattle.schedule_rules.proofs.Words.{attempt, attempt_with, IsLegal, is_attempted, turns_of, waits_to_turn, finalizes_in, turns_at_hand}
+use Rattle.schedule_rules.proofs.Words.act
 use Rattle.exit_registry.proofs.Exiting.{few_below}
-use Rattle.schedule_rules.specs.declared.plan.CellPlan.{CellPlan}
-use Rattle.schedule_rules.specs.declared.step.Act.{Act}
-use Rattle.schedule_rules.specs.declared.step.Act.TheVariants as act
-use Rattle.schedule_rules.specs.declared.step.Step.{Step}
-use Rattle.schedule_rules.specs.declared.step.Want.TheVariants.{Turns}
-use Rattle.schedule_rules.specs.History.{Event, count}
-use Rattle.schedule_rules.specs.Sections.{Section, innermost, is_turn, sections}
-use Rattle.schedule_rules.specs.Exits.{registry, ended_turns}
-use Rattle.schedule_rules.specs.Waits.{Wait, wait_of, attempt, attempt_with, waits}
-use Rattle.schedule_rules.specs.Legal.{IsLegal}
-use Rattle.schedule_rules.specs.Causes.{is_attempted}
-use Rattle.schedule_rules.specs.Laws.{waits_to_turn, finalizes_in, turns_of, turns_at_hand}
 use Rattle.schedule_rules.proofs.Accepts.{known-length}
 use Rattle.schedule_rules.proofs.Counts.{occurs_joined, waits_so, first_so, begins}
 use Rattle.schedule_rules.proofs.Found.{found_counts}

@@ -1,37 +1,15 @@
 -- Each registered cell has one turn: to come, waiting, going on or ended.
-use Rattle.std.proofs.Common.{◌≡◌, ◌<◌, ◌+◌, ◌++◌, ℕ, List, [], ◌∷◌, length, refl, sym, ◌∙◌, ap, subst, arith, Bool, true, false, ◌&&◌, cond, None, Some}
-use Rattle.std.specs.Prelude.{◌==◌, if◌then◌else◌, slice_set, slice_index_or}
-use Rattle.std.specs.declared.option.Option.{Option}
-use Rattle.std.proofs.lemmas.List.{get_or-set_same, get_or-set_other}
-use Rattle.exit_registry.specs.Registry.{is_known, first_of, rest_of, occurs, due, registered, after_register}
-use Rattle.exit_registry.specs.Exits.{cells_of_turns}
-use Rattle.exit_registry.specs.declared.turns.Turn.TheVariants as turn
-use Rattle.phase_bits.specs.Number.{phase_of}
-use Rattle.phase_seq.specs.Phases.{flags_refused}
-use Rattle.phase_locker.specs.declared.ways.Given.{Given}
-use Rattle.lazy_cells.specs.Kinds.{is_finalizable}
-use Rattle.lazy_cells.specs.declared.call.Call.{Call}
-use Rattle.schedule_rules.specs.declared.plan.CellPlan.{CellPlan}
-use Rattle.schedule_rules.specs.declared.step.Act.{Act}
-use Rattle.schedule_rules.specs.declared.step.Act.TheVariants as act
-use Rattle.schedule_rules.specs.declared.step.Want.{Want}
-use Rattle.schedule_rules.specs.declared.step.Want.TheVariants.{Calls, Turns}
-use Rattle.schedule_rules.specs.declared.line.Answer.{Answer}
-use Rattle.schedule_rules.specs.declared.line.Refusal.{Refusal}
-use Rattle.schedule_rules.specs.declared.line.Answer.TheVariants as answer
-use Rattle.schedule_rules.specs.Kinds.{cell_at, is_owned}
-use Rattle.schedule_rules.specs.Phases.{tries_registration, phase_finalized}
-use Rattle.schedule_rules.specs.Calls.{is_fast}
-use Rattle.schedule_rules.specs.Deeds.{Makes, Finishes, Deed, Opens, Ends, EndsToRead, EndsToWrite, Skips, Takes, Looks, deed_waiting, deed_by}
-use Rattle.schedule_rules.specs.History.{Event, accepts, is_exit, deed_of, count}
-use Rattle.schedule_rules.specs.Sections.{Section, innermost, without_innermost, is_turn, sections_by, sections}
-use Rattle.schedule_rules.specs.Exits.{finishing, registry_taken, registry_by, registry, turn_of, turn_of_section, turns_by, ended_turns}
-use Rattle.schedule_rules.specs.Waits.{Wait, wait_of, without_wait, with_wait, attempt_with, waits_given_with, waits}
-use Rattle.schedule_rules.specs.Replay.{replay, phase_at}
-use Rattle.schedule_rules.specs.Refusals.{refusal, refusal_waiting}
-use Rattle.schedule_rules.specs.Due.{phase_made}
-use Rattle.schedule_rules.specs.Legal.{IsLegal}
-use Rattle.schedule_rules.specs.Laws.{waits_to_turn, finalizes_in, turns_of}
+use Rattle.schedule_rules.proofs.Words.{ℕ, ◌≡◌, List, true, Bool, false, refl, Some, ◌∷◌, ◌∙◌, ap, [], sym, arith, subst, None, ◌&&◌, ◌<◌, ◌+◌, length, cond, ◌++◌}
+use Rattle.schedule_rules.proofs.Words.{get_or-set_other, get_or-set_same, ◌==◌, if◌then◌else◌, slice_index_or, slice_set, Option, phase_of, cells_of_turns, first_of}
+use Rattle.schedule_rules.proofs.Words.{is_known, rest_of, after_register, occurs, due, registered, Given, flags_refused, is_finalizable, Call, Answer, Refusal, CellPlan}
+use Rattle.schedule_rules.proofs.Words.{Act, Want, Calls, Turns, cell_at, is_owned, phase_finalized, tries_registration, is_fast, Deed, EndsToRead, Ends, Makes}
+use Rattle.schedule_rules.proofs.Words.{EndsToWrite, Opens, Finishes, Skips, deed_waiting, deed_by, Looks, Takes, Event, accepts, deed_of, count, is_exit, Section}
+use Rattle.schedule_rules.proofs.Words.{sections, innermost, is_turn, sections_by, without_innermost, phase_at, replay, registry, finishing, registry_by, registry_taken}
+use Rattle.schedule_rules.proofs.Words.{ended_turns, turn_of, turn_of_section, turns_by, waits, Wait, wait_of, attempt_with, without_wait, waits_given_with, with_wait}
+use Rattle.schedule_rules.proofs.Words.{refusal, refusal_waiting, phase_made, IsLegal, turns_of, waits_to_turn, finalizes_in}
+use Rattle.schedule_rules.proofs.Words.turn
+use Rattle.schedule_rules.proofs.Words.act
+use Rattle.schedule_rules.proofs.Words.answer
 use Rattle.schedule_rules.proofs.Exclusion.{alone}
 use Rattle.schedule_rules.proofs.Opened.{count_ended}
 use Rattle.schedule_rules.proofs.Cases.{step, IsCalling, IsTurning, Calling, Turning, Tries, Asking, form_at, Cases}

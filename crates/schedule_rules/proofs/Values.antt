@@ -1,38 +1,16 @@
 -- A value that is shown is there.
-use Rattle.std.proofs.Common.{◌≡◌, ◌<◌, ◌≤◌, ℕ, List, [], ◌∷◌, length, refl, sym, ◌∙◌, ap, subst, arith, Bool, true, false, not, ◌&&◌, ◌||◌, None, Some, ◌⊎◌, inl, inr}
-use Rattle.std.specs.Prelude.{◌==◌, ◌^◌, ◌-◌, is_some, if◌then◌else◌}
-use Rattle.std.specs.List.{AllByRecursion}
+use Rattle.schedule_rules.proofs.Words.{ℕ, ◌≡◌, List, true, Bool, false, refl, Some, ◌∷◌, ◌∙◌, ap, [], sym, arith, subst, None, not, ◌&&◌, ◌<◌, ◌⊎◌, inr, inl, length}
+use Rattle.schedule_rules.proofs.Words.{◌≤◌, ◌||◌, and_assoc, and_or_self, and_le_r, bit_and, bit_or, AllByRecursion, ◌==◌, if◌then◌else◌, is_some, ◌^◌, ◌-◌, Option, has}
+use Rattle.schedule_rules.proofs.Words.{initialized, flags_refused, registration, is_finalizable, is_plain, is_primed, is_hard, Call, Form, Shown, Told, Held, Answer}
+use Rattle.schedule_rules.proofs.Words.{Line, CellPlan, Act, Step, cell_at, tolerance_of, is_accessible, phase_finalized, flags_kept, finishes_so, value_finalized}
+use Rattle.schedule_rules.proofs.Words.{Content, effect, Change, Ran, Asked, Put, Ended, is_declined, RanIfAsked, asks_to_lend, content_after, content_of_run, Deed}
+use Rattle.schedule_rules.proofs.Words.{EndsToRead, Visits, Ends, Makes, EndsToWrite, DropsToRead, Drops, Finishes, Lends, Holds, Beside, Puts, Event, deed_of, Section}
+use Rattle.schedule_rules.proofs.Words.{sections, Guard, guards, numbered, without_guard, guards_by, writer_made, reader_made, reader_beside, phase_at, replay, Back}
+use Rattle.schedule_rules.proofs.Words.{content_after_back, back_of_step, back_of_section, back_by, inside, change_of, back_of_guard, read_guards, reads_cell}
+use Rattle.schedule_rules.proofs.Words.{answer_denied, answer_opened, answer_made, answer_of_value, phase_made, IsLegal, IsLegalLine, lends_at, runs_to_lend, ShowsValue}
+use Rattle.schedule_rules.proofs.Words.act
+use Rattle.schedule_rules.proofs.Words.answer
 use Rattle.std.specs.Option.{unwrap_or}
-use Rattle.std.specs.Int.RustNames.{bit_and, bit_or}
-use Rattle.std.proofs.lemmas.Nat.{and_assoc, and_le_r, and_or_self}
-use Rattle.std.specs.declared.option.Option.{Option}
-use Rattle.phase_bits.specs.Flags.{has, initialized}
-use Rattle.phase_seq.specs.Phases.{registration, flags_refused}
-use Rattle.lazy_cells.specs.Kinds.{is_finalizable, is_plain, is_primed, is_hard}
-use Rattle.lazy_cells.specs.declared.call.Call.{Call}
-use Rattle.schedule_rules.specs.declared.form.Form.{Form}
-use Rattle.schedule_rules.specs.declared.form.Form.TheVariants.{Told, Shown, Held}
-use Rattle.schedule_rules.specs.declared.plan.CellPlan.{CellPlan}
-use Rattle.schedule_rules.specs.declared.step.Act.{Act}
-use Rattle.schedule_rules.specs.declared.step.Act.TheVariants as act
-use Rattle.schedule_rules.specs.declared.step.Step.{Step}
-use Rattle.schedule_rules.specs.declared.line.Line.{Line}
-use Rattle.schedule_rules.specs.declared.line.Answer.{Answer}
-use Rattle.schedule_rules.specs.declared.line.Answer.TheVariants as answer
-use Rattle.schedule_rules.specs.Kinds.{cell_at, tolerance_of}
-use Rattle.schedule_rules.specs.Phases.{is_accessible, flags_kept, phase_finalized, value_finalized, finishes_so}
-use Rattle.schedule_rules.specs.Changes.{Content, Change, Ran, Asked, Put, RanIfAsked, Ended, is_declined, content_of_run, asks_to_lend, content_after, effect}
-use Rattle.schedule_rules.specs.Deeds.{Makes, Finishes, Deed, Holds, Ends, EndsToRead, EndsToWrite, Drops, DropsToRead, Beside, Puts, Visits, Lends}
-use Rattle.schedule_rules.specs.History.{Event, deed_of}
-use Rattle.schedule_rules.specs.Sections.{Section, sections}
-use Rattle.schedule_rules.specs.Guards.{Guard, numbered, without_guard, reader_made, writer_made, reader_beside, guards_by, guards}
-use Rattle.schedule_rules.specs.Replay.{Back, change_of, back_of_section, back_of_guard, back_by, back_of_step, content_after_back, replay, phase_at, inside}
-use Rattle.schedule_rules.specs.Holds.{reads_cell, read_guards}
-use Rattle.schedule_rules.specs.Answers.{answer_of_value, answer_opened, answer_denied, answer_made}
-use Rattle.schedule_rules.specs.Due.{phase_made}
-use Rattle.schedule_rules.specs.Legal.{IsLegal, IsLegalLine}
-use Rattle.schedule_rules.specs.Causes.{lends_at, runs_to_lend}
-use Rattle.schedule_rules.specs.Laws.{ShowsValue}
 use Rattle.schedule_rules.proofs.Cases.{step, Calling, Reach, form_at, Cases}
 use Rattle.schedule_rules.proofs.Steps.{lent_unprimed, of_legal}
 use Rattle.schedule_rules.proofs.Exclusion.{alone}

@@ -1,32 +1,14 @@
 -- What waits: a call for a lock or a turn, which is not fast, at a cell of no party's own, whose kind has the call.
-use Rattle.std.proofs.Common.{◌≡◌, ℕ, List, refl, sym, ◌∙◌, ap, subst, arith, Bool, true, false, not, None, Some}
-use Rattle.std.specs.Prelude.{◌==◌, is_none, is_some}
-use Rattle.std.specs.List.{find}
-use Rattle.std.specs.declared.option.Option.{Option}
-use Rattle.exit_registry.specs.Registry.{first_of}
+use Rattle.schedule_rules.proofs.Words.{ℕ, ◌≡◌, List, true, Bool, false, refl, Some, ◌∙◌, ap, sym, arith, subst, None, not, find, ◌==◌, is_none, is_some, Option}
+use Rattle.schedule_rules.proofs.Words.{first_of, has_call, asking, lends_value, Call, Line, Refusal, CellPlan, Act, Step, Calls, Turns, cell_at, tolerance_at, is_owned}
+use Rattle.schedule_rules.proofs.Words.{is_of_other, is_fast, seeks, lock_asked, Event, count, registry, waits, Wait, wait_of, attempt, attempt_of_turn, Attempt}
+use Rattle.schedule_rules.proofs.Words.{attempt_of_wait, attempt_with, is_barred, holding_with, is_in_use, refusal, refusal_by, no_lending, refusal_free, no_call}
+use Rattle.schedule_rules.proofs.Words.{IsLegal, IsLegalLine, answer_of, due_at, lends_at, waits_judged, is_attempted, is_waiting, is_made_to_wait, phase_met}
+use Rattle.schedule_rules.proofs.Words.{ChangesNothing}
+use Rattle.schedule_rules.proofs.Words.act
+use Rattle.schedule_rules.proofs.Words.answer
+use Rattle.schedule_rules.proofs.Words.refused
 use Rattle.phase_seq.specs.declared.ask.Want.{Want as Sought}
-use Rattle.lazy_cells.specs.Calls.{asking, has_call}
-use Rattle.lazy_cells.specs.Kinds.{lends_value}
-use Rattle.lazy_cells.specs.declared.call.Call.{Call}
-use Rattle.schedule_rules.specs.declared.plan.CellPlan.{CellPlan}
-use Rattle.schedule_rules.specs.declared.step.Act.{Act}
-use Rattle.schedule_rules.specs.declared.step.Act.TheVariants as act
-use Rattle.schedule_rules.specs.declared.step.Step.{Step}
-use Rattle.schedule_rules.specs.declared.step.Want.TheVariants.{Calls, Turns}
-use Rattle.schedule_rules.specs.declared.line.Line.{Line}
-use Rattle.schedule_rules.specs.declared.line.Answer.TheVariants as answer
-use Rattle.schedule_rules.specs.declared.line.Refusal.{Refusal}
-use Rattle.schedule_rules.specs.declared.line.Refusal.TheVariants as refused
-use Rattle.schedule_rules.specs.Kinds.{cell_at, tolerance_at, is_of_other, is_owned}
-use Rattle.schedule_rules.specs.Calls.{seeks, is_fast, lock_asked}
-use Rattle.schedule_rules.specs.History.{Event, count}
-use Rattle.schedule_rules.specs.Exits.{registry}
-use Rattle.schedule_rules.specs.Waits.{Attempt, attempt_of_wait, attempt_of_turn, attempt_with, attempt, Wait, wait_of, waits}
-use Rattle.schedule_rules.specs.Holds.{holding_with, is_barred, is_in_use}
-use Rattle.schedule_rules.specs.Refusals.{refusal, refusal_by, refusal_free, no_call, no_lending}
-use Rattle.schedule_rules.specs.Legal.{IsLegal, IsLegalLine, answer_of, due_at}
-use Rattle.schedule_rules.specs.Laws.{ChangesNothing}
-use Rattle.schedule_rules.specs.Causes.{lends_at, is_waiting, is_attempted, is_made_to_wait, waits_judged, phase_met}
 use Rattle.schedule_rules.proofs.Facts.{first, second, apart, same_number}
 use Rattle.schedule_rules.proofs.Found.{found_passes, only_one, none_counted}
 use Rattle.schedule_rules.proofs.Counts.{one-wait}

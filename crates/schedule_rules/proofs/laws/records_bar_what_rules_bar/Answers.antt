@@ -1,13 +1,8 @@
-use Rattle.std.proofs.Common.{◌≡◌, ℕ, ◌<◌, List, refl, arith, Bool, true, false, ◌&&◌, ◌||◌, not}
-use Rattle.std.specs.Prelude.{◌==◌, nat_lt}
+use Rattle.schedule_rules.proofs.Words.{ℕ, ◌≡◌, List, true, Bool, false, refl, arith, not, ◌&&◌, ◌<◌, ◌||◌, ◌==◌, nat_lt, CellPlan, Event, waits, Wait, is_barred}
+use Rattle.schedule_rules.proofs.Words.{holding_with, readers_with, writers_with, drains_with}
+use Rattle.schedule_rules.proofs.Words.nature
 use Rattle.phase_bits.specs.Records.{most_readers, bars_read, bars_write}
-use Rattle.phase_locker.specs.declared.tickets.LockNature.TheVariants as nature
-use Rattle.schedule_rules.specs.declared.plan.CellPlan.{CellPlan}
-use Rattle.schedule_rules.specs.History.{Event}
-use Rattle.schedule_rules.specs.Waits.{Wait}
-use Rattle.schedule_rules.specs.Holds.{is_barred, readers_with, writers_with, drains_with, holding_with}
 use Rattle.schedule_rules.specs.Core.{core_with}
-use Rattle.schedule_rules.specs.Waits.{waits}
 use Rattle.schedule_rules.proofs.Causes.{kept_is_answered}
 use Rattle.schedule_rules.proofs.laws.records_bar_what_rules_bar.Goals as goal
 

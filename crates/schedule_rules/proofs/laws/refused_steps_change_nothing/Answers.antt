@@ -1,5 +1,5 @@
-use Rattle.std.proofs.Common.{refl}
-use Rattle.schedule_rules.specs.declared.line.Answer.TheVariants as answer
+use Rattle.schedule_rules.proofs.Words.{refl}
+use Rattle.schedule_rules.proofs.Words.answer
 use Rattle.schedule_rules.proofs.Causes.{refused_gives_nothing}
 use Rattle.schedule_rules.proofs.laws.refused_steps_change_nothing.Goals as goal
 
