@@ -1,13 +1,10 @@
 -- Where a generator runs, and where a value may not be accessed.
-use Rattle.schedule_rules.proofs.Words.{ℕ, ◌≡◌, List, true, Bool, false, refl, Some, ◌∷◌, ◌∙◌, ap, [], sym, arith, subst, None, not, ◌&&◌, ◌⊎◌, inr, inl, length, ◌≢◌}
-use Rattle.schedule_rules.proofs.Words.{find, ◌==◌, if◌then◌else◌, Option, has, initialized, phase_of, Phase, first_of, Given, shall_init, flags_refused, Tolerance, Call}
-use Rattle.schedule_rules.proofs.Words.{Answer, Line, CellPlan, Act, Step, Want, Calls, Turns, cell_at, tolerance_at, runs_generator, effect, Asked, is_declined}
-use Rattle.schedule_rules.proofs.Words.{content_asked, deed_visited, Event, accepts, act_of, Section, sections, runs_in, sections_by, runs, generates_for, guards}
-use Rattle.schedule_rules.proofs.Words.{guards_by, phase_at, replay, Back, content_after_back, back_of_step, back_by, registry, attempt, attempt_of_turn, cell_concerned}
-use Rattle.schedule_rules.proofs.Words.{cell_of_attempt, IsLegal, IsLegalLine, lends_at, runs_to_lend, IsTurnedAway, KeepsValues}
-use Rattle.schedule_rules.proofs.Words.call
-use Rattle.schedule_rules.proofs.Words.act
-use Rattle.schedule_rules.proofs.Words.answer
+use Rattle.schedule_rules.proofs.Words.{ℕ, ◌≡◌, true, List, false, Bool, refl, Some, ◌∷◌, ◌∙◌, ap, [], sym, arith, subst, None, not, ◌&&◌, ◌⊎◌, inl, inr, length, ◌≢◌, find, ◌==◌}
+use Rattle.schedule_rules.proofs.Words.{if◌then◌else◌, Option, has, initialized, phase_of, Phase, first_of, Given, shall_init, flags_refused, Tolerance, Call, Answer, Line}
+use Rattle.schedule_rules.proofs.Words.{CellPlan, Act, Step, Want, Calls, Turns, cell_at, tolerance_at, runs_generator, effect, Asked, is_declined, content_asked, deed_visited}
+use Rattle.schedule_rules.proofs.Words.{Event, accepts, act_of, Section, sections, runs_in, sections_by, runs, generates_for, guards, guards_by, phase_at, replay, Back}
+use Rattle.schedule_rules.proofs.Words.{back_of_step, content_after_back, back_by, registry, attempt, attempt_of_turn, cell_concerned, cell_of_attempt, IsLegal, IsLegalLine}
+use Rattle.schedule_rules.proofs.Words.{lends_at, runs_to_lend, KeepsValues, IsTurnedAway}
 use Rattle.schedule_rules.proofs.Found.{found_passes, each_found}
 use Rattle.schedule_rules.proofs.Leaves.{back_here, back_elsewhere, asked_value}
 use Rattle.schedule_rules.proofs.Cases.{IsTrying, Calling, Asking, Resting, AsksToLend, Reach, calling-tries}
@@ -48,9 +45,9 @@ module _ (cells : List CellPlan) where
   module _ (h : List Event) (p : ℕ) where
     -- an attempt concerns its cell
     concerned : (a : Act) → IsTrying a → cell_concerned cells h (record { party = p; act = a }) ≡ cell_of_attempt (attempt cells h (record { party = p; act = a }))
-    concerned (act.Call c k) t = refl
-    concerned act.Again t = refl
-    concerned act.Exit t = by (first_of (registry cells h).left)
+    concerned (Act.Call c k) t = refl
+    concerned Act.Again t = refl
+    concerned Act.Exit t = by (first_of (registry cells h).left)
       where
         by : (o : Option ℕ) → o ≡ cell_of_attempt (attempt_of_turn o)
         by None = refl
@@ -75,24 +72,24 @@ module _ (cells : List CellPlan) where
 
       module _ (a : Act) (c : ℕ) (j : Call) (q : Phase) (t : Calling cells h p a c j) where
         -- it is given back at its cell alone
-        back : back_of_step h (record { party = p; act = a }) (answer.Access q) ≡ Some (asked c j)
+        back : back_of_step h (record { party = p; act = a }) (Answer.Access q) ≡ Some (asked c j)
         back = ap (λ b. back_by p (deed_visited (accepts h) false b) (sections h) (guards h)) t.does
 
-        others : (d : ℕ) → c ≢ d → replay cells d (event a (answer.Access q) ∷ h) ≡ replay cells d h
-        others d ne = back_elsewhere cells d (back_of_step h (record { party = p; act = a }) (answer.Access q)) (asked c j) (replay cells d h) back (other ne)
+        others : (d : ℕ) → c ≢ d → replay cells d (event a (Answer.Access q) ∷ h) ≡ replay cells d h
+        others d ne = back_elsewhere cells d (back_of_step h (record { party = p; act = a }) (Answer.Access q)) (asked c j) (replay cells d h) back (other ne)
           where
             other : c ≢ d → (c == d) ≡ false
             other n = grind arith
 
-        here : replay cells c (event a (answer.Access q) ∷ h) ≡ content_asked (cell_at cells c).kind (tolerance_at cells c) (accepts h) j (replay cells c h)
-        here = back_here cells c (back_of_step h (record { party = p; act = a }) (answer.Access q)) (asked c j) (replay cells c h) back (same_number c c refl)
+        here : replay cells c (event a (Answer.Access q) ∷ h) ≡ content_asked (cell_at cells c).kind (tolerance_at cells c) (accepts h) j (replay cells c h)
+        here = back_here cells c (back_of_step h (record { party = p; act = a }) (Answer.Access q)) (asked c j) (replay cells c h) back (same_number c c refl)
 
         -- by whether it was declined
         chosen : (b : Bool) → is_declined (cell_at cells c).kind (tolerance_at cells c) j (accepts h) (phase_at cells c h) ≡ b
-            → replay cells c (event a (answer.Access q) ∷ h) ≡ (if b then record { phase = 36; value = (replay cells c h).value } else replay cells c h)
+            → replay cells c (event a (Answer.Access q) ∷ h) ≡ (if b then record { phase = 36; value = (replay cells c h).value } else replay cells c h)
         chosen b e = here ∙ ap (λ (d : Bool). if d then record { phase = 36; value = (replay cells c h).value } else replay cells c h) e
 
-        pub denies : Resting cells h p c j → Reach cells h p c false → q ≡ record { bits = phase_at cells c h } → IsTurnedAway cells h (event a (answer.Access q)) c q
+        pub denies : Resting cells h p c j → Reach cells h p c false → q ≡ record { bits = phase_at cells c h } → IsTurnedAway cells h (event a (Answer.Access q)) c q
         denies r lacks e = record {
           shown = e ∙ ap (λ y. record { bits = y.phase }) (sym stays);
           others_stay = others;
@@ -109,10 +106,10 @@ module _ (cells : List CellPlan) where
           );
         }
           where
-            stays : replay cells c (event a (answer.Access q) ∷ h) ≡ replay cells c h
+            stays : replay cells c (event a (Answer.Access q) ∷ h) ≡ replay cells c h
             stays = chosen false (ap (λ (b : Bool). b && not (runs_generator (cell_at cells c).kind (tolerance_at cells c) (accepts h) (phase_at cells c h))) r.unasked)
 
-        pub declines : Asking cells h p c j false → q ≡ record { bits = 36 } → IsTurnedAway cells h (event a (answer.Access q)) c q
+        pub declines : Asking cells h p c j false → q ≡ record { bits = 36 } → IsTurnedAway cells h (event a (Answer.Access q)) c q
         declines r e = record {
           shown = e ∙ ap (λ y. record { bits = y.phase }) (sym left);
           others_stay = others;
@@ -122,31 +119,31 @@ module _ (cells : List CellPlan) where
             declined : is_declined (cell_at cells c).kind (tolerance_at cells c) j (accepts h) (phase_at cells c h) ≡ true
             declined = rw r.asked (ap not r.generates)
 
-            left : replay cells c (event a (answer.Access q) ∷ h) ≡ record { phase = 36; value = (replay cells c h).value }
+            left : replay cells c (event a (Answer.Access q) ∷ h) ≡ record { phase = 36; value = (replay cells c h).value }
             left = chosen true declined
 
   -- a value that is to be lent, and may not be accessed, stays
   module _ (h : List Event) (p : ℕ) (i : Given) (q : Phase) where
     lent_here : (a : Act) (c d : ℕ) → lends_at c a ≡ true → cell_concerned cells h (record { party = p; act = a }) ≡ Some d → c ≡ d
-    lent_here (act.GetMut b made left) c d e n = let at : b ≡ d = cc in let same : b ≡ c = grind arith in sym same ∙ at
-    lent_here (act.TryGetMut b left) c d e n = let at : b ≡ d = cc in let same : b ≡ c = grind arith in sym same ∙ at
+    lent_here (Act.GetMut b made left) c d e n = let at : b ≡ d = cc in let same : b ≡ c = grind arith in sym same ∙ at
+    lent_here (Act.TryGetMut b left) c d e n = let at : b ≡ d = cc in let same : b ≡ c = grind arith in sym same ∙ at
     lent_here _ c d e n = absurd (apart (sym e))
 
-    unlent_stays : (a : Act) (c d : ℕ) → lends_at c a ≡ true → replay cells d (event h p i a (answer.Access q) ∷ h) ≡ replay cells d h
-    unlent_stays (act.GetMut b made left) c d e = refl
-    unlent_stays (act.TryGetMut b left) c d e = refl
+    unlent_stays : (a : Act) (c d : ℕ) → lends_at c a ≡ true → replay cells d (event h p i a (Answer.Access q) ∷ h) ≡ replay cells d h
+    unlent_stays (Act.GetMut b made left) c d e = refl
+    unlent_stays (Act.TryGetMut b left) c d e = refl
     unlent_stays _ c d e = absurd (apart (sym e))
 
-    unlent : (a : Act) (c : ℕ) → Unlent cells h p a q → cell_concerned cells h (record { party = p; act = a }) ≡ Some c → IsTurnedAway cells h (event h p i a (answer.Access q)) c q
+    unlent : (a : Act) (c : ℕ) → Unlent cells h p a q → cell_concerned cells h (record { party = p; act = a }) ≡ Some c → IsTurnedAway cells h (event h p i a (Answer.Access q)) c q
     unlent a c m n =
-        subst (λ z. IsTurnedAway cells h (event h p i a (answer.Access q)) z q) (lent_here a m.cell c m.lends n) (record {
+        subst (λ z. IsTurnedAway cells h (event h p i a (Answer.Access q)) z q) (lent_here a m.cell c m.lends n) (record {
           shown = m.shown ∙ ap (λ y. phase_of y.phase) (sym (unlent_stays a m.cell m.cell m.lends));
           others_stay = λ d ne. unlent_stays a m.cell d m.lends;
           reason = inl (unlent_stays a m.cell m.cell m.lends, inr (record { lends = m.lends; unasked = m.unasked; shown = m.shown; lacks = m.lacks }));
         })
 
   -- a legal line that says that the value may not be accessed
-  pub turned_away : (h : List Event) (s : Step) (l : Line) (c : ℕ) (q : Phase) → IsLegalLine cells h s l → l.answer ≡ answer.Access q → cell_concerned cells h s ≡ Some c
+  pub turned_away : (h : List Event) (s : Step) (l : Line) (c : ℕ) (q : Phase) → IsLegalLine cells h s l → l.answer ≡ Answer.Access q → cell_concerned cells h s ≡ Some c
       → IsTurnedAway cells h (record { step = s; line = l }) c q
   turned_away h s l c q k e n = by (subst (Means cells h s.party s.act) e (means cells h s l k))
     where
@@ -154,15 +151,15 @@ module _ (cells : List CellPlan) where
       by (inr m) = subst (λ r. IsTurnedAway cells h (record { step = s; line = record { answer = r; given = l.given } }) c q) (sym e) (unlent h s.party l.given q s.act c m n)
       by (inl m) =
           subst (λ r. IsTurnedAway cells h (record { step = s; line = record { answer = r; given = l.given } }) c q) (sym e)
-          (subst (λ z. IsTurnedAway cells h (record { step = s; line = record { answer = answer.Access q; given = l.given } }) z q) (called_at h s.party s.act m.cell c m.asked m.calls n) (reasoned m.reason))
+          (subst (λ z. IsTurnedAway cells h (record { step = s; line = record { answer = Answer.Access q; given = l.given } }) z q) (called_at h s.party s.act m.cell c m.asked m.calls n) (reasoned m.reason))
         where
           reasoned : (Asking cells h s.party m.cell m.asked false × (q ≡ phase_of flags_refused)) ⊎ (Resting cells h s.party m.cell m.asked × (Reach cells h s.party m.cell false × (q ≡ phase_of (phase_at cells m.cell h))))
-              → IsTurnedAway cells h (record { step = s; line = record { answer = answer.Access q; given = l.given } }) m.cell q
+              → IsTurnedAway cells h (record { step = s; line = record { answer = Answer.Access q; given = l.given } }) m.cell q
           reasoned (inl r) = declines h s.party l.given s.act m.cell m.asked q m.calls r.0 r.1
           reasoned (inr r) = denies h s.party l.given s.act m.cell m.asked q m.calls r.0 r.1.0 r.1.1
 
   -- without retry a run begins on the empty phase
-  pub begins_on_empty : (h : List Event) (s : Step) (l : Line) (c : ℕ) → IsLegalLine cells h s l → l.answer ≡ answer.Running → cell_concerned cells h s ≡ Some c
+  pub begins_on_empty : (h : List Event) (s : Step) (l : Line) (c : ℕ) → IsLegalLine cells h s l → l.answer ≡ Answer.Running → cell_concerned cells h s ≡ Some c
       → (cell_at cells c).retry ≡ false → phase_at cells c h ≡ 0
   begins_on_empty h s l c k r e once = by (subst (Means cells h s.party s.act) r (means cells h s l k))
     where
@@ -197,26 +194,26 @@ module _ (cells : List CellPlan) where
   lends_on_empty h s c e asked once = by s.act e asked
     where
       empty : AsksToLend cells h s.party c true → phase_at cells c h ≡ 0
-      empty a = empty-where-wanted (tolerance_at cells c) (phase_at cells c h) (asks_due (cell_at cells c).kind (tolerance_at cells c) call.Init (phase_at cells c h) a) once
+      empty a = empty-where-wanted (tolerance_at cells c) (phase_at cells c h) (asks_due (cell_at cells c).kind (tolerance_at cells c) Call.Init (phase_at cells c h) a) once
 
       by : (a : Act) → lends_at c a ≡ true → runs_to_lend cells h a ≡ true → phase_at cells c h ≡ 0
-      by (act.GetMut z made left) e r = empty (subst (λ y. AsksToLend cells h s.party y true) (number_found z c e) r)
+      by (Act.GetMut z made left) e r = empty (subst (λ y. AsksToLend cells h s.party y true) (number_found z c e) r)
       by _ e r = absurd (apart (sym r))
 
 -- what may not access the value leaves every value, and what is open
-pub keeps_values : (cells : List CellPlan) (h : List Event) (s : Step) (p : Phase) (g : Given) → KeepsValues cells h (record { step = s; line = record { answer = answer.Access p; given = g } })
+pub keeps_values : (cells : List CellPlan) (h : List Event) (s : Step) (p : Phase) (g : Given) → KeepsValues cells h (record { step = s; line = record { answer = Answer.Access p; given = g } })
 keeps_values cells h s p g = record { sections_stay = same_sections (act_of h s); guards_stay = same_guards (act_of h s); values_stay = λ c. by c (act_of h s) }
   where
     same_sections : (a : Act) → sections_by h s.party (deed_visited (accepts h) false a) (sections h) ≡ sections h
-    same_sections (act.Call d j) = refl
+    same_sections (Act.Call d j) = refl
     same_sections _ = refl
 
     same_guards : (a : Act) → guards_by (length h) s.party (deed_visited (accepts h) false a) (sections h) (guards h) ≡ guards h
-    same_guards (act.Call d j) = refl
+    same_guards (Act.Call d j) = refl
     same_guards _ = refl
 
     by : (c : ℕ) (a : Act) → (content_after_back cells c (back_by s.party (deed_visited (accepts h) false a) (sections h) (guards h)) (replay cells c h)).value ≡ (replay cells c h).value
-    by c (act.Call d j) = here (d == c)
+    by c (Act.Call d j) = here (d == c)
       where
         here : (b : Bool) → (if b then effect (cell_at cells c) (Asked (accepts h) j ∷ []) (replay cells c h) else replay cells c h).value ≡ (replay cells c h).value
         here true = asked_value (cell_at cells c) (accepts h) j (replay cells c h)

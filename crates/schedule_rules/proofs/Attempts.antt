@@ -1,16 +1,12 @@
 -- What an attempt at a cell is answered, case by case.
-use Rattle.schedule_rules.proofs.Words.{ℕ, ◌≡◌, List, true, Bool, false, refl, Some, ◌∷◌, ◌∙◌, ap, [], sym, arith, subst, None, not, ◌&&◌, ◌<◌, ◌+◌, ◌||◌, ◌==◌}
-use Rattle.schedule_rules.proofs.Words.{if◌then◌else◌, is_some, nat_lt, Option, has, initialized, phase_of, first_of, look_at, LockNature, How, shall_init, nature_where}
-use Rattle.schedule_rules.proofs.Words.{flags_refused, Tolerance, asking, Call, Kind, Answer, CellPlan, Act, Want, Calls, Turns, cell_at, tolerance_at, form_of}
-use Rattle.schedule_rules.proofs.Words.{is_accessible, runs_generator, asks, is_fast, lock_wanted, initializes, seeks, lock_asked, seeks_run, run_asked, Content, Event}
-use Rattle.schedule_rules.proofs.Words.{accepts, count, latest_act, runs, phase_at, replay, registry, waits, Wait, wait_of, attempt_of_turn, attempt_of_wait, act_for}
-use Rattle.schedule_rules.proofs.Words.{shares_write, drains_on, write_holds, is_barred, read_guards, holding_with, readers_with, writers_with, drains_with, keeps}
-use Rattle.schedule_rules.proofs.Words.{readers, refusal, refusal_by, refusal_waiting, refusal_free, answer_denied, answer_opened, answer_barred, answer_admitted}
-use Rattle.schedule_rules.proofs.Words.{answer_at, call_answer_admitted, turn_answer_admitted, due_tried, due_attempt, answer_of_look, IsExclusive}
-use Rattle.schedule_rules.proofs.Words.how
-use Rattle.schedule_rules.proofs.Words.nature
-use Rattle.schedule_rules.proofs.Words.act
-use Rattle.schedule_rules.proofs.Words.answer
+use Rattle.schedule_rules.proofs.Words.{ℕ, ◌≡◌, true, List, false, Bool, refl, Some, ◌∷◌, ◌∙◌, ap, [], sym, arith, subst, None, not, ◌&&◌, ◌<◌, ◌+◌, ◌||◌, ◌==◌, if◌then◌else◌}
+use Rattle.schedule_rules.proofs.Words.{is_some, nat_lt, Option, has, initialized, phase_of, first_of, look_at, LockNature, How, shall_init, nature_where, flags_refused, Tolerance}
+use Rattle.schedule_rules.proofs.Words.{asking, Call, Kind, Answer, CellPlan, Act, Want, Calls, Turns, cell_at, tolerance_at, form_of, is_accessible, runs_generator, is_fast, asks}
+use Rattle.schedule_rules.proofs.Words.{initializes, lock_wanted, seeks, lock_asked, seeks_run, run_asked, Content, Event, accepts, count, latest_act, runs, phase_at, replay}
+use Rattle.schedule_rules.proofs.Words.{registry, waits, Wait, wait_of, attempt_of_turn, attempt_of_wait, act_for, shares_write, drains_on, write_holds, is_barred, read_guards}
+use Rattle.schedule_rules.proofs.Words.{holding_with, writers_with, drains_with, readers_with, keeps, readers, refusal, refusal_by, refusal_free, refusal_waiting, answer_denied}
+use Rattle.schedule_rules.proofs.Words.{answer_opened, answer_barred, answer_admitted, answer_at, call_answer_admitted, turn_answer_admitted, due_tried, due_attempt}
+use Rattle.schedule_rules.proofs.Words.{answer_of_look, IsExclusive}
 use Rattle.phase_seq.specs.Asks.{initializes as run_sought}
 use Rattle.phase_seq.specs.declared.ask.Want.{Want as Sought}
 use Rattle.schedule_rules.proofs.Found.{found_counts}
@@ -18,7 +14,6 @@ use Rattle.schedule_rules.proofs.GoesOn.{Matches, wait-matches}
 use Rattle.schedule_rules.proofs.Answered.{barred}
 use Rattle.schedule_rules.proofs.Cases.{step, Tries, Cases, Calling, Turning, Asking, Resting}
 use Rattle.schedule_rules.proofs.Facts.{apart, second, same_number}
-use Rattle.phase_seq.specs.declared.ask.Want.TheVariants as sought
 
 -- nothing is written where something drains
 no_writers : (w d : ℕ) → (0 < w → d ≡ 0) → 0 < d → w ≡ 0
@@ -30,8 +25,8 @@ none_first [] e = refl
 none_first (c ∷ cs) e = absurd (cc)
 
 -- an attempt, by whether it is cyclic or barred
-in_turn : (Q : Answer → Type 0) (own barred : Bool) (w r : Answer) → Q answer.Cyclic → Q w → (barred ≡ false → Q r)
-    → Q (if own then answer.Cyclic else if barred then w else r)
+in_turn : (Q : Answer → Type 0) (own barred : Bool) (w r : Answer) → Q Answer.Cyclic → Q w → (barred ≡ false → Q r)
+    → Q (if own then Answer.Cyclic else if barred then w else r)
 in_turn Q true barred w r x y z = x
 in_turn Q false true w r x y z = y
 in_turn Q false false w r x y z = z refl
@@ -42,19 +37,19 @@ waits_or Q true w r y z = y
 waits_or Q false w r y z = z refl
 
 -- where a run is asked, the lock to write is wanted
-pub asks_writes : (q : Kind) (t : Tolerance) (k : Call) (p : ℕ) → asks q t (Calls k) p ≡ true → lock_wanted q t (Calls k) p ≡ nature.Write
+pub asks_writes : (q : Kind) (t : Tolerance) (k : Call) (p : ℕ) → asks q t (Calls k) p ≡ true → lock_wanted q t (Calls k) p ≡ LockNature.Write
 asks_writes q t k p e = by (seeks q (Calls k)) (shall_init t (phase_of p)) refl e
   where
-    by : (o : Option Sought) (b : Bool) → shall_init t (phase_of p) ≡ b → run_asked (asking o (is_fast (Calls k)) t) p ≡ true → lock_asked (asking o (is_fast (Calls k)) t) p ≡ nature.Write
+    by : (o : Option Sought) (b : Bool) → shall_init t (phase_of p) ≡ b → run_asked (asking o (is_fast (Calls k)) t) p ≡ true → lock_asked (asking o (is_fast (Calls k)) t) p ≡ LockNature.Write
     by None b d e = absurd (apart (sym e))
-    by (Some sought.Init) true d e = ap (λ x. nature_where sought.Init x (has p initialized)) d
-    by (Some sought.Init) false d e = absurd (apart (sym e ∙ d))
-    by (Some sought.Read) true d e = ap (λ x. nature_where sought.Read x (has p initialized)) d
-    by (Some sought.Read) false d e = absurd (apart (sym e ∙ d))
-    by (Some sought.Write) b d e = refl
-    by (Some sought.ReadOnly) b d e = absurd (apart (sym e))
-    by (Some sought.WriteOnly) b d e = refl
-    by (Some sought.Finalize) b d e = absurd (apart (sym e))
+    by (Some Sought.Init) true d e = ap (λ x. nature_where Sought.Init x (has p initialized)) d
+    by (Some Sought.Init) false d e = absurd (apart (sym e ∙ d))
+    by (Some Sought.Read) true d e = ap (λ x. nature_where Sought.Read x (has p initialized)) d
+    by (Some Sought.Read) false d e = absurd (apart (sym e ∙ d))
+    by (Some Sought.Write) b d e = refl
+    by (Some Sought.ReadOnly) b d e = absurd (apart (sym e))
+    by (Some Sought.WriteOnly) b d e = refl
+    by (Some Sought.Finalize) b d e = absurd (apart (sym e))
 
 -- and a run is due
 pub asks_due : (q : Kind) (t : Tolerance) (k : Call) (p : ℕ) → asks q t (Calls k) p ≡ true → shall_init t (phase_of p) ≡ true
@@ -78,7 +73,7 @@ asks_none q t k p e i = by (seeks q (Calls k)) e i
 
 -- a call that is admitted: it runs the generator, is declined, or is answered by what the cell holds
 pub call_admitted : (Q : Answer → Type 0) (q : Kind) (t : Tolerance) (o : Bool) (k : Call) (y : Content)
-    → (asks q t (Calls k) y.phase ≡ true → runs_generator q t o y.phase ≡ true → Q answer.Running)
+    → (asks q t (Calls k) y.phase ≡ true → runs_generator q t o y.phase ≡ true → Q Answer.Running)
     → (asks q t (Calls k) y.phase ≡ true → runs_generator q t o y.phase ≡ false → Q (answer_denied (form_of q k) flags_refused))
     → (asks q t (Calls k) y.phase ≡ false → is_accessible q y.phase ≡ true → Q (answer_opened (form_of q k) y))
     → (asks q t (Calls k) y.phase ≡ false → is_accessible q y.phase ≡ false → Q (answer_denied (form_of q k) y.phase))
@@ -93,7 +88,7 @@ call_admitted Q q t o k y running declined opened denied = by (asks q t (Calls k
     rested e false f = denied e f
 
     by : (b g : Bool) → asks q t (Calls k) y.phase ≡ b → runs_generator q t o y.phase ≡ g
-        → Q (if b && g then answer.Running else answer_at (form_of q k) (is_accessible q (content b g).phase) (content b g))
+        → Q (if b && g then Answer.Running else answer_at (form_of q k) (is_accessible q (content b g).phase) (content b g))
     by true true e f = running e f
     by true false e f = declined e f
     by false g e f = rested e (is_accessible q y.phase) refl
@@ -101,7 +96,7 @@ call_admitted Q q t o k y running declined opened denied = by (asks q t (Calls k
 module _ (cells : List CellPlan) (h : List Event) (p : ℕ) where
   -- what gets the lock to write finds no hold to write
   module _ (c : ℕ) (alone : IsExclusive cells h c) where
-    unbarred : (ws : List Wait) → is_barred nature.Write (holding_with c h ws) ≡ false → write_holds c h ≡ 0
+    unbarred : (ws : List Wait) → is_barred LockNature.Write (holding_with c h ws) ≡ false → write_holds c h ≡ 0
     unbarred ws e = by (nat_lt 0 (writers_with c h ws)) refl e
       where
         by : (b : Bool) → nat_lt 0 (writers_with c h ws) ≡ b → (b || (nat_lt 0 (drains_with c ws) || nat_lt 0 (readers_with c h ws))) ≡ false → write_holds c h ≡ 0
@@ -109,29 +104,29 @@ module _ (cells : List CellPlan) (h : List Event) (p : ℕ) where
         by false f g = grind arith
 
     unheld : (n : ℕ) (ws : List Wait) → ((w : Wait) → wait_of p (waits cells h) ≡ Some w → w.cell ≡ c)
-        → (not (keeps (wait_of p (waits cells h)) nature.Write n) && is_barred nature.Write (holding_with c h ws)) ≡ false → write_holds c h ≡ 0
+        → (not (keeps (wait_of p (waits cells h)) LockNature.Write n) && is_barred LockNature.Write (holding_with c h ws)) ≡ false → write_holds c h ≡ 0
     unheld n ws mine e = by (wait_of p (waits cells h)) refl e
       where
-        by : (o : Option Wait) → wait_of p (waits cells h) ≡ o → (not (keeps o nature.Write n) && is_barred nature.Write (holding_with c h ws)) ≡ false → write_holds c h ≡ 0
+        by : (o : Option Wait) → wait_of p (waits cells h) ≡ o → (not (keeps o LockNature.Write n) && is_barred LockNature.Write (holding_with c h ws)) ≡ false → write_holds c h ≡ 0
         by None f g = unbarred ws g
         by (Some w) f g = kept w.way w.woken refl refl g
           where
             here : (w.cell == c) ≡ true
             here = same_number w.cell c (mine w f)
 
-            kept : (y : How) (b : Bool) → w.way ≡ y → w.woken ≡ b → (not (keeps (Some (record { party = w.party; cell = w.cell; want = w.want; way = y; woken = b })) nature.Write n) && is_barred nature.Write (holding_with c h ws)) ≡ false → write_holds c h ≡ 0
-            kept how.ParkedWrite true u v g =
+            kept : (y : How) (b : Bool) → w.way ≡ y → w.woken ≡ b → (not (keeps (Some (record { party = w.party; cell = w.cell; want = w.want; way = y; woken = b })) LockNature.Write n) && is_barred LockNature.Write (holding_with c h ws)) ≡ false → write_holds c h ≡ 0
+            kept How.ParkedWrite true u v g =
                 let one : 0 < count (shares_write c) (waits cells h) = found_counts (λ z. z.party == p) (shares_write c) (waits cells h) w f (rw (u, v, here) refl) in
                 omega (arith, alone.one_writer, one)
-            kept how.ParkedWrite false u v g = unbarred ws g
-            kept how.Drain b u v g =
+            kept How.ParkedWrite false u v g = unbarred ws g
+            kept How.Drain b u v g =
                 let one : 0 < count (drains_on c) (waits cells h) = found_counts (λ z. z.party == p) (drains_on c) (waits cells h) w f (rw (u, here) refl) in
                 omega (arith, no_writers _ _ alone.no_drain one)
-            kept how.ParkedRead b u v g = unbarred ws g
-            kept how.Spin b u v g = unbarred ws g
+            kept How.ParkedRead b u v g = unbarred ws g
+            kept How.Spin b u v g = unbarred ws g
 
     -- nor a guard to read
-    unbarred_read : (ws : List Wait) → is_barred nature.Write (holding_with c h ws) ≡ false → read_guards c h ≡ 0
+    unbarred_read : (ws : List Wait) → is_barred LockNature.Write (holding_with c h ws) ≡ false → read_guards c h ≡ 0
     unbarred_read ws e = by (nat_lt 0 (writers_with c h ws)) (nat_lt 0 (drains_with c ws)) (nat_lt 0 (readers_with c h ws)) refl e
       where
         by : (b d o : Bool) → nat_lt 0 (readers_with c h ws) ≡ o → (b || (d || o)) ≡ false → read_guards c h ≡ 0
@@ -141,17 +136,17 @@ module _ (cells : List CellPlan) (h : List Event) (p : ℕ) where
         by false false true f g = absurd (apart g)
 
     unread : (ws : List Wait) → ((w : Wait) → wait_of p (waits cells h) ≡ Some w → w.cell ≡ c)
-        → (not (keeps (wait_of p (waits cells h)) nature.Write (readers cells c h)) && is_barred nature.Write (holding_with c h ws)) ≡ false → read_guards c h ≡ 0
+        → (not (keeps (wait_of p (waits cells h)) LockNature.Write (readers cells c h)) && is_barred LockNature.Write (holding_with c h ws)) ≡ false → read_guards c h ≡ 0
     unread ws mine e = by (wait_of p (waits cells h)) refl e
       where
         none : (n : ℕ) → read_guards c h + n ≡ 0 → read_guards c h ≡ 0
         none n f = omega (arith, f)
 
-        drained : (b : Bool) → (readers cells c h == 0) ≡ b → (not b && is_barred nature.Write (holding_with c h ws)) ≡ false → read_guards c h ≡ 0
+        drained : (b : Bool) → (readers cells c h == 0) ≡ b → (not b && is_barred LockNature.Write (holding_with c h ws)) ≡ false → read_guards c h ≡ 0
         drained true f g = let n : readers cells c h ≡ 0 = grind arith in none _ n
         drained false f g = unbarred_read ws g
 
-        by : (o : Option Wait) → wait_of p (waits cells h) ≡ o → (not (keeps o nature.Write (readers cells c h)) && is_barred nature.Write (holding_with c h ws)) ≡ false → read_guards c h ≡ 0
+        by : (o : Option Wait) → wait_of p (waits cells h) ≡ o → (not (keeps o LockNature.Write (readers cells c h)) && is_barred LockNature.Write (holding_with c h ws)) ≡ false → read_guards c h ≡ 0
         by None f g = unbarred_read ws g
         by (Some w) f g = kept w.way w.woken refl refl g
           where
@@ -159,15 +154,15 @@ module _ (cells : List CellPlan) (h : List Event) (p : ℕ) where
             here = same_number w.cell c (mine w f)
 
             kept : (y : How) (b : Bool) → w.way ≡ y → w.woken ≡ b
-                → (not (keeps (Some (record { party = w.party; cell = w.cell; want = w.want; way = y; woken = b })) nature.Write (readers cells c h)) && is_barred nature.Write (holding_with c h ws)) ≡ false
+                → (not (keeps (Some (record { party = w.party; cell = w.cell; want = w.want; way = y; woken = b })) LockNature.Write (readers cells c h)) && is_barred LockNature.Write (holding_with c h ws)) ≡ false
                 → read_guards c h ≡ 0
-            kept how.ParkedWrite true u v g =
+            kept How.ParkedWrite true u v g =
                 let one : 0 < count (shares_write c) (waits cells h) = found_counts (λ z. z.party == p) (shares_write c) (waits cells h) w f (rw (u, v, here) refl) in
                 none _ (alone.no_reader (omega (arith, one)))
-            kept how.ParkedWrite false u v g = unbarred_read ws g
-            kept how.Drain b u v g = drained (readers cells c h == 0) refl g
-            kept how.ParkedRead b u v g = unbarred_read ws g
-            kept how.Spin b u v g = unbarred_read ws g
+            kept How.ParkedWrite false u v g = unbarred_read ws g
+            kept How.Drain b u v g = drained (readers cells c h == 0) refl g
+            kept How.ParkedRead b u v g = unbarred_read ws g
+            kept How.Spin b u v g = unbarred_read ws g
 
   -- whatever of the party waits, waits for the cell
   abbrev pub IsMine : ℕ → Type 0
@@ -209,7 +204,7 @@ module _ (cells : List CellPlan) (h : List Event) (p : ℕ) where
 
         asking : (b : Bool) → asks q u (Calls j) (phase_at cells c h) ≡ true → runs_generator q u (accepts h) (phase_at cells c h) ≡ b → Asking cells h p c j b
         asking b e g =
-            let written : IsFree c ws nature.Write = subst (IsFree c ws) (asks_writes q u j (phase_at cells c h) e) free in
+            let written : IsFree c ws LockNature.Write = subst (IsFree c ws) (asks_writes q u j (phase_at cells c h) e) free in
             record {
               asked = e;
               wanted = asks_due q u j (phase_at cells c h) e;
@@ -225,8 +220,8 @@ module _ (cells : List CellPlan) (h : List Event) (p : ℕ) where
         → P a (answer_admitted (cell_at cells c).kind (tolerance_at cells c) c (accepts h) Turns (replay cells c h))
     turned a c ws t mine free = by (has (phase_at cells c h) initialized) refl free
       where
-        by : (b : Bool) → has (phase_at cells c h) initialized ≡ b → IsFree c ws (if b then nature.Write else nature.None)
-            → P a (turn_answer_admitted (if b then nature.Write else nature.None) c)
+        by : (b : Bool) → has (phase_at cells c h) initialized ≡ b → IsFree c ws (if b then LockNature.Write else LockNature.None)
+            → P a (turn_answer_admitted (if b then LockNature.Write else LockNature.None) c)
         by true e f = k.finalizing a c t e (λ alone. unheld c alone (readers cells c h) ws mine f)
         by false e f = k.skipped a c t e
 
@@ -243,10 +238,10 @@ module _ (cells : List CellPlan) (h : List Event) (p : ℕ) where
         waits_or (P a) _ _ _ (barring a c Turns _ t) (λ free. turned a c ws t mine free)
 
     -- the call or turn that waits
-    pub again : (o : Option Wait) → wait_of p (waits cells h) ≡ o → refusal_by cells (is_some o) h p act.Again ≡ None → (ws : List Wait) (chosen : Bool)
-        → P act.Again (due_tried cells h p (attempt_of_wait o) ws chosen)
+    pub again : (o : Option Wait) → wait_of p (waits cells h) ≡ o → refusal_by cells (is_some o) h p Act.Again ≡ None → (ws : List Wait) (chosen : Bool)
+        → P Act.Again (due_tried cells h p (attempt_of_wait o) ws chosen)
     again None e f ws chosen = absurd (cc)
-    again (Some w) e f ws chosen = attempted act.Again w.cell w.want ws chosen (tries w.want refl) mine
+    again (Some w) e f ws chosen = attempted Act.Again w.cell w.want ws chosen (tries w.want refl) mine
       where
         does : latest_act p h ≡ act_for w.cell w.want
         does = subst (λ o. Matches (attempt_of_wait o) (latest_act p h)) e (wait-matches cells p h)
@@ -257,7 +252,7 @@ module _ (cells : List CellPlan) (h : List Event) (p : ℕ) where
             cells_of : Some v ≡ Some w → v.cell ≡ w.cell
             cells_of x = cc
 
-        tries : (u : Want) → w.want ≡ u → Tries cells h p act.Again w.cell u
+        tries : (u : Want) → w.want ≡ u → Tries cells h p Act.Again w.cell u
         tries (Calls j) d = record {
           tried = ap attempt_of_wait e ∙ ap (λ u. Some (record { cell = w.cell; want = u })) d;
           does = does ∙ ap (act_for w.cell) d;
@@ -271,10 +266,10 @@ module _ (cells : List CellPlan) (h : List Event) (p : ℕ) where
 
     -- a step of the exit
     pub exits : (o : Option ℕ) → first_of (registry cells h).left ≡ o → wait_of p (waits cells h) ≡ None → (ws : List Wait) (chosen : Bool)
-        → P act.Exit (due_tried cells h p (attempt_of_turn o) ws chosen)
+        → P Act.Exit (due_tried cells h p (attempt_of_turn o) ws chosen)
     exits None e f ws chosen = by (registry cells h).pending refl
       where
-        by : (cs : List ℕ) → (registry cells h).pending ≡ cs → P act.Exit (answer_of_look (look_at cs))
+        by : (cs : List ℕ) → (registry cells h).pending ≡ cs → P Act.Exit (answer_of_look (look_at cs))
         by [] g = k.closed g (none_first (registry cells h).left e)
         by (c ∷ cs) g = k.round c cs g (none_first (registry cells h).left e)
-    exits (Some c) e f ws chosen = attempted act.Exit c Turns ws chosen (record { tried = ap attempt_of_turn e; does = refl; acts = tt }) (mine_where_none c f)
+    exits (Some c) e f ws chosen = attempted Act.Exit c Turns ws chosen (record { tried = ap attempt_of_turn e; does = refl; acts = tt }) (mine_where_none c f)

@@ -1,39 +1,37 @@
 -- What a legal step may be, case by case.
-use Rattle.schedule_rules.proofs.Words.{ℕ, ◌≡◌, List, true, Bool, false, Some, ◌∷◌, [], None, length, if◌then◌else◌, Option, has, initialized, phase_of, How, shall_init}
+use Rattle.schedule_rules.proofs.Words.{ℕ, ◌≡◌, true, List, false, Bool, Some, ◌∷◌, [], None, length, if◌then◌else◌, Option, has, initialized, phase_of, How, shall_init}
 use Rattle.schedule_rules.proofs.Words.{flags_refused, lends_value, Call, Form, Answer, CellPlan, Act, Step, Want, Calls, Turns, cell_at, tolerance_at, is_owned, form_of}
-use Rattle.schedule_rules.proofs.Words.{is_accessible, runs_generator, phase_finalized, finishes_so, asks, is_fast, initializes, asks_to_lend, Event, accepts, count}
-use Rattle.schedule_rules.proofs.Words.{act_of, Section, sections, innermost, is_turn, Guard, guards, numbered, phase_at, replay, inside, registry, finishing, waits}
-use Rattle.schedule_rules.proofs.Words.{attempt, waits_at, write_holds, read_guards, answer_denied, answer_opened, answer_made, answer_of_value, phase_made, IsExclusive}
-use Rattle.schedule_rules.proofs.Words.act
-use Rattle.schedule_rules.proofs.Words.answer
+use Rattle.schedule_rules.proofs.Words.{is_accessible, runs_generator, phase_finalized, finishes_so, is_fast, asks, initializes, asks_to_lend, Event, accepts, count, act_of}
+use Rattle.schedule_rules.proofs.Words.{Section, sections, innermost, is_turn, Guard, guards, numbered, phase_at, replay, inside, registry, finishing, waits, attempt, waits_at}
+use Rattle.schedule_rules.proofs.Words.{write_holds, read_guards, answer_denied, answer_opened, answer_made, answer_of_value, phase_made, IsExclusive}
 
 -- the act is a call, or goes on with one
 abbrev pub IsCalling : Act → Type 0
-IsCalling (act.Call c j) = Unit {0}
-IsCalling act.Again = Unit {0}
+IsCalling (Act.Call c j) = Unit {0}
+IsCalling Act.Again = Unit {0}
 IsCalling _ = ⊥
 
 -- the act is an Exit, or goes on with one
 abbrev pub IsTurning : Act → Type 0
-IsTurning act.Exit = Unit {0}
-IsTurning act.Again = Unit {0}
+IsTurning Act.Exit = Unit {0}
+IsTurning Act.Again = Unit {0}
 IsTurning _ = ⊥
 
 -- the act attempts something
 abbrev pub IsTrying : Act → Type 0
-IsTrying (act.Call c j) = Unit {0}
-IsTrying act.Again = Unit {0}
-IsTrying act.Exit = Unit {0}
+IsTrying (Act.Call c j) = Unit {0}
+IsTrying Act.Again = Unit {0}
+IsTrying Act.Exit = Unit {0}
 IsTrying _ = ⊥
 
 pub calling-tries : (a : Act) → IsCalling a → IsTrying a
-calling-tries (act.Call c j) t = tt
-calling-tries act.Again t = tt
+calling-tries (Act.Call c j) t = tt
+calling-tries Act.Again t = tt
 calling-tries _ t = absurd t
 
 pub turning-tries : (a : Act) → IsTurning a → IsTrying a
-turning-tries act.Exit t = tt
-turning-tries act.Again t = tt
+turning-tries Act.Exit t = tt
+turning-tries Act.Again t = tt
 turning-tries _ t = absurd t
 
 module _ (cells : List CellPlan) (h : List Event) (p : ℕ) where
@@ -44,13 +42,13 @@ module _ (cells : List CellPlan) (h : List Event) (p : ℕ) where
   -- the act calls the cell so, or goes on with that call
   pub record Calling (a : Act) (c : ℕ) (k : Call) : Type 0 where
     pub tried : attempt cells h (step a) ≡ Some (record { cell = c; want = Calls k })
-    pub does : act_of h (step a) ≡ act.Call c k
+    pub does : act_of h (step a) ≡ Act.Call c k
     pub acts : IsCalling a
 
   -- the act takes the turn of the cell, or goes on with it
   pub record Turning (a : Act) (c : ℕ) : Type 0 where
     pub tried : attempt cells h (step a) ≡ Some (record { cell = c; want = Turns })
-    pub does : act_of h (step a) ≡ act.Exit
+    pub does : act_of h (step a) ≡ Act.Exit
     pub acts : IsTurning a
 
   -- the act attempts this at the cell
@@ -107,32 +105,32 @@ module _ (cells : List CellPlan) (h : List Event) (p : ℕ) where
 
   -- what holds of the act and the answer of each legal step that is not refused
   pub record Cases (P : Act → Answer → Type 0) : Type 0 where
-    pub cyclic : (a : Act) (c : ℕ) (k : Call) → Calling a c k → P a answer.Cyclic
-    pub waiting : (a : Act) (c : ℕ) (w : Want) (way : How) → Tries a c w → P a (answer.Waiting way)
-    pub missed : (a : Act) (c : ℕ) (w : Want) → is_fast w ≡ true → Tries a c w → P a answer.Missed
-    pub owned : (a : Act) (c : ℕ) (w : Want) → is_owned (cell_at cells c).place ≡ true → Tries a c w → P a answer.Borrowed
+    pub cyclic : (a : Act) (c : ℕ) (k : Call) → Calling a c k → P a Answer.Cyclic
+    pub waiting : (a : Act) (c : ℕ) (w : Want) (way : How) → Tries a c w → P a (Answer.Waiting way)
+    pub missed : (a : Act) (c : ℕ) (w : Want) → is_fast w ≡ true → Tries a c w → P a Answer.Missed
+    pub owned : (a : Act) (c : ℕ) (w : Want) → is_owned (cell_at cells c).place ≡ true → Tries a c w → P a Answer.Borrowed
     pub opened : (a : Act) (c : ℕ) (k : Call) → Calling a c k → Resting c k → Reach c true → P a (answer_opened (form_at c k) (replay cells c h))
     pub denied : (a : Act) (c : ℕ) (k : Call) → Calling a c k → Resting c k → Reach c false → P a (answer_denied (form_at c k) (phase_at cells c h))
-    pub running : (a : Act) (c : ℕ) (k : Call) → Calling a c k → Asking c k true → P a answer.Running
+    pub running : (a : Act) (c : ℕ) (k : Call) → Calling a c k → Asking c k true → P a Answer.Running
     pub declined : (a : Act) (c : ℕ) (k : Call) → Calling a c k → Asking c k false → P a (answer_denied (form_at c k) flags_refused)
-    pub skipped : (a : Act) (c : ℕ) → Turning a c → has (phase_at cells c h) initialized ≡ false → P a (answer.Skipped c)
+    pub skipped : (a : Act) (c : ℕ) → Turning a c → has (phase_at cells c h) initialized ≡ false → P a (Answer.Skipped c)
     pub finalizing : (a : Act) (c : ℕ) → Turning a c → has (phase_at cells c h) initialized ≡ true → (IsExclusive cells h c → write_holds c h ≡ 0)
-        → P a (answer.Finalizing c)
-    pub round : (c : ℕ) (cs : List ℕ) → (registry cells h).pending ≡ c ∷ cs → (registry cells h).left ≡ [] → P act.Exit (answer.Round (length (c ∷ cs)))
-    pub closed : (registry cells h).pending ≡ [] → (registry cells h).left ≡ [] → P act.Exit answer.Closed
-    pub made : (v : ℕ) (t : Section) (k : Call) → Generating t k → P (act.Made v) (answer_made (form_at t.cell k) v (phase_made cells h t))
-    pub failed : (t : Section) (k : Call) → Generating t k → P act.MadeFailed answer.Failed
+        → P a (Answer.Finalizing c)
+    pub round : (c : ℕ) (cs : List ℕ) → (registry cells h).pending ≡ c ∷ cs → (registry cells h).left ≡ [] → P Act.Exit (Answer.Round (length (c ∷ cs)))
+    pub closed : (registry cells h).pending ≡ [] → (registry cells h).left ≡ [] → P Act.Exit Answer.Closed
+    pub made : (v : ℕ) (t : Section) (k : Call) → Generating t k → P (Act.Made v) (answer_made (form_at t.cell k) v (phase_made cells h t))
+    pub failed : (t : Section) (k : Call) → Generating t k → P Act.MadeFailed Answer.Failed
     pub finished : (fine : Bool) (left : Option ℕ) (t : Section) → Finalizing t fine left
-        → P (finishing fine left) (answer.Phase (phase_of (phase_finalized (phase_at cells t.cell h) fine)))
-    pub looked : (g : ℕ) (x : Guard) → numbered g (guards h) ≡ Some x → P (act.Look g) (answer_of_value (if x.writes then inside cells h x else replay cells x.cell h))
-    pub set : (g v : ℕ) (x : Guard) → numbered g (guards h) ≡ Some x → x.writes ≡ true → P (act.Set g v) answer.Done
-    pub released : (g : ℕ) (x : Guard) → numbered g (guards h) ≡ Some x → P (act.Release g) answer.Done
-    pub downgraded : (g : ℕ) (x : Guard) → numbered g (guards h) ≡ Some x → x.writes ≡ true → P (act.Downgrade g) answer.ReadGuard
-    pub borrowed : (g : ℕ) (x : Guard) → numbered g (guards h) ≡ Some x → x.writes ≡ false → P (act.Clone g) answer.Borrowed
-    pub cloned : (g : ℕ) (x : Guard) → numbered g (guards h) ≡ Some x → x.writes ≡ false → P (act.Clone g) answer.ReadGuard
-    pub lent_made : (c v left : ℕ) → Lendable c → AsksToLend c true → P (act.GetMut c (Some v) left) (answer.Value v)
-    pub lent_failed : (c left : ℕ) → Lendable c → AsksToLend c true → P (act.GetMut c None left) answer.Failed
-    pub lent_rested : (c : ℕ) (made : Option ℕ) (left : ℕ) → Lendable c → AsksToLend c false → Reach c true → P (act.GetMut c made left) (answer_of_value (replay cells c h))
-    pub lent_denied : (c : ℕ) (made : Option ℕ) (left : ℕ) → Lendable c → AsksToLend c false → Reach c false → P (act.GetMut c made left) (answer.Access (phase_of (phase_at cells c h)))
-    pub lent : (c left : ℕ) → Lendable c → Reach c true → P (act.TryGetMut c left) (answer_of_value (replay cells c h))
-    pub unlent : (c left : ℕ) → Lendable c → Reach c false → P (act.TryGetMut c left) (answer.Access (phase_of (phase_at cells c h)))
+        → P (finishing fine left) (Answer.Phase (phase_of (phase_finalized (phase_at cells t.cell h) fine)))
+    pub looked : (g : ℕ) (x : Guard) → numbered g (guards h) ≡ Some x → P (Act.Look g) (answer_of_value (if x.writes then inside cells h x else replay cells x.cell h))
+    pub set : (g v : ℕ) (x : Guard) → numbered g (guards h) ≡ Some x → x.writes ≡ true → P (Act.Set g v) Answer.Done
+    pub released : (g : ℕ) (x : Guard) → numbered g (guards h) ≡ Some x → P (Act.Release g) Answer.Done
+    pub downgraded : (g : ℕ) (x : Guard) → numbered g (guards h) ≡ Some x → x.writes ≡ true → P (Act.Downgrade g) Answer.ReadGuard
+    pub borrowed : (g : ℕ) (x : Guard) → numbered g (guards h) ≡ Some x → x.writes ≡ false → P (Act.Clone g) Answer.Borrowed
+    pub cloned : (g : ℕ) (x : Guard) → numbered g (guards h) ≡ Some x → x.writes ≡ false → P (Act.Clone g) Answer.ReadGuard
+    pub lent_made : (c v left : ℕ) → Lendable c → AsksToLend c true → P (Act.GetMut c (Some v) left) (Answer.Value v)
+    pub lent_failed : (c left : ℕ) → Lendable c → AsksToLend c true → P (Act.GetMut c None left) Answer.Failed
+    pub lent_rested : (c : ℕ) (made : Option ℕ) (left : ℕ) → Lendable c → AsksToLend c false → Reach c true → P (Act.GetMut c made left) (answer_of_value (replay cells c h))
+    pub lent_denied : (c : ℕ) (made : Option ℕ) (left : ℕ) → Lendable c → AsksToLend c false → Reach c false → P (Act.GetMut c made left) (Answer.Access (phase_of (phase_at cells c h)))
+    pub lent : (c left : ℕ) → Lendable c → Reach c true → P (Act.TryGetMut c left) (answer_of_value (replay cells c h))
+    pub unlent : (c left : ℕ) → Lendable c → Reach c false → P (Act.TryGetMut c left) (Answer.Access (phase_of (phase_at cells c h)))

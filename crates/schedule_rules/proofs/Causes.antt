@@ -1,26 +1,20 @@
 -- Which answer a legal line has, by its cause.
-use Rattle.schedule_rules.proofs.Words.{ℕ, ◌≡◌, List, true, Bool, false, refl, Some, ◌∷◌, ◌∙◌, ap, [], sym, None, not, ◌&&◌, length, ◌≢◌, ◌||◌, ◌==◌, if◌then◌else◌}
-use Rattle.schedule_rules.proofs.Words.{is_none, is_some, Option, has, initialized, first_of, look_at, is_empty, Given, How, Call, Answer, Line, Refusal, CellPlan, Place}
-use Rattle.schedule_rules.proofs.Words.{Act, Step, Calls, Turns, cell_at, tolerance_at, is_owned, asks, is_fast, lock_wanted, Event, accepts, is_exit, sections}
-use Rattle.schedule_rules.proofs.Words.{innermost, is_turn, Guard, guards, numbered, phase_at, replay, registry, waits, Wait, wait_of, attempt, attempt_of_turn, Attempt}
-use Rattle.schedule_rules.proofs.Words.{attempt_of_wait, is_barred, holding_with, refusal, refusal_by, answer_barred, answer_admitted, way_parked, drains_by, due_answer}
-use Rattle.schedule_rules.proofs.Words.{due_tried, due_clone, due_attempt, answer_of_look, keeps_own, is_nobody, IsLegalLine, answer_of, due_at, Moment, may_give}
-use Rattle.schedule_rules.proofs.Words.{waits_judged, is_attempted, is_waiting, is_cyclic, is_access, is_skipped, is_missed, is_admitted, is_denied_to_lend, is_closing}
-use Rattle.schedule_rules.proofs.Words.{is_running, is_round, is_cyclic_step, phase_met, is_borrowed, is_finalizing, is_access_step, is_barred_attempt, is_turn_step}
-use Rattle.schedule_rules.proofs.Words.{asks_run, is_barred_clone, is_step_of, is_of_own_run, is_round_step, is_kept_out, looks, is_running_step, is_borrowing_step}
-use Rattle.schedule_rules.proofs.Words.{generates, is_missing_step, is_barred_step, is_closing_step, is_initializing}
-use Rattle.schedule_rules.proofs.Words.given
-use Rattle.schedule_rules.proofs.Words.nature
-use Rattle.schedule_rules.proofs.Words.place
-use Rattle.schedule_rules.proofs.Words.act
-use Rattle.schedule_rules.proofs.Words.answer
+use Rattle.schedule_rules.proofs.Words.{ℕ, ◌≡◌, true, List, false, Bool, refl, Some, ◌∷◌, ◌∙◌, ap, [], sym, None, not, ◌&&◌, length, ◌≢◌, ◌||◌, ◌==◌, if◌then◌else◌, is_none}
+use Rattle.schedule_rules.proofs.Words.{is_some, Option, has, initialized, first_of, look_at, is_empty, LockNature, Given, How, Call, Answer, Line, Refusal, CellPlan, Place, Act}
+use Rattle.schedule_rules.proofs.Words.{Step, Calls, Turns, cell_at, tolerance_at, is_owned, is_fast, asks, lock_wanted, Event, accepts, is_exit, sections, innermost, is_turn}
+use Rattle.schedule_rules.proofs.Words.{Guard, guards, numbered, phase_at, replay, registry, waits, Wait, wait_of, attempt, attempt_of_turn, Attempt, attempt_of_wait, is_barred}
+use Rattle.schedule_rules.proofs.Words.{holding_with, refusal, refusal_by, answer_barred, answer_admitted, drains_by, way_parked, due_answer, due_tried, due_clone, due_attempt}
+use Rattle.schedule_rules.proofs.Words.{answer_of_look, keeps_own, is_nobody, IsLegalLine, answer_of, due_at, Moment, may_give, waits_judged, is_attempted, is_waiting, is_cyclic}
+use Rattle.schedule_rules.proofs.Words.{is_finalizing, is_borrowed, is_cyclic_step, is_denied_to_lend, is_closing, is_skipped, is_round, is_access, is_admitted, is_running}
+use Rattle.schedule_rules.proofs.Words.{is_missed, phase_met, is_running_step, is_barred_step, is_step_of, is_barred_attempt, is_borrowing_step, is_access_step, is_round_step}
+use Rattle.schedule_rules.proofs.Words.{is_missing_step, is_kept_out, is_turn_step, generates, is_closing_step, looks, asks_run, is_of_own_run, is_barred_clone, is_initializing}
+use Rattle.exit_registry.specs.declared.registry.Look.{Look}
 use Rattle.schedule_rules.proofs.Answered.{due_at-judged, lent, made_to_lend, made, finished, looked, cloned, legal_by}
 use Rattle.schedule_rules.proofs.Facts.{apart}
-use Rattle.schedule_rules.proofs.Tests.{is_refused, IsBeyond, IsOfTries, of_running, of_access, of_cyclic, of_finalizing, of_skipped, of_round, of_closing, of_waiting}
-use Rattle.schedule_rules.proofs.Tests.{of_missed, of_borrowed, of_refused, beyond_waiting, beyond_missed, beyond_borrowed, beyond_refused, beyond_cyclic, beyond_round}
-use Rattle.schedule_rules.proofs.Tests.{beyond_closing, no_more, same_both, nothing_else, neither, unless_first, is_unlent, unlent_where_denied, shows, makes}
-use Rattle.schedule_rules.proofs.Tests.{admitted_runs, admitted_away, admitted_finalizes, admitted_skips, admitted_fails, FailsBarred, fails_barred, calls_not}
-use Rattle.exit_registry.specs.declared.registry.Look.TheVariants as look
+use Rattle.schedule_rules.proofs.Tests.{is_refused, IsBeyond, IsOfTries, of_running, of_access, of_cyclic, of_finalizing, of_skipped, of_round, of_closing, of_waiting, of_missed}
+use Rattle.schedule_rules.proofs.Tests.{of_borrowed, of_refused, beyond_waiting, beyond_missed, beyond_borrowed, beyond_refused, beyond_cyclic, beyond_round, beyond_closing}
+use Rattle.schedule_rules.proofs.Tests.{no_more, same_both, nothing_else, neither, unless_first, is_unlent, unlent_where_denied, shows, makes, admitted_runs, admitted_away}
+use Rattle.schedule_rules.proofs.Tests.{admitted_finalizes, admitted_skips, admitted_fails, FailsBarred, fails_barred, calls_not}
 
 -- ---- attempts, by whether they are cyclic, barred or admitted
 
@@ -42,7 +36,7 @@ module _ (t : Answer → Bool) (cells : List CellPlan) (h : List Event) (p : ℕ
   where_admitted a = answer_admitted (cell_at cells a.cell).kind (tolerance_at cells a.cell) a.cell (accepts h) a.want (replay cells a.cell h)
 
   -- of a test that no answer passes of a call that is cyclic
-  module _ (cyclic : t answer.Cyclic ≡ false) where
+  module _ (cyclic : t Answer.Cyclic ≡ false) where
     -- it is passed by what is barred alone
     barred_alone : IsBeyond t → (b : Bool → Bool → Bool) → ((fast : Bool) (x : Place) (w : How) → t (answer_barred fast x w) ≡ b fast (is_owned x)) → (a : Attempt)
         → t (due_attempt cells h p a ws chosen) ≡ (is_barred_attempt cells h p ws a && b (is_fast a.want) (is_owned (cell_at cells a.cell).place))
@@ -51,7 +45,7 @@ module _ (t : Answer → Bool) (cells : List CellPlan) (h : List Event) (p : ℕ
         (admitted_fails (cell_at cells a.cell).kind (tolerance_at cells a.cell) a.cell (accepts h) (replay cells a.cell h) t is a.want)
       where
         by : (own kept barred : Bool) (w r : Answer) → t w ≡ b (is_fast a.want) (is_owned (cell_at cells a.cell).place) → t r ≡ false
-            → t (if own then answer.Cyclic else if not kept && barred then w else r) ≡ ((not own && (not kept && barred)) && b (is_fast a.want) (is_owned (cell_at cells a.cell).place))
+            → t (if own then Answer.Cyclic else if not kept && barred then w else r) ≡ ((not own && (not kept && barred)) && b (is_fast a.want) (is_owned (cell_at cells a.cell).place))
         by true kept barred w r e f = cyclic
         by false true barred w r e f = f
         by false false true w r e f = e
@@ -65,34 +59,34 @@ module _ (t : Answer → Bool) (cells : List CellPlan) (h : List Event) (p : ℕ
         by (is_of_own_run cells h p a) (keeps_own cells h p a) (bars a) (where_barred a) (where_admitted a) (fails (is_fast a.want) (cell_at cells a.cell).place (parks a)) ∙ ap (λ b. is_admitted cells h p ws a && b) e
       where
         by : (own kept barred : Bool) (w r : Answer) → t w ≡ false
-            → t (if own then answer.Cyclic else if not kept && barred then w else r) ≡ ((not own && not (not own && (not kept && barred))) && t r)
+            → t (if own then Answer.Cyclic else if not kept && barred then w else r) ≡ ((not own && not (not own && (not kept && barred))) && t r)
         by true kept barred w r f = cyclic
         by false true barred w r f = refl
         by false false true w r f = f
         by false false false w r f = refl
 
   -- or by what is cyclic alone
-  cyclic_alone : (b : Bool) → t answer.Cyclic ≡ b → ((fast : Bool) (x : Place) (w : How) → t (answer_barred fast x w) ≡ false) → IsBeyond t → (a : Attempt)
+  cyclic_alone : (b : Bool) → t Answer.Cyclic ≡ b → ((fast : Bool) (x : Place) (w : How) → t (answer_barred fast x w) ≡ false) → IsBeyond t → (a : Attempt)
       → t (due_attempt cells h p a ws chosen) ≡ (is_of_own_run cells h p a && b)
   cyclic_alone b c fails is a =
       by (is_of_own_run cells h p a) (keeps_own cells h p a) (bars a) (where_barred a) (where_admitted a) (fails (is_fast a.want) (cell_at cells a.cell).place (parks a))
       (admitted_fails (cell_at cells a.cell).kind (tolerance_at cells a.cell) a.cell (accepts h) (replay cells a.cell h) t is a.want)
     where
-      by : (own kept barred : Bool) (w r : Answer) → t w ≡ false → t r ≡ false → t (if own then answer.Cyclic else if not kept && barred then w else r) ≡ (own && b)
+      by : (own kept barred : Bool) (w r : Answer) → t w ≡ false → t r ≡ false → t (if own then Answer.Cyclic else if not kept && barred then w else r) ≡ (own && b)
       by true kept barred w r e f = c
       by false true barred w r e f = f
       by false false true w r e f = e
       by false false false w r e f = f
 
   -- or by all that is not admitted
-  pub unless_admitted : t answer.Cyclic ≡ true → ((fast : Bool) (x : Place) (w : How) → t (answer_barred fast x w) ≡ true) → IsBeyond t → (a : Attempt)
+  pub unless_admitted : t Answer.Cyclic ≡ true → ((fast : Bool) (x : Place) (w : How) → t (answer_barred fast x w) ≡ true) → IsBeyond t → (a : Attempt)
       → t (due_attempt cells h p a ws chosen) ≡ not (is_admitted cells h p ws a)
   unless_admitted c passes is a =
       by (is_of_own_run cells h p a) (keeps_own cells h p a) (bars a) (where_barred a) (where_admitted a) (passes (is_fast a.want) (cell_at cells a.cell).place (parks a))
       (admitted_fails (cell_at cells a.cell).kind (tolerance_at cells a.cell) a.cell (accepts h) (replay cells a.cell h) t is a.want)
     where
       by : (own kept barred : Bool) (w r : Answer) → t w ≡ true → t r ≡ false
-          → t (if own then answer.Cyclic else if not kept && barred then w else r) ≡ not (not own && not (not own && (not kept && barred)))
+          → t (if own then Answer.Cyclic else if not kept && barred then w else r) ≡ not (not own && not (not own && (not kept && barred)))
       by true kept barred w r e f = c
       by false true barred w r e f = f
       by false false true w r e f = e
@@ -102,54 +96,54 @@ module _ (t : Answer → Bool) (cells : List CellPlan) (h : List Event) (p : ℕ
 
 module _ (t : Answer → Bool) {denies : Bool} (is : IsOfTries t denies) (cells : List CellPlan) (cause : Attempt → Bool) (h : List Event) (ws : List Wait) (chosen : Bool) where
   -- a clone is answered so where it is barred, and Borrowed is
-  clones : (g : ℕ) (o : Option Guard) → numbered g (guards h) ≡ o → t (due_clone cells h ws o) ≡ (is_barred_clone cells h (act.Clone g) ws && t answer.Borrowed)
+  clones : (g : ℕ) (o : Option Guard) → numbered g (guards h) ≡ o → t (due_clone cells h ws o) ≡ (is_barred_clone cells h (Act.Clone g) ws && t Answer.Borrowed)
   clones g None e = rw e is.done
-  clones g (Some x) e = rw e (by (is_barred nature.Read (holding_with x.cell h ws)))
+  clones g (Some x) e = rw e (by (is_barred LockNature.Read (holding_with x.cell h ws)))
     where
-      by : (b : Bool) → t (if b then answer.Borrowed else answer.ReadGuard) ≡ (b && t answer.Borrowed)
+      by : (b : Bool) → t (if b then Answer.Borrowed else Answer.ReadGuard) ≡ (b && t Answer.Borrowed)
       by true = refl
       by false = is.shown.read_guard
 
   -- each act, where what is attempted is answered so exactly by this cause
   due : (p : ℕ) → ((o : Option Attempt) → t (due_tried cells h p o ws chosen) ≡ is_attempted cause o) → (a : Act)
       → t (due_answer cells h (record { party = p; act = a }) ws chosen)
-      ≡ (is_attempted cause (attempt cells h (record { party = p; act = a })) || ((is_barred_clone cells h a ws && t answer.Borrowed) || (is_unlent cells h a && denies)))
-  due p f (act.Call c k) = f (Some (record { cell = c; want = Calls k })) ∙ sym (nothing_else _)
-  due p f act.Again = f (attempt_of_wait (wait_of p (waits cells h))) ∙ sym (nothing_else _)
-  due p f act.Exit = f (attempt_of_turn (first_of (registry cells h).left)) ∙ sym (nothing_else _)
-  due p f (act.Made v) = made (λ a. t a ≡ false) cells h is.shown v (innermost p (sections h)) is.done is.failed
-  due p f act.MadeFailed = is.failed
-  due p f (act.Finished left) = finished (λ a. t a ≡ false) cells h is.shown true (innermost p (sections h)) is.done
-  due p f (act.FinishFailed left) = finished (λ a. t a ≡ false) cells h is.shown false (innermost p (sections h)) is.done
-  due p f (act.Look g) = looked (λ a. t a ≡ false) cells h is.shown (numbered g (guards h)) is.done
-  due p f (act.Set g v) = is.done
-  due p f (act.Release g) = is.done
-  due p f (act.Downgrade g) = is.shown.read_guard
-  due p f (act.Clone g) = clones g (numbered g (guards h)) refl ∙ sym (nothing_else _)
-  due p f (act.GetMut c made left) = makes t is (cell_at cells c).kind (tolerance_at cells c) (accepts h) made (replay cells c h)
-  due p f (act.TryGetMut c left) = shows t is (cell_at cells c).kind (replay cells c h)
+      ≡ (is_attempted cause (attempt cells h (record { party = p; act = a })) || ((is_barred_clone cells h a ws && t Answer.Borrowed) || (is_unlent cells h a && denies)))
+  due p f (Act.Call c k) = f (Some (record { cell = c; want = Calls k })) ∙ sym (nothing_else _)
+  due p f Act.Again = f (attempt_of_wait (wait_of p (waits cells h))) ∙ sym (nothing_else _)
+  due p f Act.Exit = f (attempt_of_turn (first_of (registry cells h).left)) ∙ sym (nothing_else _)
+  due p f (Act.Made v) = made (λ a. t a ≡ false) cells h is.shown v (innermost p (sections h)) is.done is.failed
+  due p f Act.MadeFailed = is.failed
+  due p f (Act.Finished left) = finished (λ a. t a ≡ false) cells h is.shown true (innermost p (sections h)) is.done
+  due p f (Act.FinishFailed left) = finished (λ a. t a ≡ false) cells h is.shown false (innermost p (sections h)) is.done
+  due p f (Act.Look g) = looked (λ a. t a ≡ false) cells h is.shown (numbered g (guards h)) is.done
+  due p f (Act.Set g v) = is.done
+  due p f (Act.Release g) = is.done
+  due p f (Act.Downgrade g) = is.shown.read_guard
+  due p f (Act.Clone g) = clones g (numbered g (guards h)) refl ∙ sym (nothing_else _)
+  due p f (Act.GetMut c made left) = makes t is (cell_at cells c).kind (tolerance_at cells c) (accepts h) made (replay cells c h)
+  due p f (Act.TryGetMut c left) = shows t is (cell_at cells c).kind (replay cells c h)
 
-module _ (t : Answer → Bool) {denies : Bool} (is : IsOfTries t denies) (refused : (q : Refusal) → t (answer.Refused q) ≡ false) (cells : List CellPlan) (h : List Event) (s : Step) (l : Line) (k : IsLegalLine cells h s l) where
+module _ (t : Answer → Bool) {denies : Bool} (is : IsOfTries t denies) (refused : (q : Refusal) → t (Answer.Refused q) ≡ false) (cells : List CellPlan) (h : List Event) (s : Step) (l : Line) (k : IsLegalLine cells h s l) where
   abbrev judged : List Wait
   judged = waits_judged cells k.moment h s l.given
 
   -- so it is of a legal line
   legal : (cause : Attempt → Bool) → ((o : Option Attempt) → t (due_tried cells h s.party o judged k.chosen) ≡ is_attempted cause o)
-      → t l.answer ≡ (is_none (refusal cells h s) && (is_attempted cause (attempt cells h s) || ((is_barred_clone cells h s.act judged && t answer.Borrowed) || (is_unlent cells h s.act && denies))))
+      → t l.answer ≡ (is_none (refusal cells h s) && (is_attempted cause (attempt cells h s) || ((is_barred_clone cells h s.act judged && t Answer.Borrowed) || (is_unlent cells h s.act && denies))))
   legal cause f = legal_by t refused cells h s l k ∙ ap (λ b. is_none (refusal cells h s) && b) (due t is cells cause h judged k.chosen s.party f s.act)
 
   -- where no look is answered so
-  module _ (round : (n : ℕ) → t (answer.Round n) ≡ false) (closed : t answer.Closed ≡ false) (cause : Attempt → Bool) (each : (a : Attempt) → t (due_attempt cells h s.party a judged k.chosen) ≡ cause a) where
+  module _ (round : (n : ℕ) → t (Answer.Round n) ≡ false) (closed : t Answer.Closed ≡ false) (cause : Attempt → Bool) (each : (a : Attempt) → t (due_attempt cells h s.party a judged k.chosen) ≡ cause a) where
     told : (l : _) → t (answer_of_look l) ≡ false
-    told (look.Round n) = round n
-    told look.Closed = closed
+    told (Look.Round n) = round n
+    told Look.Closed = closed
 
     tried : (o : Option Attempt) → t (due_tried cells h s.party o judged k.chosen) ≡ is_attempted cause o
     tried None = told (look_at (registry cells h).pending)
     tried (Some a) = each a
 
     -- nor a clone, nor a value that is to be lent
-    legal_alone : t answer.Borrowed ≡ false → denies ≡ false → t l.answer ≡ is_step_of cells cause h s
+    legal_alone : t Answer.Borrowed ≡ false → denies ≡ false → t l.answer ≡ is_step_of cells cause h s
     legal_alone e f =
         legal cause tried
         ∙ ap (λ b. is_none (refusal cells h s) && (is_attempted cause (attempt cells h s) || b)) (neither (is_barred_clone cells h s.act judged) (is_unlent cells h s.act) _ _ e f)
@@ -165,9 +159,9 @@ module _ (cells : List CellPlan) (h : List Event) (s : Step) (l : Line) (k : IsL
     where
       by : (fast : Bool) (x : Place) (w : How) → is_waiting (answer_barred fast x w) ≡ (not fast && not (is_owned x))
       by true x w = refl
-      by false place.Park w = refl
-      by false place.Spin w = refl
-      by false (place.Own p) w = refl
+      by false Place.Park w = refl
+      by false Place.Spin w = refl
+      by false (Place.Own p) w = refl
 
   -- misses exactly where it is barred and fast
   pub misses_where_barred : is_missed l.answer ≡ is_missing_step cells h s l.given k.moment
@@ -175,9 +169,9 @@ module _ (cells : List CellPlan) (h : List Event) (s : Step) (l : Line) (k : IsL
     where
       by : (fast : Bool) (x : Place) (w : How) → is_missed (answer_barred fast x w) ≡ fast
       by true x w = refl
-      by false place.Park w = refl
-      by false place.Spin w = refl
-      by false (place.Own p) w = refl
+      by false Place.Park w = refl
+      by false Place.Spin w = refl
+      by false (Place.Own p) w = refl
 
   -- and borrows exactly where it is a clone that is barred, or is barred and not fast at a cell of the party's own
   pub borrows_where_barred : is_borrowed l.answer ≡ is_borrowing_step cells h s l.given k.moment
@@ -188,9 +182,9 @@ module _ (cells : List CellPlan) (h : List Event) (s : Step) (l : Line) (k : IsL
     where
       by : (fast : Bool) (x : Place) (w : How) → is_borrowed (answer_barred fast x w) ≡ (not fast && is_owned x)
       by true x w = refl
-      by false place.Park w = refl
-      by false place.Spin w = refl
-      by false (place.Own p) w = refl
+      by false Place.Park w = refl
+      by false Place.Spin w = refl
+      by false (Place.Own p) w = refl
 
       parts : (n x y u : Bool) → (n && (x || ((y && true) || (u && false)))) ≡ ((n && y) || (n && x))
       parts false x y u = refl
@@ -246,8 +240,8 @@ module _ (cells : List CellPlan) (h : List Event) (s : Step) (l : Line) (k : IsL
       ap is_refused (due_at-judged cells m h s g chosen) ∙ due is_refused of_refused cells (λ a. false) h (waits_judged cells m h s g) chosen s.party tried s.act ∙ none (attempt cells h s) _ _
     where
       told : (l : _) → is_refused (answer_of_look l) ≡ false
-      told (look.Round n) = refl
-      told look.Closed = refl
+      told (Look.Round n) = refl
+      told Look.Closed = refl
 
       tried : (o : Option Attempt) → is_refused (due_tried cells h s.party o (waits_judged cells m h s g) chosen) ≡ is_attempted (λ a. false) o
       tried None = told (look_at (registry cells h).pending)
@@ -259,15 +253,15 @@ module _ (cells : List CellPlan) (h : List Event) (s : Step) (l : Line) (k : IsL
       none (Some a) b d = neither b d false false refl refl
 
   -- a line that is refused gives nothing
-  pub refused_gives_nothing : (r : Refusal) → l.answer ≡ answer.Refused r → l.given ≡ given.Nobody
+  pub refused_gives_nothing : (r : Refusal) → l.answer ≡ Answer.Refused r → l.given ≡ Given.Nobody
   refused_gives_nothing r is = by (refusal cells h s) k.answered k.gave
     where
-      nobody : (g : Given) → is_nobody g ≡ true → g ≡ given.Nobody
-      nobody given.Nobody d = refl
-      nobody given.Readers d = absurd (cc)
-      nobody (given.Writer q) d = absurd (cc)
+      nobody : (g : Given) → is_nobody g ≡ true → g ≡ Given.Nobody
+      nobody Given.Nobody d = refl
+      nobody Given.Readers d = absurd (cc)
+      nobody (Given.Writer q) d = absurd (cc)
 
-      by : (o : Option Refusal) → l.answer ≡ answer_of o (due_at cells k.moment h s l.given k.chosen) → may_give cells o k.moment h s l ≡ true → l.given ≡ given.Nobody
+      by : (o : Option Refusal) → l.answer ≡ answer_of o (due_at cells k.moment h s l.given k.chosen) → may_give cells o k.moment h s l ≡ true → l.given ≡ Given.Nobody
       by (Some q) e d = nobody l.given d
       by None e d = absurd (apart (ap is_refused (sym is ∙ e) ∙ due_is_answered k.moment l.given k.chosen))
 
@@ -279,9 +273,9 @@ kept_is_answered cells h p a ws chosen keeps =
   where
     by : (fast : Bool) (x : Place) (w : How) → is_waiting (answer_barred fast x w) ≡ (not fast && not (is_owned x))
     by true x w = refl
-    by false place.Park w = refl
-    by false place.Spin w = refl
-    by false (place.Own p) w = refl
+    by false Place.Park w = refl
+    by false Place.Spin w = refl
+    by false (Place.Own p) w = refl
 
     nothing : (x y z : Bool) → ((not x && (not true && y)) && z) ≡ false
     nothing true y z = refl
@@ -289,7 +283,7 @@ kept_is_answered cells h p a ws chosen keeps =
 
 -- ---- looks
 
-module _ (t : Answer → Bool) {denies : Bool} (is : IsOfTries t denies) (beyond : IsBeyond t) (fails : FailsBarred t) (cyclic : t answer.Cyclic ≡ false) (cells : List CellPlan) (h : List Event) (ws : List Wait) (chosen : Bool) (p : ℕ) where
+module _ (t : Answer → Bool) {denies : Bool} (is : IsOfTries t denies) (beyond : IsBeyond t) (fails : FailsBarred t) (cyclic : t Answer.Cyclic ≡ false) (cells : List CellPlan) (h : List Event) (ws : List Wait) (chosen : Bool) (p : ℕ) where
   -- the answer of a look
   abbrev passes : Bool
   passes = t (answer_of_look (look_at (registry cells h).pending))
@@ -304,34 +298,34 @@ module _ (t : Answer → Bool) {denies : Bool} (is : IsOfTries t denies) (beyond
 
   -- an Exit with no cell left is, and no other step
   looked_so : (a : Act) → (free a && t (due_answer cells h (record { party = p; act = a }) ws chosen)) ≡ (free a && (is_exit a && (is_none (first_of (registry cells h).left) && passes)))
-  looked_so (act.Call c k) = ap (λ b. free (act.Call c k) && b) (each (record { cell = c; want = Calls k }))
-  looked_so act.Again = by (wait_of p (waits cells h))
+  looked_so (Act.Call c k) = ap (λ b. free (Act.Call c k) && b) (each (record { cell = c; want = Calls k }))
+  looked_so Act.Again = by (wait_of p (waits cells h))
     where
-      by : (o : Option Wait) → (is_none (refusal_by cells (is_some o) h p act.Again) && t (due_tried cells h p (attempt_of_wait o) ws chosen))
-          ≡ (is_none (refusal_by cells (is_some o) h p act.Again) && false)
+      by : (o : Option Wait) → (is_none (refusal_by cells (is_some o) h p Act.Again) && t (due_tried cells h p (attempt_of_wait o) ws chosen))
+          ≡ (is_none (refusal_by cells (is_some o) h p Act.Again) && false)
       by None = refl
       by (Some w) = each (record { cell = w.cell; want = w.want })
-  looked_so act.Exit = ap (λ b. free act.Exit && b) (by (first_of (registry cells h).left))
+  looked_so Act.Exit = ap (λ b. free Act.Exit && b) (by (first_of (registry cells h).left))
     where
       by : (o : Option ℕ) → t (due_tried cells h p (attempt_of_turn o) ws chosen) ≡ (is_none o && passes)
       by None = refl
       by (Some c) = each (record { cell = c; want = Turns })
-  looked_so (act.Made v) = ap (λ b. free (act.Made v) && b) (made (λ a. t a ≡ false) cells h is.shown v (innermost p (sections h)) is.done is.failed)
-  looked_so act.MadeFailed = ap (λ b. free act.MadeFailed && b) is.failed
-  looked_so (act.Finished left) = ap (λ b. free (act.Finished left) && b) (finished (λ a. t a ≡ false) cells h is.shown true (innermost p (sections h)) is.done)
-  looked_so (act.FinishFailed left) = ap (λ b. free (act.FinishFailed left) && b) (finished (λ a. t a ≡ false) cells h is.shown false (innermost p (sections h)) is.done)
-  looked_so (act.Look g) = ap (λ b. free (act.Look g) && b) (looked (λ a. t a ≡ false) cells h is.shown (numbered g (guards h)) is.done)
-  looked_so (act.Set g v) = ap (λ b. free (act.Set g v) && b) is.done
-  looked_so (act.Release g) = ap (λ b. free (act.Release g) && b) is.done
-  looked_so (act.Downgrade g) = ap (λ b. free (act.Downgrade g) && b) is.shown.read_guard
-  looked_so (act.GetMut c made left) =
-      ap (λ b. free (act.GetMut c made left) && b) (made_to_lend (λ a. t a ≡ false) is.shown.value beyond.told.access is.failed (cell_at cells c).kind (tolerance_at cells c) (accepts h) made (replay cells c h))
-  looked_so (act.TryGetMut c left) = ap (λ b. free (act.TryGetMut c left) && b) (lent (λ a. t a ≡ false) is.shown.value beyond.told.access (cell_at cells c).kind (replay cells c h))
-  looked_so (act.Clone g) = ap (λ b. free (act.Clone g) && b) (cloned (λ a. t a ≡ false) cells h ws (numbered g (guards h)) is.done fails.borrowed is.shown.read_guard)
+  looked_so (Act.Made v) = ap (λ b. free (Act.Made v) && b) (made (λ a. t a ≡ false) cells h is.shown v (innermost p (sections h)) is.done is.failed)
+  looked_so Act.MadeFailed = ap (λ b. free Act.MadeFailed && b) is.failed
+  looked_so (Act.Finished left) = ap (λ b. free (Act.Finished left) && b) (finished (λ a. t a ≡ false) cells h is.shown true (innermost p (sections h)) is.done)
+  looked_so (Act.FinishFailed left) = ap (λ b. free (Act.FinishFailed left) && b) (finished (λ a. t a ≡ false) cells h is.shown false (innermost p (sections h)) is.done)
+  looked_so (Act.Look g) = ap (λ b. free (Act.Look g) && b) (looked (λ a. t a ≡ false) cells h is.shown (numbered g (guards h)) is.done)
+  looked_so (Act.Set g v) = ap (λ b. free (Act.Set g v) && b) is.done
+  looked_so (Act.Release g) = ap (λ b. free (Act.Release g) && b) is.done
+  looked_so (Act.Downgrade g) = ap (λ b. free (Act.Downgrade g) && b) is.shown.read_guard
+  looked_so (Act.GetMut c made left) =
+      ap (λ b. free (Act.GetMut c made left) && b) (made_to_lend (λ a. t a ≡ false) is.shown.value beyond.told.access is.failed (cell_at cells c).kind (tolerance_at cells c) (accepts h) made (replay cells c h))
+  looked_so (Act.TryGetMut c left) = ap (λ b. free (Act.TryGetMut c left) && b) (lent (λ a. t a ≡ false) is.shown.value beyond.told.access (cell_at cells c).kind (replay cells c h))
+  looked_so (Act.Clone g) = ap (λ b. free (Act.Clone g) && b) (cloned (λ a. t a ≡ false) cells h ws (numbered g (guards h)) is.done fails.borrowed is.shown.read_guard)
 
 module _ (cells : List CellPlan) (h : List Event) (s : Step) (l : Line) (k : IsLegalLine cells h s l) where
   -- it is passed exactly where the step looks, and the look passes it
-  looked_where : (t : Answer → Bool) {denies : Bool} → IsOfTries t denies → IsBeyond t → FailsBarred t → t answer.Cyclic ≡ false → ((q : Refusal) → t (answer.Refused q) ≡ false)
+  looked_where : (t : Answer → Bool) {denies : Bool} → IsOfTries t denies → IsBeyond t → FailsBarred t → t Answer.Cyclic ≡ false → ((q : Refusal) → t (Answer.Refused q) ≡ false)
       → t l.answer ≡ (looks cells h s && t (answer_of_look (look_at (registry cells h).pending)))
   looked_where t {denies} is beyond fails cyclic refused =
       legal_by t refused cells h s l k ∙ looked_so t is beyond fails cyclic cells h (waits_judged cells k.moment h s l.given) k.chosen s.party s.act
@@ -362,7 +356,7 @@ module _ (cells : List CellPlan) (h : List Event) (s : Step) (l : Line) (k : IsL
 
 module _ (cells : List CellPlan) (h : List Event) (s : Step) (l : Line) (k : IsLegalLine cells h s l) where
   -- so it begins none
-  pub only_initializing_run : (c : ℕ) (j : Call) → attempt cells h s ≡ Some (record { cell = c; want = Calls j }) → is_initializing j ≡ false → l.answer ≢ answer.Running
+  pub only_initializing_run : (c : ℕ) (j : Call) → attempt cells h s ≡ Some (record { cell = c; want = Calls j }) → is_initializing j ≡ false → l.answer ≢ Answer.Running
   only_initializing_run c j e n r = apart (sym (ap is_running r) ∙ runs_where_asked cells h s l k ∙ none)
     where
       never : (x y a g : Bool) → a ≡ false → (x && (y && (a && g))) ≡ false

@@ -1,10 +1,8 @@
 -- How many calls wait and how many turns there are, after one is taken off or added.
-use Rattle.schedule_rules.proofs.Words.{ℕ, ◌≡◌, List, true, Bool, false, refl, Some, ◌∷◌, ap, [], sym, arith, subst, None, not, ◌+◌, cond, ◌≤◌, ◌++◌, ◌==◌, if◌then◌else◌}
-use Rattle.schedule_rules.proofs.Words.{map, Option, cells_of_turns, first_of, rest_of, occurs, Turn, Turned, Given, Answer, CellPlan, Step, Want, Turns, Event, count}
-use Rattle.schedule_rules.proofs.Words.{waits, Wait, wait_of, attempt_of_turn, Attempt, attempt_of_wait, attempt_with, without_wait, cell_concerned_with}
-use Rattle.schedule_rules.proofs.Words.{waits_given_with, waits_answered, with_wait, wake_readers, wake_writer, wait_woken, wake_reader}
-use Rattle.schedule_rules.proofs.Words.given
-use Rattle.schedule_rules.proofs.Words.answer
+use Rattle.schedule_rules.proofs.Words.{ℕ, ◌≡◌, true, List, false, Bool, refl, Some, ◌∷◌, ap, [], sym, arith, subst, None, not, ◌+◌, cond, ◌≤◌, ◌++◌, ◌==◌, if◌then◌else◌, map}
+use Rattle.schedule_rules.proofs.Words.{Option, cells_of_turns, first_of, rest_of, occurs, Turn, Turned, Given, Answer, CellPlan, Step, Want, Turns, Event, count, waits, Wait}
+use Rattle.schedule_rules.proofs.Words.{wait_of, attempt_of_turn, Attempt, attempt_of_wait, attempt_with, without_wait, cell_concerned_with, waits_given_with, with_wait}
+use Rattle.schedule_rules.proofs.Words.{waits_answered, wait_woken, wake_readers, wake_reader, wake_writer}
 
 -- 1 where the test holds
 abbrev pub one_if : Bool → ℕ
@@ -39,9 +37,9 @@ module _ (t : Wait → Bool) (keeps : (w : Wait) → t (wait_woken w) ≡ t w) w
   woken false w = refl
 
   pub count_given : (cells : List CellPlan) (all : List Wait) (h : List Event) (s : Step) (g : Given) (ws : List Wait) → count t (waits_given_with cells all h s g ws) ≡ count t ws
-  count_given cells all h s given.Nobody ws = refl
-  count_given cells all h s (given.Writer q) ws = count_mapped t (wake_writer q) (λ w. woken _ w) ws
-  count_given cells all h s given.Readers ws = by (cell_concerned_with cells all h s.party s.act)
+  count_given cells all h s Given.Nobody ws = refl
+  count_given cells all h s (Given.Writer q) ws = count_mapped t (wake_writer q) (λ w. woken _ w) ws
+  count_given cells all h s Given.Readers ws = by (cell_concerned_with cells all h s.party s.act)
     where
       by : (o : Option ℕ) → count t (wake_readers o ws) ≡ count t ws
       by None = refl
@@ -138,8 +136,8 @@ module _ (cells : List CellPlan) (p : ℕ) where
         by false e = few
 
     one_answered : (r : Answer) → count (λ w. w.party == p) (waits_answered cells h s g r ws) ≤ 1
-    one_answered (answer.Refused q) = n
-    one_answered (answer.Waiting way) = one_more way (attempt_with cells ws h s.party s.act)
+    one_answered (Answer.Refused q) = n
+    one_answered (Answer.Waiting way) = one_more way (attempt_with cells ws h s.party s.act)
     one_answered _ = few
 
   -- a party waits with one call at most

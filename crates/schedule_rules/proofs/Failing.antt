@@ -1,18 +1,13 @@
 -- What a failed run leaves; and of a value that is lent, that nobody uses its cell, and what the step leaves.
-use Rattle.schedule_rules.proofs.Words.{ℕ, ◌≡◌, List, true, Bool, false, refl, Some, ◌∷◌, ◌∙◌, ap, [], sym, arith, subst, None, not, ◌&&◌, ◌⊎◌, inr, inl, ◌+◌, length}
-use Rattle.schedule_rules.proofs.Words.{cond, ◌≢◌, ◌||◌, list_any, ◌==◌, if◌then◌else◌, is_none, is_some, Option, Given, flags_refused, lends_value, Answer, Line}
-use Rattle.schedule_rules.proofs.Words.{Refusal, CellPlan, Act, Step, cell_at, tolerance_at, is_of_other, is_parking, is_accessible, Content, effect, Change, Ran, Put}
-use Rattle.schedule_rules.proofs.Words.{RanIfAsked, Makes, Event, accepts, deed_of, count, Section, sections, innermost, sections_by, guards, guards_by, phase_at, replay}
-use Rattle.schedule_rules.proofs.Words.{Back, content_after_back, back_of_step, back_of_section, finishing, waits, Wait, wait_of, attempt_with, without_wait}
-use Rattle.schedule_rules.proofs.Words.{cell_concerned, cell_concerned_with, cell_of_section, waits_given_with, waits_answered, waits_at, other_waits, parks_to_write}
-use Rattle.schedule_rules.proofs.Words.{parks_to_read, is_in_use, refusal, refusal_by, no_lending, refusal_waiting, refusal_free, no_call, no_reader, no_outcome}
-use Rattle.schedule_rules.proofs.Words.{no_guard, no_writer, no_exit, phase_made, due_answer, may_give_on, may_give_first, may_give_last, reaches, IsLegalLine, answer_of}
-use Rattle.schedule_rules.proofs.Words.{due_at, Moment, Last, First, may_give, lends_at, waits_judged, is_failed, is_refused_in_use, is_step_in_use, is_failure}
-use Rattle.schedule_rules.proofs.Words.{lends_in_use, is_lent, Leaves, EndsRun, IsUnused, RunsAtOnce, ChangesCellAlone, IsFailedRun}
-use Rattle.schedule_rules.proofs.Words.given
-use Rattle.schedule_rules.proofs.Words.act
-use Rattle.schedule_rules.proofs.Words.answer
-use Rattle.schedule_rules.proofs.Words.refused
+use Rattle.schedule_rules.proofs.Words.{ℕ, ◌≡◌, true, List, false, Bool, refl, Some, ◌∷◌, ◌∙◌, ap, [], sym, arith, subst, None, not, ◌&&◌, ◌⊎◌, inl, inr, ◌+◌, length, cond, ◌≢◌}
+use Rattle.schedule_rules.proofs.Words.{◌||◌, list_any, ◌==◌, if◌then◌else◌, is_none, is_some, Option, Given, flags_refused, lends_value, Answer, Line, Refusal, CellPlan, Act}
+use Rattle.schedule_rules.proofs.Words.{Step, cell_at, tolerance_at, is_of_other, is_parking, is_accessible, Content, effect, Change, Ran, Put, RanIfAsked, Makes, Event, deed_of}
+use Rattle.schedule_rules.proofs.Words.{accepts, count, Section, sections, innermost, sections_by, guards, guards_by, phase_at, replay, Back, back_of_step, back_of_section}
+use Rattle.schedule_rules.proofs.Words.{content_after_back, finishing, waits, Wait, wait_of, attempt_with, cell_concerned, without_wait, cell_concerned_with, cell_of_section}
+use Rattle.schedule_rules.proofs.Words.{waits_given_with, waits_at, waits_answered, other_waits, parks_to_write, parks_to_read, is_in_use, refusal, refusal_by, no_lending}
+use Rattle.schedule_rules.proofs.Words.{refusal_free, no_call, refusal_waiting, no_outcome, no_reader, no_writer, no_guard, no_exit, phase_made, due_answer, may_give_last}
+use Rattle.schedule_rules.proofs.Words.{may_give_first, may_give_on, reaches, IsLegalLine, answer_of, due_at, Moment, may_give, First, Last, lends_at, waits_judged, is_failed}
+use Rattle.schedule_rules.proofs.Words.{is_failure, is_refused_in_use, lends_in_use, is_step_in_use, is_lent, ChangesCellAlone, Leaves, RunsAtOnce, EndsRun, IsUnused, IsFailedRun}
 use Rattle.schedule_rules.proofs.Cases.{step, IsTrying, trying, form_at, Lendable, Cases, calling-tries, turning-tries}
 use Rattle.schedule_rules.proofs.Attempts.{rests}
 use Rattle.schedule_rules.proofs.Steps.{lendable, lendable_so, allowed}
@@ -27,9 +22,9 @@ use Rattle.schedule_rules.proofs.Facts.{apart, first, second, same_number, numbe
 module _ (cells : List CellPlan) (h : List Event) where
   -- what attempts something ends no generator
   no_failure : (a : Act) → IsTrying a → false ≡ is_failure cells h a
-  no_failure (act.Call c k) t = refl
-  no_failure act.Again t = refl
-  no_failure act.Exit t = refl
+  no_failure (Act.Call c k) t = refl
+  no_failure Act.Again t = refl
+  no_failure Act.Exit t = refl
   no_failure _ t = absurd t
 
   -- of the steps that are not refused a failure fails, and no other
@@ -87,43 +82,43 @@ module _ (cells : List CellPlan) (h : List Event) where
       by (Some r) e = refl
 
   -- a legal line that says Failed ends a run of the cell that its step concerns
-  module _ (s : Step) (g : Given) (c : ℕ) (k : IsLegalLine cells h s (record { answer = answer.Failed; given = g })) (e : cell_concerned cells h s ≡ Some c) where
+  module _ (s : Step) (g : Given) (c : ℕ) (k : IsLegalLine cells h s (record { answer = Answer.Failed; given = g })) (e : cell_concerned cells h s ≡ Some c) where
     -- its step is a failure
     ends : is_failure cells h s.act ≡ true
-    ends = second (is_none (refusal cells h s)) (is_failure cells h s.act) (sym (fails_where_ended s (record { answer = answer.Failed; given = g }) k))
+    ends = second (is_none (refusal cells h s)) (is_failure cells h s.act) (sym (fails_where_ended s (record { answer = Answer.Failed; given = g }) k))
 
     -- a run of this cell that fails is given back, of which this is told
     abbrev Gives : Step → Type 0
-    Gives s = (o : Bool) × (d : ℕ) × (d ≡ c) × (EndsRun h s c o ⊎ RunsAtOnce cells h s c o) × (back_of_step h s answer.Failed ≡ Some (record { cell = d; changes = Ran o None ∷ [] }))
+    Gives s = (o : Bool) × (d : ℕ) × (d ≡ c) × (EndsRun h s c o ⊎ RunsAtOnce cells h s c o) × (back_of_step h s Answer.Failed ≡ Some (record { cell = d; changes = Ran o None ∷ [] }))
 
     ended : Gives s
     ended = by s.act ends e
       where
-        found : (o : Option Section) → innermost s.party (sections h) ≡ o → cell_of_section o ≡ Some c → Gives (record { party = s.party; act = act.MadeFailed })
+        found : (o : Option Section) → innermost s.party (sections h) ≡ o → cell_of_section o ≡ Some c → Gives (record { party = s.party; act = Act.MadeFailed })
         found None f d = absurd (cc)
         found (Some t) f d = let here : t.cell ≡ c = cc in (t.is_open, t.cell, here, inl (record { section = t; found = f; here = here; noted = refl }), ap (back_of_section (Makes None)) f)
 
         by : (a : Act) → is_failure cells h a ≡ true → cell_concerned cells h (record { party = s.party; act = a }) ≡ Some c → Gives (record { party = s.party; act = a })
-        by act.MadeFailed f d = found (innermost s.party (sections h)) refl d
-        by (act.GetMut z made left) f d =
+        by Act.MadeFailed f d = found (innermost s.party (sections h)) refl d
+        by (Act.GetMut z made left) f d =
             let here : z ≡ c = cc in (accepts h, z, here, inr (record { lends = same_number z c here; asked = first _ _ f; now = refl }), refl)
         by _ f d = absurd (cc)
 
     -- it leaves the value there and reaches the phase of a failed run, and changes no other cell
-    pub fails_in : IsFailedRun cells h (record { step = s; line = record { answer = answer.Failed; given = g } }) c
+    pub fails_in : IsFailedRun cells h (record { step = s; line = record { answer = Answer.Failed; given = g } }) c
     fails_in = by ended
       where
-        by : Gives s → IsFailedRun cells h (record { step = s; line = record { answer = answer.Failed; given = g } }) c
+        by : Gives s → IsFailedRun cells h (record { step = s; line = record { answer = Answer.Failed; given = g } }) c
         by (o, d, here, run, back) =
             let b : Back = record { cell = d; changes = Ran o None ∷ [] } in
-            let changed : content_after_back cells c (back_of_step h s answer.Failed) (replay cells c h) ≡ effect (cell_at cells c) b.changes (replay cells c h) =
-            back_here cells c (back_of_step h s answer.Failed) b (replay cells c h) back (same_number d c here) in
+            let changed : content_after_back cells c (back_of_step h s Answer.Failed) (replay cells c h) ≡ effect (cell_at cells c) b.changes (replay cells c h) =
+            back_here cells c (back_of_step h s Answer.Failed) b (replay cells c h) back (same_number d c here) in
             record {
               is_open = o;
               run = run;
               value_stays = ap (λ y. y.value) changed;
               fails = ap (λ y. y.phase) changed;
-              others_stay = λ z apart. back_elsewhere cells z (back_of_step h s answer.Failed) b (replay cells z h) back (other_number d c z here apart);
+              others_stay = λ z apart. back_elsewhere cells z (back_of_step h s Answer.Failed) b (replay cells z h) back (other_number d c z here apart);
             }
 
 -- ---- a value that is lent
@@ -147,10 +142,10 @@ module _ (c : ℕ) where
   elsewhere true d e = e
   elsewhere false d e = refl
 
-  pub none_reached : (g : Given) (ws : List Wait) → count (waits_at c) ws ≡ 0 → reaches c g ws ≡ true → g ≡ given.Nobody
-  none_reached given.Nobody ws n e = refl
-  none_reached given.Readers ws n e = absurd (apart (sym e ∙ none_any (parks_to_read c) (λ w f. elsewhere _ _ f) ws n))
-  none_reached (given.Writer q) ws n e =
+  pub none_reached : (g : Given) (ws : List Wait) → count (waits_at c) ws ≡ 0 → reaches c g ws ≡ true → g ≡ Given.Nobody
+  none_reached Given.Nobody ws n e = refl
+  none_reached Given.Readers ws n e = absurd (apart (sym e ∙ none_any (parks_to_read c) (λ w f. elsewhere _ _ f) ws n))
+  none_reached (Given.Writer q) ws n e =
       absurd (apart (sym e ∙ none_any (λ w. (w.party == q) && parks_to_write c w) (λ w f. ap (λ b. (w.party == q) && b) (elsewhere _ _ f) ∙ no_more (w.party == q)) ws n))
 
 module _ (cells : List CellPlan) (h : List Event) (s : Step) (c : ℕ) (lends : lends_at c s.act ≡ true) (free : is_none (refusal cells h s) ≡ true) where
@@ -159,8 +154,8 @@ module _ (cells : List CellPlan) (h : List Event) (s : Step) (c : ℕ) (lends : 
   lends_free = by s.act lends (none_where (refusal cells h s) free)
     where
       by : (a : Act) → lends_at c a ≡ true → refusal cells h (record { party = s.party; act = a }) ≡ None → Lendable cells h s.party c
-      by (act.GetMut z made left) e n = let at : z ≡ c = number_found z c e in subst (Lendable cells h s.party) at (lendable cells h s.party z made left n)
-      by (act.TryGetMut z left) e n = let at : z ≡ c = number_found z c e in subst (Lendable cells h s.party) at (lendable_so cells h s.party z left n)
+      by (Act.GetMut z made left) e n = let at : z ≡ c = number_found z c e in subst (Lendable cells h s.party) at (lendable cells h s.party z made left n)
+      by (Act.TryGetMut z left) e n = let at : z ≡ c = number_found z c e in subst (Lendable cells h s.party) at (lendable_so cells h s.party z left n)
       by _ e n = absurd (apart (sym e))
 
   pub lent-unused : IsUnused cells h c
@@ -174,8 +169,8 @@ module _ (cells : List CellPlan) (h : List Event) (s : Step) (c : ℕ) (lends : 
       waits_for r e = cc
 
       by : (a : Act) → lends_at c a ≡ true → refusal cells h (record { party = s.party; act = a }) ≡ None → wait_of s.party (waits cells h) ≡ None
-      by (act.GetMut z made left) e n = (rests cells h s.party (act.GetMut z made left) (waits_for _) n).0
-      by (act.TryGetMut z left) e n = (rests cells h s.party (act.TryGetMut z left) (waits_for _) n).0
+      by (Act.GetMut z made left) e n = (rests cells h s.party (Act.GetMut z made left) (waits_for _) n).0
+      by (Act.TryGetMut z left) e n = (rests cells h s.party (Act.TryGetMut z left) (waits_for _) n).0
       by _ e n = absurd (apart (sym e))
 
   others_wait : other_waits cells h s ≡ waits cells h
@@ -186,30 +181,30 @@ module _ (cells : List CellPlan) (h : List Event) (s : Step) (c : ℕ) (lends : 
     answered = k.answered ∙ ap (λ o. answer_of o (due_at cells k.moment h s l.given k.chosen)) (none_where (refusal cells h s) free) ∙ due_at-judged cells k.moment h s l.given k.chosen
 
     -- it gives nothing
-    nobody : l.given ≡ given.Nobody
+    nobody : l.given ≡ Given.Nobody
     nobody = by k.moment (subst (λ o. may_give cells o k.moment h s l ≡ true) (none_where (refusal cells h s) free) k.gave)
       where
         first_never : (a : Act) → lends_at c a ≡ true → may_give_first cells h s (attempt_with cells (waits cells h) h s.party a) l.given ≡ false
-        first_never (act.GetMut z made left) e = refl
-        first_never (act.TryGetMut z left) e = refl
+        first_never (Act.GetMut z made left) e = refl
+        first_never (Act.TryGetMut z left) e = refl
         first_never _ e = absurd (apart (sym e))
 
         concerned : (a : Act) → lends_at c a ≡ true → cell_concerned_with cells (waits cells h) h s.party a ≡ Some c
-        concerned (act.GetMut z made left) e = let at : z ≡ c = number_found z c e in ap (λ y. Some y) at
-        concerned (act.TryGetMut z left) e = let at : z ≡ c = number_found z c e in ap (λ y. Some y) at
+        concerned (Act.GetMut z made left) e = let at : z ≡ c = number_found z c e in ap (λ y. Some y) at
+        concerned (Act.TryGetMut z left) e = let at : z ≡ c = number_found z c e in ap (λ y. Some y) at
         concerned _ e = absurd (apart (sym e))
 
-        reached : (g : Given) → may_give_on cells h s (cell_concerned cells h s) l.answer g ≡ true → g ≡ given.Nobody
+        reached : (g : Given) → may_give_on cells h s (cell_concerned cells h s) l.answer g ≡ true → g ≡ Given.Nobody
         reached g e =
             none_reached c g (waits cells h) lends_free.unwaited
             (subst (λ ws. reaches c g ws ≡ true) others_wait (first (reaches c g (other_waits cells h s)) _ (second (is_parking (cell_at cells c).place) _ (subst (λ o. may_give_on cells h s o l.answer g ≡ true) (concerned s.act lends) e))))
 
-        last : (g : Given) → may_give_last cells h s l.answer g ≡ true → g ≡ given.Nobody
-        last given.Nobody e = refl
-        last given.Readers e = reached given.Readers e
-        last (given.Writer q) e = reached (given.Writer q) e
+        last : (g : Given) → may_give_last cells h s l.answer g ≡ true → g ≡ Given.Nobody
+        last Given.Nobody e = refl
+        last Given.Readers e = reached Given.Readers e
+        last (Given.Writer q) e = reached (Given.Writer q) e
 
-        by : (m : Moment) → may_give cells None m h s l ≡ true → l.given ≡ given.Nobody
+        by : (m : Moment) → may_give cells None m h s l ≡ true → l.given ≡ Given.Nobody
         by First e = absurd (apart (sym e ∙ first_never s.act lends))
         by Last e = last l.given e
 
@@ -221,8 +216,8 @@ module _ (cells : List CellPlan) (h : List Event) (s : Step) (c : ℕ) (lends : 
       pub elsewhere : (d : ℕ) → c ≢ d → content_after_back cells d (back_of_step h (step cells h s.party a) r) (replay cells d h) ≡ replay cells d h
 
     alone : (a : Act) → lends_at c a ≡ true → (ws : List Wait) (chosen : Bool) → Alone a (due_answer cells h (step cells h s.party a) ws chosen)
-    alone (act.GetMut z made left) e ws chosen =
-        made_to_lend (Alone (act.GetMut z made left))
+    alone (Act.GetMut z made left) e ws chosen =
+        made_to_lend (Alone (Act.GetMut z made left))
         (λ v. record { in_sections = refl; in_guards = refl; in_waits = refl; elsewhere = λ d ne. back_elsewhere cells d _ (record { cell = z; changes = Put left ∷ RanIfAsked (accepts h) made ∷ [] }) (replay cells d h) refl (other_cell ne) })
         (λ q. record { in_sections = refl; in_guards = refl; in_waits = refl; elsewhere = λ d ne. refl })
         (record { in_sections = refl; in_guards = refl; in_waits = refl; elsewhere = λ d ne. back_elsewhere cells d _ (record { cell = z; changes = Ran (accepts h) None ∷ [] }) (replay cells d h) refl (other_cell ne) })
@@ -230,8 +225,8 @@ module _ (cells : List CellPlan) (h : List Event) (s : Step) (c : ℕ) (lends : 
       where
         other_cell : {d : ℕ} → c ≢ d → (z == d) ≡ false
         other_cell {d} ne = let at : z ≡ c = number_found z c e in other_number z c d at ne
-    alone (act.TryGetMut z left) e ws chosen =
-        lent (Alone (act.TryGetMut z left))
+    alone (Act.TryGetMut z left) e ws chosen =
+        lent (Alone (Act.TryGetMut z left))
         (λ v. record { in_sections = refl; in_guards = refl; in_waits = refl; elsewhere = λ d ne. back_elsewhere cells d _ (record { cell = z; changes = Put left ∷ [] }) (replay cells d h) refl (other_cell ne) })
         (λ q. record { in_sections = refl; in_guards = refl; in_waits = refl; elsewhere = λ d ne. refl })
         (cell_at cells z).kind (replay cells z h)
@@ -251,7 +246,7 @@ module _ (cells : List CellPlan) (h : List Event) (s : Step) (c : ℕ) (lends : 
         same = ap (λ g. waits_given_with cells (waits cells h) h s g (without_wait s.party (waits cells h))) nobody ∙ others_wait
 
     -- where a value is lent, that which is left is published afterwards, and may be accessed
-    leaves-so : (v : ℕ) → l.answer ≡ answer.Value v → Leaves cells (record { step = s; line = l } ∷ h) c s.act
+    leaves-so : (v : ℕ) → l.answer ≡ Answer.Value v → Leaves cells (record { step = s; line = l } ∷ h) c s.act
     leaves-so v e = subst (λ r. Leaves cells (record { step = s; line = record { answer = r; given = l.given } } ∷ h) c s.act) (sym e) (by s.act lends (subst (λ r. Both cells h s.party s.act r (deed_of h s r)) e (finds cells h s l k, tells cells h s l k)))
       where
         leaves : (z : ℕ) (chs : List Change) (left : ℕ) (a : Act) (r : Answer) → z ≡ c → (effect (cell_at cells z) chs (replay cells z h)).value ≡ Some left → is_failed r ≡ false → LendsSo cells h s.party a r z chs
@@ -261,18 +256,18 @@ module _ (cells : List CellPlan) (h : List Event) (s : Step) (c : ℕ) (lends : 
           ap (λ y. is_accessible (cell_at cells c).kind y.phase) e ∙ subst (λ y. is_accessible (cell_at cells y).kind (effect (cell_at cells y) chs (replay cells y h)).phase ≡ true) at (t.leaves fine),
         )
 
-        by : (a : Act) → lends_at c a ≡ true → Both cells h s.party a (answer.Value v) (deed_of h (step cells h s.party a) (answer.Value v))
-            → Leaves cells (record { step = step cells h s.party a; line = record { answer = answer.Value v; given = l.given } } ∷ h) c a
-        by (act.GetMut z made left) is b =
+        by : (a : Act) → lends_at c a ≡ true → Both cells h s.party a (Answer.Value v) (deed_of h (step cells h s.party a) (Answer.Value v))
+            → Leaves cells (record { step = step cells h s.party a; line = record { answer = Answer.Value v; given = l.given } } ∷ h) c a
+        by (Act.GetMut z made left) is b =
             let at : z ≡ c = number_found z c is in
-            leaves z _ left (act.GetMut z made left) (answer.Value v) at refl refl b.1 _ (back_here cells c _ (record { cell = z; changes = Put left ∷ RanIfAsked (accepts h) made ∷ [] }) (replay cells c h) refl is)
-        by (act.TryGetMut z left) is b =
+            leaves z _ left (Act.GetMut z made left) (Answer.Value v) at refl refl b.1 _ (back_here cells c _ (record { cell = z; changes = Put left ∷ RanIfAsked (accepts h) made ∷ [] }) (replay cells c h) refl is)
+        by (Act.TryGetMut z left) is b =
             let at : z ≡ c = number_found z c is in
-            leaves z _ left (act.TryGetMut z left) (answer.Value v) at refl refl b.1 _ (back_here cells c _ (record { cell = z; changes = Put left ∷ [] }) (replay cells c h) refl is)
+            leaves z _ left (Act.TryGetMut z left) (Answer.Value v) at refl refl b.1 _ (back_here cells c _ (record { cell = z; changes = Put left ∷ [] }) (replay cells c h) refl is)
         by _ is b = absurd (apart (sym is))
 
 -- a value that is shown was not refused
-pub lent-leaves : (cells : List CellPlan) (h : List Event) (s : Step) (l : Line) (c v : ℕ) → IsLegalLine cells h s l → lends_at c s.act ≡ true → l.answer ≡ answer.Value v
+pub lent-leaves : (cells : List CellPlan) (h : List Event) (s : Step) (l : Line) (c v : ℕ) → IsLegalLine cells h s l → lends_at c s.act ≡ true → l.answer ≡ Answer.Value v
     → Leaves cells (record { step = s; line = l } ∷ h) c s.act
 lent-leaves cells h s l c v k lends e = leaves-so cells h s c lends (first _ _ (sym (legal_by is_lent (λ q. refl) cells h s l k) ∙ ap is_lent e)) l k v e
 
@@ -280,7 +275,7 @@ lent-leaves cells h s l c v k lends e = leaves-so cells h s c lends (first _ _ (
 
 -- the reason is that the cell is in use
 abbrev is_in_use_reason : Option Refusal → Bool
-is_in_use_reason (Some refused.InUse) = true
+is_in_use_reason (Some Refusal.InUse) = true
 is_in_use_reason _ = false
 
 module _ (cells : List CellPlan) (h : List Event) where
@@ -320,23 +315,23 @@ module _ (cells : List CellPlan) (h : List Event) where
   exits false false = refl
 
   used_free : (p : ℕ) (a : Act) → is_in_use_reason (refusal_free cells h p a) ≡ lends_in_use cells h p a
-  used_free p (act.GetMut c made left) = lends_used (is_of_other (cell_at cells c).place p) (lends_value (cell_at cells c).kind) (is_in_use cells c h)
-  used_free p (act.TryGetMut c left) = lends_used (is_of_other (cell_at cells c).place p) (lends_value (cell_at cells c).kind) (is_in_use cells c h)
-  used_free p (act.Call c k) = called _ _
-  used_free p act.Again = refl
-  used_free p (act.Made v) = outcome _
-  used_free p act.MadeFailed = outcome _
-  used_free p (act.Finished left) = outcome _
-  used_free p (act.FinishFailed left) = outcome _
-  used_free p (act.Look g) = guard _
-  used_free p (act.Set g v) = writer _
-  used_free p (act.Release g) = guard _
-  used_free p (act.Downgrade g) = writer _
-  used_free p (act.Clone g) = reader _
-  used_free p act.Exit = exits _ _
+  used_free p (Act.GetMut c made left) = lends_used (is_of_other (cell_at cells c).place p) (lends_value (cell_at cells c).kind) (is_in_use cells c h)
+  used_free p (Act.TryGetMut c left) = lends_used (is_of_other (cell_at cells c).place p) (lends_value (cell_at cells c).kind) (is_in_use cells c h)
+  used_free p (Act.Call c k) = called _ _
+  used_free p Act.Again = refl
+  used_free p (Act.Made v) = outcome _
+  used_free p Act.MadeFailed = outcome _
+  used_free p (Act.Finished left) = outcome _
+  used_free p (Act.FinishFailed left) = outcome _
+  used_free p (Act.Look g) = guard _
+  used_free p (Act.Set g v) = writer _
+  used_free p (Act.Release g) = guard _
+  used_free p (Act.Downgrade g) = writer _
+  used_free p (Act.Clone g) = reader _
+  used_free p Act.Exit = exits _ _
 
   waits_first : (a : Act) → is_in_use_reason (refusal_waiting a) ≡ false
-  waits_first act.Again = refl
+  waits_first Act.Again = refl
   waits_first _ = refl
 
   used_by : (p : ℕ) (a : Act) (o : Option Wait) → is_in_use_reason (refusal_by cells (is_some o) h p a) ≡ (is_none o && lends_in_use cells h p a)
@@ -344,14 +339,14 @@ module _ (cells : List CellPlan) (h : List Event) where
   used_by p a (Some w) = waits_first a
 
   unrefused : (r : Answer) → is_refused r ≡ false → is_refused_in_use r ≡ false
-  unrefused (answer.Refused q) e = absurd (apart e)
+  unrefused (Answer.Refused q) e = absurd (apart e)
   unrefused _ e = refl
 
   pub refused-in-use : (s : Step) (l : Line) → IsLegalLine cells h s l → is_refused_in_use l.answer ≡ is_step_in_use cells h s
   refused-in-use s l k = ap is_refused_in_use k.answered ∙ by (refusal cells h s) ∙ used_by s.party s.act (wait_of s.party (waits cells h))
     where
-      reason : (q : Refusal) → is_refused_in_use (answer.Refused q) ≡ is_in_use_reason (Some q)
-      reason refused.InUse = refl
+      reason : (q : Refusal) → is_refused_in_use (Answer.Refused q) ≡ is_in_use_reason (Some q)
+      reason Refusal.InUse = refl
       reason _ = refl
 
       by : (o : Option Refusal) → is_refused_in_use (answer_of o (due_at cells k.moment h s l.given k.chosen)) ≡ is_in_use_reason o

@@ -1,13 +1,10 @@
 -- What a legal step finds, deed by deed.
-use Rattle.schedule_rules.proofs.Words.{ℕ, ◌≡◌, List, true, Bool, false, refl, Some, ◌∷◌, ◌∙◌, ap, [], sym, subst, None, ◌⊎◌, inr, inl, if◌then◌else◌, Option, has}
-use Rattle.schedule_rules.proofs.Words.{initialized, Phase, flags_refused, Call, Form, Shown, Told, Held, Answer, Line, CellPlan, Act, Step, Calls, Turns, cell_at}
-use Rattle.schedule_rules.proofs.Words.{is_accessible, finishes_so, effect, Change, Ran, Asked, Put, RanIfAsked, content_after, content_of_run, Deed, EndsToRead, Visits}
-use Rattle.schedule_rules.proofs.Words.{Ends, Makes, EndsToWrite, DropsToRead, Opens, Drops, Finishes, Lends, Holds, Skips, Beside, deed_waiting, Puts, deed_by, Looks}
-use Rattle.schedule_rules.proofs.Words.{Takes, Quiet, Event, accepts, deed_of, is_exit, act_of, Section, sections, innermost, is_turn, Guard, guards, numbered, phase_at}
-use Rattle.schedule_rules.proofs.Words.{replay, registry, finishing, write_holds, answer_denied, answer_opened, answer_made, phase_made, IsLegalLine, IsExclusive}
-use Rattle.schedule_rules.proofs.Words.{lends_at, is_failed, is_lent}
-use Rattle.schedule_rules.proofs.Words.act
-use Rattle.schedule_rules.proofs.Words.answer
+use Rattle.schedule_rules.proofs.Words.{ℕ, ◌≡◌, true, List, false, Bool, refl, Some, ◌∷◌, ◌∙◌, ap, [], sym, subst, None, ◌⊎◌, inl, inr, if◌then◌else◌, Option, has, initialized}
+use Rattle.schedule_rules.proofs.Words.{Phase, flags_refused, Call, Form, Shown, Told, Held, Answer, Line, CellPlan, Act, Step, Calls, Turns, cell_at, is_accessible, finishes_so}
+use Rattle.schedule_rules.proofs.Words.{effect, Change, Ran, Put, Asked, RanIfAsked, content_of_run, content_after, Deed, Ends, EndsToRead, Visits, Makes, Drops, Finishes}
+use Rattle.schedule_rules.proofs.Words.{DropsToRead, EndsToWrite, Opens, Lends, Holds, Skips, Puts, deed_waiting, Beside, deed_by, Looks, Takes, Quiet, Event, deed_of, accepts}
+use Rattle.schedule_rules.proofs.Words.{is_exit, act_of, Section, sections, innermost, is_turn, Guard, guards, numbered, phase_at, replay, registry, finishing, write_holds}
+use Rattle.schedule_rules.proofs.Words.{answer_denied, answer_opened, answer_made, phase_made, IsLegalLine, IsExclusive, lends_at, is_failed, is_lent}
 use Rattle.schedule_rules.proofs.Cases.{Calling, step, Asking, Resting, Lendable, AsksToLend, Reach, form_at, Generating, Finalizing, Cases}
 use Rattle.schedule_rules.proofs.Facts.{first, same_number}
 use Rattle.schedule_rules.proofs.Steps.{made_accessible, of_legal}
@@ -106,7 +103,7 @@ module _ (cells : List CellPlan) (h : List Event) (p : ℕ) where
   abbrev pub Tells : Act → Answer → Deed → Type 0
   Tells a r (Visits c chs reads) = (v : Visit c chs reads) × Calling cells h p a c v.asked
   Tells a r (Lends c chs) = LendsSo a r c chs
-  Tells a r (Ends (Finishes fine left)) = (a ≡ finishing fine left) × ((q : Phase) × (r ≡ answer.Phase q))
+  Tells a r (Ends (Finishes fine left)) = (a ≡ finishing fine left) × ((q : Phase) × (r ≡ Answer.Phase q))
   Tells a r _ = Unit {0}
 
   abbrev pub Both : Act → Answer → Deed → Type 0
@@ -122,7 +119,7 @@ module _ (cells : List CellPlan) (h : List Event) (p : ℕ) where
 
   -- what a call does that is answered so
   abbrev Calls_so : Act → ℕ → Call → Answer → Type 0
-  Calls_so a c k r = Both a r (deed_by (accepts h) (is_exit a) (act.Call c k) r)
+  Calls_so a c k r = Both a r (deed_by (accepts h) (is_exit a) (Act.Call c k) r)
 
   -- one that leaves nothing open, or a guard to read a primed value
   visits : (a : Act) (c : ℕ) (k : Call) (reads : Bool) → Calling cells h p a c k → Asking cells h p c k false ⊎ Resting cells h p c k → (reads ≡ true → errs (form_at cells h p c k) ≡ true)
@@ -143,20 +140,20 @@ module _ (cells : List CellPlan) (h : List Event) (p : ℕ) where
     opened v e (Held true falls_back) = (e, tt)
     opened v e (Held false falls_back) = (e, tt)
 
-  made : (v : ℕ) (t : Section) (k : Call) → Generating cells h p t k → (f : Form) (q : ℕ) → Both (act.Made v) (answer_made f v q) (deed_of h (step cells h p (act.Made v)) (answer_made f v q))
+  made : (v : ℕ) (t : Section) (k : Call) → Generating cells h p t k → (f : Form) (q : ℕ) → Both (Act.Made v) (answer_made f v q) (deed_of h (step cells h p (Act.Made v)) (answer_made f v q))
   made v t k g f q = by f
     where
       inside : Inside false
       inside = record { section = t; found = g.found; kind = ap (λ w. is_turn w) g.kind }
 
-      by : (f : Form) → Both (act.Made v) (answer_made f v q) (deed_of h (step cells h p (act.Made v)) (answer_made f v q))
+      by : (f : Form) → Both (Act.Made v) (answer_made f v q) (deed_of h (step cells h p (Act.Made v)) (answer_made f v q))
       by (Told tests) = (inside, tt)
       by Shown = (inside, tt)
       by (Held true falls_back) = (inside, tt)
       by (Held false falls_back) = (inside, tt)
 
   finished : (fine : Bool) (left : Option ℕ) (t : Section) → Finalizing cells h p t fine left → (q : Phase)
-      → Both (finishing fine left) (answer.Phase q) (deed_of h (step cells h p (finishing fine left)) (answer.Phase q))
+      → Both (finishing fine left) (Answer.Phase q) (deed_of h (step cells h p (finishing fine left)) (Answer.Phase q))
   finished true left t g q = (record { section = t; found = g.found; kind = g.kind; so = g.so }, (refl, (q, refl)))
   finished false left t g q = (record { section = t; found = g.found; kind = g.kind; so = g.so }, (refl, (q, refl)))
 
@@ -168,7 +165,7 @@ module _ (cells : List CellPlan) (h : List Event) (p : ℕ) where
 
     lends_so : (r : Answer) → is_lent r ≡ true
         → is_accessible (cell_at cells c).kind (if b then content_of_run (cell_at cells c).kind (accepts h) made (replay cells c h) else replay cells c h).phase ≡ true
-        → LendsSo (act.GetMut c made left) r c (Put left ∷ RanIfAsked (accepts h) made ∷ [])
+        → LendsSo (Act.GetMut c made left) r c (Put left ∷ RanIfAsked (accepts h) made ∷ [])
     lends_so r is f = record { lends = same_number c c refl; answered = is; leaves = λ n. ap (λ y. is_accessible (cell_at cells c).kind y.phase) left_so ∙ f }
 
   -- a value that is made to be lent
@@ -182,13 +179,13 @@ module _ (cells : List CellPlan) (h : List Event) (p : ℕ) where
   cases : Cases cells h p (λ a r. Both a r (deed_of h (step cells h p a) r))
   cases = record {
     cyclic = λ a c k t. (tt, tt);
-    waiting = λ a c w way t. waits a (answer.Waiting way) (is_exit a);
+    waiting = λ a c w way t. waits a (Answer.Waiting way) (is_exit a);
     missed = λ a c w f t. (tt, tt);
     owned = λ a c w o t. (tt, tt);
-    opened = λ a c k t q e. by_act a (act.Call c k) _ t.does (opened a c k t q e (form_at cells h p c k));
-    denied = λ a c k t q e. by_act a (act.Call c k) _ t.does (denied a c k t (phase_at cells c h) (inr q) (form_at cells h p c k) refl);
-    running = λ a c k t q. by_act a (act.Call c k) answer.Running t.does (q, tt);
-    declined = λ a c k t q. by_act a (act.Call c k) _ t.does (denied a c k t flags_refused (inl q) (form_at cells h p c k) refl);
+    opened = λ a c k t q e. by_act a (Act.Call c k) _ t.does (opened a c k t q e (form_at cells h p c k));
+    denied = λ a c k t q e. by_act a (Act.Call c k) _ t.does (denied a c k t (phase_at cells c h) (inr q) (form_at cells h p c k) refl);
+    running = λ a c k t q. by_act a (Act.Call c k) Answer.Running t.does (q, tt);
+    declined = λ a c k t q. by_act a (Act.Call c k) _ t.does (denied a c k t flags_refused (inl q) (form_at cells h p c k) refl);
     skipped = λ a c t q. (q, tt);
     finalizing = λ a c t q u. (record { value = q; unheld = u }, tt);
     round = λ c cs e n. ((n, (c, cs, e)), tt);

@@ -1,10 +1,9 @@
 -- A finalizer that ends marks the phase of its cell, and nothing else does.
-use Rattle.schedule_rules.proofs.Words.{ℕ, ◌≡◌, List, true, Bool, false, refl, Some, ◌∷◌, ◌∙◌, ap, [], sym, subst, ◌⊎◌, inr, inl, and_or_apart, bit_or, ◌==◌, Option, has}
-use Rattle.schedule_rules.proofs.Words.{initialized, phase_of, Phase, Given, final_outcome, Answer, Line, CellPlan, Act, Step, Want, Calls, Turns, cell_at}
-use Rattle.schedule_rules.proofs.Words.{phase_finalized, Content, effect, Change, Ran, Put, Ended, Deed, EndsToRead, Visits, Ends, Makes, DropsToRead, Drops, Finishes}
-use Rattle.schedule_rules.proofs.Words.{Lends, Event, accepts, deed_of, Section, sections, innermost, is_turn, Guard, guards, numbered, phase_at, replay, Back}
-use Rattle.schedule_rules.proofs.Words.{back_of_step, back_of_section, finishing, cell_concerned, cell_of_section, IsLegal, IsLegalLine, IsEndedTurn}
-use Rattle.schedule_rules.proofs.Words.answer
+use Rattle.schedule_rules.proofs.Words.{ℕ, ◌≡◌, true, List, false, Bool, refl, Some, ◌∷◌, ◌∙◌, ap, [], sym, subst, ◌⊎◌, inl, inr, and_or_apart, bit_or, ◌==◌, Option, has}
+use Rattle.schedule_rules.proofs.Words.{initialized, phase_of, Phase, Given, final_outcome, Answer, Line, CellPlan, Act, Step, Want, Calls, Turns, cell_at, phase_finalized}
+use Rattle.schedule_rules.proofs.Words.{Content, effect, Change, Ran, Put, Ended, Deed, Ends, EndsToRead, Visits, Makes, Drops, Finishes, DropsToRead, Lends, Event, deed_of}
+use Rattle.schedule_rules.proofs.Words.{accepts, Section, sections, innermost, is_turn, Guard, guards, numbered, phase_at, replay, Back, back_of_step, back_of_section, finishing}
+use Rattle.schedule_rules.proofs.Words.{cell_concerned, cell_of_section, IsLegal, IsLegalLine, IsEndedTurn}
 use Rattle.schedule_rules.specs.Laws.{Finishes as Finishes_so}
 use Rattle.schedule_rules.proofs.Exclusion.{alone}
 use Rattle.schedule_rules.proofs.Found.{each_found}
@@ -55,7 +54,7 @@ module _ (cells : List CellPlan) (c : ℕ) where
     same_end true false m left e = absurd (cc)
     same_end false true m left e = absurd (cc)
 
-    turn_ends : (a : Act) (q : Phase) (m : Finished cells h p a q) → cell_concerned cells h (record { party = p; act = a }) ≡ Some c → IsEndedTurn cells h (event a (answer.Phase q)) c m.fine
+    turn_ends : (a : Act) (q : Phase) (m : Finished cells h p a q) → cell_concerned cells h (record { party = p; act = a }) ≡ Some c → IsEndedTurn cells h (event a (Answer.Phase q)) c m.fine
     turn_ends a q m n =
         record {
           section = t;
@@ -65,11 +64,11 @@ module _ (cells : List CellPlan) (c : ℕ) where
           ready = subst (λ z. has (phase_at cells z h) initialized ≡ true) here
               (needs-value t.want (cell_at cells t.cell) (phase_at cells t.cell h) m.ends.kind (each_found (λ s. s.party == p) (IsStanding cells h) (sections h) t m.ends.found (sound cells h legal).standing));
           marks = ap (λ y. y.phase) changed;
-          shown = ap (λ r. answer.Phase r) m.shown ∙ ap (λ z. answer.Phase (phase_of (phase_finalized (phase_at cells z h) m.fine))) here ∙ ap (λ y. answer.Phase (phase_of y.phase)) (sym changed);
+          shown = ap (λ r. Answer.Phase r) m.shown ∙ ap (λ z. Answer.Phase (phase_of (phase_finalized (phase_at cells z h) m.fine))) here ∙ ap (λ y. Answer.Phase (phase_of y.phase)) (sym changed);
           left = m.left;
           ended = m.acts;
           value_left = ap (λ y. y.value) changed;
-          others_stay = λ e ne. back_elsewhere cells e (back_of_step h (record { party = p; act = a }) (answer.Phase q)) b (replay cells e h) back (other_number t.cell c e here ne);
+          others_stay = λ e ne. back_elsewhere cells e (back_of_step h (record { party = p; act = a }) (Answer.Phase q)) b (replay cells e h) back (other_number t.cell c e here ne);
         }
       where
         t : Section
@@ -81,30 +80,30 @@ module _ (cells : List CellPlan) (c : ℕ) where
         b : Back
         b = record { cell = t.cell; changes = Ended m.fine m.left ∷ [] }
 
-        back : back_of_step h (record { party = p; act = a }) (answer.Phase q) ≡ Some b
-        back = subst (λ x. back_of_step h (record { party = p; act = x }) (answer.Phase q) ≡ Some b) (sym m.acts) (by m.fine m.left)
+        back : back_of_step h (record { party = p; act = a }) (Answer.Phase q) ≡ Some b
+        back = subst (λ x. back_of_step h (record { party = p; act = x }) (Answer.Phase q) ≡ Some b) (sym m.acts) (by m.fine m.left)
           where
-            by : (fine : Bool) (left : Option ℕ) → back_of_step h (record { party = p; act = finishing fine left }) (answer.Phase q) ≡ Some (record { cell = t.cell; changes = Ended fine left ∷ [] })
+            by : (fine : Bool) (left : Option ℕ) → back_of_step h (record { party = p; act = finishing fine left }) (Answer.Phase q) ≡ Some (record { cell = t.cell; changes = Ended fine left ∷ [] })
             by true left = ap (back_of_section (Finishes true left)) m.ends.found
             by false left = ap (back_of_section (Finishes false left)) m.ends.found
 
-        changed : replay cells c (event a (answer.Phase q) ∷ h) ≡ effect (cell_at cells c) (Ended m.fine m.left ∷ []) (replay cells c h)
-        changed = back_here cells c (back_of_step h (record { party = p; act = a }) (answer.Phase q)) b (replay cells c h) back (same_number t.cell c here)
+        changed : replay cells c (event a (Answer.Phase q) ∷ h) ≡ effect (cell_at cells c) (Ended m.fine m.left ∷ []) (replay cells c h)
+        changed = back_here cells c (back_of_step h (record { party = p; act = a }) (Answer.Phase q)) b (replay cells c h) back (same_number t.cell c here)
 
   -- a legal line of a finalizer that ends
-  pub ends-turn : (h : List Event) (s : Step) (l : Line) (q : Phase) (fine : Bool) → IsLegal cells h → IsLegalLine cells h s l → l.answer ≡ answer.Phase q → Finishes_so s fine
+  pub ends-turn : (h : List Event) (s : Step) (l : Line) (q : Phase) (fine : Bool) → IsLegal cells h → IsLegalLine cells h s l → l.answer ≡ Answer.Phase q → Finishes_so s fine
       → cell_concerned cells h s ≡ Some c → IsEndedTurn cells h (record { step = s; line = l }) c fine
   ends-turn h s l q fine k m e f n =
       subst (λ r. IsEndedTurn cells h (record { step = s; line = record { answer = r; given = l.given } }) c fine) (sym e) (by (subst (Means cells h s.party s.act) e (means cells h s l m)))
     where
-      by : Finished cells h s.party s.act q ⊎ EndsNone cells h s.party s.act → IsEndedTurn cells h (record { step = s; line = record { answer = answer.Phase q; given = l.given } }) c fine
+      by : Finished cells h s.party s.act q ⊎ EndsNone cells h s.party s.act → IsEndedTurn cells h (record { step = s; line = record { answer = Answer.Phase q; given = l.given } }) c fine
       by (inr never) = absurd (never fine f.left f.act)
       by (inl t) =
-          subst (λ b. IsEndedTurn cells h (record { step = s; line = record { answer = answer.Phase q; given = l.given } }) c b)
+          subst (λ b. IsEndedTurn cells h (record { step = s; line = record { answer = Answer.Phase q; given = l.given } }) c b)
           (same_end h s.party l.given k t.fine fine t.left f.left (sym t.acts ∙ f.act)) (turn_ends h s.party l.given k s.act q t n)
 
   -- so ends the turn of the cell whose section is innermost
-  pub ended-turn : (h : List Event) (e : Event) (fine : Bool) (left : Option ℕ) → IsLegal cells (e ∷ h) → e.step.act ≡ finishing fine left → (q : Phase) → e.line.answer ≡ answer.Phase q
+  pub ended-turn : (h : List Event) (e : Event) (fine : Bool) (left : Option ℕ) → IsLegal cells (e ∷ h) → e.step.act ≡ finishing fine left → (q : Phase) → e.line.answer ≡ Answer.Phase q
       → cell_of_section (innermost e.step.party (sections h)) ≡ Some c → IsEndedTurn cells h e c fine
   ended-turn h e fine left k acts q shows here =
       ends-turn h e.step e.line q fine k.2 k.0 shows (record { left = left; act = acts }) (concerned_by h e.step.party e.line.given k.2 e.step.act fine left acts ∙ here)

@@ -1,6 +1,6 @@
 -- What a test finds in a list, how many pass it, and what holds of each.
-use Rattle.schedule_rules.proofs.Words.{ℕ, ◌≡◌, List, true, Bool, false, refl, Some, ◌∷◌, [], arith, subst, None, ◌<◌, ◌+◌, cond, ◌≤◌, AllByRecursion, find, ◌==◌, count}
-use Rattle.schedule_rules.proofs.Words.{Section, without_innermost, Guard, without_guard, put_in}
+use Rattle.schedule_rules.proofs.Words.{ℕ, ◌≡◌, true, List, false, Bool, refl, Some, ◌∷◌, [], arith, subst, None, ◌<◌, ◌+◌, cond, ◌≤◌, AllByRecursion, find, ◌==◌, count, Section}
+use Rattle.schedule_rules.proofs.Words.{without_innermost, Guard, without_guard, put_in}
 use Rattle.schedule_rules.proofs.Opened.{put}
 
 -- what a test finds is counted by each test that it passes

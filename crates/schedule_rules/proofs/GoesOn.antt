@@ -1,11 +1,8 @@
 -- A waiting call goes on with what its party did last: its wait says the same call as the party's latest act.
-use Rattle.schedule_rules.proofs.Words.{ℕ, ◌≡◌, List, true, Bool, false, refl, Some, ◌∷◌, ◌∙◌, ap, [], sym, arith, subst, None, ◌≢◌, ◌==◌, if◌then◌else◌, map, Option}
-use Rattle.schedule_rules.proofs.Words.{first_of, Given, How, Answer, Refusal, CellPlan, Act, Step, Event, latest_act, latest_act_after, newer_act, registry, waits, Wait}
-use Rattle.schedule_rules.proofs.Words.{wait_of, attempt, attempt_of_turn, Attempt, attempt_of_wait, attempt_with, without_wait, cell_concerned_with, waits_given_with}
-use Rattle.schedule_rules.proofs.Words.{waits_answered, with_wait, wake_readers, wake_writer, wait_woken, wake_reader, act_for}
-use Rattle.schedule_rules.proofs.Words.given
-use Rattle.schedule_rules.proofs.Words.act
-use Rattle.schedule_rules.proofs.Words.answer
+use Rattle.schedule_rules.proofs.Words.{ℕ, ◌≡◌, true, List, false, Bool, refl, Some, ◌∷◌, ◌∙◌, ap, [], sym, arith, subst, None, ◌≢◌, ◌==◌, if◌then◌else◌, map, Option, first_of}
+use Rattle.schedule_rules.proofs.Words.{Given, How, Answer, Refusal, CellPlan, Act, Step, Event, latest_act, latest_act_after, newer_act, registry, waits, Wait, wait_of, attempt}
+use Rattle.schedule_rules.proofs.Words.{attempt_of_turn, Attempt, attempt_of_wait, attempt_with, without_wait, cell_concerned_with, waits_given_with, with_wait, waits_answered}
+use Rattle.schedule_rules.proofs.Words.{act_for, wait_woken, wake_readers, wake_reader, wake_writer}
 use Rattle.schedule_rules.proofs.Opened.{wait_removed, wait_kept}
 
 module _ (f : Wait → Wait) (same_party : (w : Wait) → (f w).party ≡ w.party) (same_attempt : (w : Wait) → attempt_of_wait (Some (f w)) ≡ attempt_of_wait (Some w)) where
@@ -51,9 +48,9 @@ each_of T U f (Some a) t = f a t
 module _ (cells : List CellPlan) where
   -- a gift changes no attempt
   pub attempt_given : (all : List Wait) (h : List Event) (s : Step) (g : Given) (p : ℕ) (ws : List Wait) → attempt_of_wait (wait_of p (waits_given_with cells all h s g ws)) ≡ attempt_of_wait (wait_of p ws)
-  attempt_given all h s given.Nobody p ws = refl
-  attempt_given all h s (given.Writer q) p ws = attempt_mapped (wake_writer q) (λ w. woken_party _ w) (λ w. woken_attempt _ w) p ws
-  attempt_given all h s given.Readers p ws = by (cell_concerned_with cells all h s.party s.act)
+  attempt_given all h s Given.Nobody p ws = refl
+  attempt_given all h s (Given.Writer q) p ws = attempt_mapped (wake_writer q) (λ w. woken_party _ w) (λ w. woken_attempt _ w) p ws
+  attempt_given all h s Given.Readers p ws = by (cell_concerned_with cells all h s.party s.act)
     where
       by : (o : Option ℕ) → attempt_of_wait (wait_of p (wake_readers o ws)) ≡ attempt_of_wait (wait_of p ws)
       by None = refl
@@ -68,8 +65,8 @@ module _ (cells : List CellPlan) where
     -- steps of others and refused steps keep it, and it is so of what a step attempts that waits by it
     pub record Goes : Type 0 where
       pub other : (h : List Event) (e : Event) (p : ℕ) (a : Attempt) → L (e ∷ h) → (e.step.party == p) ≡ false → T h p a → T (e ∷ h) p a
-      pub refused : (h : List Event) (e : Event) (p : ℕ) (a : Attempt) (r : Refusal) → e.line.answer ≡ answer.Refused r → T h p a → T (e ∷ h) p a
-      pub now : (h : List Event) (e : Event) (way : How) → L (e ∷ h) → e.line.answer ≡ answer.Waiting way → Of (T h e.step.party) (waiting h e.step.party) → Of (T (e ∷ h) e.step.party) (attempt cells h e.step)
+      pub refused : (h : List Event) (e : Event) (p : ℕ) (a : Attempt) (r : Refusal) → e.line.answer ≡ Answer.Refused r → T h p a → T (e ∷ h) p a
+      pub now : (h : List Event) (e : Event) (way : How) → L (e ∷ h) → e.line.answer ≡ Answer.Waiting way → Of (T h e.step.party) (waiting h e.step.party) → Of (T (e ∷ h) e.step.party) (attempt cells h e.step)
 
     module _ (k : Goes) where
       module _ (h : List Event) (e : Event) (p : ℕ) (l : L (e ∷ h)) (IH : (q : ℕ) → Of (T h q) (waiting h q)) where
@@ -95,8 +92,8 @@ module _ (cells : List CellPlan) where
         again way true is (Some a) f = rw is (f refl)
 
         after : (r : Answer) → e.line.answer ≡ r → Of (T (e ∷ h) p) (attempt_of_wait (wait_of p (waits_answered cells h e.step e.line.given r (waits cells h))))
-        after (answer.Refused q) is = each_of (T h p) (T (e ∷ h) p) (λ a t. k.refused h e p a q is t) (waiting h p) (IH p)
-        after (answer.Waiting way) is = again way (e.step.party == p) refl (attempt cells h e.step) (λ own. subst (λ q. Of (T (e ∷ h) q) (attempt cells h e.step)) (same own) (k.now h e way l is (IH e.step.party)))
+        after (Answer.Refused q) is = each_of (T h p) (T (e ∷ h) p) (λ a t. k.refused h e p a q is t) (waiting h p) (IH p)
+        after (Answer.Waiting way) is = again way (e.step.party == p) refl (attempt cells h e.step) (λ own. subst (λ q. Of (T (e ∷ h) q) (attempt cells h e.step)) (same own) (k.now h e way l is (IH e.step.party)))
           where
             same : (e.step.party == p) ≡ true → e.step.party ≡ p
             same own = grind arith
@@ -111,24 +108,24 @@ module _ (cells : List CellPlan) where
   matches_now ws h s older IH = by s.act
     where
       by : (a : Act) → Matches (attempt_with cells ws h s.party a) (newer_act true a older)
-      by (act.Call c k) = refl
-      by act.Again = IH
-      by act.Exit = turned (first_of (registry cells h).left)
+      by (Act.Call c k) = refl
+      by Act.Again = IH
+      by Act.Exit = turned (first_of (registry cells h).left)
         where
-          turned : (o : Option ℕ) → Matches (attempt_of_turn o) act.Exit
+          turned : (o : Option ℕ) → Matches (attempt_of_turn o) Act.Exit
           turned None = tt
           turned (Some c) = refl
-      by (act.Made v) = tt
-      by act.MadeFailed = tt
-      by (act.Look g) = tt
-      by (act.Set g v) = tt
-      by (act.Release g) = tt
-      by (act.Downgrade g) = tt
-      by (act.Clone g) = tt
-      by (act.Finished left) = tt
-      by (act.FinishFailed left) = tt
-      by (act.GetMut c made left) = tt
-      by (act.TryGetMut c left) = tt
+      by (Act.Made v) = tt
+      by Act.MadeFailed = tt
+      by (Act.Look g) = tt
+      by (Act.Set g v) = tt
+      by (Act.Release g) = tt
+      by (Act.Downgrade g) = tt
+      by (Act.Clone g) = tt
+      by (Act.Finished left) = tt
+      by (Act.FinishFailed left) = tt
+      by (Act.GetMut c made left) = tt
+      by (Act.TryGetMut c left) = tt
 
   -- a party's wait and its latest act say the same call
   abbrev Says : List Event → ℕ → Attempt → Type 0
@@ -143,7 +140,7 @@ module _ (cells : List CellPlan) where
   of_matches h p (Some a) t = t
 
   latest_other : (r : Answer) (a older : Act) → latest_act_after r false a older ≡ older
-  latest_other (answer.Refused q) a older = refl
+  latest_other (Answer.Refused q) a older = refl
   latest_other _ a older = refl
 
   pub wait-matches : (p : ℕ) (h : List Event) → Matches (attempt_of_wait (wait_of p (waits cells h))) (latest_act p h)
@@ -152,10 +149,10 @@ module _ (cells : List CellPlan) where
       other : (h : List Event) (e : Event) (p : ℕ) (a : Attempt) → Unit {0} → (e.step.party == p) ≡ false → Says h p a → Says (e ∷ h) p a
       other h e p a l is t = rw is (latest_other e.line.answer e.step.act (latest_act p h) ∙ t)
 
-      refused : (h : List Event) (e : Event) (p : ℕ) (a : Attempt) (r : Refusal) → e.line.answer ≡ answer.Refused r → Says h p a → Says (e ∷ h) p a
+      refused : (h : List Event) (e : Event) (p : ℕ) (a : Attempt) (r : Refusal) → e.line.answer ≡ Answer.Refused r → Says h p a → Says (e ∷ h) p a
       refused h e p a r is t = rw is t
 
-      now : (h : List Event) (e : Event) (way : How) → Unit {0} → e.line.answer ≡ answer.Waiting way → Of (Says h e.step.party) (waiting h e.step.party) → Of (Says (e ∷ h) e.step.party) (attempt cells h e.step)
+      now : (h : List Event) (e : Event) (way : How) → Unit {0} → e.line.answer ≡ Answer.Waiting way → Of (Says h e.step.party) (waiting h e.step.party) → Of (Says (e ∷ h) e.step.party) (attempt cells h e.step)
       now h e way l is t =
           of_matches (e ∷ h) e.step.party (attempt cells h e.step)
           (subst (Matches (attempt cells h e.step)) (sym latest) (matches_now (waits cells h) h e.step (latest_act e.step.party h) (matches_of h e.step.party (waiting h e.step.party) t)))

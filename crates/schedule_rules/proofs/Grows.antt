@@ -1,11 +1,10 @@
 -- What a legal step leaves: each section stands on the phase that it needs, each holder of a write guard sees a value, and
 -- INITIALIZED is never cleared.
-use Rattle.schedule_rules.proofs.Words.{ℕ, ◌≡◌, List, true, Bool, false, refl, Some, ◌∷◌, ◌∙◌, ap, [], sym, arith, subst, not, ◌⊎◌, inr, inl, and_or_apart, and_or_self}
-use Rattle.schedule_rules.proofs.Words.{bit_and, bit_or, AllByRecursion, ◌==◌, if◌then◌else◌, Option, has, initialized, phase_of, shall_init, Tolerance, Kind, CellPlan}
-use Rattle.schedule_rules.proofs.Words.{Want, Calls, Turns, cell_at, tolerance_at, tolerance_of, flags_kept, Content, effect, Change, Ran, Asked, Put, Ended, RanIfAsked}
-use Rattle.schedule_rules.proofs.Words.{asks_to_lend, Deed, EndsToRead, Visits, Ends, Makes, EndsToWrite, DropsToRead, Opens, Drops, Finishes, Lends, Holds, Event}
-use Rattle.schedule_rules.proofs.Words.{accepts, deed_of, Section, sections, is_turn, Guard, guards, numbered, phase_at, replay, IsLegal, IsExclusive}
-use Rattle.schedule_rules.proofs.Words.call
+use Rattle.schedule_rules.proofs.Words.{ℕ, ◌≡◌, true, List, false, Bool, refl, Some, ◌∷◌, ◌∙◌, ap, [], sym, arith, subst, not, ◌⊎◌, inl, inr, and_or_apart, and_or_self, bit_or}
+use Rattle.schedule_rules.proofs.Words.{bit_and, AllByRecursion, ◌==◌, if◌then◌else◌, Option, has, initialized, phase_of, shall_init, Tolerance, Call, Kind, CellPlan, Want, Calls}
+use Rattle.schedule_rules.proofs.Words.{Turns, cell_at, tolerance_at, tolerance_of, flags_kept, Content, effect, Change, Ran, Put, Asked, Ended, RanIfAsked, asks_to_lend, Deed}
+use Rattle.schedule_rules.proofs.Words.{Ends, EndsToRead, Visits, Makes, Drops, Finishes, DropsToRead, EndsToWrite, Opens, Lends, Holds, Event, deed_of, accepts, Section, sections}
+use Rattle.schedule_rules.proofs.Words.{is_turn, Guard, guards, numbered, phase_at, replay, IsLegal, IsExclusive}
 use Rattle.schedule_rules.proofs.Found.{each_found}
 use Rattle.schedule_rules.proofs.Cases.{Asking, Resting, AsksToLend, Reach}
 use Rattle.schedule_rules.proofs.Attempts.{asks_due}
@@ -28,7 +27,7 @@ wanted-lacks t p e = by t.retry e
 
 -- nor where one is asked before the value is lent
 pub asked-lacks : (q : Kind) (t : Tolerance) (p : ℕ) → asks_to_lend q t p ≡ true → has p initialized ≡ false
-asked-lacks q t p e = wanted-lacks t p (asks_due q t call.Init p e)
+asked-lacks q t p e = wanted-lacks t p (asks_due q t Call.Init p e)
 
 -- a run that succeeds sets it
 pub has_made : (p : ℕ) → has (bit_or p initialized) initialized ≡ true

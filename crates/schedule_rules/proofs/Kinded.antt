@@ -1,14 +1,10 @@
 -- The sections and the guards of a legal history are of calls that the kinds of their cells have.
-use Rattle.schedule_rules.proofs.Words.{ℕ, ◌≡◌, List, true, Bool, false, refl, Some, ◌∷◌, ◌∙◌, ap, [], sym, subst, None, not, length, AllByRecursion, ◌==◌, Option}
-use Rattle.schedule_rules.proofs.Words.{phase_of, flags_refused, has_call, is_plain, is_primed, Call, Kind, Form, Shown, Told, Held, Answer, CellPlan, Act, Calls, Turns}
-use Rattle.schedule_rules.proofs.Words.{cell_at, form_of, phase_finalized, Content, Deed, EndsToRead, Visits, Ends, EndsToWrite, DropsToRead, Opens, Drops, Holds, Beside}
-use Rattle.schedule_rules.proofs.Words.{deed_waiting, Puts, deed_by, Event, accepts, deed_of, is_exit, Section, sections, innermost, sections_by, Guard, guards, numbered}
-use Rattle.schedule_rules.proofs.Words.{without_guard, guards_by, writer_made, reader_made, reader_beside, phase_at, replay, finishing, refusal, answer_denied}
-use Rattle.schedule_rules.proofs.Words.{answer_opened, answer_made, phase_made, IsLegal}
-use Rattle.schedule_rules.proofs.Words.call
-use Rattle.schedule_rules.proofs.Words.kind
-use Rattle.schedule_rules.proofs.Words.act
-use Rattle.schedule_rules.proofs.Words.answer
+use Rattle.schedule_rules.proofs.Words.{ℕ, ◌≡◌, true, List, false, Bool, refl, Some, ◌∷◌, ◌∙◌, ap, [], sym, subst, None, not, length, AllByRecursion, ◌==◌, Option, phase_of}
+use Rattle.schedule_rules.proofs.Words.{flags_refused, has_call, is_plain, is_primed, Call, Kind, Form, Shown, Told, Held, Answer, CellPlan, Act, Calls, Turns, cell_at, form_of}
+use Rattle.schedule_rules.proofs.Words.{phase_finalized, Content, Deed, Ends, EndsToRead, Visits, Drops, DropsToRead, EndsToWrite, Opens, Holds, Puts, deed_waiting, Beside}
+use Rattle.schedule_rules.proofs.Words.{deed_by, Event, deed_of, accepts, is_exit, Section, sections, innermost, sections_by, Guard, guards, numbered, without_guard, guards_by}
+use Rattle.schedule_rules.proofs.Words.{reader_beside, reader_made, writer_made, phase_at, replay, finishing, refusal, answer_denied, answer_opened, answer_made, phase_made}
+use Rattle.schedule_rules.proofs.Words.{IsLegal}
 use Rattle.schedule_rules.proofs.Found.{each_found, each_ended, each_removed, each_put}
 use Rattle.schedule_rules.proofs.Cases.{step, Calling, Generating, form_at, Cases}
 use Rattle.schedule_rules.proofs.Finds.{errs}
@@ -24,8 +20,8 @@ not_so true e = absurd (apart (sym e))
 
 -- a primed kind is not plain
 primed_not_plain : (q : Kind) → is_primed q ≡ true → is_plain q ≡ false
-primed_not_plain kind.PrimedLockedLazy e = refl
-primed_not_plain kind.PrimedLockedLazyDroped e = refl
+primed_not_plain Kind.PrimedLockedLazy e = refl
+primed_not_plain Kind.PrimedLockedLazyDroped e = refl
 primed_not_plain _ e = absurd (apart (sym e))
 
 -- a call of this form gets a guard to write
@@ -36,20 +32,20 @@ writes (Held w falls_back) = w
 
 -- no plain kind has one that does
 written_not_plain : (q : Kind) (k : Call) → has_call q k ≡ true → writes (form_of q k) ≡ true → is_plain q ≡ false
-written_not_plain q call.Write e f = not_so (is_plain q) e
-written_not_plain q call.FastWrite e f = not_so (is_plain q) e
-written_not_plain q call.TryWrite e f = not_so (is_plain q) e
-written_not_plain q call.FastTryWrite e f = not_so (is_plain q) e
-written_not_plain q call.PrimedWrite e f = primed_not_plain q e
-written_not_plain q call.PrimedWriteNonInitializing e f = primed_not_plain q e
+written_not_plain q Call.Write e f = not_so (is_plain q) e
+written_not_plain q Call.FastWrite e f = not_so (is_plain q) e
+written_not_plain q Call.TryWrite e f = not_so (is_plain q) e
+written_not_plain q Call.FastTryWrite e f = not_so (is_plain q) e
+written_not_plain q Call.PrimedWrite e f = primed_not_plain q e
+written_not_plain q Call.PrimedWriteNonInitializing e f = primed_not_plain q e
 written_not_plain q _ e f = absurd (apart (sym f))
 
 -- a primed kind alone has one that falls back
 falls_primed : (q : Kind) (k : Call) → has_call q k ≡ true → errs (form_of q k) ≡ true → is_primed q ≡ true
-falls_primed q call.PrimedRead e f = e
-falls_primed q call.PrimedWrite e f = e
-falls_primed q call.PrimedReadNonInitializing e f = e
-falls_primed q call.PrimedWriteNonInitializing e f = e
+falls_primed q Call.PrimedRead e f = e
+falls_primed q Call.PrimedWrite e f = e
+falls_primed q Call.PrimedReadNonInitializing e f = e
+falls_primed q Call.PrimedWriteNonInitializing e f = e
 falls_primed q _ e f = absurd (apart (sym f))
 
 module _ (cells : List CellPlan) where
@@ -78,23 +74,23 @@ module _ (cells : List CellPlan) where
     Kinded a r = refusal cells h (step cells h p a) ≡ None → Kinds (deed_of h (step cells h p a) r)
 
     -- of a call
-    called : (a : Act) (c : ℕ) (k : Call) (r : Answer) → Calling cells h p a c k → (HasCall c k → Kinds (deed_by (accepts h) (is_exit a) (act.Call c k) r)) → Kinded a r
+    called : (a : Act) (c : ℕ) (k : Call) (r : Answer) → Calling cells h p a c k → (HasCall c k → Kinds (deed_by (accepts h) (is_exit a) (Act.Call c k) r)) → Kinded a r
     called a c k r t f n = subst (λ b. Kinds (deed_by (accepts h) (is_exit a) b r)) (sym t.does) (f (attempted-has cells h (step cells h p a) c k legal n t.tried))
 
-    opened : (c : ℕ) (k : Call) (e : Bool) (f : Form) (y : Content) → form_at cells h p c k ≡ f → HasCall c k → Kinds (deed_by (accepts h) e (act.Call c k) (answer_opened f y))
+    opened : (c : ℕ) (k : Call) (e : Bool) (f : Form) (y : Content) → form_at cells h p c k ≡ f → HasCall c k → Kinds (deed_by (accepts h) e (Act.Call c k) (answer_opened f y))
     opened c k e (Told tests) y is has = tt
     opened c k e Shown y is has = tt
     opened c k e (Held true falls_back) y is has = written_not_plain (cell_at cells c).kind k has (ap writes is)
     opened c k e (Held false falls_back) y is has = tt
 
-    denied : (c : ℕ) (k : Call) (e : Bool) (f : Form) (q : ℕ) → form_at cells h p c k ≡ f → HasCall c k → Kinds (deed_by (accepts h) e (act.Call c k) (answer_denied f q))
+    denied : (c : ℕ) (k : Call) (e : Bool) (f : Form) (q : ℕ) → form_at cells h p c k ≡ f → HasCall c k → Kinds (deed_by (accepts h) e (Act.Call c k) (answer_denied f q))
     denied c k e (Told true) q is has = tt
     denied c k e (Told false) q is has = tt
     denied c k e Shown q is has = tt
     denied c k e (Held w true) q is has = falls_primed (cell_at cells c).kind k has (ap errs is)
     denied c k e (Held w false) q is has = tt
 
-    made : (v : ℕ) (t : Section) (k : Call) → Generating cells h p t k → (f : Form) (q : ℕ) → form_at cells h p t.cell k ≡ f → Kinded (act.Made v) (answer_made f v q)
+    made : (v : ℕ) (t : Section) (k : Call) → Generating cells h p t k → (f : Form) (q : ℕ) → form_at cells h p t.cell k ≡ f → Kinded (Act.Made v) (answer_made f v q)
     made v t k g (Told tests) q is n = tt
     made v t k g Shown q is n = tt
     made v t k g (Held true falls_back) q is n = λ s f. let same : t ≡ s = one s (sym g.found ∙ f) in subst (λ u. (j : Call) × (u.want ≡ Calls j) × (writes (form_of (cell_at cells u.cell).kind j) ≡ true)) same (k, g.kind, ap writes is)
@@ -103,7 +99,7 @@ module _ (cells : List CellPlan) where
         one s e = cc
     made v t k g (Held false falls_back) q is n = tt
 
-    finished : (fine : Bool) (left : Option ℕ) (q : _) → Kinded (finishing fine left) (answer.Phase q)
+    finished : (fine : Bool) (left : Option ℕ) (q : _) → Kinded (finishing fine left) (Answer.Phase q)
     finished true left q n = tt
     finished false left q n = tt
 
@@ -119,7 +115,7 @@ module _ (cells : List CellPlan) where
       owned = λ a c w o t n. tt;
       opened = λ a c k t q e. called a c k _ t (opened c k (is_exit a) (form_at cells h p c k) (replay cells c h) refl);
       denied = λ a c k t q e. called a c k _ t (denied c k (is_exit a) (form_at cells h p c k) (phase_at cells c h) refl);
-      running = λ a c k t q. called a c k answer.Running t (λ has. has);
+      running = λ a c k t q. called a c k Answer.Running t (λ has. has);
       declined = λ a c k t q. called a c k _ t (denied c k (is_exit a) (form_at cells h p c k) flags_refused refl);
       skipped = λ a c t q n. tt;
       finalizing = λ a c t q u n. tt;

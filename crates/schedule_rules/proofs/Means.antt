@@ -1,9 +1,7 @@
 -- What the answer of a legal line means.
-use Rattle.schedule_rules.proofs.Words.{ℕ, ◌≡◌, List, true, Bool, false, refl, sym, subst, ◌⊎◌, inr, inl, Option, has, initialized, phase_of, Phase, flags_refused, Call}
-use Rattle.schedule_rules.proofs.Words.{Form, Shown, Told, Held, Answer, Line, CellPlan, Act, Step, phase_finalized, Content, Event, Section, phase_at, replay, finishing}
-use Rattle.schedule_rules.proofs.Words.{answer_denied, answer_opened, answer_made, phase_made, IsLegalLine, lends_at, runs_to_lend, IsWithoutEffect, TurnsWhere}
-use Rattle.schedule_rules.proofs.Words.act
-use Rattle.schedule_rules.proofs.Words.answer
+use Rattle.schedule_rules.proofs.Words.{ℕ, ◌≡◌, true, List, false, Bool, refl, sym, subst, ◌⊎◌, inl, inr, Option, has, initialized, phase_of, Phase, flags_refused, Call, Form}
+use Rattle.schedule_rules.proofs.Words.{Shown, Told, Held, Answer, Line, CellPlan, Act, Step, phase_finalized, Content, Event, Section, phase_at, replay, finishing, answer_denied}
+use Rattle.schedule_rules.proofs.Words.{answer_opened, answer_made, phase_made, IsLegalLine, lends_at, runs_to_lend, IsWithoutEffect, TurnsWhere}
 use Rattle.schedule_rules.proofs.Cases.{IsCalling, Calling, Turning, Asking, Resting, Reach, form_at, Finalizing, Cases}
 use Rattle.schedule_rules.proofs.Steps.{of_legal}
 use Rattle.schedule_rules.proofs.Facts.{same_number}
@@ -54,17 +52,17 @@ module _ (cells : List CellPlan) (h : List Event) (p : ℕ) where
   call_ends_none a t true left e = subst IsCalling e t
   call_ends_none a t false left e = subst IsCalling e t
 
-  made_ends_none : (v : ℕ) → EndsNone (act.Made v)
+  made_ends_none : (v : ℕ) → EndsNone (Act.Made v)
   made_ends_none v true left e = cc
   made_ends_none v false left e = cc
 
   -- what is known of the act by these answers
   abbrev pub Means : Act → Answer → Type 0
-  Means a answer.Running = Began a
-  Means a (answer.Access q) = Away a q ⊎ Unlent a q
-  Means a (answer.Finalizing c) = AtTurn a c true
-  Means a (answer.Skipped c) = AtTurn a c false
-  Means a (answer.Phase q) = Finished a q ⊎ EndsNone a
+  Means a Answer.Running = Began a
+  Means a (Answer.Access q) = Away a q ⊎ Unlent a q
+  Means a (Answer.Finalizing c) = AtTurn a c true
+  Means a (Answer.Skipped c) = AtTurn a c false
+  Means a (Answer.Phase q) = Finished a q ⊎ EndsNone a
   Means a _ = Unit {0}
 
   opened : (a : Act) → IsCalling a → (f : Form) (y : Content) → Means a (answer_opened f y)
@@ -80,7 +78,7 @@ module _ (cells : List CellPlan) (h : List Event) (p : ℕ) where
   denied a t (Held writes true) q w = tt
   denied a t (Held writes false) q w = inl w
 
-  made : (v : ℕ) (f : Form) (q : ℕ) → Means (act.Made v) (answer_made f v q)
+  made : (v : ℕ) (f : Form) (q : ℕ) → Means (Act.Made v) (answer_made f v q)
   made v (Told tests) q = inr (made_ends_none v)
   made v Shown q = tt
   made v (Held true falls_back) q = tt
@@ -125,11 +123,11 @@ module _ (cells : List CellPlan) (h : List Event) where
   turns s c ready m = record { tried = m.turns.tried; value = m.value }
 
   -- a finalizer runs where there is a value
-  pub finalizes-value : (s : Step) (l : Line) (c : ℕ) → IsLegalLine cells h s l → l.answer ≡ answer.Finalizing c → TurnsWhere cells h s c true
+  pub finalizes-value : (s : Step) (l : Line) (c : ℕ) → IsLegalLine cells h s l → l.answer ≡ Answer.Finalizing c → TurnsWhere cells h s c true
   finalizes-value s l c k e = turns s c true (subst (Means cells h s.party s.act) e (means cells h s l k))
 
   -- and a turn is skipped where there is none, and has no effect
-  pub skips-nothing : (s : Step) (l : Line) (c : ℕ) → IsLegalLine cells h s l → l.answer ≡ answer.Skipped c
+  pub skips-nothing : (s : Step) (l : Line) (c : ℕ) → IsLegalLine cells h s l → l.answer ≡ Answer.Skipped c
       → TurnsWhere cells h s c false × IsWithoutEffect cells h (record { step = s; line = l })
   skips-nothing s l c k e = (
     turns s c false (subst (Means cells h s.party s.act) e (means cells h s l k)),

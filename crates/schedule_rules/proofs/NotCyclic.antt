@@ -1,11 +1,9 @@
 -- A call that waits asks for no run of a generator that its own party is running.
-use Rattle.schedule_rules.proofs.Words.{ℕ, ◌≡◌, List, true, Bool, false, refl, Some, ◌∷◌, ◌∙◌, ap, [], sym, arith, subst, None, not, ◌&&◌, ◌<◌, ◌+◌, cond, ◌≢◌, ◌≤◌, find}
-use Rattle.schedule_rules.proofs.Words.{◌==◌, if◌then◌else◌, is_none, Option, How, Line, CellPlan, Step, cell_at, initializes, Deed, EndsToRead, Ends, EndsToWrite, Opens}
-use Rattle.schedule_rules.proofs.Words.{deed_waiting, Event, deed_of, count, is_exit, Section, sections, is_turn, runs_in, sections_by, without_innermost, runs}
-use Rattle.schedule_rules.proofs.Words.{generates_for, waits, Wait, wait_of, attempt, Attempt, attempt_of_wait, refusal, IsLegal, IsLegalLine, IsExclusive, waits_judged}
-use Rattle.schedule_rules.proofs.Words.{is_attempted, is_waiting, is_cyclic, is_made_to_wait, is_cyclic_step}
-use Rattle.schedule_rules.proofs.Words.act
-use Rattle.schedule_rules.proofs.Words.answer
+use Rattle.schedule_rules.proofs.Words.{ℕ, ◌≡◌, true, List, false, Bool, refl, Some, ◌∷◌, ◌∙◌, ap, [], sym, arith, subst, None, not, ◌&&◌, ◌<◌, ◌+◌, cond, ◌≢◌, ◌≤◌, find, ◌==◌}
+use Rattle.schedule_rules.proofs.Words.{if◌then◌else◌, is_none, Option, How, Answer, Line, CellPlan, Act, Step, cell_at, initializes, Deed, Ends, EndsToRead, EndsToWrite, Opens}
+use Rattle.schedule_rules.proofs.Words.{deed_waiting, Event, deed_of, count, is_exit, Section, sections, is_turn, runs_in, sections_by, without_innermost, runs, generates_for}
+use Rattle.schedule_rules.proofs.Words.{waits, Wait, wait_of, attempt, Attempt, attempt_of_wait, refusal, IsLegal, IsLegalLine, IsExclusive, waits_judged, is_attempted, is_waiting}
+use Rattle.schedule_rules.proofs.Words.{is_cyclic, is_made_to_wait, is_cyclic_step}
 use Rattle.schedule_rules.proofs.Exclusion.{alone}
 use Rattle.schedule_rules.proofs.Facts.{first, second, apart}
 use Rattle.schedule_rules.proofs.Found.{found_counts, found_passes, none_counted, only_one}
@@ -115,7 +113,7 @@ module _ (cells : List CellPlan) where
     now = now;
   }
     where
-      now : (h : List Event) (e : Event) (way : How) → IsLegal cells (e ∷ h) → e.line.answer ≡ answer.Waiting way → Of (Apart h e.step.party) (waiting cells h e.step.party) → Of (Apart (e ∷ h) e.step.party) (attempt cells h e.step)
+      now : (h : List Event) (e : Event) (way : How) → IsLegal cells (e ∷ h) → e.line.answer ≡ Answer.Waiting way → Of (Apart h e.step.party) (waiting cells h e.step.party) → Of (Apart (e ∷ h) e.step.party) (attempt cells h e.step)
       now h e way l is t =
           each_of (Apart h e.step.party) (Apart (e ∷ h) e.step.party)
           (λ a f i. let none : _ = f i in let less : _ = waiting_fewer e.step.party h e.step.party (is_exit e.step.act) a.cell (sections h) in rw is (omega (arith, none, less)))
@@ -133,7 +131,7 @@ module _ (cells : List CellPlan) where
       by false i = refl
 
   -- and an Again is not answered so
-  pub again-not-cyclic : (h : List Event) (s : Step) (l : Line) → IsLegal cells h → IsLegalLine cells h s l → s.act ≡ act.Again → l.answer ≢ answer.Cyclic
+  pub again-not-cyclic : (h : List Event) (s : Step) (l : Line) → IsLegal cells h → IsLegalLine cells h s l → s.act ≡ Act.Again → l.answer ≢ Answer.Cyclic
   again-not-cyclic h s l legal k a e = apart (sym (ap is_cyclic e) ∙ cyclic_where_own cells h s l k ∙ none (wait_of s.party (waits cells h)) refl)
     where
       none : (o : Option Wait) → wait_of s.party (waits cells h) ≡ o → is_cyclic_step cells h s ≡ false

@@ -1,11 +1,9 @@
 -- A generator of a cell succeeds at most once.
-use Rattle.schedule_rules.proofs.Words.{ℕ, ◌≡◌, List, true, Bool, false, refl, Some, ◌∷◌, ◌∙◌, ap, [], sym, arith, subst, None, ◌&&◌, ◌<◌, ◌⊎◌, inr, inl, ◌+◌, cond, ◌≤◌}
-use Rattle.schedule_rules.proofs.Words.{◌||◌, ◌==◌, has, initialized, Answer, CellPlan, Act, cell_at, tolerance_at, flags_kept, Content, effect, Change, Ran, Deed}
-use Rattle.schedule_rules.proofs.Words.{EndsToRead, Visits, Ends, Makes, EndsToWrite, DropsToRead, Drops, Finishes, Lends, Event, deed_of, count, Section, sections}
-use Rattle.schedule_rules.proofs.Words.{innermost, is_turn, runs_in, Guard, guards, numbered, phase_at, replay, back_of_section, back_by, write_holds, writes_cell}
-use Rattle.schedule_rules.proofs.Words.{IsLegal, lends_at, runs_to_lend, is_failed, is_success, is_lent_at, successes}
-use Rattle.schedule_rules.proofs.Words.act
-use Rattle.schedule_rules.proofs.Words.answer
+use Rattle.schedule_rules.proofs.Words.{ℕ, ◌≡◌, true, List, false, Bool, refl, Some, ◌∷◌, ◌∙◌, ap, [], sym, arith, subst, None, ◌&&◌, ◌⊎◌, ◌<◌, inl, inr, ◌+◌, cond, ◌≤◌, ◌||◌}
+use Rattle.schedule_rules.proofs.Words.{◌==◌, has, initialized, Answer, CellPlan, Act, cell_at, tolerance_at, flags_kept, Content, effect, Change, Ran, Deed, Ends, EndsToRead}
+use Rattle.schedule_rules.proofs.Words.{Visits, Makes, Drops, Finishes, DropsToRead, EndsToWrite, Lends, Event, deed_of, count, Section, sections, innermost, is_turn, runs_in}
+use Rattle.schedule_rules.proofs.Words.{Guard, guards, numbered, phase_at, replay, back_of_section, back_by, write_holds, writes_cell, IsLegal, lends_at, runs_to_lend, is_failed}
+use Rattle.schedule_rules.proofs.Words.{is_lent_at, successes, is_success}
 use Rattle.schedule_rules.proofs.Exclusion.{alone}
 use Rattle.schedule_rules.proofs.Found.{found_counts, each_found}
 use Rattle.schedule_rules.proofs.Leaves.{back_here, left_at, guards_left, GivenAt, Writing, writing, GivesOf, moves}
@@ -113,10 +111,10 @@ module _ (cells : List CellPlan) (c : ℕ) where
             ∙ subst (λ y. has (effect (cell_at cells y) chs (replay cells y h)).phase initialized ≡ true) at (first _ _ (t.leaves fine))
 
     at_once : (a : Act) (r : Answer) → Both cells h p a r (deed_of h (step cells h p a) r) → is_lent_at c a r ≡ true → runs_to_lend cells h a ≡ true → Makes_one (deed_of h (step cells h p a) r)
-    at_once a (answer.Value v) = by a
+    at_once a (Answer.Value v) = by a
       where
-        by : (a : Act) → Both cells h p a (answer.Value v) (deed_of h (step cells h p a) (answer.Value v)) → lends_at c a ≡ true → runs_to_lend cells h a ≡ true → Makes_one (deed_of h (step cells h p a) (answer.Value v))
-        by (act.GetMut z made left) b same e = lent_here z _ (act.GetMut z made left) (answer.Value v) b.0 b.1 same e refl
+        by : (a : Act) → Both cells h p a (Answer.Value v) (deed_of h (step cells h p a) (Answer.Value v)) → lends_at c a ≡ true → runs_to_lend cells h a ≡ true → Makes_one (deed_of h (step cells h p a) (Answer.Value v))
+        by (Act.GetMut z made left) b same e = lent_here z _ (Act.GetMut z made left) (Answer.Value v) b.0 b.1 same e refl
         by _ b same e = absurd (apart (sym e))
     at_once a _ = λ b same e. absurd (apart (sym same))
 

@@ -1,15 +1,10 @@
 -- A schedule of cells that do not park has at most one legal transcript.
-use Rattle.schedule_rules.proofs.Words.{ℕ, ◌≡◌, List, true, Bool, false, refl, Some, ◌∷◌, ◌∙◌, ap, [], sym, arith, subst, None, not, ◌&&◌, ◌<◌, length, get_or_past}
-use Rattle.schedule_rules.proofs.Words.{same_lists, if◌then◌else◌, nat_lt, Option, first_of, LockNature, Given, How, Answer, Line, Refusal, CellPlan, Place, Act, Step}
-use Rattle.schedule_rules.proofs.Words.{Want, Calls, cell_at, tolerance_of, is_parking, no_cell, is_fast, lock_wanted, initializes, Event, registry, ended_turns, waits}
-use Rattle.schedule_rules.proofs.Words.{Wait, wait_of, attempt, attempt_of_turn, Attempt, attempt_of_wait, cell_concerned, other_waits, is_barred, refusal, answer_barred}
-use Rattle.schedule_rules.proofs.Words.{answer_admitted, way_parked, drains_by, answer_of_attempt, Meeting, due_answer, due_tried, meeting, may_give_on, may_give_first}
-use Rattle.schedule_rules.proofs.Words.{is_nobody, may_give_last, IsLegal, IsLegalLine, answer_of, due_at, Moment, Last, First, may_give, IsLegalTranscript, told}
-use Rattle.schedule_rules.proofs.Words.{Schedule, Account, final_of, AreFinals, NoneParks}
-use Rattle.schedule_rules.proofs.Words.answer
-use Rattle.schedule_rules.proofs.Words.given
-use Rattle.schedule_rules.proofs.Words.place
-use Rattle.schedule_rules.proofs.Words.act
+use Rattle.schedule_rules.proofs.Words.{ℕ, ◌≡◌, true, List, false, Bool, refl, Some, ◌∷◌, ◌∙◌, ap, [], sym, arith, subst, None, not, ◌&&◌, ◌<◌, length, get_or_past, same_lists}
+use Rattle.schedule_rules.proofs.Words.{if◌then◌else◌, nat_lt, Option, first_of, LockNature, Given, How, Answer, Line, Refusal, CellPlan, Place, Act, Step, Want, Calls, cell_at}
+use Rattle.schedule_rules.proofs.Words.{tolerance_of, is_parking, no_cell, is_fast, initializes, lock_wanted, Event, registry, ended_turns, waits, Wait, wait_of, attempt}
+use Rattle.schedule_rules.proofs.Words.{attempt_of_turn, Attempt, attempt_of_wait, cell_concerned, other_waits, is_barred, refusal, answer_barred, answer_admitted, drains_by}
+use Rattle.schedule_rules.proofs.Words.{way_parked, answer_of_attempt, Meeting, due_answer, due_tried, meeting, may_give_last, is_nobody, may_give_first, may_give_on, IsLegal}
+use Rattle.schedule_rules.proofs.Words.{IsLegalLine, answer_of, due_at, Moment, may_give, First, Last, Schedule, Account, IsLegalTranscript, told, AreFinals, final_of, NoneParks}
 use Rattle.std.proofs.lemmas.Option.{get_or_from_slice_get}
 use Rattle.schedule_rules.specs.declared.transcript.Final.{Final}
 
@@ -30,14 +25,14 @@ line_by_answer a b g k e f = ap (λ x. line x g) e ∙ ap (λ x. line b x) f
 -- at a place where no call parks, a barred call is answered in one way
 one_way : (fast : Bool) (p : Place) (v w : How) → is_parking p ≡ false → answer_barred fast p v ≡ answer_barred fast p w
 one_way true p v w e = refl
-one_way false place.Spin v w e = refl
-one_way false (place.Own q) v w e = refl
-one_way false place.Park v w e = absurd (cc)
+one_way false Place.Spin v w e = refl
+one_way false (Place.Own q) v w e = refl
+one_way false Place.Park v w e = absurd (cc)
 
 -- so an attempt there has one answer
 one_answer : (x : CellPlan) (w : Want) (m : Meeting) (b d : Bool) → is_parking x.place ≡ false → answer_of_attempt x w m b ≡ answer_of_attempt x w m d
 one_answer x w m b d e =
-    ap (λ (y : Answer). if initializes x.kind w && m.own_run then answer.Cyclic else if not m.kept && is_barred n m.holding then y else answer_admitted x.kind (tolerance_of x) m.cell m.is_open w m.content)
+    ap (λ (y : Answer). if initializes x.kind w && m.own_run then Answer.Cyclic else if not m.kept && is_barred n m.holding then y else answer_admitted x.kind (tolerance_of x) m.cell m.is_open w m.content)
     (one_way (is_fast w) x.place (way_parked x.kind w (drains_by n m.holding b)) (way_parked x.kind w (drains_by n m.holding d)) e)
   where
     n : LockNature
@@ -63,9 +58,9 @@ module _ (cells : List CellPlan) (spins : NoneParks cells) where
         one_answer (cell_at cells a.cell) a.want (meeting cells h p a ws) b d (never_parks a.cell)
 
     due_alike : (p : ℕ) (a : Act) (ws : List Wait) (b d : Bool) → due_answer cells h (record { party = p; act = a }) ws b ≡ due_answer cells h (record { party = p; act = a }) ws d
-    due_alike p (act.Call c k) ws b d = tried_alike p (Some (record { cell = c; want = Calls k })) ws b d
-    due_alike p act.Again ws b d = tried_alike p (attempt_of_wait (wait_of p (waits cells h))) ws b d
-    due_alike p act.Exit ws b d = tried_alike p (attempt_of_turn (first_of (registry cells h).left)) ws b d
+    due_alike p (Act.Call c k) ws b d = tried_alike p (Some (record { cell = c; want = Calls k })) ws b d
+    due_alike p Act.Again ws b d = tried_alike p (attempt_of_wait (wait_of p (waits cells h))) ws b d
+    due_alike p Act.Exit ws b d = tried_alike p (attempt_of_turn (first_of (registry cells h).left)) ws b d
     due_alike p _ ws b d = refl
 
     -- nothing may be given at the first moment
@@ -78,22 +73,22 @@ module _ (cells : List CellPlan) (spins : NoneParks cells) where
     never_on None a g = refl
     never_on (Some c) a g = rw (never_parks c) refl
 
-    nothing_last : (a : Answer) (g : Given) → may_give_last cells h s a g ≡ true → g ≡ given.Nobody
-    nothing_last a given.Nobody d = refl
-    nothing_last a given.Readers d = absurd (apart (sym (never_on (cell_concerned cells h s) a given.Readers) ∙ d))
-    nothing_last a (given.Writer q) d = absurd (apart (sym (never_on (cell_concerned cells h s) a (given.Writer q)) ∙ d))
+    nothing_last : (a : Answer) (g : Given) → may_give_last cells h s a g ≡ true → g ≡ Given.Nobody
+    nothing_last a Given.Nobody d = refl
+    nothing_last a Given.Readers d = absurd (apart (sym (never_on (cell_concerned cells h s) a Given.Readers) ∙ d))
+    nothing_last a (Given.Writer q) d = absurd (apart (sym (never_on (cell_concerned cells h s) a (Given.Writer q)) ∙ d))
 
-    nobody : (g : Given) → is_nobody g ≡ true → g ≡ given.Nobody
-    nobody given.Nobody d = refl
-    nobody given.Readers d = absurd (cc)
-    nobody (given.Writer q) d = absurd (cc)
+    nobody : (g : Given) → is_nobody g ≡ true → g ≡ Given.Nobody
+    nobody Given.Nobody d = refl
+    nobody Given.Readers d = absurd (cc)
+    nobody (Given.Writer q) d = absurd (cc)
 
     -- a legal line gives nothing, and its answer is the due one
-    just_one : (l : Line) → IsLegalLine cells h s l → (l.answer ≡ answer_of (refusal cells h s) (due_answer cells h s (other_waits cells h s) false)) × (l.given ≡ given.Nobody)
+    just_one : (l : Line) → IsLegalLine cells h s l → (l.answer ≡ answer_of (refusal cells h s) (due_answer cells h s (other_waits cells h s) false)) × (l.given ≡ Given.Nobody)
     just_one l k = by (refusal cells h s) k.moment k.answered k.gave
       where
         by : (o : Option Refusal) (m : Moment) → l.answer ≡ answer_of o (due_at cells m h s l.given k.chosen) → may_give cells o m h s l ≡ true
-            → (l.answer ≡ answer_of o (due_answer cells h s (other_waits cells h s) false)) × (l.given ≡ given.Nobody)
+            → (l.answer ≡ answer_of o (due_answer cells h s (other_waits cells h s) false)) × (l.given ≡ Given.Nobody)
         by (Some r) m e d = (e, nobody l.given d)
         by None First e d = absurd (apart (sym (never_first (attempt cells h s) l.given) ∙ d))
         by None Last e d = (e ∙ due_alike s.party s.act (other_waits cells h s) k.chosen false, nothing_last l.answer l.given d)

@@ -1,13 +1,11 @@
 -- What holds of each open guard: what happened in its section, that it bears the number of an earlier step, and that no
 -- section of a cell is open while a guard reads it.
-use Rattle.schedule_rules.proofs.Words.{ℕ, ◌≡◌, List, true, Bool, false, refl, Some, ◌∷◌, ◌∙◌, ap, [], sym, arith, None, ◌<◌, length, ◌++◌, and_or_apart, and_assoc}
-use Rattle.schedule_rules.proofs.Words.{bit_and, AllByRecursion, ◌==◌, if◌then◌else◌, is_some, ◌^◌, ◌-◌, Option, has, Given, registration, final_outcome, is_finalizable}
-use Rattle.schedule_rules.proofs.Words.{CellPlan, Act, Step, tolerance_of, flags_kept, Content, effect, Change, Ran, Asked, Put, Ended, is_declined, RanIfAsked, Deed}
-use Rattle.schedule_rules.proofs.Words.{EndsToRead, Visits, EndsToWrite, DropsToRead, Drops, Holds, Beside, Puts, deed_read, Event, deed_of, act_by, Section, sections}
-use Rattle.schedule_rules.proofs.Words.{innermost, Guard, guards, numbered, without_guard, guards_by, writer_made, reader_made, reader_beside, reader, waits}
-use Rattle.schedule_rules.proofs.Words.{cell_concerned, cell_concerned_with, cell_of_section, cell_of_guard, write_holds, read_guards, reads_cell, turns_to_read, IsLegal}
-use Rattle.schedule_rules.proofs.Words.{read_at}
-use Rattle.schedule_rules.proofs.Words.act
+use Rattle.schedule_rules.proofs.Words.{ℕ, ◌≡◌, true, List, false, Bool, refl, Some, ◌∷◌, ◌∙◌, ap, [], sym, arith, None, ◌<◌, length, ◌++◌, and_or_apart, and_assoc, bit_and}
+use Rattle.schedule_rules.proofs.Words.{AllByRecursion, ◌==◌, if◌then◌else◌, is_some, ◌-◌, ◌^◌, Option, has, Given, registration, final_outcome, is_finalizable, CellPlan, Act}
+use Rattle.schedule_rules.proofs.Words.{Step, tolerance_of, flags_kept, Content, effect, Change, Ran, Put, Asked, is_declined, Ended, RanIfAsked, Deed, EndsToRead, Visits, Drops}
+use Rattle.schedule_rules.proofs.Words.{DropsToRead, EndsToWrite, Holds, Puts, Beside, deed_read, Event, deed_of, act_by, Section, sections, innermost, Guard, guards, numbered}
+use Rattle.schedule_rules.proofs.Words.{without_guard, guards_by, reader_beside, reader_made, writer_made, reader, waits, cell_concerned, cell_concerned_with, cell_of_section}
+use Rattle.schedule_rules.proofs.Words.{cell_of_guard, write_holds, read_guards, reads_cell, turns_to_read, IsLegal, read_at}
 use Rattle.schedule_rules.proofs.Opened.{put}
 use Rattle.schedule_rules.proofs.Found.{each_removed, each_put, each_mapped, each_found, found_counts, found_passes}
 use Rattle.schedule_rules.proofs.Facts.{apart, same_number}
@@ -173,13 +171,13 @@ module _ (h : List Event) (s : Step) (i : Given) (c : ℕ) where
       cell : (x y : ℕ) → Some x ≡ Some y → x ≡ y
       cell x y e = cc
 
-      made : (v : ℕ) (o : Option Section) → s.act ≡ act.Made v → innermost s.party (sections h) ≡ o → cell_of_section o ≡ Some c
+      made : (v : ℕ) (o : Option Section) → s.act ≡ Act.Made v → innermost s.party (sections h) ≡ o → cell_of_section o ≡ Some c
           → AllByRecursion (Reads (length h) c) (guards (read_at s i ∷ h)) × (numbered (length h) (guards (read_at s i ∷ h)) ≡ Some (reader (length h) s.party c))
       made v None d f n = absurd (cc)
       made v (Some t) d f n =
           now (guards h) (ap (λ b. guards_by (length h) s.party (deed_read (act_by b s.party h)) (sections h) (guards h)) d ∙ ap (λ o. reader_made (length h) s.party o (guards h)) f ∙ ap (λ z. reader (length h) s.party z ∷ guards h) (cell t.cell c n)) (older h)
 
-      dropped : (g : ℕ) (o : Option Guard) → s.act ≡ act.Downgrade g → numbered g (guards h) ≡ o → cell_of_guard o ≡ Some c
+      dropped : (g : ℕ) (o : Option Guard) → s.act ≡ Act.Downgrade g → numbered g (guards h) ≡ o → cell_of_guard o ≡ Some c
           → AllByRecursion (Reads (length h) c) (guards (read_at s i ∷ h)) × (numbered (length h) (guards (read_at s i ∷ h)) ≡ Some (reader (length h) s.party c))
       dropped g None d f n = absurd (cc)
       dropped g (Some x) d f n =
@@ -189,8 +187,8 @@ module _ (h : List Event) (s : Step) (i : Given) (c : ℕ) where
 
       by : (a : Act) → s.act ≡ a → turns_to_read a ≡ true → cell_concerned_with cells (waits cells h) h s.party a ≡ Some c
           → AllByRecursion (Reads (length h) c) (guards (read_at s i ∷ h)) × (numbered (length h) (guards (read_at s i ∷ h)) ≡ Some (reader (length h) s.party c))
-      by (act.Made v) d t n = made v (innermost s.party (sections h)) d refl n
-      by (act.Downgrade g) d t n = dropped g (numbered g (guards h)) d refl n
+      by (Act.Made v) d t n = made v (innermost s.party (sections h)) d refl n
+      by (Act.Downgrade g) d t n = dropped g (numbered g (guards h)) d refl n
       by _ d t n = absurd (cc)
 
   -- the guard that a downgrade opens

@@ -1,10 +1,8 @@
 -- A phase that has INITIALIZED changes only where a finalizer of its cell ends, and of a plain cell the value stays.
-use Rattle.schedule_rules.proofs.Words.{ℕ, ◌≡◌, List, true, Bool, false, refl, Some, ◌∷◌, ◌∙◌, ap, [], sym, arith, subst, ◌⊎◌, inr, inl, ◌≢◌, ◌++◌, All, All-tail}
-use Rattle.schedule_rules.proofs.Words.{All-head, ◌==◌, if◌then◌else◌, Option, has, initialized, is_plain, is_hard, Kind, Answer, CellPlan, Act, cell_at, tolerance_at}
-use Rattle.schedule_rules.proofs.Words.{Content, effect, Change, Ran, Asked, Put, Ended, RanIfAsked, Deed, EndsToRead, Visits, Ends, Makes, DropsToRead, Drops, Finishes}
-use Rattle.schedule_rules.proofs.Words.{Lends, Event, accepts, deed_of, sections, innermost, Guard, guards, numbered, phase_at, replay, cell_of_section, IsLegal}
-use Rattle.schedule_rules.proofs.Words.{lends_at, IsEndedTurn}
-use Rattle.schedule_rules.proofs.Words.kind
+use Rattle.schedule_rules.proofs.Words.{ℕ, ◌≡◌, true, List, false, Bool, refl, Some, ◌∷◌, ◌∙◌, ap, [], sym, arith, subst, ◌⊎◌, inl, inr, ◌≢◌, ◌++◌, All, All-head, All-tail, ◌==◌}
+use Rattle.schedule_rules.proofs.Words.{if◌then◌else◌, Option, has, initialized, is_plain, is_hard, Kind, Answer, CellPlan, Act, cell_at, tolerance_at, Content, effect, Change}
+use Rattle.schedule_rules.proofs.Words.{Ran, Put, Asked, Ended, RanIfAsked, Deed, Ends, EndsToRead, Visits, Makes, Drops, Finishes, DropsToRead, Lends, Event, deed_of, accepts}
+use Rattle.schedule_rules.proofs.Words.{sections, innermost, Guard, guards, numbered, phase_at, replay, cell_of_section, IsLegal, lends_at, IsEndedTurn}
 use Rattle.schedule_rules.proofs.Exclusion.{alone}
 use Rattle.schedule_rules.proofs.Found.{each_found}
 use Rattle.schedule_rules.proofs.Cases.{Asking, Resting, AsksToLend, Reach}
@@ -27,8 +25,8 @@ puts_keep q (Ended fine left ∷ chs) y r = absurd r
 
 -- a plain kind is soft
 pub plain_soft : (q : Kind) → is_plain q ≡ true → is_hard q ≡ false
-plain_soft kind.Lazy e = refl
-plain_soft kind.LazyFinalize e = refl
+plain_soft Kind.Lazy e = refl
+plain_soft Kind.LazyFinalize e = refl
 plain_soft _ e = absurd (apart (sym e))
 
 module _ (cells : List CellPlan) (h : List Event) (p : ℕ) (legal : IsLegal cells h) where

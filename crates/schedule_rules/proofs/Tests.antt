@@ -1,15 +1,10 @@
 -- Tests of answers, and which answers of what is admitted pass them.
-use Rattle.schedule_rules.proofs.Words.{ℕ, ◌≡◌, List, true, Bool, false, refl, Some, ◌∙◌, ap, sym, None, not, ◌&&◌, ◌||◌, ◌==◌, if◌then◌else◌, is_none, Option, has}
-use Rattle.schedule_rules.proofs.Words.{initialized, Phase, LockNature, How, flags_refused, Tolerance, Call, Kind, Form, Shown, Told, Held, Answer, CellPlan, Place, Act}
-use Rattle.schedule_rules.proofs.Words.{Want, Calls, Turns, cell_at, tolerance_at, form_of, denies, is_accessible, runs_generator, asks, lock_wanted, Content}
-use Rattle.schedule_rules.proofs.Words.{asks_to_lend, content_of_run, content_to_lend, Event, accepts, is_turn, phase_at, replay, refusal, answer_barred, answer_admitted}
-use Rattle.schedule_rules.proofs.Words.{answer_lent, answer_at, answer_made_to_lend, turn_answer_admitted, is_waiting, is_cyclic, is_access, is_skipped, is_missed}
-use Rattle.schedule_rules.proofs.Words.{is_denied_to_lend, is_closing, is_running, is_round, is_borrowed, is_finalizing, want_denies, is_initializing}
-use Rattle.schedule_rules.proofs.Words.nature
-use Rattle.schedule_rules.proofs.Words.act
-use Rattle.schedule_rules.proofs.Words.answer
-use Rattle.schedule_rules.proofs.Words.call
-use Rattle.schedule_rules.proofs.Words.place
+use Rattle.schedule_rules.proofs.Words.{ℕ, ◌≡◌, true, List, false, Bool, refl, Some, ◌∙◌, ap, sym, None, not, ◌&&◌, ◌||◌, ◌==◌, if◌then◌else◌, is_none, Option, has, initialized}
+use Rattle.schedule_rules.proofs.Words.{Phase, LockNature, How, flags_refused, Tolerance, Call, Kind, Form, Shown, Told, Held, Answer, CellPlan, Place, Act, Want, Calls, Turns}
+use Rattle.schedule_rules.proofs.Words.{cell_at, tolerance_at, form_of, denies, is_accessible, runs_generator, asks, lock_wanted, Content, asks_to_lend, content_of_run}
+use Rattle.schedule_rules.proofs.Words.{content_to_lend, Event, accepts, is_turn, phase_at, replay, refusal, answer_barred, answer_admitted, answer_made_to_lend, answer_at}
+use Rattle.schedule_rules.proofs.Words.{answer_lent, turn_answer_admitted, is_waiting, is_cyclic, is_finalizing, is_borrowed, is_denied_to_lend, is_closing, is_skipped, is_round}
+use Rattle.schedule_rules.proofs.Words.{is_access, is_running, is_missed, want_denies, is_initializing}
 use Rattle.schedule_rules.proofs.Answered.{IsShown, IsTold, either, admitted}
 use Rattle.schedule_rules.proofs.Steps.{made_accessible, lendable}
 
@@ -17,21 +12,21 @@ use Rattle.schedule_rules.proofs.Steps.{made_accessible, lendable}
 -- may not be accessed, where the test is passed by that
 pub record IsOfTries (t : Answer → Bool) (denies : Bool) : Type 0 where
   pub shown : IsShown (λ a. t a ≡ false)
-  pub access : (p : Phase) → t (answer.Access p) ≡ denies
-  pub done : t answer.Done ≡ false
-  pub failed : t answer.Failed ≡ false
+  pub access : (p : Phase) → t (Answer.Access p) ≡ denies
+  pub done : t Answer.Done ≡ false
+  pub failed : t Answer.Failed ≡ false
 
 -- one that no answer passes of a step that is neither refused nor barred, nor begins a run, is told that it may not access the
 -- value, or is a turn
 pub record IsBeyond (t : Answer → Bool) : Type 0 where
   pub told : IsTold (λ a. t a ≡ false)
-  pub running : t answer.Running ≡ false
-  pub finalizing : (c : ℕ) → t (answer.Finalizing c) ≡ false
-  pub skipped : (c : ℕ) → t (answer.Skipped c) ≡ false
+  pub running : t Answer.Running ≡ false
+  pub finalizing : (c : ℕ) → t (Answer.Finalizing c) ≡ false
+  pub skipped : (c : ℕ) → t (Answer.Skipped c) ≡ false
 
 -- the answer says that the step is refused
 abbrev pub is_refused : Answer → Bool
-is_refused (answer.Refused r) = true
+is_refused (Answer.Refused r) = true
 is_refused _ = false
 
 pub of_running : IsOfTries is_running false
@@ -146,13 +141,13 @@ module _ (q : Kind) (t : Tolerance) (c : ℕ) (o : Bool) (y : Content) where
       shows (Held writes true) false z = refl
       shows (Held writes false) false z = refl
 
-      by : (b g : Bool) → is_running (if b && g then answer.Running else answer_at (form_of q k) (is_accessible q (content b g).phase) (content b g)) ≡ (b && g)
+      by : (b g : Bool) → is_running (if b && g then Answer.Running else answer_at (form_of q k) (is_accessible q (content b g).phase) (content b g)) ≡ (b && g)
       by true true = refl
       by true false = shows (form_of q k) false (content true false)
       by false g = shows (form_of q k) (is_accessible q y.phase) y
   admitted_runs Turns = by (has y.phase initialized)
     where
-      by : (b : Bool) → is_running (turn_answer_admitted (if b then nature.Write else nature.None) c) ≡ false
+      by : (b : Bool) → is_running (turn_answer_admitted (if b then LockNature.Write else LockNature.None) c) ≡ false
       by true = refl
       by false = refl
 
@@ -162,14 +157,14 @@ module _ (q : Kind) (t : Tolerance) (c : ℕ) (o : Bool) (y : Content) where
       ≡ (not (asks q t w y.phase && runs_generator q t o y.phase) && (want_denies q w && not (is_accessible q (if asks q t w y.phase then flags_refused else y.phase))))
   admitted_away (Calls k) = by (asks q t (Calls k) y.phase) (runs_generator q t o y.phase)
     where
-      by : (b g : Bool) → is_access (if b && g then answer.Running else answer_at (form_of q k) (is_accessible q (content b g).phase) (content b g))
+      by : (b g : Bool) → is_access (if b && g then Answer.Running else answer_at (form_of q k) (is_accessible q (content b g).phase) (content b g))
           ≡ (not (b && g) && (denies (form_of q k) && not (is_accessible q (if b then flags_refused else y.phase))))
       by true true = refl
       by true false = at_denies (form_of q k) false (content true false)
       by false g = at_denies (form_of q k) (is_accessible q y.phase) y
   admitted_away Turns = by (has y.phase initialized)
     where
-      by : (b : Bool) → is_access (turn_answer_admitted (if b then nature.Write else nature.None) c) ≡ false
+      by : (b : Bool) → is_access (turn_answer_admitted (if b then LockNature.Write else LockNature.None) c) ≡ false
       by true = refl
       by false = refl
 
@@ -178,7 +173,7 @@ module _ (q : Kind) (t : Tolerance) (c : ℕ) (o : Bool) (y : Content) where
   admitted_finalizes d (Calls k) = admitted (λ a. is_finalizing d a ≡ false) (record { shown = (of_finalizing d).shown; access = λ p. refl; err_guard = refl }) refl q t o k y
   admitted_finalizes d Turns = by (has y.phase initialized)
     where
-      by : (b : Bool) → is_finalizing d (turn_answer_admitted (if b then nature.Write else nature.None) c) ≡ ((c == d) && b)
+      by : (b : Bool) → is_finalizing d (turn_answer_admitted (if b then LockNature.Write else LockNature.None) c) ≡ ((c == d) && b)
       by true = same_both (c == d)
       by false = sym (no_more (c == d))
 
@@ -187,7 +182,7 @@ module _ (q : Kind) (t : Tolerance) (c : ℕ) (o : Bool) (y : Content) where
   admitted_skips d (Calls k) = admitted (λ a. is_skipped d a ≡ false) (record { shown = (of_skipped d).shown; access = λ p. refl; err_guard = refl }) refl q t o k y
   admitted_skips d Turns = by (has y.phase initialized)
     where
-      by : (b : Bool) → is_skipped d (turn_answer_admitted (if b then nature.Write else nature.None) c) ≡ ((c == d) && not b)
+      by : (b : Bool) → is_skipped d (turn_answer_admitted (if b then LockNature.Write else LockNature.None) c) ≡ ((c == d) && not b)
       by true = sym (no_more (c == d))
       by false = same_both (c == d)
 
@@ -197,52 +192,52 @@ module _ (q : Kind) (t : Tolerance) (c : ℕ) (o : Bool) (y : Content) where
   admitted_fails f is Turns = by (lock_wanted q t Turns y.phase)
     where
       by : (n : LockNature) → f (turn_answer_admitted n c) ≡ false
-      by nature.None = is.skipped c
-      by nature.Read = is.finalizing c
-      by nature.Write = is.finalizing c
+      by LockNature.None = is.skipped c
+      by LockNature.Read = is.finalizing c
+      by LockNature.Write = is.finalizing c
 
 -- a test that fails on what is barred
 pub record FailsBarred (t : Answer → Bool) : Type 0 where
-  pub missed : t answer.Missed ≡ false
-  pub borrowed : t answer.Borrowed ≡ false
-  pub waiting : (w : How) → t (answer.Waiting w) ≡ false
+  pub missed : t Answer.Missed ≡ false
+  pub borrowed : t Answer.Borrowed ≡ false
+  pub waiting : (w : How) → t (Answer.Waiting w) ≡ false
 
 pub fails_barred : (t : Answer → Bool) → FailsBarred t → (fast : Bool) (x : Place) (w : How) → t (answer_barred fast x w) ≡ false
 fails_barred t k true x w = k.missed
-fails_barred t k false place.Park w = k.waiting _
-fails_barred t k false place.Spin w = k.waiting _
-fails_barred t k false (place.Own p) w = k.borrowed
+fails_barred t k false Place.Park w = k.waiting _
+fails_barred t k false Place.Spin w = k.waiting _
+fails_barred t k false (Place.Own p) w = k.borrowed
 
 -- a call that does not initialize asks for no run
 pub calls_not : (q : Kind) (t : Tolerance) (k : Call) (p : ℕ) → is_initializing k ≡ false → asks q t (Calls k) p ≡ false
-calls_not q t call.Phase p e = refl
-calls_not q t call.TryGet p e = refl
-calls_not q t call.TryRead p e = refl
-calls_not q t call.TryWrite p e = refl
-calls_not q t call.FastTryRead p e = refl
-calls_not q t call.FastTryWrite p e = refl
-calls_not q t call.PrimedReadNonInitializing p e = refl
-calls_not q t call.PrimedWriteNonInitializing p e = refl
+calls_not q t Call.Phase p e = refl
+calls_not q t Call.TryGet p e = refl
+calls_not q t Call.TryRead p e = refl
+calls_not q t Call.TryWrite p e = refl
+calls_not q t Call.FastTryRead p e = refl
+calls_not q t Call.FastTryWrite p e = refl
+calls_not q t Call.PrimedReadNonInitializing p e = refl
+calls_not q t Call.PrimedWriteNonInitializing p e = refl
 calls_not q t _ p e = absurd (cc)
 
 -- ---- a value that is lent
 
 -- the answer of a step that is to lend a value says that it may not be accessed
 abbrev pub is_unlent : List CellPlan → List Event → Act → Bool
-is_unlent cells h (act.GetMut c made left) = is_access (answer_made_to_lend (cell_at cells c).kind (tolerance_at cells c) (accepts h) made (replay cells c h))
-is_unlent cells h (act.TryGetMut c left) = is_access (answer_lent (cell_at cells c).kind (replay cells c h))
+is_unlent cells h (Act.GetMut c made left) = is_access (answer_made_to_lend (cell_at cells c).kind (tolerance_at cells c) (accepts h) made (replay cells c h))
+is_unlent cells h (Act.TryGetMut c left) = is_access (answer_lent (cell_at cells c).kind (replay cells c h))
 is_unlent cells h _ = false
 
 -- where it is not refused, exactly where that is so
 pub unlent_where_denied : (cells : List CellPlan) (h : List Event) (p : ℕ) (a : Act) → refusal cells h (record { party = p; act = a }) ≡ None → is_unlent cells h a ≡ is_denied_to_lend cells h a
-unlent_where_denied cells h p (act.TryGetMut c left) n = at_denies Shown (is_accessible (cell_at cells c).kind (phase_at cells c h)) (replay cells c h)
-unlent_where_denied cells h p (act.GetMut c made left) n = by (asks_to_lend q (tolerance_at cells c) (phase_at cells c h)) made
+unlent_where_denied cells h p (Act.TryGetMut c left) n = at_denies Shown (is_accessible (cell_at cells c).kind (phase_at cells c h)) (replay cells c h)
+unlent_where_denied cells h p (Act.GetMut c made left) n = by (asks_to_lend q (tolerance_at cells c) (phase_at cells c h)) made
   where
     q : Kind
     q = (cell_at cells c).kind
 
     by : (b : Bool) (m : Option ℕ)
-        → is_access (if b && is_none m then answer.Failed else answer_lent q (if b then content_of_run q (accepts h) m (replay cells c h) else replay cells c h)) ≡ (not b && not (is_accessible q (phase_at cells c h)))
+        → is_access (if b && is_none m then Answer.Failed else answer_lent q (if b then content_of_run q (accepts h) m (replay cells c h) else replay cells c h)) ≡ (not b && not (is_accessible q (phase_at cells c h)))
     by true None = refl
     by true (Some v) =
         ap (λ b. is_access (answer_at Shown b (content_of_run q (accepts h) (Some v) (replay cells c h)))) (made_accessible q (accepts h) (phase_at cells c h) (lendable cells h p c made left n).lends)
@@ -261,4 +256,4 @@ module _ (t : Answer → Bool) {denies : Bool} (is : IsOfTries t denies) where
   -- and of one that a run makes first, where it is asked
   pub makes : (q : Kind) (u : Tolerance) (o : Bool) (made : Option ℕ) (y : Content) → t (answer_made_to_lend q u o made y) ≡ (is_access (answer_made_to_lend q u o made y) && denies)
   makes q u o made y =
-      either (λ r. t r ≡ (is_access r && denies)) (asks_to_lend q u y.phase && is_none made) answer.Failed (answer_lent q (content_to_lend q u o made y)) is.failed (shows q (content_to_lend q u o made y))
+      either (λ r. t r ≡ (is_access r && denies)) (asks_to_lend q u y.phase && is_none made) Answer.Failed (answer_lent q (content_to_lend q u o made y)) is.failed (shows q (content_to_lend q u o made y))

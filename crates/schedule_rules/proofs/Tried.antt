@@ -1,13 +1,10 @@
 -- A legal line shows that its step tried to register a cell exactly where it did.
-use Rattle.schedule_rules.proofs.Words.{ℕ, ◌≡◌, List, true, Bool, false, refl, Some, ◌∷◌, ◌∙◌, ap, [], sym, subst, None, not, ◌&&◌, ◌⊎◌, inr, inl, ◌+◌, ◌≤◌, ◌||◌, ◌==◌}
-use Rattle.schedule_rules.proofs.Words.{if◌then◌else◌, is_none, Option, first_of, is_known, How, flags_refused, Call, Form, Shown, Told, Held, Answer, Line, Refusal}
-use Rattle.schedule_rules.proofs.Words.{CellPlan, Place, Act, Step, Calls, Turns, cell_at, tries_registration, deed_waiting, deed_by, Event, accepts, is_exit, phase_at}
-use Rattle.schedule_rules.proofs.Words.{replay, registry, finishing, waits, Wait, attempt, attempt_of_turn, Attempt, attempt_with, refusal, answer_denied, answer_barred}
-use Rattle.schedule_rules.proofs.Words.{phase_made, due_answer, due_tried, due_attempt, IsLegal, IsLegalLine, answer_of, waits_judged, is_attempted, is_admitted}
-use Rattle.schedule_rules.proofs.Words.{asks_registration, registrations, tells_declined, tries_to_register}
-use Rattle.schedule_rules.proofs.Words.place
-use Rattle.schedule_rules.proofs.Words.act
-use Rattle.schedule_rules.proofs.Words.answer
+use Rattle.schedule_rules.proofs.Words.{ℕ, ◌≡◌, true, List, false, Bool, refl, Some, ◌∷◌, ◌∙◌, ap, [], sym, subst, None, not, ◌&&◌, ◌⊎◌, inl, inr, ◌+◌, ◌≤◌, ◌||◌, ◌==◌}
+use Rattle.schedule_rules.proofs.Words.{if◌then◌else◌, is_none, Option, first_of, is_known, How, flags_refused, Call, Form, Shown, Told, Held, Answer, Line, Refusal, CellPlan}
+use Rattle.schedule_rules.proofs.Words.{Place, Act, Step, Calls, Turns, cell_at, tries_registration, deed_waiting, deed_by, Event, accepts, is_exit, phase_at, replay, registry}
+use Rattle.schedule_rules.proofs.Words.{finishing, waits, Wait, attempt, attempt_of_turn, Attempt, attempt_with, refusal, answer_denied, answer_barred, phase_made, due_answer}
+use Rattle.schedule_rules.proofs.Words.{due_tried, due_attempt, IsLegal, IsLegalLine, answer_of, waits_judged, is_attempted, is_admitted, asks_registration, tells_declined}
+use Rattle.schedule_rules.proofs.Words.{registrations, tries_to_register}
 use Rattle.schedule_rules.proofs.Registrations.{asks_so, deed_registers, shows_registration, registrations_shown, tries-unknown, registered-once}
 use Rattle.schedule_rules.proofs.Answered.{due_at-judged, IsShown, IsTold, opened, denied, made_so}
 use Rattle.schedule_rules.proofs.Cases.{step, Calling, Resting, form_at, Cases}
@@ -19,18 +16,18 @@ use Rattle.schedule_rules.proofs.Registering.{known-by-trying}
 
 -- a step that is answered so was refused, or turned back or put off
 abbrev is_back : Answer → Bool
-is_back answer.Cyclic = true
-is_back answer.Borrowed = true
-is_back answer.Missed = true
-is_back (answer.Waiting way) = true
-is_back (answer.Refused q) = true
+is_back Answer.Cyclic = true
+is_back Answer.Borrowed = true
+is_back Answer.Missed = true
+is_back (Answer.Waiting way) = true
+is_back (Answer.Refused q) = true
 is_back _ = false
 
 barred_back : (fast : Bool) (x : Place) (w : How) → is_back (answer_barred fast x w) ≡ true
 barred_back true x w = refl
-barred_back false place.Park w = refl
-barred_back false place.Spin w = refl
-barred_back false (place.Own p) w = refl
+barred_back false Place.Park w = refl
+barred_back false Place.Spin w = refl
+barred_back false (Place.Own p) w = refl
 
 beyond_back : IsBeyond is_back
 beyond_back = record {
@@ -49,7 +46,7 @@ module _ (cells : List CellPlan) (c : ℕ) where
     -- what is known of the deed of a step that is answered so, where this is asked
     record Shows (r : Answer) (registers asks : Bool) : Type 0 where
       pub same : registers ≡ (not (is_back r) && asks)
-      pub answers : registers ≡ true → (r ≡ answer.Running) ⊎ (tells_declined r ≡ true)
+      pub answers : registers ≡ true → (r ≡ Answer.Running) ⊎ (tells_declined r ≡ true)
 
     -- that of a step of the party
     abbrev Tried : Act → Answer → Type 0
@@ -60,7 +57,7 @@ module _ (cells : List CellPlan) (c : ℕ) where
     asks_of d j = asks_so cells c h (Some (record { cell = d; want = Calls j }))
 
     abbrev Called : Act → ℕ → Call → Answer → Type 0
-    Called a d j r = Shows r (deed_registers cells c h (deed_by (accepts h) (is_exit a) (act.Call d j) r)) (asks_of d j)
+    Called a d j r = Shows r (deed_registers cells c h (deed_by (accepts h) (is_exit a) (Act.Call d j) r)) (asks_of d j)
 
     called : (a : Act) (d : ℕ) (j : Call) (r : Answer) → Calling cells h p a d j → Called a d j r → Tried a r
     called a d j r t k =
@@ -72,7 +69,7 @@ module _ (cells : List CellPlan) (c : ℕ) where
       none : asks_of d j ≡ false
       none = ap (λ b. (d == c) && (b && tries_registration (cell_at cells d).kind (phase_at cells d h))) q.unasked ∙ sym (no_more (d == c))
 
-      never : {r : Answer} → asks_of d j ≡ true → (r ≡ answer.Running) ⊎ (tells_declined r ≡ true)
+      never : {r : Answer} → asks_of d j ≡ true → (r ≡ Answer.Running) ⊎ (tells_declined r ≡ true)
       never e = absurd (apart (sym e ∙ none))
 
       rests : IsTold (Called a d j)
@@ -107,7 +104,7 @@ module _ (cells : List CellPlan) (c : ℕ) where
     looked : (cs : List ℕ) → cs ≡ [] → false ≡ asks_so cells c h (attempt_of_turn (first_of cs))
     looked cs e = ap (λ x. asks_so cells c h (attempt_of_turn (first_of x))) (sym e)
 
-    made : (v : ℕ) → IsShown (Tried (act.Made v))
+    made : (v : ℕ) → IsShown (Tried (Act.Made v))
     made v = record {
       phase = λ x. record { same = refl; answers = λ e. absurd (cc) };
       value = λ w. record { same = refl; answers = λ e. absurd (cc) };
@@ -115,7 +112,7 @@ module _ (cells : List CellPlan) (c : ℕ) where
       write_guard = record { same = refl; answers = λ e. absurd (cc) };
     }
 
-    finished : (fine : Bool) (left : Option ℕ) (q : _) → Tried (finishing fine left) (answer.Phase q)
+    finished : (fine : Bool) (left : Option ℕ) (q : _) → Tried (finishing fine left) (Answer.Phase q)
     finished true left q = record { same = refl; answers = λ e. absurd (cc) }
     finished false left q = record { same = refl; answers = λ e. absurd (cc) }
 
@@ -127,13 +124,13 @@ module _ (cells : List CellPlan) (c : ℕ) where
       owned = λ a d w o t. record { same = refl; answers = λ e. absurd (cc) };
       opened = λ a d j t q e. called a d j _ t (opened (Called a d j) (rests a d j q).shown (form_at cells h p d j) (replay cells d h));
       denied = λ a d j t q e. called a d j _ t (denied (Called a d j) (rests a d j q) (form_at cells h p d j) (phase_at cells d h));
-      running = λ a d j t q. called a d j answer.Running t (record { same = refl; answers = λ e. inl refl });
+      running = λ a d j t q. called a d j Answer.Running t (record { same = refl; answers = λ e. inl refl });
       declined = λ a d j t q. called a d j _ t (declines a d j (form_at cells h p d j));
       skipped = λ a d t q. record { same = turned _ d t.tried; answers = λ e. absurd (cc) };
       finalizing = λ a d t q u. record { same = turned _ d t.tried; answers = λ e. absurd (cc) };
       round = λ d ds e n. record { same = looked _ n; answers = λ f. absurd (cc) };
       closed = λ e n. record { same = looked _ n; answers = λ f. absurd (cc) };
-      made = λ v t j g. made_so (Tried (act.Made v)) (made v) (form_at cells h p t.cell j) v (phase_made cells h t);
+      made = λ v t j g. made_so (Tried (Act.Made v)) (made v) (form_at cells h p t.cell j) v (phase_made cells h t);
       failed = λ t j g. record { same = refl; answers = λ e. absurd (cc) };
       finished = λ fine left t g. finished fine left _;
       looked = λ g x f. record { same = refl; answers = λ e. absurd (cc) };
@@ -159,9 +156,9 @@ module _ (cells : List CellPlan) (c : ℕ) where
 
     -- what is due for a step that attempts this
     due_of : (a : Act) (x : Attempt) → attempt_with cells (waits cells h) h s.party a ≡ Some x → due_answer cells h (record { party = s.party; act = a }) ws k.chosen ≡ due_attempt cells h s.party x ws k.chosen
-    due_of (act.Call d j) x e = ap (λ o. due_tried cells h s.party o ws k.chosen) e
-    due_of act.Again x e = ap (λ o. due_tried cells h s.party o ws k.chosen) e
-    due_of act.Exit x e = ap (λ o. due_tried cells h s.party o ws k.chosen) e
+    due_of (Act.Call d j) x e = ap (λ o. due_tried cells h s.party o ws k.chosen) e
+    due_of Act.Again x e = ap (λ o. due_tried cells h s.party o ws k.chosen) e
+    due_of Act.Exit x e = ap (λ o. due_tried cells h s.party o ws k.chosen) e
     due_of _ x e = absurd (cc)
 
     -- it is not put off exactly where it is admitted
@@ -186,7 +183,7 @@ module _ (cells : List CellPlan) (c : ℕ) where
     shown_where_tried = shows.same ∙ not_back
 
     -- a step that tries begins a run or is declined
-    pub tried-runs-or-declines : tries_to_register cells c h s l.given k.moment ≡ true → (l.answer ≡ answer.Running) ⊎ (tells_declined l.answer ≡ true)
+    pub tried-runs-or-declines : tries_to_register cells c h s l.given k.moment ≡ true → (l.answer ≡ Answer.Running) ⊎ (tells_declined l.answer ≡ true)
     tried-runs-or-declines e = shows.answers (shown_where_tried ∙ e)
 
   -- where the registry does not know the cell

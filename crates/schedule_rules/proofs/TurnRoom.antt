@@ -1,9 +1,8 @@
 -- The turns of a legal history are no more than its cells.
-use Rattle.schedule_rules.proofs.Words.{ℕ, ◌≡◌, List, true, Bool, false, refl, Some, ◌∷◌, ◌∙◌, ap, [], arith, ◌&&◌, ◌<◌, ◌+◌, length, cond, ◌≤◌, ◌++◌, All, get_or_past}
-use Rattle.schedule_rules.proofs.Words.{length-append, length-map, All-nil, All-cons, ◌==◌, if◌then◌else◌, cells_of_turns, first_of, is_known, rest_of, occurs, due}
-use Rattle.schedule_rules.proofs.Words.{CellPlan, Act, Step, Turns, Event, count, Section, sections, innermost, is_turn, registry, ended_turns, waits, Wait, wait_of}
-use Rattle.schedule_rules.proofs.Words.{attempt, attempt_with, IsLegal, is_attempted, turns_of, waits_to_turn, finalizes_in, turns_at_hand}
-use Rattle.schedule_rules.proofs.Words.act
+use Rattle.schedule_rules.proofs.Words.{ℕ, ◌≡◌, true, List, false, Bool, refl, Some, ◌∷◌, ◌∙◌, ap, [], arith, ◌&&◌, ◌<◌, ◌+◌, length, cond, ◌≤◌, ◌++◌, All, get_or_past, length-map}
+use Rattle.schedule_rules.proofs.Words.{length-append, All-cons, All-nil, ◌==◌, if◌then◌else◌, cells_of_turns, first_of, is_known, rest_of, occurs, due, CellPlan, Act, Step, Turns}
+use Rattle.schedule_rules.proofs.Words.{Event, count, Section, sections, innermost, is_turn, registry, ended_turns, waits, Wait, wait_of, attempt, attempt_with, IsLegal}
+use Rattle.schedule_rules.proofs.Words.{is_attempted, waits_to_turn, turns_of, finalizes_in, turns_at_hand}
 use Rattle.exit_registry.proofs.Exiting.{few_below}
 use Rattle.schedule_rules.proofs.Accepts.{known-length}
 use Rattle.schedule_rules.proofs.Counts.{occurs_joined, waits_so, first_so, begins}
@@ -128,7 +127,7 @@ module _ (cells : List CellPlan) (h : List Event) (legal : IsLegal cells h) wher
           omega (arith, few-turns, some)
 
       by : (a : Act) → attempt_with cells (waits cells h) h s.party a ≡ Some (record { cell = c; want = Turns }) → length (ended_turns h) < length cells
-      by act.Exit f = from_left (begins (registry cells h).left c (first_so (first_of (registry cells h).left) c f))
-      by act.Again f = from_wait (waits_so (wait_of s.party (waits cells h)) c Turns f)
-      by (act.Call d k) f = absurd (differ (ap (is_attempted (λ a. is_turn a.want)) f))
+      by Act.Exit f = from_left (begins (registry cells h).left c (first_so (first_of (registry cells h).left) c f))
+      by Act.Again f = from_wait (waits_so (wait_of s.party (waits cells h)) c Turns f)
+      by (Act.Call d k) f = absurd (differ (ap (is_attempted (λ a. is_turn a.want)) f))
       by _ f = absurd (differ (ap (is_attempted (λ a. is_turn a.want)) f))

@@ -1,15 +1,12 @@
 -- Each registered cell has one turn: to come, waiting, going on or ended.
-use Rattle.schedule_rules.proofs.Words.{ℕ, ◌≡◌, List, true, Bool, false, refl, Some, ◌∷◌, ◌∙◌, ap, [], sym, arith, subst, None, ◌&&◌, ◌<◌, ◌+◌, length, cond, ◌++◌}
-use Rattle.schedule_rules.proofs.Words.{get_or-set_other, get_or-set_same, ◌==◌, if◌then◌else◌, slice_index_or, slice_set, Option, phase_of, cells_of_turns, first_of}
-use Rattle.schedule_rules.proofs.Words.{is_known, rest_of, after_register, occurs, due, registered, Given, flags_refused, is_finalizable, Call, Answer, Refusal, CellPlan}
-use Rattle.schedule_rules.proofs.Words.{Act, Want, Calls, Turns, cell_at, is_owned, phase_finalized, tries_registration, is_fast, Deed, EndsToRead, Ends, Makes}
-use Rattle.schedule_rules.proofs.Words.{EndsToWrite, Opens, Finishes, Skips, deed_waiting, deed_by, Looks, Takes, Event, accepts, deed_of, count, is_exit, Section}
-use Rattle.schedule_rules.proofs.Words.{sections, innermost, is_turn, sections_by, without_innermost, phase_at, replay, registry, finishing, registry_by, registry_taken}
-use Rattle.schedule_rules.proofs.Words.{ended_turns, turn_of, turn_of_section, turns_by, waits, Wait, wait_of, attempt_with, without_wait, waits_given_with, with_wait}
-use Rattle.schedule_rules.proofs.Words.{refusal, refusal_waiting, phase_made, IsLegal, turns_of, waits_to_turn, finalizes_in}
-use Rattle.schedule_rules.proofs.Words.turn
-use Rattle.schedule_rules.proofs.Words.act
-use Rattle.schedule_rules.proofs.Words.answer
+use Rattle.schedule_rules.proofs.Words.{ℕ, ◌≡◌, true, List, false, Bool, refl, Some, ◌∷◌, ◌∙◌, ap, [], sym, arith, subst, None, ◌&&◌, ◌<◌, ◌+◌, length, cond, ◌++◌}
+use Rattle.schedule_rules.proofs.Words.{get_or-set_other, get_or-set_same, ◌==◌, if◌then◌else◌, slice_set, slice_index_or, Option, phase_of, cells_of_turns, first_of, is_known}
+use Rattle.schedule_rules.proofs.Words.{rest_of, after_register, occurs, registered, due, Turn, Given, flags_refused, is_finalizable, Call, Answer, Refusal, CellPlan, Act, Want}
+use Rattle.schedule_rules.proofs.Words.{Calls, Turns, cell_at, is_owned, phase_finalized, tries_registration, is_fast, Deed, Ends, EndsToRead, Makes, Finishes, EndsToWrite, Opens}
+use Rattle.schedule_rules.proofs.Words.{Skips, deed_waiting, deed_by, Looks, Takes, Event, deed_of, accepts, count, is_exit, Section, sections, innermost, is_turn, sections_by}
+use Rattle.schedule_rules.proofs.Words.{without_innermost, phase_at, replay, registry, finishing, registry_by, registry_taken, ended_turns, turns_by, turn_of, turn_of_section}
+use Rattle.schedule_rules.proofs.Words.{waits, Wait, wait_of, attempt_with, without_wait, waits_given_with, with_wait, refusal, refusal_waiting, phase_made, IsLegal, waits_to_turn}
+use Rattle.schedule_rules.proofs.Words.{turns_of, finalizes_in}
 use Rattle.schedule_rules.proofs.Exclusion.{alone}
 use Rattle.schedule_rules.proofs.Opened.{count_ended}
 use Rattle.schedule_rules.proofs.Cases.{step, IsCalling, IsTurning, Calling, Turning, Tries, Asking, form_at, Cases}
@@ -74,15 +71,15 @@ module _ (cells : List CellPlan) (c : ℕ) where
     called_count : (a : Act) (d : ℕ) (j : Call) → Calling cells h p a d j → IsAllowed a → count (waits_to_turn c) (others a) ≡ count (waits_to_turn c) (waits cells h)
     called_count a d j t f = by a t.acts t.tried f
       where
-        goes_on : (w : Wait) × (wait_of p (waits cells h) ≡ Some w) × (w.cell ≡ d) × (w.want ≡ Calls j) → count (waits_to_turn c) (others act.Again) ≡ count (waits_to_turn c) (waits cells h)
+        goes_on : (w : Wait) × (wait_of p (waits cells h) ≡ Some w) × (w.cell ≡ d) × (w.want ≡ Calls j) → count (waits_to_turn c) (others Act.Again) ≡ count (waits_to_turn c) (waits cells h)
         goes_on w =
             let not_a_turn : waits_to_turn c w.0 ≡ false = ap (λ u. is_turn u && (w.0.cell == c)) w.3 in
             let less : _ = own_count w.0 w.1 ∙ ap (λ b. count (waits_to_turn c) (without_wait p (waits cells h)) + cond b 1 0) not_a_turn in
-            omega (arith, others_count act.Again, less)
+            omega (arith, others_count Act.Again, less)
 
         by : (a : Act) → IsCalling a → attempt_with cells (waits cells h) h p a ≡ Some (record { cell = d; want = Calls j }) → IsAllowed a → count (waits_to_turn c) (others a) ≡ count (waits_to_turn c) (waits cells h)
-        by (act.Call b m) t e f = rests_count (act.Call b m) (rests cells h p (act.Call b m) (λ x. cc) f).0
-        by act.Again t e f = goes_on (waits_so (wait_of p (waits cells h)) d (Calls j) e)
+        by (Act.Call b m) t e f = rests_count (Act.Call b m) (rests cells h p (Act.Call b m) (λ x. cc) f).0
+        by Act.Again t e f = goes_on (waits_so (wait_of p (waits cells h)) d (Calls j) e)
         by _ t e f = absurd t
 
     one_or_none : (b : Bool) (n : ℕ) → cond b (n + 1) n ≡ n + one_if b
@@ -91,40 +88,40 @@ module _ (cells : List CellPlan) (c : ℕ) where
 
     -- a call, by what it does
     called : (a : Act) (d : ℕ) (j : Call) (r : Answer) → Calling cells h p a d j → count (waits_to_turn c) (waits cells (event a r ∷ h)) ≡ waiting
-        → (WaitsSo (deed_by (accepts h) (is_exit a) (act.Call d j) r) (count (waits_to_turn c) (waits cells (event a r ∷ h))))
+        → (WaitsSo (deed_by (accepts h) (is_exit a) (Act.Call d j) r) (count (waits_to_turn c) (waits cells (event a r ∷ h))))
         → WaitsSo (deed_of h (step cells h p a) r) (count (waits_to_turn c) (waits cells (event a r ∷ h)))
     called a d j r t same w = subst (λ b. WaitsSo (deed_by (accepts h) (is_exit a) b r) (count (waits_to_turn c) (waits cells (event a r ∷ h)))) (sym t.does) w
 
     -- one that waits
-    call_waits : (a : Act) (d : ℕ) (j : Call) (way : _) → Calling cells h p a d j → IsAllowed a → WaitsSo (deed_waiting (is_exit a)) (count (waits_to_turn c) (waits cells (event a (answer.Waiting way) ∷ h)))
+    call_waits : (a : Act) (d : ℕ) (j : Call) (way : _) → Calling cells h p a d j → IsAllowed a → WaitsSo (deed_waiting (is_exit a)) (count (waits_to_turn c) (waits cells (event a (Answer.Waiting way) ∷ h)))
     call_waits a d j way t f =
-        by a t.acts (count (waits_to_turn c) (waits cells (event a (answer.Waiting way) ∷ h))) (ap (λ o. count (waits_to_turn c) (with_wait p way o (others a))) t.tried ∙ called_count a d j t f)
+        by a t.acts (count (waits_to_turn c) (waits cells (event a (Answer.Waiting way) ∷ h))) (ap (λ o. count (waits_to_turn c) (with_wait p way o (others a))) t.tried ∙ called_count a d j t f)
       where
         by : (a : Act) → IsCalling a → (n : ℕ) → n ≡ waiting → WaitsSo (deed_waiting (is_exit a)) n
-        by (act.Call b m) t n e = e
-        by act.Again t n e = e
+        by (Act.Call b m) t n e = e
+        by Act.Again t n e = e
         by _ t n e = absurd t
 
     -- an act that takes a turn, where it goes on or ends
     took : (a : Act) (d : ℕ) → Turning cells h p a d → IsAllowed a → Took d (is_exit a) (count (waits_to_turn c) (others a))
     took a d t f = by a t.acts t.tried f
       where
-        from_wait : (w : Wait) × (wait_of p (waits cells h) ≡ Some w) × (w.cell ≡ d) × (w.want ≡ Turns) → count (waits_to_turn c) (others act.Again) + one_if (d == c) ≡ waiting
+        from_wait : (w : Wait) × (wait_of p (waits cells h) ≡ Some w) × (w.cell ≡ d) × (w.want ≡ Turns) → count (waits_to_turn c) (others Act.Again) + one_if (d == c) ≡ waiting
         from_wait w =
             let a_turn : waits_to_turn c w.0 ≡ (d == c) = ap (λ u. is_turn u && (w.0.cell == c)) w.3 ∙ ap (λ z. z == c) w.2 in
             let less : _ = own_count w.0 w.1 ∙ ap (λ b. count (waits_to_turn c) (without_wait p (waits cells h)) + cond b 1 0) a_turn in
-            let same : _ = others_count act.Again in
+            let same : _ = others_count Act.Again in
             omega (arith, same, less)
 
         by : (a : Act) → IsTurning a → attempt_with cells (waits cells h) h p a ≡ Some (record { cell = d; want = Turns }) → IsAllowed a → Took d (is_exit a) (count (waits_to_turn c) (others a))
-        by act.Exit t e f = (first_so (first_of (registry cells h).left) d e, rests_count act.Exit (rests cells h p act.Exit (λ x. cc) f).0)
-        by act.Again t e f = from_wait (waits_so (wait_of p (waits cells h)) d Turns e)
+        by Act.Exit t e f = (first_so (first_of (registry cells h).left) d e, rests_count Act.Exit (rests cells h p Act.Exit (λ x. cc) f).0)
+        by Act.Again t e f = from_wait (waits_so (wait_of p (waits cells h)) d Turns e)
         by _ t e f = absurd t
 
     -- and where it waits
-    turn_waits : (a : Act) (d : ℕ) (way : _) → Turning cells h p a d → IsAllowed a → WaitsSo (deed_waiting (is_exit a)) (count (waits_to_turn c) (waits cells (event a (answer.Waiting way) ∷ h)))
+    turn_waits : (a : Act) (d : ℕ) (way : _) → Turning cells h p a d → IsAllowed a → WaitsSo (deed_waiting (is_exit a)) (count (waits_to_turn c) (waits cells (event a (Answer.Waiting way) ∷ h)))
     turn_waits a d way t f =
-        by (is_exit a) (count (waits_to_turn c) (waits cells (event a (answer.Waiting way) ∷ h))) (count (waits_to_turn c) (others a)) (took a d t f)
+        by (is_exit a) (count (waits_to_turn c) (waits cells (event a (Answer.Waiting way) ∷ h))) (count (waits_to_turn c) (others a)) (took a d t f)
         (ap (λ o. count (waits_to_turn c) (with_wait p way o (others a))) t.tried ∙ one_or_none (d == c) (count (waits_to_turn c) (others a)))
       where
         by : (b : Bool) (n m : ℕ) → Took d b m → n ≡ m + one_if (d == c) → WaitsSo (deed_waiting b) n
@@ -143,8 +140,8 @@ module _ (cells : List CellPlan) (c : ℕ) where
     borrowing a d o t f = by a t.acts t.tried f
       where
         by : (a : Act) → IsTurning a → attempt_with cells (waits cells h) h p a ≡ Some (record { cell = d; want = Turns }) → IsAllowed a → count (waits_to_turn c) (others a) ≡ waiting
-        by act.Exit t e f = resting act.Exit (waits_for _) f
-        by act.Again t e f =
+        by Act.Exit t e f = resting Act.Exit (waits_for _) f
+        by Act.Again t e f =
             let w : _ = waits_so (wait_of p (waits cells h)) d Turns e in absurd (apart (sym o ∙ ap (λ z. is_owned (cell_at cells z).place) (sym w.2) ∙ shared w.0 w.1))
         by _ t e f = absurd t
 
@@ -152,7 +149,7 @@ module _ (cells : List CellPlan) (c : ℕ) where
     abbrev IsPlain : Act → ℕ → Call → Answer → Type 0
     IsPlain a d j r =
         (count (waits_to_turn c) (waits cells (event a r ∷ h)) ≡ count (waits_to_turn c) (others a))
-        × ((n : ℕ) → n ≡ waiting → WaitsSo (deed_by (accepts h) (is_exit a) (act.Call d j) r) n)
+        × ((n : ℕ) → n ≡ waiting → WaitsSo (deed_by (accepts h) (is_exit a) (Act.Call d j) r) n)
 
     plain : (a : Act) (d : ℕ) (j : Call) → IsTold (IsPlain a d j)
     plain a d j = record {
@@ -168,27 +165,27 @@ module _ (cells : List CellPlan) (c : ℕ) where
     abbrev Allowed : Act → Answer → Type 0
     Allowed a r = IsAllowed a → WaitsSo (deed_of h (step cells h p a) r) (count (waits_to_turn c) (waits cells (event a r ∷ h)))
 
-    made : (v : ℕ) → IsShown (Allowed (act.Made v))
+    made : (v : ℕ) → IsShown (Allowed (Act.Made v))
     made v = record {
-      phase = λ q f. resting (act.Made v) (waits_for _) f;
-      value = λ w f. resting (act.Made v) (waits_for _) f;
-      read_guard = λ f. resting (act.Made v) (waits_for _) f;
-      write_guard = λ f. resting (act.Made v) (waits_for _) f;
+      phase = λ q f. resting (Act.Made v) (waits_for _) f;
+      value = λ w f. resting (Act.Made v) (waits_for _) f;
+      read_guard = λ f. resting (Act.Made v) (waits_for _) f;
+      write_guard = λ f. resting (Act.Made v) (waits_for _) f;
     }
 
-    finished : (fine : Bool) (left : Option ℕ) (q : _) → Allowed (finishing fine left) (answer.Phase q)
-    finished true left q f = resting (act.Finished left) (waits_for _) f
-    finished false left q f = resting (act.FinishFailed left) (waits_for _) f
+    finished : (fine : Bool) (left : Option ℕ) (q : _) → Allowed (finishing fine left) (Answer.Phase q)
+    finished true left q f = resting (Act.Finished left) (waits_for _) f
+    finished false left q f = resting (Act.FinishFailed left) (waits_for _) f
 
-    waits_so_far : (a : Act) (d : ℕ) (w : Want) (way : _) → Tries cells h p a d w → Allowed a (answer.Waiting way)
+    waits_so_far : (a : Act) (d : ℕ) (w : Want) (way : _) → Tries cells h p a d w → Allowed a (Answer.Waiting way)
     waits_so_far a d (Calls j) way t f = call_waits a d j way t f
     waits_so_far a d Turns way t f = turn_waits a d way t f
 
-    misses : (a : Act) (d : ℕ) (w : Want) → is_fast w ≡ true → Tries cells h p a d w → Allowed a answer.Missed
+    misses : (a : Act) (d : ℕ) (w : Want) → is_fast w ≡ true → Tries cells h p a d w → Allowed a Answer.Missed
     misses a d (Calls j) q t f = called_count a d j t f
     misses a d Turns q t f = absurd (apart (sym q))
 
-    borrows : (a : Act) (d : ℕ) (w : Want) → is_owned (cell_at cells d).place ≡ true → Tries cells h p a d w → Allowed a answer.Borrowed
+    borrows : (a : Act) (d : ℕ) (w : Want) → is_owned (cell_at cells d).place ≡ true → Tries cells h p a d w → Allowed a Answer.Borrowed
     borrows a d (Calls j) o t f = called_count a d j t f
     borrows a d Turns o t f = borrowing a d o t f
 
@@ -200,27 +197,27 @@ module _ (cells : List CellPlan) (c : ℕ) where
       owned = borrows;
       opened = λ a d j t q e f. plainly a d j _ t f (opened (IsPlain a d j) (plain a d j).shown (form_at cells h p d j) (replay cells d h));
       denied = λ a d j t q e f. plainly a d j _ t f (denied (IsPlain a d j) (plain a d j) (form_at cells h p d j) (phase_at cells d h));
-      running = λ a d j t q f. let n : _ = called_count a d j t f in called a d j answer.Running t n n;
+      running = λ a d j t q f. let n : _ = called_count a d j t f in called a d j Answer.Running t n n;
       declined = λ a d j t q f. plainly a d j _ t f (denied (IsPlain a d j) (plain a d j) (form_at cells h p d j) flags_refused);
       skipped = λ a d t q f. took a d t f;
       finalizing = λ a d t q u f. took a d t f;
-      round = λ d ds e n f. resting act.Exit (waits_for _) f;
-      closed = λ e n f. resting act.Exit (waits_for _) f;
-      made = λ v t j g. made_so (Allowed (act.Made v)) (made v) (form_at cells h p t.cell j) v (phase_made cells h t);
-      failed = λ t j g f. resting act.MadeFailed (waits_for _) f;
+      round = λ d ds e n f. resting Act.Exit (waits_for _) f;
+      closed = λ e n f. resting Act.Exit (waits_for _) f;
+      made = λ v t j g. made_so (Allowed (Act.Made v)) (made v) (form_at cells h p t.cell j) v (phase_made cells h t);
+      failed = λ t j g f. resting Act.MadeFailed (waits_for _) f;
       finished = λ fine left t g. finished fine left (phase_of (phase_finalized (phase_at cells t.cell h) fine));
-      looked = λ g x e f. resting (act.Look g) (waits_for _) f;
-      set = λ g v x e w f. resting (act.Set g v) (waits_for _) f;
-      released = λ g x e f. resting (act.Release g) (waits_for _) f;
-      downgraded = λ g x e w f. resting (act.Downgrade g) (waits_for _) f;
-      borrowed = λ g x e w f. resting (act.Clone g) (waits_for _) f;
-      cloned = λ g x e w f. resting (act.Clone g) (waits_for _) f;
-      lent_made = λ d v left u e f. resting (act.GetMut d (Some v) left) (waits_for _) f;
-      lent_failed = λ d left u e f. resting (act.GetMut d None left) (waits_for _) f;
-      lent_rested = λ d made left u e r f. resting (act.GetMut d made left) (waits_for _) f;
-      lent_denied = λ d made left u e r f. resting (act.GetMut d made left) (waits_for _) f;
-      lent = λ d left u r f. resting (act.TryGetMut d left) (waits_for _) f;
-      unlent = λ d left u r f. resting (act.TryGetMut d left) (waits_for _) f;
+      looked = λ g x e f. resting (Act.Look g) (waits_for _) f;
+      set = λ g v x e w f. resting (Act.Set g v) (waits_for _) f;
+      released = λ g x e f. resting (Act.Release g) (waits_for _) f;
+      downgraded = λ g x e w f. resting (Act.Downgrade g) (waits_for _) f;
+      borrowed = λ g x e w f. resting (Act.Clone g) (waits_for _) f;
+      cloned = λ g x e w f. resting (Act.Clone g) (waits_for _) f;
+      lent_made = λ d v left u e f. resting (Act.GetMut d (Some v) left) (waits_for _) f;
+      lent_failed = λ d left u e f. resting (Act.GetMut d None left) (waits_for _) f;
+      lent_rested = λ d made left u e r f. resting (Act.GetMut d made left) (waits_for _) f;
+      lent_denied = λ d made left u e r f. resting (Act.GetMut d made left) (waits_for _) f;
+      lent = λ d left u r f. resting (Act.TryGetMut d left) (waits_for _) f;
+      unlent = λ d left u r f. resting (Act.TryGetMut d left) (waits_for _) f;
     }
 
   -- ---- each deed
@@ -257,7 +254,7 @@ module _ (cells : List CellPlan) (c : ℕ) where
     skips : (d n : ℕ) (b : Bool) → Took h p i shared d b n → HasTurnBy (Skips d b) n
     skips d n b t =
         let taken : _ = taken_count d n b t in
-        let e : _ = occurs_ended c d turn.Skipped (ended_turns h) in
+        let e : _ = occurs_ended c d Turn.Skipped (ended_turns h) in
         keeps (Skips d b) n (known_taken b (registry cells h) c) (omega (arith, taken, e))
 
     finalizes : (d n : ℕ) (b : Bool) → Took h p i shared d b n → HasTurnBy (Opens d Turns b) n

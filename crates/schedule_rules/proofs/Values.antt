@@ -1,15 +1,13 @@
 -- A value that is shown is there.
-use Rattle.schedule_rules.proofs.Words.{ℕ, ◌≡◌, List, true, Bool, false, refl, Some, ◌∷◌, ◌∙◌, ap, [], sym, arith, subst, None, not, ◌&&◌, ◌<◌, ◌⊎◌, inr, inl, length}
-use Rattle.schedule_rules.proofs.Words.{◌≤◌, ◌||◌, and_assoc, and_or_self, and_le_r, bit_and, bit_or, AllByRecursion, ◌==◌, if◌then◌else◌, is_some, ◌^◌, ◌-◌, Option, has}
-use Rattle.schedule_rules.proofs.Words.{initialized, flags_refused, registration, is_finalizable, is_plain, is_primed, is_hard, Call, Form, Shown, Told, Held, Answer}
-use Rattle.schedule_rules.proofs.Words.{Line, CellPlan, Act, Step, cell_at, tolerance_of, is_accessible, phase_finalized, flags_kept, finishes_so, value_finalized}
-use Rattle.schedule_rules.proofs.Words.{Content, effect, Change, Ran, Asked, Put, Ended, is_declined, RanIfAsked, asks_to_lend, content_after, content_of_run, Deed}
-use Rattle.schedule_rules.proofs.Words.{EndsToRead, Visits, Ends, Makes, EndsToWrite, DropsToRead, Drops, Finishes, Lends, Holds, Beside, Puts, Event, deed_of, Section}
-use Rattle.schedule_rules.proofs.Words.{sections, Guard, guards, numbered, without_guard, guards_by, writer_made, reader_made, reader_beside, phase_at, replay, Back}
-use Rattle.schedule_rules.proofs.Words.{content_after_back, back_of_step, back_of_section, back_by, inside, change_of, back_of_guard, read_guards, reads_cell}
-use Rattle.schedule_rules.proofs.Words.{answer_denied, answer_opened, answer_made, answer_of_value, phase_made, IsLegal, IsLegalLine, lends_at, runs_to_lend, ShowsValue}
-use Rattle.schedule_rules.proofs.Words.act
-use Rattle.schedule_rules.proofs.Words.answer
+use Rattle.schedule_rules.proofs.Words.{ℕ, ◌≡◌, true, List, false, Bool, refl, Some, ◌∷◌, ◌∙◌, ap, [], sym, arith, subst, None, not, ◌&&◌, ◌⊎◌, ◌<◌, inl, inr, length, ◌≤◌, ◌||◌}
+use Rattle.schedule_rules.proofs.Words.{and_or_self, and_assoc, and_le_r, bit_or, bit_and, AllByRecursion, ◌==◌, if◌then◌else◌, is_some, ◌-◌, ◌^◌, Option, has, initialized}
+use Rattle.schedule_rules.proofs.Words.{flags_refused, registration, is_finalizable, is_plain, is_primed, is_hard, Call, Form, Shown, Told, Held, Answer, Line, CellPlan, Act, Step}
+use Rattle.schedule_rules.proofs.Words.{cell_at, tolerance_of, is_accessible, phase_finalized, flags_kept, finishes_so, value_finalized, Content, effect, Change, Ran, Put, Asked}
+use Rattle.schedule_rules.proofs.Words.{is_declined, Ended, RanIfAsked, asks_to_lend, content_of_run, content_after, Deed, Ends, EndsToRead, Visits, Makes, Drops, Finishes}
+use Rattle.schedule_rules.proofs.Words.{DropsToRead, EndsToWrite, Lends, Holds, Puts, Beside, Event, deed_of, Section, sections, Guard, guards, numbered, without_guard, guards_by}
+use Rattle.schedule_rules.proofs.Words.{reader_beside, reader_made, writer_made, phase_at, replay, Back, back_of_step, back_of_section, content_after_back, back_by, inside}
+use Rattle.schedule_rules.proofs.Words.{back_of_guard, change_of, read_guards, reads_cell, answer_denied, answer_opened, answer_made, answer_of_value, phase_made, IsLegal}
+use Rattle.schedule_rules.proofs.Words.{IsLegalLine, lends_at, runs_to_lend, ShowsValue}
 use Rattle.std.specs.Option.{unwrap_or}
 use Rattle.schedule_rules.proofs.Cases.{step, Calling, Reach, form_at, Cases}
 use Rattle.schedule_rules.proofs.Steps.{lent_unprimed, of_legal}
@@ -296,7 +294,7 @@ module _ (cells : List CellPlan) where
   module _ (h : List Event) (p : ℕ) (legal : IsLegal cells h) where
     -- a step of the party that is answered by a value shows one that is there
     abbrev Showing : Act → Answer → Type 0
-    Showing a (answer.Value v) = ShowsValue cells h (step cells h p a) v
+    Showing a (Answer.Value v) = ShowsValue cells h (step cells h p a) v
     Showing a _ = Unit {0}
 
     opened : (a : Act) (c : ℕ) (k : Call) → Calling cells h p a c k → Reach cells h p c true → (f : Form) → Showing a (answer_opened f (replay cells c h))
@@ -312,7 +310,7 @@ module _ (cells : List CellPlan) where
     denied a (Held writes true) q = tt
     denied a (Held writes false) q = tt
 
-    made : (v : ℕ) (f : Form) (q : ℕ) → Showing (act.Made v) (answer_made f v q)
+    made : (v : ℕ) (f : Form) (q : ℕ) → Showing (Act.Made v) (answer_made f v q)
     made v (Told tests) q = tt
     made v Shown q = inr (inr (inl refl))
     made v (Held true falls_back) q = tt
@@ -347,12 +345,12 @@ module _ (cells : List CellPlan) where
       cloned = λ g x f w. tt;
       lent_made = λ c v left u e. inr (inr (inr (inr (record { cell = c; left = left; acts = refl; asked = e }))));
       lent_failed = λ c left u e. tt;
-      lent_rested = λ c made left u e f. found (act.GetMut c made left) c (same_number c c refl) e f;
+      lent_rested = λ c made left u e f. found (Act.GetMut c made left) c (same_number c c refl) e f;
       lent_denied = λ c made left u e f. tt;
-      lent = λ c left u f. found (act.TryGetMut c left) c (same_number c c refl) refl f;
+      lent = λ c left u f. found (Act.TryGetMut c left) c (same_number c c refl) refl f;
       unlent = λ c left u f. tt;
     }
 
   -- a legal line that shows a value shows one that is there
-  pub value-shown : (h : List Event) (s : Step) (l : Line) (v : ℕ) → IsLegal cells h → IsLegalLine cells h s l → l.answer ≡ answer.Value v → ShowsValue cells h s v
+  pub value-shown : (h : List Event) (s : Step) (l : Line) (v : ℕ) → IsLegal cells h → IsLegalLine cells h s l → l.answer ≡ Answer.Value v → ShowsValue cells h s v
   value-shown h s l v legal k e = subst (Showing h s.party legal s.act) e (of_legal cells h s l k (Showing h s.party legal) (λ a r. tt) (shows h s.party legal))

@@ -1,13 +1,9 @@
 -- What waits: a call for a lock or a turn, which is not fast, at a cell of no party's own, whose kind has the call.
-use Rattle.schedule_rules.proofs.Words.{ℕ, ◌≡◌, List, true, Bool, false, refl, Some, ◌∙◌, ap, sym, arith, subst, None, not, find, ◌==◌, is_none, is_some, Option}
-use Rattle.schedule_rules.proofs.Words.{first_of, has_call, asking, lends_value, Call, Line, Refusal, CellPlan, Act, Step, Calls, Turns, cell_at, tolerance_at, is_owned}
-use Rattle.schedule_rules.proofs.Words.{is_of_other, is_fast, seeks, lock_asked, Event, count, registry, waits, Wait, wait_of, attempt, attempt_of_turn, Attempt}
-use Rattle.schedule_rules.proofs.Words.{attempt_of_wait, attempt_with, is_barred, holding_with, is_in_use, refusal, refusal_by, no_lending, refusal_free, no_call}
-use Rattle.schedule_rules.proofs.Words.{IsLegal, IsLegalLine, answer_of, due_at, lends_at, waits_judged, is_attempted, is_waiting, is_made_to_wait, phase_met}
-use Rattle.schedule_rules.proofs.Words.{ChangesNothing}
-use Rattle.schedule_rules.proofs.Words.act
-use Rattle.schedule_rules.proofs.Words.answer
-use Rattle.schedule_rules.proofs.Words.refused
+use Rattle.schedule_rules.proofs.Words.{ℕ, ◌≡◌, true, List, false, Bool, refl, Some, ◌∙◌, ap, sym, arith, subst, None, not, find, ◌==◌, is_none, is_some, Option, first_of}
+use Rattle.schedule_rules.proofs.Words.{has_call, asking, lends_value, Call, Answer, Line, Refusal, CellPlan, Act, Step, Calls, Turns, cell_at, tolerance_at, is_owned, is_of_other}
+use Rattle.schedule_rules.proofs.Words.{is_fast, seeks, lock_asked, Event, count, registry, waits, Wait, wait_of, attempt, attempt_of_turn, Attempt, attempt_of_wait, attempt_with}
+use Rattle.schedule_rules.proofs.Words.{is_barred, holding_with, is_in_use, refusal, refusal_by, no_lending, refusal_free, no_call, IsLegal, IsLegalLine, answer_of, due_at}
+use Rattle.schedule_rules.proofs.Words.{lends_at, waits_judged, is_attempted, is_waiting, is_made_to_wait, phase_met, ChangesNothing}
 use Rattle.phase_seq.specs.declared.ask.Want.{Want as Sought}
 use Rattle.schedule_rules.proofs.Facts.{first, second, apart, same_number}
 use Rattle.schedule_rules.proofs.Found.{found_passes, only_one, none_counted}
@@ -88,13 +84,13 @@ module _ (cells : List CellPlan) where
       turned (Some c) = λ k e. absurd (turns_not k e)
 
       by : (a : Act) (o : Option Wait) → wait_of s.party (waits cells h) ≡ o → refusal_by cells (is_some o) h s.party a ≡ None → Of HasCall (attempt_with cells (waits cells h) h s.party a)
-      by (act.Call c k) None e f = λ j d. same k j d (has (is_of_other (cell_at cells c).place s.party) (has_call (cell_at cells c).kind k) f)
+      by (Act.Call c k) None e f = λ j d. same k j d (has (is_of_other (cell_at cells c).place s.party) (has_call (cell_at cells c).kind k) f)
         where
           same : (k j : Call) → Calls k ≡ Calls j → has_call (cell_at cells c).kind k ≡ true → has_call (cell_at cells c).kind j ≡ true
           same k j d e = let is : k ≡ j = cc in subst (λ i. has_call (cell_at cells c).kind i ≡ true) is e
-      by (act.Call c k) (Some w) e f = absurd (cc)
-      by act.Again o e f = IH
-      by act.Exit o e f = turned (first_of (registry cells h).left)
+      by (Act.Call c k) (Some w) e f = absurd (cc)
+      by Act.Again o e f = IH
+      by Act.Exit o e f = turned (first_of (registry cells h).left)
       by _ o e f = tt
 
   -- what waits is a call that the kind of its cell has
@@ -132,22 +128,22 @@ module _ (cells : List CellPlan) where
           absurd (apart (sym o ∙ ap (λ z. is_owned (cell_at cells z).place) (sym at) ∙ waiting-shared h w.party w legal own))
 
   -- what is refused as another's of a party that does not wait, changes nothing
-  refused_so : (h : List Event) (s : Step) (l : Line) → IsLegalLine cells h s l → refusal_free cells h s.party s.act ≡ Some refused.NotOwner
-      → is_none (wait_of s.party (waits cells h)) ≡ true → (l.answer ≡ answer.Refused refused.NotOwner) × ChangesNothing cells h (record { step = s; line = l })
+  refused_so : (h : List Event) (s : Step) (l : Line) → IsLegalLine cells h s l → refusal_free cells h s.party s.act ≡ Some Refusal.NotOwner
+      → is_none (wait_of s.party (waits cells h)) ≡ true → (l.answer ≡ Answer.Refused Refusal.NotOwner) × ChangesNothing cells h (record { step = s; line = l })
   refused_so h s l m e n =
       (answered, subst (λ r. ChangesNothing cells h (record { step = s; line = record { answer = r; given = l.given } })) (sym answered) nothing)
     where
-      none : (x : Option Wait) → is_none x ≡ true → refusal_by cells (is_some x) h s.party s.act ≡ Some refused.NotOwner
+      none : (x : Option Wait) → is_none x ≡ true → refusal_by cells (is_some x) h s.party s.act ≡ Some Refusal.NotOwner
       none None f = e
       none (Some w) f = absurd (cc)
 
-      refuses : refusal cells h s ≡ Some refused.NotOwner
+      refuses : refusal cells h s ≡ Some Refusal.NotOwner
       refuses = none (wait_of s.party (waits cells h)) n
 
-      answered : l.answer ≡ answer.Refused refused.NotOwner
+      answered : l.answer ≡ Answer.Refused Refusal.NotOwner
       answered = m.answered ∙ ap (λ r. answer_of r (due_at cells m.moment h s l.given m.chosen)) refuses
 
-      nothing : ChangesNothing cells h (record { step = s; line = record { answer = answer.Refused refused.NotOwner; given = l.given } })
+      nothing : ChangesNothing cells h (record { step = s; line = record { answer = Answer.Refused Refusal.NotOwner; given = l.given } })
       nothing = record {
         sections_stay = refl;
         guards_stay = refl;
@@ -160,21 +156,21 @@ module _ (cells : List CellPlan) where
       }
 
   -- so is a call on it by another party
-  pub other-refused : (h : List Event) (s : Step) (l : Line) (c : ℕ) (k : Call) → IsLegalLine cells h s l → s.act ≡ act.Call c k → is_of_other (cell_at cells c).place s.party ≡ true
-      → is_none (wait_of s.party (waits cells h)) ≡ true → (l.answer ≡ answer.Refused refused.NotOwner) × ChangesNothing cells h (record { step = s; line = l })
+  pub other-refused : (h : List Event) (s : Step) (l : Line) (c : ℕ) (k : Call) → IsLegalLine cells h s l → s.act ≡ Act.Call c k → is_of_other (cell_at cells c).place s.party ≡ true
+      → is_none (wait_of s.party (waits cells h)) ≡ true → (l.answer ≡ Answer.Refused Refusal.NotOwner) × ChangesNothing cells h (record { step = s; line = l })
   other-refused h s l c k m e o n = refused_so h s l m (ap (refusal_free cells h s.party) e ∙ ap (λ b. no_call b (has_call (cell_at cells c).kind k)) o) n
 
   -- and an act of it that is to lend its value
   pub lending-refused : (h : List Event) (s : Step) (l : Line) (c : ℕ) → IsLegalLine cells h s l → lends_at c s.act ≡ true → is_of_other (cell_at cells c).place s.party ≡ true
-      → is_none (wait_of s.party (waits cells h)) ≡ true → (l.answer ≡ answer.Refused refused.NotOwner) × ChangesNothing cells h (record { step = s; line = l })
+      → is_none (wait_of s.party (waits cells h)) ≡ true → (l.answer ≡ Answer.Refused Refusal.NotOwner) × ChangesNothing cells h (record { step = s; line = l })
   lending-refused h s l c m e o n = refused_so h s l m (by s.act e) n
     where
-      other : (z : ℕ) → (z == c) ≡ true → no_lending (no_call (is_of_other (cell_at cells z).place s.party) (lends_value (cell_at cells z).kind)) (is_in_use cells z h) ≡ Some refused.NotOwner
+      other : (z : ℕ) → (z == c) ≡ true → no_lending (no_call (is_of_other (cell_at cells z).place s.party) (lends_value (cell_at cells z).kind)) (is_in_use cells z h) ≡ Some Refusal.NotOwner
       other z f =
           let at : z ≡ c = grind arith in
           ap (λ b. no_lending (no_call b (lends_value (cell_at cells z).kind)) (is_in_use cells z h)) (subst (λ y. is_of_other (cell_at cells y).place s.party ≡ true) (sym at) o)
 
-      by : (a : Act) → lends_at c a ≡ true → refusal_free cells h s.party a ≡ Some refused.NotOwner
-      by (act.GetMut z made left) f = other z f
-      by (act.TryGetMut z left) f = other z f
+      by : (a : Act) → lends_at c a ≡ true → refusal_free cells h s.party a ≡ Some Refusal.NotOwner
+      by (Act.GetMut z made left) f = other z f
+      by (Act.TryGetMut z left) f = other z f
       by _ f = absurd (apart (sym f))
