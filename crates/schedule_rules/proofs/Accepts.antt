@@ -1,6 +1,6 @@
 -- The registry is open as long as a cell may be registered, and knows of each cell whether it was registered.
-use Rattle.schedule_rules.proofs.Words.{ℕ, ◌≡◌, true, List, false, Bool, refl, ◌∷◌, ◌∙◌, ap, [], sym, subst, not, length, length-replicate, length-set, if◌then◌else◌, closed}
-use Rattle.schedule_rules.proofs.Words.{after_register, Registry, CellPlan, Calls, Turns, cell_at, tries_registration, Deed, Opens, Skips, Looks, Event, deed_of, accepts}
+use Rattle.schedule_rules.proofs.Words.{ℕ, List, ◌≡◌, true, false, Bool, refl, ◌∷◌, ◌∙◌, [], ap, sym, subst, not, length, length-replicate, length-set, if◌then◌else◌, closed}
+use Rattle.schedule_rules.proofs.Words.{after_register, Registry, CellPlan, Calls, Turns, cell_at, tries_registration, Deed, Opens, Skips, Looks, Event, accepts, deed_of}
 use Rattle.schedule_rules.proofs.Words.{closed_by, is_closed, phase_at, registry, registry_by, registry_taken, registry_of_run, IsLegal}
 use Rattle.schedule_rules.proofs.Finds.{Finds, finds}
 

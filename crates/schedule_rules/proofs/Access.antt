@@ -1,10 +1,10 @@
 -- Where a generator runs, and where a value may not be accessed.
-use Rattle.schedule_rules.proofs.Words.{ℕ, ◌≡◌, true, List, false, Bool, refl, Some, ◌∷◌, ◌∙◌, ap, [], sym, arith, subst, None, not, ◌&&◌, ◌⊎◌, inl, inr, length, ◌≢◌, find, ◌==◌}
+use Rattle.schedule_rules.proofs.Words.{ℕ, List, ◌≡◌, true, false, Bool, refl, Some, ◌∷◌, ◌∙◌, [], ap, sym, arith, subst, None, not, inl, ◌⊎◌, ◌&&◌, inr, length, ◌≢◌, find, ◌==◌}
 use Rattle.schedule_rules.proofs.Words.{if◌then◌else◌, Option, has, initialized, phase_of, Phase, first_of, Given, shall_init, flags_refused, Tolerance, Call, Answer, Line}
 use Rattle.schedule_rules.proofs.Words.{CellPlan, Act, Step, Want, Calls, Turns, cell_at, tolerance_at, runs_generator, effect, Asked, is_declined, content_asked, deed_visited}
-use Rattle.schedule_rules.proofs.Words.{Event, accepts, act_of, Section, sections, runs_in, sections_by, runs, generates_for, guards, guards_by, phase_at, replay, Back}
+use Rattle.schedule_rules.proofs.Words.{Event, accepts, act_of, Section, sections, runs_in, sections_by, runs, generates_for, guards, guards_by, replay, phase_at, Back}
 use Rattle.schedule_rules.proofs.Words.{back_of_step, content_after_back, back_by, registry, attempt, attempt_of_turn, cell_concerned, cell_of_attempt, IsLegal, IsLegalLine}
-use Rattle.schedule_rules.proofs.Words.{lends_at, runs_to_lend, KeepsValues, IsTurnedAway}
+use Rattle.schedule_rules.proofs.Words.{lends_at, runs_to_lend, IsTurnedAway, KeepsValues}
 use Rattle.schedule_rules.proofs.Found.{found_passes, each_found}
 use Rattle.schedule_rules.proofs.Leaves.{back_here, back_elsewhere, asked_value}
 use Rattle.schedule_rules.proofs.Cases.{IsTrying, Calling, Asking, Resting, AsksToLend, Reach, calling-tries}

@@ -1,9 +1,9 @@
 -- What holds of the answers that are due, by what holds of each that may be.
-use Rattle.schedule_rules.proofs.Words.{ℕ, ◌≡◌, true, List, false, Bool, refl, Some, ◌∙◌, ap, None, ◌&&◌, if◌then◌else◌, is_none, Option, Phase, LockNature, Given, How, Tolerance}
-use Rattle.schedule_rules.proofs.Words.{Call, Kind, Form, Shown, Told, Held, Answer, Line, Refusal, CellPlan, Place, Step, Want, Calls, Turns, cell_at, is_owned, form_of}
-use Rattle.schedule_rules.proofs.Words.{is_accessible, Content, asks_to_lend, content_to_lend, content_asked, Event, Section, Guard, Wait, is_barred, holding_with, refusal}
-use Rattle.schedule_rules.proofs.Words.{answer_denied, answer_opened, answer_barred, answer_made, answer_made_to_lend, answer_lent, call_answer_admitted, answer_of_made}
-use Rattle.schedule_rules.proofs.Words.{begins_run, phase_made, due_answer, due_clone, due_made, due_finished, due_look, IsLegalLine, answer_of, due_at, Moment, First, Last}
+use Rattle.schedule_rules.proofs.Words.{ℕ, List, ◌≡◌, true, false, Bool, refl, Some, ◌∙◌, ap, None, ◌&&◌, if◌then◌else◌, is_none, Option, Phase, LockNature, Given, How, Tolerance}
+use Rattle.schedule_rules.proofs.Words.{Call, Kind, Form, Held, Told, Shown, Answer, Line, Refusal, CellPlan, Place, Step, Want, Calls, Turns, cell_at, is_owned, form_of}
+use Rattle.schedule_rules.proofs.Words.{is_accessible, Content, asks_to_lend, content_asked, content_to_lend, Event, Section, Guard, Wait, is_barred, holding_with, refusal}
+use Rattle.schedule_rules.proofs.Words.{answer_barred, answer_lent, answer_made_to_lend, call_answer_admitted, answer_made, answer_of_made, answer_opened, answer_denied}
+use Rattle.schedule_rules.proofs.Words.{begins_run, due_answer, due_clone, due_finished, phase_made, due_made, due_look, IsLegalLine, answer_of, due_at, Moment, Last, First}
 use Rattle.schedule_rules.proofs.Words.{waits_judged}
 
 -- the answer that is due, where these calls of others wait

@@ -1,18 +1,18 @@
 -- What an attempt at a cell is answered, case by case.
-use Rattle.schedule_rules.proofs.Words.{ℕ, ◌≡◌, true, List, false, Bool, refl, Some, ◌∷◌, ◌∙◌, ap, [], sym, arith, subst, None, not, ◌&&◌, ◌<◌, ◌+◌, ◌||◌, ◌==◌, if◌then◌else◌}
-use Rattle.schedule_rules.proofs.Words.{is_some, nat_lt, Option, has, initialized, phase_of, first_of, look_at, LockNature, How, shall_init, nature_where, flags_refused, Tolerance}
-use Rattle.schedule_rules.proofs.Words.{asking, Call, Kind, Answer, CellPlan, Act, Want, Calls, Turns, cell_at, tolerance_at, form_of, is_accessible, runs_generator, is_fast, asks}
-use Rattle.schedule_rules.proofs.Words.{initializes, lock_wanted, seeks, lock_asked, seeks_run, run_asked, Content, Event, accepts, count, latest_act, runs, phase_at, replay}
-use Rattle.schedule_rules.proofs.Words.{registry, waits, Wait, wait_of, attempt_of_turn, attempt_of_wait, act_for, shares_write, drains_on, write_holds, is_barred, read_guards}
-use Rattle.schedule_rules.proofs.Words.{holding_with, writers_with, drains_with, readers_with, keeps, readers, refusal, refusal_by, refusal_free, refusal_waiting, answer_denied}
-use Rattle.schedule_rules.proofs.Words.{answer_opened, answer_barred, answer_admitted, answer_at, call_answer_admitted, turn_answer_admitted, due_tried, due_attempt}
-use Rattle.schedule_rules.proofs.Words.{answer_of_look, IsExclusive}
+use Rattle.schedule_rules.proofs.Words.{ℕ, List, ◌≡◌, true, false, Bool, refl, Some, ◌∷◌, ◌∙◌, [], ap, sym, arith, subst, None, not, inl, ◌&&◌, inr, ◌<◌, ◌+◌, ◌||◌, ◌==◌}
+use Rattle.schedule_rules.proofs.Words.{if◌then◌else◌, is_some, nat_lt, Option, has, initialized, phase_of, first_of, look_at, LockNature, How, shall_init, nature_where}
+use Rattle.schedule_rules.proofs.Words.{flags_refused, Tolerance, asking, Call, Kind, Form, Held, Told, Shown, Answer, CellPlan, Act, Want, Calls, Turns, cell_at, tolerance_at}
+use Rattle.schedule_rules.proofs.Words.{form_of, is_accessible, runs_generator, is_fast, asks, initializes, lock_wanted, lock_asked, seeks, run_asked, seeks_run, Content, Event}
+use Rattle.schedule_rules.proofs.Words.{accepts, count, latest_act, runs, replay, phase_at, registry, Wait, waits, wait_of, attempt_of_turn, attempt_of_wait, act_for, shares_write}
+use Rattle.schedule_rules.proofs.Words.{drains_on, write_holds, is_barred, read_guards, holding_with, writers_with, readers_with, drains_with, readers, keeps, refusal, refusal_by}
+use Rattle.schedule_rules.proofs.Words.{refusal_free, refusal_waiting, answer_barred, answer_admitted, answer_at, call_answer_admitted, turn_answer_admitted, answer_opened}
+use Rattle.schedule_rules.proofs.Words.{answer_denied, due_tried, due_attempt, answer_of_look, IsExclusive}
 use Rattle.phase_seq.specs.Asks.{initializes as run_sought}
 use Rattle.phase_seq.specs.declared.ask.Want.{Want as Sought}
 use Rattle.schedule_rules.proofs.Found.{found_counts}
 use Rattle.schedule_rules.proofs.GoesOn.{Matches, wait-matches}
 use Rattle.schedule_rules.proofs.Answered.{barred}
-use Rattle.schedule_rules.proofs.Cases.{step, Tries, Cases, Calling, Turning, Asking, Resting}
+use Rattle.schedule_rules.proofs.Cases.{step, Tries, Case, Calling, Turning, Asking, Resting, Reach, Visiting, form_at, errs, writes}
 use Rattle.schedule_rules.proofs.Facts.{apart, second, same_number}
 
 -- nothing is written where something drains
@@ -188,88 +188,105 @@ module _ (cells : List CellPlan) (h : List Event) (p : ℕ) where
       none : None ≡ Some w → ⊥
       none x = cc
 
-  module _ (P : Act → Answer → Type 0) (k : Cases cells h p P) where
-    called : (a : Act) (c : ℕ) (j : Call) (ws : List Wait) → Calling cells h p a c j → IsMine c → IsFree c ws (lock_wanted (cell_at cells c).kind (tolerance_at cells c) (Calls j) (phase_at cells c h))
-        → P a (answer_admitted (cell_at cells c).kind (tolerance_at cells c) c (accepts h) (Calls j) (replay cells c h))
-    called a c j ws t mine free =
-        call_admitted (P a) q u (accepts h) j (replay cells c h)
-        (λ e g. k.running a c j t (asking true e g)) (λ e g. k.declined a c j t (asking false e g))
-        (λ e f. k.opened a c j t (resting e) f) (λ e f. k.denied a c j t (resting e) f)
-      where
-        q : Kind
-        q = (cell_at cells c).kind
+  -- a call that runs nothing, where the value may be accessed
+  opened_case : (a : Act) (c : ℕ) (j : Call) → Calling cells h p a c j → Resting cells h p c j → Reach cells h p c true → (f : Form) → form_at cells h p c j ≡ f
+      → Case cells h p a (answer_opened f (replay cells c h))
+  opened_case a c j t r e (Told tests) f = Case.told a c j _ t (inr (r, tt))
+  opened_case a c j t r e Shown f = Case.shown a c j t r e
+  opened_case a c j t r e (Held true falls_back) f = Case.writing a c j t r e (ap writes f)
+  opened_case a c j t r e (Held false falls_back) f = Case.reading a c j t r e
 
-        u : Tolerance
-        u = tolerance_at cells c
+  -- and where it may not
+  denied_case : (a : Act) (c : ℕ) (j : Call) (q : ℕ) → Calling cells h p a c j → Visiting cells h p c j (phase_of q) (Reach cells h p c false × (phase_of q ≡ phase_of (phase_at cells c h)))
+      → Visiting cells h p c j (phase_of q) (Unit {0}) → (f : Form) → form_at cells h p c j ≡ f → Case cells h p a (answer_denied f q)
+  denied_case a c j q t v u (Told false) e = Case.told a c j _ t u
+  denied_case a c j q t v u (Held w true) e = Case.erring a c j _ t u (ap errs e)
+  denied_case a c j q t v u (Told true) e = Case.denied a c j _ t v
+  denied_case a c j q t v u Shown e = Case.denied a c j _ t v
+  denied_case a c j q t v u (Held w false) e = Case.denied a c j _ t v
 
-        asking : (b : Bool) → asks q u (Calls j) (phase_at cells c h) ≡ true → runs_generator q u (accepts h) (phase_at cells c h) ≡ b → Asking cells h p c j b
-        asking b e g =
-            let written : IsFree c ws LockNature.Write = subst (IsFree c ws) (asks_writes q u j (phase_at cells c h) e) free in
-            record {
-              asked = e;
-              wanted = asks_due q u j (phase_at cells c h) e;
-              generates = g;
-              unheld = λ alone. unheld c alone (readers cells c h) ws mine written;
-              unread = λ alone. unread c alone ws mine written;
-            }
+  called : (a : Act) (c : ℕ) (j : Call) (ws : List Wait) → Calling cells h p a c j → IsMine c → IsFree c ws (lock_wanted (cell_at cells c).kind (tolerance_at cells c) (Calls j) (phase_at cells c h))
+      → Case cells h p a (answer_admitted (cell_at cells c).kind (tolerance_at cells c) c (accepts h) (Calls j) (replay cells c h))
+  called a c j ws t mine free =
+      call_admitted (Case cells h p a) q u (accepts h) j (replay cells c h)
+      (λ e g. Case.running a c j t (asking true e g)) (λ e g. denied_case a c j flags_refused t (inl (asking false e g, refl)) (inl (asking false e g, refl)) (form_at cells h p c j) refl)
+      (λ e f. opened_case a c j t (resting e) f (form_at cells h p c j) refl)
+      (λ e f. denied_case a c j (phase_at cells c h) t (inr (resting e, (f, refl))) (inr (resting e, tt)) (form_at cells h p c j) refl)
+    where
+      q : Kind
+      q = (cell_at cells c).kind
 
-        resting : asks q u (Calls j) (phase_at cells c h) ≡ false → Resting cells h p c j
-        resting e = record { unasked = e; unwanted = asks_none q u j (phase_at cells c h) e }
+      u : Tolerance
+      u = tolerance_at cells c
 
-    turned : (a : Act) (c : ℕ) (ws : List Wait) → Turning cells h p a c → IsMine c → IsFree c ws (lock_wanted (cell_at cells c).kind (tolerance_at cells c) Turns (phase_at cells c h))
-        → P a (answer_admitted (cell_at cells c).kind (tolerance_at cells c) c (accepts h) Turns (replay cells c h))
-    turned a c ws t mine free = by (has (phase_at cells c h) initialized) refl free
-      where
-        by : (b : Bool) → has (phase_at cells c h) initialized ≡ b → IsFree c ws (if b then LockNature.Write else LockNature.None)
-            → P a (turn_answer_admitted (if b then LockNature.Write else LockNature.None) c)
-        by true e f = k.finalizing a c t e (λ alone. unheld c alone (readers cells c h) ws mine f)
-        by false e f = k.skipped a c t e
+      asking : (b : Bool) → asks q u (Calls j) (phase_at cells c h) ≡ true → runs_generator q u (accepts h) (phase_at cells c h) ≡ b → Asking cells h p c j b
+      asking b e g =
+          let written : IsFree c ws LockNature.Write = subst (IsFree c ws) (asks_writes q u j (phase_at cells c h) e) free in
+          record {
+            asked = e;
+            wanted = asks_due q u j (phase_at cells c h) e;
+            generates = g;
+            unheld = λ alone. unheld c alone (readers cells c h) ws mine written;
+            unread = λ alone. unread c alone ws mine written;
+          }
 
-    -- what is barred
-    barring : (a : Act) (c : ℕ) (w : Want) (way : How) → Tries cells h p a c w → P a (answer_barred (is_fast w) (cell_at cells c).place way)
-    barring a c w way t = barred (P a) (is_fast w) (cell_at cells c).place way (λ e. k.missed a c w e t) (λ v. k.waiting a c w v t) (λ o. k.owned a c w o t)
+      resting : asks q u (Calls j) (phase_at cells c h) ≡ false → Resting cells h p c j
+      resting e = record { unasked = e; unwanted = asks_none q u j (phase_at cells c h) e }
 
-    pub attempted : (a : Act) (c : ℕ) (w : Want) (ws : List Wait) (chosen : Bool) → Tries cells h p a c w → IsMine c
-        → P a (due_attempt cells h p (record { cell = c; want = w }) ws chosen)
-    attempted a c (Calls j) ws chosen t mine =
-        in_turn (P a) (initializes (cell_at cells c).kind (Calls j) && runs p c h) _ _ _ (k.cyclic a c j t) (barring a c (Calls j) _ t)
-        (λ free. called a c j ws t mine free)
-    attempted a c Turns ws chosen t mine =
-        waits_or (P a) _ _ _ (barring a c Turns _ t) (λ free. turned a c ws t mine free)
+  turned : (a : Act) (c : ℕ) (ws : List Wait) → Turning cells h p a c → IsMine c → IsFree c ws (lock_wanted (cell_at cells c).kind (tolerance_at cells c) Turns (phase_at cells c h))
+      → Case cells h p a (answer_admitted (cell_at cells c).kind (tolerance_at cells c) c (accepts h) Turns (replay cells c h))
+  turned a c ws t mine free = by (has (phase_at cells c h) initialized) refl free
+    where
+      by : (b : Bool) → has (phase_at cells c h) initialized ≡ b → IsFree c ws (if b then LockNature.Write else LockNature.None)
+          → Case cells h p a (turn_answer_admitted (if b then LockNature.Write else LockNature.None) c)
+      by true e f = Case.finalizing a c t e (λ alone. unheld c alone (readers cells c h) ws mine f)
+      by false e f = Case.skipped a c t e
 
-    -- the call or turn that waits
-    pub again : (o : Option Wait) → wait_of p (waits cells h) ≡ o → refusal_by cells (is_some o) h p Act.Again ≡ None → (ws : List Wait) (chosen : Bool)
-        → P Act.Again (due_tried cells h p (attempt_of_wait o) ws chosen)
-    again None e f ws chosen = absurd (cc)
-    again (Some w) e f ws chosen = attempted Act.Again w.cell w.want ws chosen (tries w.want refl) mine
-      where
-        does : latest_act p h ≡ act_for w.cell w.want
-        does = subst (λ o. Matches (attempt_of_wait o) (latest_act p h)) e (wait-matches cells p h)
+  -- what is barred
+  barring : (a : Act) (c : ℕ) (w : Want) (way : How) → Tries cells h p a c w → Case cells h p a (answer_barred (is_fast w) (cell_at cells c).place way)
+  barring a c w way t = barred (Case cells h p a) (is_fast w) (cell_at cells c).place way (λ e. Case.missed a c w e t) (λ v. Case.waiting a c w v t) (λ o. Case.owned a c w o t)
 
-        mine : IsMine w.cell
-        mine v g = cells_of (sym g ∙ e)
-          where
-            cells_of : Some v ≡ Some w → v.cell ≡ w.cell
-            cells_of x = cc
+  pub attempted : (a : Act) (c : ℕ) (w : Want) (ws : List Wait) (chosen : Bool) → Tries cells h p a c w → IsMine c
+      → Case cells h p a (due_attempt cells h p (record { cell = c; want = w }) ws chosen)
+  attempted a c (Calls j) ws chosen t mine =
+      in_turn (Case cells h p a) (initializes (cell_at cells c).kind (Calls j) && runs p c h) _ _ _ (Case.cyclic a c j t) (barring a c (Calls j) _ t)
+      (λ free. called a c j ws t mine free)
+  attempted a c Turns ws chosen t mine =
+      waits_or (Case cells h p a) _ _ _ (barring a c Turns _ t) (λ free. turned a c ws t mine free)
 
-        tries : (u : Want) → w.want ≡ u → Tries cells h p Act.Again w.cell u
-        tries (Calls j) d = record {
-          tried = ap attempt_of_wait e ∙ ap (λ u. Some (record { cell = w.cell; want = u })) d;
-          does = does ∙ ap (act_for w.cell) d;
-          acts = tt;
-        }
-        tries Turns d = record {
-          tried = ap attempt_of_wait e ∙ ap (λ u. Some (record { cell = w.cell; want = u })) d;
-          does = does ∙ ap (act_for w.cell) d;
-          acts = tt;
-        }
+  -- the call or turn that waits
+  pub again : (o : Option Wait) → wait_of p (waits cells h) ≡ o → refusal_by cells (is_some o) h p Act.Again ≡ None → (ws : List Wait) (chosen : Bool)
+      → Case cells h p Act.Again (due_tried cells h p (attempt_of_wait o) ws chosen)
+  again None e f ws chosen = absurd (cc)
+  again (Some w) e f ws chosen = attempted Act.Again w.cell w.want ws chosen (tries w.want refl) mine
+    where
+      does : latest_act p h ≡ act_for w.cell w.want
+      does = subst (λ o. Matches (attempt_of_wait o) (latest_act p h)) e (wait-matches cells p h)
 
-    -- a step of the exit
-    pub exits : (o : Option ℕ) → first_of (registry cells h).left ≡ o → wait_of p (waits cells h) ≡ None → (ws : List Wait) (chosen : Bool)
-        → P Act.Exit (due_tried cells h p (attempt_of_turn o) ws chosen)
-    exits None e f ws chosen = by (registry cells h).pending refl
-      where
-        by : (cs : List ℕ) → (registry cells h).pending ≡ cs → P Act.Exit (answer_of_look (look_at cs))
-        by [] g = k.closed g (none_first (registry cells h).left e)
-        by (c ∷ cs) g = k.round c cs g (none_first (registry cells h).left e)
-    exits (Some c) e f ws chosen = attempted Act.Exit c Turns ws chosen (record { tried = ap attempt_of_turn e; does = refl; acts = tt }) (mine_where_none c f)
+      mine : IsMine w.cell
+      mine v g = cells_of (sym g ∙ e)
+        where
+          cells_of : Some v ≡ Some w → v.cell ≡ w.cell
+          cells_of x = cc
+
+      tries : (u : Want) → w.want ≡ u → Tries cells h p Act.Again w.cell u
+      tries (Calls j) d = record {
+        tried = ap attempt_of_wait e ∙ ap (λ u. Some (record { cell = w.cell; want = u })) d;
+        does = does ∙ ap (act_for w.cell) d;
+        acts = tt;
+      }
+      tries Turns d = record {
+        tried = ap attempt_of_wait e ∙ ap (λ u. Some (record { cell = w.cell; want = u })) d;
+        does = does ∙ ap (act_for w.cell) d;
+        acts = tt;
+      }
+
+  -- a step of the exit
+  pub exits : (o : Option ℕ) → first_of (registry cells h).left ≡ o → wait_of p (waits cells h) ≡ None → (ws : List Wait) (chosen : Bool)
+      → Case cells h p Act.Exit (due_tried cells h p (attempt_of_turn o) ws chosen)
+  exits None e f ws chosen = by (registry cells h).pending refl
+    where
+      by : (cs : List ℕ) → (registry cells h).pending ≡ cs → Case cells h p Act.Exit (answer_of_look (look_at cs))
+      by [] g = Case.closed g (none_first (registry cells h).left e)
+      by (c ∷ cs) g = Case.round c cs g (none_first (registry cells h).left e)
+  exits (Some c) e f ws chosen = attempted Act.Exit c Turns ws chosen (record { tried = ap attempt_of_turn e; does = refl; acts = tt }) (mine_where_none c f)

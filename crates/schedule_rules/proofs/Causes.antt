@@ -1,13 +1,13 @@
 -- Which answer a legal line has, by its cause.
-use Rattle.schedule_rules.proofs.Words.{ℕ, ◌≡◌, true, List, false, Bool, refl, Some, ◌∷◌, ◌∙◌, ap, [], sym, None, not, ◌&&◌, length, ◌≢◌, ◌||◌, ◌==◌, if◌then◌else◌, is_none}
+use Rattle.schedule_rules.proofs.Words.{ℕ, List, ◌≡◌, true, false, Bool, refl, Some, ◌∷◌, ◌∙◌, [], ap, sym, None, not, ◌&&◌, length, ◌≢◌, ◌||◌, ◌==◌, if◌then◌else◌, is_none}
 use Rattle.schedule_rules.proofs.Words.{is_some, Option, has, initialized, first_of, look_at, is_empty, LockNature, Given, How, Call, Answer, Line, Refusal, CellPlan, Place, Act}
 use Rattle.schedule_rules.proofs.Words.{Step, Calls, Turns, cell_at, tolerance_at, is_owned, is_fast, asks, lock_wanted, Event, accepts, is_exit, sections, innermost, is_turn}
-use Rattle.schedule_rules.proofs.Words.{Guard, guards, numbered, phase_at, replay, registry, waits, Wait, wait_of, attempt, attempt_of_turn, Attempt, attempt_of_wait, is_barred}
-use Rattle.schedule_rules.proofs.Words.{holding_with, refusal, refusal_by, answer_barred, answer_admitted, drains_by, way_parked, due_answer, due_tried, due_clone, due_attempt}
+use Rattle.schedule_rules.proofs.Words.{Guard, guards, numbered, replay, phase_at, registry, Wait, waits, wait_of, attempt, Attempt, attempt_of_turn, attempt_of_wait, is_barred}
+use Rattle.schedule_rules.proofs.Words.{holding_with, refusal, refusal_by, answer_barred, answer_admitted, drains_by, way_parked, due_answer, due_tried, due_attempt, due_clone}
 use Rattle.schedule_rules.proofs.Words.{answer_of_look, keeps_own, is_nobody, IsLegalLine, answer_of, due_at, Moment, may_give, waits_judged, is_attempted, is_waiting, is_cyclic}
-use Rattle.schedule_rules.proofs.Words.{is_finalizing, is_borrowed, is_cyclic_step, is_denied_to_lend, is_closing, is_skipped, is_round, is_access, is_admitted, is_running}
-use Rattle.schedule_rules.proofs.Words.{is_missed, phase_met, is_running_step, is_barred_step, is_step_of, is_barred_attempt, is_borrowing_step, is_access_step, is_round_step}
-use Rattle.schedule_rules.proofs.Words.{is_missing_step, is_kept_out, is_turn_step, generates, is_closing_step, looks, asks_run, is_of_own_run, is_barred_clone, is_initializing}
+use Rattle.schedule_rules.proofs.Words.{is_closing, is_cyclic_step, is_skipped, is_access, is_admitted, is_running, is_borrowed, is_finalizing, phase_met, is_missed, is_round}
+use Rattle.schedule_rules.proofs.Words.{is_denied_to_lend, is_round_step, is_access_step, is_step_of, is_of_own_run, is_kept_out, asks_run, is_closing_step, is_barred_clone, looks}
+use Rattle.schedule_rules.proofs.Words.{is_missing_step, is_borrowing_step, is_running_step, is_turn_step, generates, is_barred_attempt, is_barred_step, is_initializing}
 use Rattle.exit_registry.specs.declared.registry.Look.{Look}
 use Rattle.schedule_rules.proofs.Answered.{due_at-judged, lent, made_to_lend, made, finished, looked, cloned, legal_by}
 use Rattle.schedule_rules.proofs.Facts.{apart}

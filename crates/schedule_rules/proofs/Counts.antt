@@ -1,8 +1,8 @@
 -- How many calls wait and how many turns there are, after one is taken off or added.
-use Rattle.schedule_rules.proofs.Words.{ℕ, ◌≡◌, true, List, false, Bool, refl, Some, ◌∷◌, ap, [], sym, arith, subst, None, not, ◌+◌, cond, ◌≤◌, ◌++◌, ◌==◌, if◌then◌else◌, map}
-use Rattle.schedule_rules.proofs.Words.{Option, cells_of_turns, first_of, rest_of, occurs, Turn, Turned, Given, Answer, CellPlan, Step, Want, Turns, Event, count, waits, Wait}
-use Rattle.schedule_rules.proofs.Words.{wait_of, attempt_of_turn, Attempt, attempt_of_wait, attempt_with, without_wait, cell_concerned_with, waits_given_with, with_wait}
-use Rattle.schedule_rules.proofs.Words.{waits_answered, wait_woken, wake_readers, wake_reader, wake_writer}
+use Rattle.schedule_rules.proofs.Words.{ℕ, List, ◌≡◌, true, false, Bool, refl, Some, ◌∷◌, [], ap, sym, arith, subst, None, not, ◌+◌, cond, ◌≤◌, ◌++◌, ◌==◌, if◌then◌else◌, map}
+use Rattle.schedule_rules.proofs.Words.{Option, cells_of_turns, first_of, rest_of, occurs, Turn, Turned, Given, Answer, CellPlan, Step, Want, Turns, Event, count, Wait, waits}
+use Rattle.schedule_rules.proofs.Words.{wait_of, Attempt, attempt_of_turn, attempt_with, attempt_of_wait, without_wait, cell_concerned_with, waits_given_with, waits_answered}
+use Rattle.schedule_rules.proofs.Words.{with_wait, wake_writer, wake_readers, wake_reader, wait_woken}
 
 -- 1 where the test holds
 abbrev pub one_if : Bool → ℕ

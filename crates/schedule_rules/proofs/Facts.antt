@@ -1,5 +1,5 @@
 -- Small facts of truth values and numbers.
-use Rattle.schedule_rules.proofs.Words.{ℕ, ◌≡◌, true, false, Bool, refl, arith, ◌&&◌, ◌⊎◌, inl, inr, ◌+◌, cond, ◌≢◌, ◌≤◌, ◌||◌, ◌==◌}
+use Rattle.schedule_rules.proofs.Words.{ℕ, ◌≡◌, true, false, Bool, refl, arith, inl, ◌⊎◌, ◌&&◌, inr, ◌+◌, ◌≢◌, cond, ◌≤◌, ◌||◌, ◌==◌}
 
 pub apart : true ≡ false → ⊥
 apart x = cc

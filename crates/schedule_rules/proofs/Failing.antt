@@ -1,20 +1,20 @@
 -- What a failed run leaves; and of a value that is lent, that nobody uses its cell, and what the step leaves.
-use Rattle.schedule_rules.proofs.Words.{ℕ, ◌≡◌, true, List, false, Bool, refl, Some, ◌∷◌, ◌∙◌, ap, [], sym, arith, subst, None, not, ◌&&◌, ◌⊎◌, inl, inr, ◌+◌, length, cond, ◌≢◌}
-use Rattle.schedule_rules.proofs.Words.{◌||◌, list_any, ◌==◌, if◌then◌else◌, is_none, is_some, Option, Given, flags_refused, lends_value, Answer, Line, Refusal, CellPlan, Act}
-use Rattle.schedule_rules.proofs.Words.{Step, cell_at, tolerance_at, is_of_other, is_parking, is_accessible, Content, effect, Change, Ran, Put, RanIfAsked, Makes, Event, deed_of}
-use Rattle.schedule_rules.proofs.Words.{accepts, count, Section, sections, innermost, sections_by, guards, guards_by, phase_at, replay, Back, back_of_step, back_of_section}
-use Rattle.schedule_rules.proofs.Words.{content_after_back, finishing, waits, Wait, wait_of, attempt_with, cell_concerned, without_wait, cell_concerned_with, cell_of_section}
-use Rattle.schedule_rules.proofs.Words.{waits_given_with, waits_at, waits_answered, other_waits, parks_to_write, parks_to_read, is_in_use, refusal, refusal_by, no_lending}
-use Rattle.schedule_rules.proofs.Words.{refusal_free, no_call, refusal_waiting, no_outcome, no_reader, no_writer, no_guard, no_exit, phase_made, due_answer, may_give_last}
-use Rattle.schedule_rules.proofs.Words.{may_give_first, may_give_on, reaches, IsLegalLine, answer_of, due_at, Moment, may_give, First, Last, lends_at, waits_judged, is_failed}
-use Rattle.schedule_rules.proofs.Words.{is_failure, is_refused_in_use, lends_in_use, is_step_in_use, is_lent, ChangesCellAlone, Leaves, RunsAtOnce, EndsRun, IsUnused, IsFailedRun}
-use Rattle.schedule_rules.proofs.Cases.{step, IsTrying, trying, form_at, Lendable, Cases, calling-tries, turning-tries}
+use Rattle.schedule_rules.proofs.Words.{ℕ, List, ◌≡◌, true, false, Bool, refl, Some, ◌∷◌, ◌∙◌, [], ap, sym, arith, subst, None, not, inl, ◌⊎◌, ◌&&◌, inr, ◌+◌, length, ◌≢◌, cond}
+use Rattle.schedule_rules.proofs.Words.{◌||◌, list_any, ◌==◌, if◌then◌else◌, is_none, is_some, Option, Given, lends_value, Answer, Line, Refusal, CellPlan, Act, Step, cell_at}
+use Rattle.schedule_rules.proofs.Words.{tolerance_at, is_of_other, is_parking, is_accessible, Content, effect, Change, Ran, Put, RanIfAsked, Makes, Event, accepts, deed_of, count}
+use Rattle.schedule_rules.proofs.Words.{Section, sections, innermost, sections_by, guards, guards_by, replay, Back, back_of_section, back_of_step, content_after_back, Wait, waits}
+use Rattle.schedule_rules.proofs.Words.{wait_of, attempt_with, cell_concerned, without_wait, cell_concerned_with, cell_of_section, waits_given_with, waits_at, waits_answered}
+use Rattle.schedule_rules.proofs.Words.{other_waits, parks_to_read, parks_to_write, is_in_use, refusal, refusal_by, no_call, refusal_free, refusal_waiting, no_lending, no_guard}
+use Rattle.schedule_rules.proofs.Words.{no_reader, no_outcome, no_writer, no_exit, due_answer, may_give_last, may_give_on, may_give_first, reaches, IsLegalLine, answer_of, due_at}
+use Rattle.schedule_rules.proofs.Words.{Moment, Last, First, may_give, lends_at, waits_judged, is_failed, lends_in_use, is_refused_in_use, is_failure, is_step_in_use, is_lent}
+use Rattle.schedule_rules.proofs.Words.{ChangesCellAlone, Leaves, IsFailedRun, EndsRun, RunsAtOnce, IsUnused}
+use Rattle.schedule_rules.proofs.Cases.{step, IsTrying, trying, Lendable, Case, calling-tries, turning-tries}
 use Rattle.schedule_rules.proofs.Attempts.{rests}
 use Rattle.schedule_rules.proofs.Steps.{lendable, lendable_so, allowed}
 use Rattle.schedule_rules.proofs.Finds.{LendsSo, Both, finds, tells}
 use Rattle.schedule_rules.proofs.Leaves.{back_here, back_elsewhere}
 use Rattle.schedule_rules.proofs.Counts.{without_none}
-use Rattle.schedule_rules.proofs.Answered.{due_at-judged, IsShown, IsTold, opened, denied, lent, made_to_lend, made_so, legal_by}
+use Rattle.schedule_rules.proofs.Answered.{due_at-judged, denied, lent, made_to_lend, legal_by}
 use Rattle.schedule_rules.proofs.Tests.{is_refused, no_more}
 use Rattle.schedule_rules.proofs.Causes.{due_is_answered}
 use Rattle.schedule_rules.proofs.Facts.{apart, first, second, same_number, number_found, other_number}
@@ -28,46 +28,27 @@ module _ (cells : List CellPlan) (h : List Event) where
   no_failure _ t = absurd t
 
   -- of the steps that are not refused a failure fails, and no other
-  fails : (p : ℕ) → Cases cells h p (λ a r. is_failed r ≡ is_failure cells h a)
-  fails p = record {
-    cyclic = λ a c j t. no_failure a (calling-tries a t.acts);
-    waiting = λ a c w way t. no_failure a (trying cells h p a c w t);
-    missed = λ a c w f t. no_failure a (trying cells h p a c w t);
-    owned = λ a c w o t. no_failure a (trying cells h p a c w t);
-    opened = λ a c j t q e. opened _ shown (form_at cells h p c j) (replay cells c h) ∙ no_failure a (calling-tries a t.acts);
-    denied = λ a c j t q e. denied _ told (form_at cells h p c j) (phase_at cells c h) ∙ no_failure a (calling-tries a t.acts);
-    running = λ a c j t q. no_failure a (calling-tries a t.acts);
-    declined = λ a c j t q. denied _ told (form_at cells h p c j) flags_refused ∙ no_failure a (calling-tries a t.acts);
-    skipped = λ a c t q. no_failure a (turning-tries a t.acts);
-    finalizing = λ a c t q u. no_failure a (turning-tries a t.acts);
-    round = λ c cs e n. refl;
-    closed = λ e n. refl;
-    made = λ v t j g. made_so _ shown (form_at cells h p t.cell j) v (phase_made cells h t);
-    failed = λ t j g. refl;
-    finished = λ fine left t g. finished fine left;
-    looked = λ g x f. refl;
-    set = λ g v x f w. refl;
-    released = λ g x f. refl;
-    downgraded = λ g x f w. refl;
-    borrowed = λ g x f w. refl;
-    cloned = λ g x f w. refl;
-    lent_made = λ c v left u e. sym (ap (λ b. b && false) e);
-    lent_failed = λ c left u e. sym (ap (λ b. b && true) e);
-    lent_rested = λ c made left u e f. sym (ap (λ b. b && is_none made) e);
-    lent_denied = λ c made left u e f. sym (ap (λ b. b && is_none made) e);
-    lent = λ c left u f. refl;
-    unlent = λ c left u f. refl;
-  }
-    where
-      shown : IsShown (λ r. is_failed r ≡ false)
-      shown = record { phase = λ q. refl; value = λ v. refl; read_guard = refl; write_guard = refl }
-
-      told : IsTold (λ r. is_failed r ≡ false)
-      told = record { shown = shown; access = λ q. refl; err_guard = refl }
-
-      finished : (fine : Bool) (left : Option ℕ) → false ≡ is_failure cells h (finishing fine left)
-      finished true left = refl
-      finished false left = refl
+  fails : (p : ℕ) (a : Act) (r : Answer) → Case cells h p a r → is_failed r ≡ is_failure cells h a
+  fails p _ _ (Case.cyclic a c j t) = no_failure a (calling-tries a t.acts)
+  fails p _ _ (Case.waiting a c w way t) = no_failure a (trying cells h p a c w t)
+  fails p _ _ (Case.missed a c w f t) = no_failure a (trying cells h p a c w t)
+  fails p _ _ (Case.owned a c w o t) = no_failure a (trying cells h p a c w t)
+  fails p _ _ (Case.told a c j q t v) = no_failure a (calling-tries a t.acts)
+  fails p _ _ (Case.denied a c j q t v) = no_failure a (calling-tries a t.acts)
+  fails p _ _ (Case.erring a c j q t v e) = no_failure a (calling-tries a t.acts)
+  fails p _ _ (Case.shown a c j t q e) = no_failure a (calling-tries a t.acts)
+  fails p _ _ (Case.reading a c j t q e) = no_failure a (calling-tries a t.acts)
+  fails p _ _ (Case.writing a c j t q e w) = no_failure a (calling-tries a t.acts)
+  fails p _ _ (Case.running a c j t q) = no_failure a (calling-tries a t.acts)
+  fails p _ _ (Case.skipped a c t q) = no_failure a (turning-tries a t.acts)
+  fails p _ _ (Case.finalizing a c t q u) = no_failure a (turning-tries a t.acts)
+  fails p _ _ (Case.finished true left t g) = refl
+  fails p _ _ (Case.finished false left t g) = refl
+  fails p _ _ (Case.lent_made c v left u e) = sym (ap (λ b. b && false) e)
+  fails p _ _ (Case.lent_failed c left u e) = sym (ap (λ b. b && true) e)
+  fails p _ _ (Case.lent_rested c made left u e f) = sym (ap (λ b. b && is_none made) e)
+  fails p _ _ (Case.lent_denied c made left u e f) = sym (ap (λ b. b && is_none made) e)
+  fails p _ _ _ = refl
 
   -- a legal line says Failed exactly where a failure is not refused
   pub fails_where_ended : (s : Step) (l : Line) → IsLegalLine cells h s l → is_failed l.answer ≡ (is_none (refusal cells h s) && is_failure cells h s.act)
@@ -78,7 +59,7 @@ module _ (cells : List CellPlan) (h : List Event) where
       ws = waits_judged cells k.moment h s l.given
 
       by : (o : Option Refusal) → refusal cells h s ≡ o → (is_none o && is_failed (due_answer cells h s ws k.chosen)) ≡ (is_none o && is_failure cells h s.act)
-      by None e = allowed cells h s.party (λ a r. is_failed r ≡ is_failure cells h a) (fails s.party) s.act ws k.chosen e
+      by None e = fails s.party s.act _ (allowed cells h s.party s.act ws k.chosen e)
       by (Some r) e = refl
 
   -- a legal line that says Failed ends a run of the cell that its step concerns

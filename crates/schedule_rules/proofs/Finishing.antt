@@ -1,8 +1,8 @@
 -- A finalizer that ends marks the phase of its cell, and nothing else does.
-use Rattle.schedule_rules.proofs.Words.{ℕ, ◌≡◌, true, List, false, Bool, refl, Some, ◌∷◌, ◌∙◌, ap, [], sym, subst, ◌⊎◌, inl, inr, and_or_apart, bit_or, ◌==◌, Option, has}
+use Rattle.schedule_rules.proofs.Words.{ℕ, List, ◌≡◌, true, false, Bool, refl, Some, ◌∷◌, ◌∙◌, [], ap, sym, subst, inl, ◌⊎◌, inr, and_or_apart, bit_or, ◌==◌, Option, has}
 use Rattle.schedule_rules.proofs.Words.{initialized, phase_of, Phase, Given, final_outcome, Answer, Line, CellPlan, Act, Step, Want, Calls, Turns, cell_at, phase_finalized}
-use Rattle.schedule_rules.proofs.Words.{Content, effect, Change, Ran, Put, Ended, Deed, Ends, EndsToRead, Visits, Makes, Drops, Finishes, DropsToRead, Lends, Event, deed_of}
-use Rattle.schedule_rules.proofs.Words.{accepts, Section, sections, innermost, is_turn, Guard, guards, numbered, phase_at, replay, Back, back_of_step, back_of_section, finishing}
+use Rattle.schedule_rules.proofs.Words.{Content, effect, Change, Ran, Put, Ended, Deed, Visits, Ends, EndsToRead, Makes, DropsToRead, Drops, Finishes, Lends, Event, accepts}
+use Rattle.schedule_rules.proofs.Words.{deed_of, Section, sections, innermost, is_turn, Guard, guards, numbered, replay, phase_at, Back, back_of_section, back_of_step, finishing}
 use Rattle.schedule_rules.proofs.Words.{cell_concerned, cell_of_section, IsLegal, IsLegalLine, IsEndedTurn}
 use Rattle.schedule_rules.specs.Laws.{Finishes as Finishes_so}
 use Rattle.schedule_rules.proofs.Exclusion.{alone}

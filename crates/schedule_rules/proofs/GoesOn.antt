@@ -1,8 +1,8 @@
 -- A waiting call goes on with what its party did last: its wait says the same call as the party's latest act.
-use Rattle.schedule_rules.proofs.Words.{ℕ, ◌≡◌, true, List, false, Bool, refl, Some, ◌∷◌, ◌∙◌, ap, [], sym, arith, subst, None, ◌≢◌, ◌==◌, if◌then◌else◌, map, Option, first_of}
-use Rattle.schedule_rules.proofs.Words.{Given, How, Answer, Refusal, CellPlan, Act, Step, Event, latest_act, latest_act_after, newer_act, registry, waits, Wait, wait_of, attempt}
-use Rattle.schedule_rules.proofs.Words.{attempt_of_turn, Attempt, attempt_of_wait, attempt_with, without_wait, cell_concerned_with, waits_given_with, with_wait, waits_answered}
-use Rattle.schedule_rules.proofs.Words.{act_for, wait_woken, wake_readers, wake_reader, wake_writer}
+use Rattle.schedule_rules.proofs.Words.{ℕ, List, ◌≡◌, true, false, Bool, refl, Some, ◌∷◌, ◌∙◌, [], ap, sym, arith, subst, None, ◌≢◌, ◌==◌, if◌then◌else◌, map, Option, first_of}
+use Rattle.schedule_rules.proofs.Words.{Given, How, Answer, Refusal, CellPlan, Act, Step, Event, latest_act, latest_act_after, newer_act, registry, Wait, waits, wait_of, attempt}
+use Rattle.schedule_rules.proofs.Words.{Attempt, attempt_of_turn, attempt_with, attempt_of_wait, without_wait, cell_concerned_with, waits_given_with, waits_answered, with_wait}
+use Rattle.schedule_rules.proofs.Words.{wake_writer, act_for, wake_readers, wake_reader, wait_woken}
 use Rattle.schedule_rules.proofs.Opened.{wait_removed, wait_kept}
 
 module _ (f : Wait → Wait) (same_party : (w : Wait) → (f w).party ≡ w.party) (same_attempt : (w : Wait) → attempt_of_wait (Some (f w)) ≡ attempt_of_wait (Some w)) where

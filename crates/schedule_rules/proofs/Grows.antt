@@ -1,10 +1,10 @@
 -- What a legal step leaves: each section stands on the phase that it needs, each holder of a write guard sees a value, and
 -- INITIALIZED is never cleared.
-use Rattle.schedule_rules.proofs.Words.{ℕ, ◌≡◌, true, List, false, Bool, refl, Some, ◌∷◌, ◌∙◌, ap, [], sym, arith, subst, not, ◌⊎◌, inl, inr, and_or_apart, and_or_self, bit_or}
+use Rattle.schedule_rules.proofs.Words.{ℕ, List, ◌≡◌, true, false, Bool, refl, Some, ◌∷◌, ◌∙◌, [], ap, sym, arith, subst, not, inl, ◌⊎◌, inr, and_or_apart, and_or_self, bit_or}
 use Rattle.schedule_rules.proofs.Words.{bit_and, AllByRecursion, ◌==◌, if◌then◌else◌, Option, has, initialized, phase_of, shall_init, Tolerance, Call, Kind, CellPlan, Want, Calls}
-use Rattle.schedule_rules.proofs.Words.{Turns, cell_at, tolerance_at, tolerance_of, flags_kept, Content, effect, Change, Ran, Put, Asked, Ended, RanIfAsked, asks_to_lend, Deed}
-use Rattle.schedule_rules.proofs.Words.{Ends, EndsToRead, Visits, Makes, Drops, Finishes, DropsToRead, EndsToWrite, Opens, Lends, Holds, Event, deed_of, accepts, Section, sections}
-use Rattle.schedule_rules.proofs.Words.{is_turn, Guard, guards, numbered, phase_at, replay, IsLegal, IsExclusive}
+use Rattle.schedule_rules.proofs.Words.{Turns, cell_at, tolerance_at, tolerance_of, flags_kept, Content, effect, Change, Ran, Put, Asked, Ended, asks_to_lend, RanIfAsked, Deed}
+use Rattle.schedule_rules.proofs.Words.{Visits, Ends, EndsToRead, Makes, Opens, EndsToWrite, DropsToRead, Drops, Finishes, Lends, Holds, Event, accepts, deed_of, Section, sections}
+use Rattle.schedule_rules.proofs.Words.{is_turn, Guard, guards, numbered, replay, phase_at, IsLegal, IsExclusive}
 use Rattle.schedule_rules.proofs.Found.{each_found}
 use Rattle.schedule_rules.proofs.Cases.{Asking, Resting, AsksToLend, Reach}
 use Rattle.schedule_rules.proofs.Attempts.{asks_due}

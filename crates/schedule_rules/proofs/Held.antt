@@ -1,10 +1,10 @@
 -- A phase that is not 0 never is 0 again; and a cell that was touched stays so: its phase is not 0, or a section runs in it,
 -- or a guard writes it.
-use Rattle.schedule_rules.proofs.Words.{ℕ, ◌≡◌, true, List, false, Bool, Some, ◌∷◌, ◌∙◌, [], sym, arith, subst, None, ◌⊎◌, ◌<◌, inl, inr, cond, ◌≢◌, and_or_self, bit_or, bit_and}
+use Rattle.schedule_rules.proofs.Words.{ℕ, List, ◌≡◌, true, false, Bool, Some, ◌∷◌, ◌∙◌, [], sym, arith, subst, None, inl, ◌⊎◌, inr, ◌<◌, ◌≢◌, cond, and_or_self, bit_or, bit_and}
 use Rattle.schedule_rules.proofs.Words.{AllByRecursion, ◌==◌, Option, has, initialized, CellPlan, cell_at, tolerance_of, flags_kept, Content, effect, Change, Ran, Put, Asked}
-use Rattle.schedule_rules.proofs.Words.{is_declined, Ended, RanIfAsked, asks_to_lend, content_of_run, content_after, Deed, Ends, EndsToRead, Visits, Makes, Drops, Finishes}
-use Rattle.schedule_rules.proofs.Words.{DropsToRead, EndsToWrite, Lends, Holds, Event, deed_of, Section, sections, Guard, guards, numbered, phase_at, replay, Back, back_of_step}
-use Rattle.schedule_rules.proofs.Words.{content_after_back, write_holds, IsLegal, IsExclusive}
+use Rattle.schedule_rules.proofs.Words.{is_declined, Ended, asks_to_lend, RanIfAsked, content_after, content_of_run, Deed, Visits, Ends, EndsToRead, Makes, EndsToWrite}
+use Rattle.schedule_rules.proofs.Words.{DropsToRead, Drops, Finishes, Lends, Holds, Event, deed_of, Section, sections, Guard, guards, numbered, replay, phase_at, Back}
+use Rattle.schedule_rules.proofs.Words.{back_of_step, content_after_back, write_holds, IsLegal, IsExclusive}
 use Rattle.schedule_rules.proofs.Exclusion.{alone}
 use Rattle.schedule_rules.proofs.Found.{each_of, each_found}
 use Rattle.schedule_rules.proofs.Finds.{Finds, accessed_there, finds}

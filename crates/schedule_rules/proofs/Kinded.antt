@@ -1,14 +1,11 @@
 -- The sections and the guards of a legal history are of calls that the kinds of their cells have.
-use Rattle.schedule_rules.proofs.Words.{ℕ, ◌≡◌, true, List, false, Bool, refl, Some, ◌∷◌, ◌∙◌, ap, [], sym, subst, None, not, length, AllByRecursion, ◌==◌, Option, phase_of}
-use Rattle.schedule_rules.proofs.Words.{flags_refused, has_call, is_plain, is_primed, Call, Kind, Form, Shown, Told, Held, Answer, CellPlan, Act, Calls, Turns, cell_at, form_of}
-use Rattle.schedule_rules.proofs.Words.{phase_finalized, Content, Deed, Ends, EndsToRead, Visits, Drops, DropsToRead, EndsToWrite, Opens, Holds, Puts, deed_waiting, Beside}
-use Rattle.schedule_rules.proofs.Words.{deed_by, Event, deed_of, accepts, is_exit, Section, sections, innermost, sections_by, Guard, guards, numbered, without_guard, guards_by}
-use Rattle.schedule_rules.proofs.Words.{reader_beside, reader_made, writer_made, phase_at, replay, finishing, refusal, answer_denied, answer_opened, answer_made, phase_made}
-use Rattle.schedule_rules.proofs.Words.{IsLegal}
+use Rattle.schedule_rules.proofs.Words.{ℕ, List, ◌≡◌, true, false, Bool, refl, Some, ◌∷◌, ◌∙◌, [], sym, subst, None, not, length, AllByRecursion, ◌==◌, Option, has_call, is_plain}
+use Rattle.schedule_rules.proofs.Words.{is_primed, Call, Kind, Answer, CellPlan, Act, Calls, Turns, cell_at, form_of, Deed, Visits, Ends, EndsToRead, Opens, EndsToWrite}
+use Rattle.schedule_rules.proofs.Words.{DropsToRead, Drops, Holds, Puts, deed_waiting, Beside, deed_by, Event, accepts, deed_of, is_exit, Section, sections, innermost, sections_by}
+use Rattle.schedule_rules.proofs.Words.{Guard, guards, numbered, without_guard, guards_by, writer_made, reader_made, reader_beside, replay, refusal, answer_of_value, IsLegal}
+use Rattle.schedule_rules.proofs.Cases.{errs, writes, step, Calling, Generating, form_at, Case}
 use Rattle.schedule_rules.proofs.Found.{each_found, each_ended, each_removed, each_put}
-use Rattle.schedule_rules.proofs.Cases.{step, Calling, Generating, form_at, Cases}
-use Rattle.schedule_rules.proofs.Finds.{errs}
-use Rattle.schedule_rules.proofs.Steps.{of_free}
+use Rattle.schedule_rules.proofs.Steps.{of_legal}
 use Rattle.schedule_rules.proofs.WaitsToLock.{attempted-has}
 use Rattle.schedule_rules.proofs.Facts.{apart}
 
@@ -23,12 +20,6 @@ primed_not_plain : (q : Kind) → is_primed q ≡ true → is_plain q ≡ false
 primed_not_plain Kind.PrimedLockedLazy e = refl
 primed_not_plain Kind.PrimedLockedLazyDroped e = refl
 primed_not_plain _ e = absurd (apart (sym e))
-
--- a call of this form gets a guard to write
-abbrev writes : Form → Bool
-writes (Told tests) = false
-writes Shown = false
-writes (Held w falls_back) = w
 
 -- no plain kind has one that does
 written_not_plain : (q : Kind) (k : Call) → has_call q k ≡ true → writes (form_of q k) ≡ true → is_plain q ≡ false
@@ -77,66 +68,29 @@ module _ (cells : List CellPlan) where
     called : (a : Act) (c : ℕ) (k : Call) (r : Answer) → Calling cells h p a c k → (HasCall c k → Kinds (deed_by (accepts h) (is_exit a) (Act.Call c k) r)) → Kinded a r
     called a c k r t f n = subst (λ b. Kinds (deed_by (accepts h) (is_exit a) b r)) (sym t.does) (f (attempted-has cells h (step cells h p a) c k legal n t.tried))
 
-    opened : (c : ℕ) (k : Call) (e : Bool) (f : Form) (y : Content) → form_at cells h p c k ≡ f → HasCall c k → Kinds (deed_by (accepts h) e (Act.Call c k) (answer_opened f y))
-    opened c k e (Told tests) y is has = tt
-    opened c k e Shown y is has = tt
-    opened c k e (Held true falls_back) y is has = written_not_plain (cell_at cells c).kind k has (ap writes is)
-    opened c k e (Held false falls_back) y is has = tt
-
-    denied : (c : ℕ) (k : Call) (e : Bool) (f : Form) (q : ℕ) → form_at cells h p c k ≡ f → HasCall c k → Kinds (deed_by (accepts h) e (Act.Call c k) (answer_denied f q))
-    denied c k e (Told true) q is has = tt
-    denied c k e (Told false) q is has = tt
-    denied c k e Shown q is has = tt
-    denied c k e (Held w true) q is has = falls_primed (cell_at cells c).kind k has (ap errs is)
-    denied c k e (Held w false) q is has = tt
-
-    made : (v : ℕ) (t : Section) (k : Call) → Generating cells h p t k → (f : Form) (q : ℕ) → form_at cells h p t.cell k ≡ f → Kinded (Act.Made v) (answer_made f v q)
-    made v t k g (Told tests) q is n = tt
-    made v t k g Shown q is n = tt
-    made v t k g (Held true falls_back) q is n = λ s f. let same : t ≡ s = one s (sym g.found ∙ f) in subst (λ u. (j : Call) × (u.want ≡ Calls j) × (writes (form_of (cell_at cells u.cell).kind j) ≡ true)) same (k, g.kind, ap writes is)
+    made : (v : ℕ) (t : Section) (k : Call) → Generating cells h p t k → writes (form_at cells h p t.cell k) ≡ true → Kinds (EndsToWrite v)
+    made v t k g w s f = let same : t ≡ s = one s (sym g.found ∙ f) in subst (λ u. (j : Call) × (u.want ≡ Calls j) × (writes (form_of (cell_at cells u.cell).kind j) ≡ true)) same (k, g.kind, w)
       where
         one : (s : Section) → Some t ≡ Some s → t ≡ s
         one s e = cc
-    made v t k g (Held false falls_back) q is n = tt
-
-    finished : (fine : Bool) (left : Option ℕ) (q : _) → Kinded (finishing fine left) (Answer.Phase q)
-    finished true left q n = tt
-    finished false left q n = tt
 
     waited : (b : Bool) → Kinds (deed_waiting b)
     waited true = tt
     waited false = tt
 
-    kinds : Cases cells h p Kinded
-    kinds = record {
-      cyclic = λ a c k t n. tt;
-      waiting = λ a c w way t n. waited (is_exit a);
-      missed = λ a c w f t n. tt;
-      owned = λ a c w o t n. tt;
-      opened = λ a c k t q e. called a c k _ t (opened c k (is_exit a) (form_at cells h p c k) (replay cells c h) refl);
-      denied = λ a c k t q e. called a c k _ t (denied c k (is_exit a) (form_at cells h p c k) (phase_at cells c h) refl);
-      running = λ a c k t q. called a c k Answer.Running t (λ has. has);
-      declined = λ a c k t q. called a c k _ t (denied c k (is_exit a) (form_at cells h p c k) flags_refused refl);
-      skipped = λ a c t q n. tt;
-      finalizing = λ a c t q u n. tt;
-      round = λ c cs e n f. tt;
-      closed = λ e n f. tt;
-      made = λ v t k g. made v t k g (form_at cells h p t.cell k) (phase_made cells h t) refl;
-      failed = λ t k g n. tt;
-      finished = λ fine left t g. finished fine left (phase_of (phase_finalized (phase_at cells t.cell h) fine));
-      looked = λ g x f n. tt;
-      set = λ g v x f w n. tt;
-      released = λ g x f n. tt;
-      downgraded = λ g x f w n. tt;
-      borrowed = λ g x f w n. tt;
-      cloned = λ g x f w n. tt;
-      lent_made = λ c v left u e n. tt;
-      lent_failed = λ c left u e n. tt;
-      lent_rested = λ c made left u e f n. tt;
-      lent_denied = λ c made left u e f n. tt;
-      lent = λ c left u f n. tt;
-      unlent = λ c left u f n. tt;
-    }
+    each : (a : Act) (r : Answer) → Case cells h p a r → Kinded a r
+    each _ _ (Case.waiting a c w way t) n = waited (is_exit a)
+    each _ _ (Case.told a c k q t v) n = called a c k (Answer.Phase q) t (λ has. tt) n
+    each _ _ (Case.denied a c k q t v) n = called a c k (Answer.Access q) t (λ has. tt) n
+    each _ _ (Case.erring a c k q t v e) n = called a c k Answer.ErrGuard t (λ has. falls_primed (cell_at cells c).kind k has e) n
+    each _ _ (Case.shown a c k t q e) n = called a c k (answer_of_value (replay cells c h)) t (λ has. tt) n
+    each _ _ (Case.reading a c k t q e) n = called a c k Answer.ReadGuard t (λ has. tt) n
+    each _ _ (Case.writing a c k t q e w) n = called a c k Answer.WriteGuard t (λ has. written_not_plain (cell_at cells c).kind k has w) n
+    each _ _ (Case.running a c k t q) n = called a c k Answer.Running t (λ has. has) n
+    each _ _ (Case.made_to_write v t k g w) n = made v t k g w
+    each _ _ (Case.finished true left t g) n = tt
+    each _ _ (Case.finished false left t g) n = tt
+    each _ _ _ n = tt
 
     -- ---- what is open after the deed
 
@@ -184,7 +138,7 @@ module _ (cells : List CellPlan) where
 
   -- what is known of the kinds where a legal step did its deed
   deed_kinds : (h : List Event) (e : Event) (k : IsLegal cells (e ∷ h)) → Kinds h e.step.party k.2 (deed_of h e.step e.line.answer)
-  deed_kinds h e k = of_free cells h e.step e.line k.0 (λ a r. Kinds h e.step.party k.2 (deed_of h (step cells h e.step.party a) r)) (λ a r. tt) (kinds h e.step.party k.2)
+  deed_kinds h e k = of_legal cells h e.step e.line k.0 (λ a r. Kinds h e.step.party k.2 (deed_of h (step cells h e.step.party a) r)) (λ a r. tt) (each h e.step.party k.2)
 
   kinded : (h : List Event) → IsLegal cells h → AllByRecursion IsKinded (sections h)
   kinded [] k = tt

@@ -1,11 +1,11 @@
 -- What a deed leaves: what is given back changes its own cell, what is published changes only where nothing holds the cell to
 -- write afterwards, and what stands open keeps what is said of it.
-use Rattle.schedule_rules.proofs.Words.{ℕ, ◌≡◌, true, List, false, Bool, refl, Some, ◌∷◌, ◌∙◌, ap, [], sym, arith, subst, None, not, ◌&&◌, ◌⊎◌, ◌<◌, inl, inr, ◌+◌, length, cond}
+use Rattle.schedule_rules.proofs.Words.{ℕ, List, ◌≡◌, true, false, Bool, refl, Some, ◌∷◌, ◌∙◌, [], ap, sym, arith, subst, None, not, inl, ◌⊎◌, ◌&&◌, inr, ◌<◌, ◌+◌, length, cond}
 use Rattle.schedule_rules.proofs.Words.{◌≤◌, AllByRecursion, ◌==◌, if◌then◌else◌, Option, Call, CellPlan, cell_at, tolerance_at, tolerance_of, runs_generator, Content, effect}
-use Rattle.schedule_rules.proofs.Words.{Change, Asked, is_declined, Ended, content_after, Deed, Ends, EndsToRead, Visits, Makes, Drops, Finishes, DropsToRead, EndsToWrite, Opens}
+use Rattle.schedule_rules.proofs.Words.{Change, Asked, is_declined, Ended, content_after, Deed, Visits, Ends, EndsToRead, Makes, Opens, EndsToWrite, DropsToRead, Drops, Finishes}
 use Rattle.schedule_rules.proofs.Words.{Lends, Holds, Puts, Beside, Ending, Event, accepts, count, Section, sections, innermost, runs_in, sections_by, without_innermost, Guard}
-use Rattle.schedule_rules.proofs.Words.{guards, numbered, without_guard, guards_by, reader_beside, reader_made, writer_made, reader, writer, carrier, replay, Back, back_of_section}
-use Rattle.schedule_rules.proofs.Words.{content_after_back, back_by, back_of_guard, change_of, write_holds, writes_cell, IsExclusive}
+use Rattle.schedule_rules.proofs.Words.{guards, numbered, without_guard, guards_by, writer_made, reader_made, reader_beside, reader, carrier, writer, replay, Back, back_of_section}
+use Rattle.schedule_rules.proofs.Words.{content_after_back, back_by, change_of, back_of_guard, write_holds, writes_cell, IsExclusive}
 use Rattle.schedule_rules.proofs.Found.{each_counted, each_found, each_ended, each_removed, each_put}
 use Rattle.schedule_rules.proofs.Opened.{put, count_ended, count_removed, writes_put}
 use Rattle.schedule_rules.proofs.Exclusion.{no_writer_beside, no_run_left, no_run_beside, no_writer_left}

@@ -1,8 +1,7 @@
 -- What the answer of a legal line means.
-use Rattle.schedule_rules.proofs.Words.{ℕ, ◌≡◌, true, List, false, Bool, refl, sym, subst, ◌⊎◌, inl, inr, Option, has, initialized, phase_of, Phase, flags_refused, Call, Form}
-use Rattle.schedule_rules.proofs.Words.{Shown, Told, Held, Answer, Line, CellPlan, Act, Step, phase_finalized, Content, Event, Section, phase_at, replay, finishing, answer_denied}
-use Rattle.schedule_rules.proofs.Words.{answer_opened, answer_made, phase_made, IsLegalLine, lends_at, runs_to_lend, IsWithoutEffect, TurnsWhere}
-use Rattle.schedule_rules.proofs.Cases.{IsCalling, Calling, Turning, Asking, Resting, Reach, form_at, Finalizing, Cases}
+use Rattle.schedule_rules.proofs.Words.{ℕ, List, ◌≡◌, true, false, Bool, refl, sym, subst, inl, ◌⊎◌, inr, Option, has, initialized, phase_of, Phase, Call, Answer, Line, CellPlan}
+use Rattle.schedule_rules.proofs.Words.{Act, Step, phase_finalized, Event, Section, phase_at, finishing, IsLegalLine, lends_at, runs_to_lend, IsWithoutEffect, TurnsWhere}
+use Rattle.schedule_rules.proofs.Cases.{Visiting, IsCalling, Calling, Turning, Asking, Reach, Finalizing, Case}
 use Rattle.schedule_rules.proofs.Steps.{of_legal}
 use Rattle.schedule_rules.proofs.Facts.{same_number}
 
@@ -19,8 +18,7 @@ module _ (cells : List CellPlan) (h : List Event) (p : ℕ) where
     pub cell : ℕ
     pub asked : Call
     pub calls : Calling cells h p a cell asked
-    pub reason : (Asking cells h p cell asked false × (q ≡ phase_of flags_refused))
-        ⊎ (Resting cells h p cell asked × (Reach cells h p cell false × (q ≡ phase_of (phase_at cells cell h))))
+    pub reason : Visiting cells h p cell asked q (Reach cells h p cell false × (q ≡ phase_of (phase_at cells cell h)))
 
   -- the act is to lend the value of the cell as it is, which may not be accessed
   pub record Unlent (a : Act) (q : Phase) : Type 0 where
@@ -65,58 +63,20 @@ module _ (cells : List CellPlan) (h : List Event) (p : ℕ) where
   Means a (Answer.Phase q) = Finished a q ⊎ EndsNone a
   Means a _ = Unit {0}
 
-  opened : (a : Act) → IsCalling a → (f : Form) (y : Content) → Means a (answer_opened f y)
-  opened a t (Told tests) y = inr (call_ends_none a t)
-  opened a t Shown y = tt
-  opened a t (Held true falls_back) y = tt
-  opened a t (Held false falls_back) y = tt
-
-  denied : (a : Act) → IsCalling a → (f : Form) (q : ℕ) → Away a (phase_of q) → Means a (answer_denied f q)
-  denied a t (Told true) q w = inl w
-  denied a t (Told false) q w = inr (call_ends_none a t)
-  denied a t Shown q w = inl w
-  denied a t (Held writes true) q w = tt
-  denied a t (Held writes false) q w = inl w
-
-  made : (v : ℕ) (f : Form) (q : ℕ) → Means (Act.Made v) (answer_made f v q)
-  made v (Told tests) q = inr (made_ends_none v)
-  made v Shown q = tt
-  made v (Held true falls_back) q = tt
-  made v (Held false falls_back) q = tt
-
-  cases : Cases cells h p Means
-  cases = record {
-    cyclic = λ a c k t. tt;
-    waiting = λ a c w way t. tt;
-    missed = λ a c w f t. tt;
-    owned = λ a c w o t. tt;
-    opened = λ a c k t q e. opened a t.acts (form_at cells h p c k) (replay cells c h);
-    denied = λ a c k t q e. denied a t.acts (form_at cells h p c k) (phase_at cells c h) (record { cell = c; asked = k; calls = t; reason = inr (q, (e, refl)) });
-    running = λ a c k t q. record { cell = c; asked = k; calls = t; asks = q };
-    declined = λ a c k t q. denied a t.acts (form_at cells h p c k) flags_refused (record { cell = c; asked = k; calls = t; reason = inl (q, refl) });
-    skipped = λ a c t q. record { turns = t; value = q };
-    finalizing = λ a c t q u. record { turns = t; value = q };
-    round = λ c cs e n. tt;
-    closed = λ e n. tt;
-    made = λ v t k g. made v (form_at cells h p t.cell k) (phase_made cells h t);
-    failed = λ t k g. tt;
-    finished = λ fine left t g. inl (record { fine = fine; left = left; acts = refl; section = t; ends = g; shown = refl });
-    looked = λ g x f. tt;
-    set = λ g v x f w. tt;
-    released = λ g x f. tt;
-    downgraded = λ g x f w. tt;
-    borrowed = λ g x f w. tt;
-    cloned = λ g x f w. tt;
-    lent_made = λ c v left u e. tt;
-    lent_failed = λ c left u e. tt;
-    lent_rested = λ c made left u e f. tt;
-    lent_denied = λ c made left u e f. inr (record { cell = c; lends = same_number c c refl; unasked = e; lacks = f; shown = refl });
-    lent = λ c left u f. tt;
-    unlent = λ c left u f. inr (record { cell = c; lends = same_number c c refl; unasked = refl; lacks = f; shown = refl });
-  }
+  each : (a : Act) (r : Answer) → Case cells h p a r → Means a r
+  each _ _ (Case.running a c k t q) = record { cell = c; asked = k; calls = t; asks = q }
+  each _ _ (Case.told a c k q t v) = inr (call_ends_none a t.acts)
+  each _ _ (Case.denied a c k q t v) = inl (record { cell = c; asked = k; calls = t; reason = v })
+  each _ _ (Case.skipped a c t q) = record { turns = t; value = q }
+  each _ _ (Case.finalizing a c t q u) = record { turns = t; value = q }
+  each _ _ (Case.made_told v t k q g) = inr (made_ends_none v)
+  each _ _ (Case.finished fine left t g) = inl (record { fine = fine; left = left; acts = refl; section = t; ends = g; shown = refl })
+  each _ _ (Case.lent_denied c made left u e f) = inr (record { cell = c; lends = same_number c c refl; unasked = e; lacks = f; shown = refl })
+  each _ _ (Case.unlent c left u f) = inr (record { cell = c; lends = same_number c c refl; unasked = refl; lacks = f; shown = refl })
+  each _ _ _ = tt
 
 pub means : (cells : List CellPlan) (h : List Event) (s : Step) (l : Line) → IsLegalLine cells h s l → Means cells h s.party s.act l.answer
-means cells h s l k = of_legal cells h s l k (Means cells h s.party) (λ a r. tt) (cases cells h s.party)
+means cells h s l k = of_legal cells h s l k (Means cells h s.party) (λ a r. tt) (λ a r k n. each cells h s.party a r k)
 
 module _ (cells : List CellPlan) (h : List Event) where
   turns : (s : Step) (c : ℕ) (ready : Bool) → AtTurn cells h s.party s.act c ready → TurnsWhere cells h s c ready

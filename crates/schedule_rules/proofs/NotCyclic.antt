@@ -1,8 +1,8 @@
 -- A call that waits asks for no run of a generator that its own party is running.
-use Rattle.schedule_rules.proofs.Words.{ℕ, ◌≡◌, true, List, false, Bool, refl, Some, ◌∷◌, ◌∙◌, ap, [], sym, arith, subst, None, not, ◌&&◌, ◌<◌, ◌+◌, cond, ◌≢◌, ◌≤◌, find, ◌==◌}
-use Rattle.schedule_rules.proofs.Words.{if◌then◌else◌, is_none, Option, How, Answer, Line, CellPlan, Act, Step, cell_at, initializes, Deed, Ends, EndsToRead, EndsToWrite, Opens}
+use Rattle.schedule_rules.proofs.Words.{ℕ, List, ◌≡◌, true, false, Bool, refl, Some, ◌∷◌, ◌∙◌, [], ap, sym, arith, subst, None, not, ◌&&◌, ◌<◌, ◌+◌, ◌≢◌, cond, ◌≤◌, find, ◌==◌}
+use Rattle.schedule_rules.proofs.Words.{if◌then◌else◌, is_none, Option, How, Answer, Line, CellPlan, Act, Step, cell_at, initializes, Deed, Ends, EndsToRead, Opens, EndsToWrite}
 use Rattle.schedule_rules.proofs.Words.{deed_waiting, Event, deed_of, count, is_exit, Section, sections, is_turn, runs_in, sections_by, without_innermost, runs, generates_for}
-use Rattle.schedule_rules.proofs.Words.{waits, Wait, wait_of, attempt, Attempt, attempt_of_wait, refusal, IsLegal, IsLegalLine, IsExclusive, waits_judged, is_attempted, is_waiting}
+use Rattle.schedule_rules.proofs.Words.{Wait, waits, wait_of, attempt, Attempt, attempt_of_wait, refusal, IsLegal, IsLegalLine, IsExclusive, waits_judged, is_attempted, is_waiting}
 use Rattle.schedule_rules.proofs.Words.{is_cyclic, is_made_to_wait, is_cyclic_step}
 use Rattle.schedule_rules.proofs.Exclusion.{alone}
 use Rattle.schedule_rules.proofs.Facts.{first, second, apart}

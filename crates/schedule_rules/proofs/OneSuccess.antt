@@ -1,9 +1,9 @@
 -- A generator of a cell succeeds at most once.
-use Rattle.schedule_rules.proofs.Words.{ℕ, ◌≡◌, true, List, false, Bool, refl, Some, ◌∷◌, ◌∙◌, ap, [], sym, arith, subst, None, ◌&&◌, ◌⊎◌, ◌<◌, inl, inr, ◌+◌, cond, ◌≤◌, ◌||◌}
-use Rattle.schedule_rules.proofs.Words.{◌==◌, has, initialized, Answer, CellPlan, Act, cell_at, tolerance_at, flags_kept, Content, effect, Change, Ran, Deed, Ends, EndsToRead}
-use Rattle.schedule_rules.proofs.Words.{Visits, Makes, Drops, Finishes, DropsToRead, EndsToWrite, Lends, Event, deed_of, count, Section, sections, innermost, is_turn, runs_in}
-use Rattle.schedule_rules.proofs.Words.{Guard, guards, numbered, phase_at, replay, back_of_section, back_by, write_holds, writes_cell, IsLegal, lends_at, runs_to_lend, is_failed}
-use Rattle.schedule_rules.proofs.Words.{is_lent_at, successes, is_success}
+use Rattle.schedule_rules.proofs.Words.{ℕ, List, ◌≡◌, true, false, Bool, refl, Some, ◌∷◌, ◌∙◌, [], ap, sym, arith, subst, None, inl, ◌⊎◌, ◌&&◌, inr, ◌<◌, ◌+◌, cond, ◌≤◌, ◌||◌}
+use Rattle.schedule_rules.proofs.Words.{◌==◌, has, initialized, Answer, CellPlan, Act, cell_at, tolerance_at, flags_kept, Content, effect, Change, Ran, Deed, Visits, Ends}
+use Rattle.schedule_rules.proofs.Words.{EndsToRead, Makes, EndsToWrite, DropsToRead, Drops, Finishes, Lends, Event, deed_of, count, Section, sections, innermost, is_turn, runs_in}
+use Rattle.schedule_rules.proofs.Words.{Guard, guards, numbered, replay, phase_at, back_of_section, back_by, write_holds, writes_cell, IsLegal, lends_at, runs_to_lend, is_failed}
+use Rattle.schedule_rules.proofs.Words.{successes, is_success, is_lent_at}
 use Rattle.schedule_rules.proofs.Exclusion.{alone}
 use Rattle.schedule_rules.proofs.Found.{found_counts, each_found}
 use Rattle.schedule_rules.proofs.Leaves.{back_here, left_at, guards_left, GivenAt, Writing, writing, GivesOf, moves}

@@ -1,10 +1,10 @@
 -- A schedule of cells that do not park has at most one legal transcript.
-use Rattle.schedule_rules.proofs.Words.{ℕ, ◌≡◌, true, List, false, Bool, refl, Some, ◌∷◌, ◌∙◌, ap, [], sym, arith, subst, None, not, ◌&&◌, ◌<◌, length, get_or_past, same_lists}
+use Rattle.schedule_rules.proofs.Words.{ℕ, List, ◌≡◌, true, false, Bool, refl, Some, ◌∷◌, ◌∙◌, [], ap, sym, arith, subst, None, not, ◌&&◌, ◌<◌, length, get_or_past, same_lists}
 use Rattle.schedule_rules.proofs.Words.{if◌then◌else◌, nat_lt, Option, first_of, LockNature, Given, How, Answer, Line, Refusal, CellPlan, Place, Act, Step, Want, Calls, cell_at}
-use Rattle.schedule_rules.proofs.Words.{tolerance_of, is_parking, no_cell, is_fast, initializes, lock_wanted, Event, registry, ended_turns, waits, Wait, wait_of, attempt}
-use Rattle.schedule_rules.proofs.Words.{attempt_of_turn, Attempt, attempt_of_wait, cell_concerned, other_waits, is_barred, refusal, answer_barred, answer_admitted, drains_by}
-use Rattle.schedule_rules.proofs.Words.{way_parked, answer_of_attempt, Meeting, due_answer, due_tried, meeting, may_give_last, is_nobody, may_give_first, may_give_on, IsLegal}
-use Rattle.schedule_rules.proofs.Words.{IsLegalLine, answer_of, due_at, Moment, may_give, First, Last, Schedule, Account, IsLegalTranscript, told, AreFinals, final_of, NoneParks}
+use Rattle.schedule_rules.proofs.Words.{tolerance_of, no_cell, is_parking, is_fast, initializes, lock_wanted, Event, registry, ended_turns, Wait, waits, wait_of, attempt, Attempt}
+use Rattle.schedule_rules.proofs.Words.{attempt_of_turn, attempt_of_wait, cell_concerned, other_waits, is_barred, refusal, answer_barred, answer_admitted, drains_by, way_parked}
+use Rattle.schedule_rules.proofs.Words.{Meeting, answer_of_attempt, due_answer, due_tried, meeting, may_give_last, may_give_on, may_give_first, is_nobody, IsLegal, IsLegalLine}
+use Rattle.schedule_rules.proofs.Words.{answer_of, due_at, Moment, Last, First, may_give, Account, IsLegalTranscript, told, Schedule, final_of, AreFinals, NoneParks}
 use Rattle.std.proofs.lemmas.Option.{get_or_from_slice_get}
 use Rattle.schedule_rules.specs.declared.transcript.Final.{Final}
 

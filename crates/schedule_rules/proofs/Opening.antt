@@ -1,11 +1,11 @@
 -- What holds of each open guard: what happened in its section, that it bears the number of an earlier step, and that no
 -- section of a cell is open while a guard reads it.
-use Rattle.schedule_rules.proofs.Words.{ℕ, ◌≡◌, true, List, false, Bool, refl, Some, ◌∷◌, ◌∙◌, ap, [], sym, arith, None, ◌<◌, length, ◌++◌, and_or_apart, and_assoc, bit_and}
-use Rattle.schedule_rules.proofs.Words.{AllByRecursion, ◌==◌, if◌then◌else◌, is_some, ◌-◌, ◌^◌, Option, has, Given, registration, final_outcome, is_finalizable, CellPlan, Act}
-use Rattle.schedule_rules.proofs.Words.{Step, tolerance_of, flags_kept, Content, effect, Change, Ran, Put, Asked, is_declined, Ended, RanIfAsked, Deed, EndsToRead, Visits, Drops}
-use Rattle.schedule_rules.proofs.Words.{DropsToRead, EndsToWrite, Holds, Puts, Beside, deed_read, Event, deed_of, act_by, Section, sections, innermost, Guard, guards, numbered}
-use Rattle.schedule_rules.proofs.Words.{without_guard, guards_by, reader_beside, reader_made, writer_made, reader, waits, cell_concerned, cell_concerned_with, cell_of_section}
-use Rattle.schedule_rules.proofs.Words.{cell_of_guard, write_holds, read_guards, reads_cell, turns_to_read, IsLegal, read_at}
+use Rattle.schedule_rules.proofs.Words.{ℕ, List, ◌≡◌, true, false, Bool, refl, Some, ◌∷◌, ◌∙◌, [], ap, sym, arith, None, ◌<◌, length, ◌++◌, and_or_apart, and_assoc, bit_and}
+use Rattle.schedule_rules.proofs.Words.{AllByRecursion, ◌==◌, if◌then◌else◌, is_some, ◌^◌, ◌-◌, Option, has, Given, registration, final_outcome, is_finalizable, CellPlan, Act}
+use Rattle.schedule_rules.proofs.Words.{Step, tolerance_of, flags_kept, Content, effect, Change, Ran, Put, Asked, is_declined, Ended, RanIfAsked, Deed, Visits, EndsToRead}
+use Rattle.schedule_rules.proofs.Words.{EndsToWrite, DropsToRead, Drops, Holds, Puts, Beside, deed_read, Event, deed_of, act_by, Section, sections, innermost, Guard, guards}
+use Rattle.schedule_rules.proofs.Words.{numbered, without_guard, guards_by, writer_made, reader_made, reader_beside, reader, waits, cell_concerned, cell_concerned_with}
+use Rattle.schedule_rules.proofs.Words.{cell_of_section, cell_of_guard, write_holds, read_guards, reads_cell, turns_to_read, IsLegal, read_at}
 use Rattle.schedule_rules.proofs.Opened.{put}
 use Rattle.schedule_rules.proofs.Found.{each_removed, each_put, each_mapped, each_found, found_counts, found_passes}
 use Rattle.schedule_rules.proofs.Facts.{apart, same_number}

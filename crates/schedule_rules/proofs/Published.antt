@@ -1,8 +1,8 @@
 -- What is published changes only while no guard reads the cell, and its phase where a section of the cell is given back.
-use Rattle.schedule_rules.proofs.Words.{ℕ, ◌≡◌, true, List, false, Bool, refl, Some, ◌∷◌, ◌∙◌, ap, arith, subst, not, ◌⊎◌, ◌<◌, inl, inr, ◌≢◌, ◌==◌, if◌then◌else◌, Answer}
-use Rattle.schedule_rules.proofs.Words.{CellPlan, Step, Calls, cell_at, tolerance_at, Content, effect, Change, is_declined, Deed, Ends, EndsToRead, Visits, Makes, Drops, Finishes}
-use Rattle.schedule_rules.proofs.Words.{DropsToRead, Lends, Event, deed_of, accepts, count, Section, sections, innermost, runs_in, Guard, guards, numbered, phase_at, replay}
-use Rattle.schedule_rules.proofs.Words.{write_holds, read_guards, writes_cell, IsLegal, lends_at, DeclinesAt, LendsAt, GivesBack}
+use Rattle.schedule_rules.proofs.Words.{ℕ, List, ◌≡◌, true, false, Bool, refl, Some, ◌∷◌, ◌∙◌, ap, arith, subst, not, inl, ◌⊎◌, inr, ◌<◌, ◌≢◌, ◌==◌, if◌then◌else◌, Answer}
+use Rattle.schedule_rules.proofs.Words.{CellPlan, Step, Calls, cell_at, tolerance_at, Content, effect, Change, is_declined, Deed, Visits, Ends, EndsToRead, Makes, DropsToRead}
+use Rattle.schedule_rules.proofs.Words.{Drops, Finishes, Lends, Event, accepts, deed_of, count, Section, sections, innermost, runs_in, Guard, guards, numbered, replay, phase_at}
+use Rattle.schedule_rules.proofs.Words.{write_holds, writes_cell, read_guards, IsLegal, lends_at, GivesBack, LendsAt, DeclinesAt}
 use Rattle.schedule_rules.proofs.Exclusion.{alone}
 use Rattle.schedule_rules.proofs.Found.{found_counts}
 use Rattle.schedule_rules.proofs.Cases.{Asking, Resting}

@@ -1,7 +1,7 @@
 -- A cell that the registry knows was touched, and is registered at most once.
-use Rattle.schedule_rules.proofs.Words.{ℕ, ◌≡◌, true, List, false, Bool, refl, Some, ◌∷◌, ◌∙◌, ap, [], sym, arith, subst, ◌⊎◌, ◌<◌, inl, inr, ◌+◌, length, cond, ◌≢◌, ◌≤◌}
-use Rattle.schedule_rules.proofs.Words.{get_or-set_other, get_or_past, length-replicate, get_or-replicate, AllByRecursion, ◌==◌, if◌then◌else◌, nat_lt, slice_set, slice_index_or}
-use Rattle.schedule_rules.proofs.Words.{replicate, first_of, is_known, rest_of, after_register, Registry, is_finalizable, CellPlan, Calls, Turns, cell_at, no_cell}
+use Rattle.schedule_rules.proofs.Words.{ℕ, List, ◌≡◌, true, false, Bool, refl, Some, ◌∷◌, ◌∙◌, [], ap, sym, arith, subst, inl, ◌⊎◌, inr, ◌<◌, ◌+◌, length, ◌≢◌, cond, ◌≤◌}
+use Rattle.schedule_rules.proofs.Words.{get_or-set_other, get_or_past, length-replicate, get_or-replicate, AllByRecursion, ◌==◌, if◌then◌else◌, nat_lt, slice_index_or, slice_set}
+use Rattle.schedule_rules.proofs.Words.{replicate, first_of, is_known, after_register, rest_of, Registry, is_finalizable, CellPlan, Calls, Turns, cell_at, no_cell}
 use Rattle.schedule_rules.proofs.Words.{tries_registration, Deed, Opens, Skips, Looks, Takes, Event, deed_of, count, sections, runs_in, sections_by, phase_at, registry}
 use Rattle.schedule_rules.proofs.Words.{registry_by, registry_taken, registry_of_run, write_holds, IsLegal}
 use Rattle.schedule_rules.proofs.Facts.{first}

@@ -1,8 +1,8 @@
 -- What a step registers.
-use Rattle.schedule_rules.proofs.Words.{ℕ, ◌≡◌, true, List, false, Bool, refl, Some, ◌∷◌, ◌∙◌, ap, sym, arith, subst, ◌&&◌, ◌⊎◌, ◌<◌, inl, inr, length, ◌||◌, get_or-set_other}
-use Rattle.schedule_rules.proofs.Words.{get_or-set_same, ◌==◌, if◌then◌else◌, slice_set, slice_index_or, without_flags, is_known, after_register, registered, registration}
+use Rattle.schedule_rules.proofs.Words.{ℕ, List, ◌≡◌, true, false, Bool, refl, Some, ◌∷◌, ◌∙◌, ap, sym, arith, subst, inl, ◌⊎◌, ◌&&◌, inr, ◌<◌, length, ◌||◌, get_or-set_other}
+use Rattle.schedule_rules.proofs.Words.{get_or-set_same, ◌==◌, if◌then◌else◌, slice_index_or, slice_set, without_flags, is_known, after_register, registered, registration}
 use Rattle.schedule_rules.proofs.Words.{flags_generate, initialization_flags, is_finalizable, Call, CellPlan, Calls, Turns, cell_at, tolerance_of, runs_generator}
-use Rattle.schedule_rules.proofs.Words.{tries_registration, Change, Deed, Visits, Opens, Skips, Event, deed_of, accepts, phase_at, registry, registry_by, registry_taken}
+use Rattle.schedule_rules.proofs.Words.{tries_registration, Change, Deed, Visits, Opens, Skips, Event, accepts, deed_of, phase_at, registry, registry_by, registry_taken}
 use Rattle.schedule_rules.proofs.Words.{registry_of_run, IsLegal}
 use Rattle.schedule_rules.proofs.Registrations.{asks_so, visit_registers, deed_registers, shows_registration}
 use Rattle.schedule_rules.proofs.Facts.{first, second}

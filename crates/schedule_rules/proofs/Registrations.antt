@@ -1,7 +1,7 @@
 -- Which lines show that their step tried to register a cell, and that it is tried at most once at a cell.
-use Rattle.schedule_rules.proofs.Words.{ℕ, ◌≡◌, true, List, false, Bool, refl, Some, ◌∷◌, ◌∙◌, ap, [], sym, arith, subst, not, ◌⊎◌, ◌<◌, inl, inr, ◌+◌, cond, ◌≢◌, ◌≤◌, ◌==◌}
+use Rattle.schedule_rules.proofs.Words.{ℕ, List, ◌≡◌, true, false, Bool, refl, Some, ◌∷◌, ◌∙◌, [], ap, sym, arith, subst, not, inl, ◌⊎◌, inr, ◌<◌, ◌+◌, ◌≢◌, cond, ◌≤◌, ◌==◌}
 use Rattle.schedule_rules.proofs.Words.{if◌then◌else◌, Option, is_known, is_finalizable, Call, Answer, Line, CellPlan, Step, Calls, cell_at, tolerance_at, asks, effect, Change}
-use Rattle.schedule_rules.proofs.Words.{Asked, is_declined, Deed, Visits, Opens, Event, deed_of, accepts, phase_at, replay, registry, Attempt, write_holds, IsLegal, IsLegalLine}
+use Rattle.schedule_rules.proofs.Words.{Asked, is_declined, Deed, Visits, Opens, Event, accepts, deed_of, replay, phase_at, registry, Attempt, write_holds, IsLegal, IsLegalLine}
 use Rattle.schedule_rules.proofs.Words.{IsExclusive, is_attempted, asks_registration}
 use Rattle.schedule_rules.proofs.Exclusion.{alone}
 use Rattle.schedule_rules.proofs.Cases.{Asking, Resting}

@@ -1,8 +1,8 @@
 -- A phase that has INITIALIZED changes only where a finalizer of its cell ends, and of a plain cell the value stays.
-use Rattle.schedule_rules.proofs.Words.{ℕ, ◌≡◌, true, List, false, Bool, refl, Some, ◌∷◌, ◌∙◌, ap, [], sym, arith, subst, ◌⊎◌, inl, inr, ◌≢◌, ◌++◌, All, All-head, All-tail, ◌==◌}
+use Rattle.schedule_rules.proofs.Words.{ℕ, List, ◌≡◌, true, false, Bool, refl, Some, ◌∷◌, ◌∙◌, [], ap, sym, arith, subst, inl, ◌⊎◌, inr, ◌≢◌, ◌++◌, All, All-tail, All-head, ◌==◌}
 use Rattle.schedule_rules.proofs.Words.{if◌then◌else◌, Option, has, initialized, is_plain, is_hard, Kind, Answer, CellPlan, Act, cell_at, tolerance_at, Content, effect, Change}
-use Rattle.schedule_rules.proofs.Words.{Ran, Put, Asked, Ended, RanIfAsked, Deed, Ends, EndsToRead, Visits, Makes, Drops, Finishes, DropsToRead, Lends, Event, deed_of, accepts}
-use Rattle.schedule_rules.proofs.Words.{sections, innermost, Guard, guards, numbered, phase_at, replay, cell_of_section, IsLegal, lends_at, IsEndedTurn}
+use Rattle.schedule_rules.proofs.Words.{Ran, Put, Asked, Ended, RanIfAsked, Deed, Visits, Ends, EndsToRead, Makes, DropsToRead, Drops, Finishes, Lends, Event, accepts, deed_of}
+use Rattle.schedule_rules.proofs.Words.{sections, innermost, Guard, guards, numbered, replay, phase_at, cell_of_section, IsLegal, lends_at, IsEndedTurn}
 use Rattle.schedule_rules.proofs.Exclusion.{alone}
 use Rattle.schedule_rules.proofs.Found.{each_found}
 use Rattle.schedule_rules.proofs.Cases.{Asking, Resting, AsksToLend, Reach}

@@ -1,12 +1,13 @@
 -- What holds in each case, holds of each legal step.
-use Rattle.schedule_rules.proofs.Words.{ℕ, ◌≡◌, true, List, false, Bool, refl, Some, ◌∙◌, ap, sym, arith, subst, None, not, ◌&&◌, ◌+◌, ◌==◌, if◌then◌else◌, is_none, Option}
-use Rattle.schedule_rules.proofs.Words.{phase_of, first_of, LockNature, is_finalizable, lends_value, is_primed, Call, Kind, Shown, Answer, Line, Refusal, CellPlan, Act, Step, Want}
-use Rattle.schedule_rules.proofs.Words.{Calls, Turns, cell_at, tolerance_at, is_of_other, is_accessible, finishes_so, phase_reached, Success, asks_to_lend, content_of_run, Event}
-use Rattle.schedule_rules.proofs.Words.{accepts, count, Section, sections, innermost, is_turn, Guard, guards, numbered, own, phase_at, replay, registry, finishing, waits, Wait}
-use Rattle.schedule_rules.proofs.Words.{wait_of, waits_at, write_holds, is_barred, read_guards, holding_with, is_in_use, refusal, no_lending, no_call, no_outcome, no_reader}
-use Rattle.schedule_rules.proofs.Words.{no_writer, no_guard, refusal_to_lend, ends_run, writes_of, ends_turn, answer_made_to_lend, answer_at, answer_lent, answer_of_value}
-use Rattle.schedule_rules.proofs.Words.{answer_of_made, phase_made, due_answer, due_clone, due_made, due_finished, IsLegalLine, answer_of, due_at, waits_judged}
-use Rattle.schedule_rules.proofs.Cases.{step, Cases, Generating, Lendable, AsksToLend, Reach}
+use Rattle.schedule_rules.proofs.Words.{ℕ, List, ◌≡◌, true, false, Bool, refl, Some, ◌∙◌, ap, sym, arith, subst, None, not, ◌&&◌, ◌+◌, ◌==◌, if◌then◌else◌, is_none, Option}
+use Rattle.schedule_rules.proofs.Words.{phase_of, first_of, LockNature, is_finalizable, lends_value, is_primed, Call, Kind, Form, Held, Told, Shown, Answer, Line, Refusal}
+use Rattle.schedule_rules.proofs.Words.{CellPlan, Act, Step, Want, Calls, Turns, cell_at, tolerance_at, is_of_other, is_accessible, finishes_so, Success, phase_reached}
+use Rattle.schedule_rules.proofs.Words.{asks_to_lend, content_of_run, Event, accepts, count, Section, sections, innermost, is_turn, Guard, guards, numbered, own, replay, phase_at}
+use Rattle.schedule_rules.proofs.Words.{registry, finishing, Wait, waits, wait_of, waits_at, write_holds, is_barred, read_guards, holding_with, is_in_use, refusal, no_call}
+use Rattle.schedule_rules.proofs.Words.{no_lending, no_guard, no_reader, no_outcome, no_writer, ends_run, writes_of, refusal_to_lend, ends_turn, answer_of_value, answer_at}
+use Rattle.schedule_rules.proofs.Words.{answer_lent, answer_made_to_lend, answer_made, answer_of_made, due_answer, due_clone, due_finished, phase_made, due_made, IsLegalLine}
+use Rattle.schedule_rules.proofs.Words.{answer_of, due_at, waits_judged}
+use Rattle.schedule_rules.proofs.Cases.{step, Case, Generating, Lendable, AsksToLend, Reach, form_at, writes}
 use Rattle.schedule_rules.proofs.Attempts.{rests, mine_where_none, attempted, again, exits}
 use Rattle.schedule_rules.proofs.Answered.{due_at-judged}
 use Rattle.schedule_rules.proofs.Facts.{first, second}
@@ -82,7 +83,7 @@ module _ (cells : List CellPlan) (h : List Event) (p : ℕ) where
   pub lendable_so : (c left : ℕ) → refusal cells h (step cells h p (Act.TryGetMut c left)) ≡ None → Lendable cells h p c
   lendable_so c left f = free_to_lend c (rests cells h p (Act.TryGetMut c left) (no_refusal _) f).1
 
-module _ (cells : List CellPlan) (h : List Event) (p : ℕ) (P : Act → Answer → Type 0) (k : Cases cells h p P) where
+module _ (cells : List CellPlan) (h : List Event) (p : ℕ) where
   -- the section of a generator
   generates : (o : Option Section) → innermost p (sections h) ≡ o → no_outcome (ends_run o) ≡ None
       → (t : Section) × (j : Call) × (o ≡ Some t) × Generating cells h p t j
@@ -94,96 +95,86 @@ module _ (cells : List CellPlan) (h : List Event) (p : ℕ) (P : Act → Answer 
       by Turns d g = absurd (cc)
 
   -- a value made
-  makes : (v : ℕ) (t : Section) (j : Call) → Generating cells h p t j → P (Act.Made v) (due_made cells h v (Some t))
-  makes v t j g = subst (λ u. P (Act.Made v) (answer_of_made (cell_at cells t.cell).kind u v (phase_made cells h t))) (sym g.kind) (k.made v t j g)
+  makes : (v : ℕ) (t : Section) (j : Call) → Generating cells h p t j → Case cells h p (Act.Made v) (due_made cells h v (Some t))
+  makes v t j g = subst (λ u. Case cells h p (Act.Made v) (answer_of_made (cell_at cells t.cell).kind u v (phase_made cells h t))) (sym g.kind) (by (form_at cells h p t.cell j) refl)
+    where
+      by : (f : Form) → form_at cells h p t.cell j ≡ f → Case cells h p (Act.Made v) (answer_made f v (phase_made cells h t))
+      by (Told tests) e = Case.made_told v t j _ g
+      by Shown e = Case.made v t j g
+      by (Held true falls_back) e = Case.made_to_write v t j g (ap writes e)
+      by (Held false falls_back) e = Case.made_to_read v t j g
 
   -- a finalizer that ends
   ends : (fine : Bool) (left : Option ℕ) (o : Option Section) → innermost p (sections h) ≡ o → no_outcome (ends_turn cells fine left o) ≡ None
-      → P (finishing fine left) (due_finished cells h fine o)
+      → Case cells h p (finishing fine left) (due_finished cells h fine o)
   ends fine left None e f = absurd (cc)
   ends fine left (Some t) e f =
       let both : _ = ends_so (is_turn t.want && finishes_so (cell_at cells t.cell).kind fine left) f in
-      k.finished fine left t (record { found = e; kind = first _ _ both; so = second (is_turn t.want) _ both })
+      Case.finished fine left t (record { found = e; kind = first _ _ both; so = second (is_turn t.want) _ both })
 
   -- a clone
-  clones : (g : ℕ) (ws : List Wait) (x : Guard) → numbered g (guards h) ≡ Some x → x.writes ≡ false → P (Act.Clone g) (due_clone cells h ws (Some x))
+  clones : (g : ℕ) (ws : List Wait) (x : Guard) → numbered g (guards h) ≡ Some x → x.writes ≡ false → Case cells h p (Act.Clone g) (due_clone cells h ws (Some x))
   clones g ws x e d = by (is_barred LockNature.Read (holding_with x.cell h ws))
     where
-      by : (b : Bool) → P (Act.Clone g) (if b then Answer.Borrowed else Answer.ReadGuard)
-      by true = k.borrowed g x e d
-      by false = k.cloned g x e d
+      by : (b : Bool) → Case cells h p (Act.Clone g) (if b then Answer.Borrowed else Answer.ReadGuard)
+      by true = Case.borrowed g x e d
+      by false = Case.cloned g x e d
 
   -- the value of the cell is lent as it is, where it may be accessed
-  found : (a : Act) (c : ℕ) → (Reach cells h p c true → P a (answer_of_value (replay cells c h))) → (Reach cells h p c false → P a (Answer.Access (phase_of (phase_at cells c h))))
-      → P a (answer_lent (cell_at cells c).kind (replay cells c h))
+  found : (a : Act) (c : ℕ) → (Reach cells h p c true → Case cells h p a (answer_of_value (replay cells c h))) → (Reach cells h p c false → Case cells h p a (Answer.Access (phase_of (phase_at cells c h))))
+      → Case cells h p a (answer_lent (cell_at cells c).kind (replay cells c h))
   found a c shows denies = by (is_accessible (cell_at cells c).kind (phase_at cells c h)) refl
     where
-      by : (b : Bool) → is_accessible (cell_at cells c).kind (phase_at cells c h) ≡ b → P a (answer_at Shown b (replay cells c h))
+      by : (b : Bool) → is_accessible (cell_at cells c).kind (phase_at cells c h) ≡ b → Case cells h p a (answer_at Shown b (replay cells c h))
       by true e = shows e
       by false e = denies e
 
   -- or as a run makes it that is asked
   lends : (c : ℕ) (made : Option ℕ) (left : ℕ) → Lendable cells h p c
-      → P (Act.GetMut c made left) (answer_made_to_lend (cell_at cells c).kind (tolerance_at cells c) (accepts h) made (replay cells c h))
+      → Case cells h p (Act.GetMut c made left) (answer_made_to_lend (cell_at cells c).kind (tolerance_at cells c) (accepts h) made (replay cells c h))
   lends c made left u = by (asks_to_lend (cell_at cells c).kind (tolerance_at cells c) (phase_at cells c h)) made refl
     where
       by : (b : Bool) (m : Option ℕ) → AsksToLend cells h p c b
-          → P (Act.GetMut c m left) (if b && is_none m then Answer.Failed else answer_lent (cell_at cells c).kind (if b then content_of_run (cell_at cells c).kind (accepts h) m (replay cells c h) else replay cells c h))
-      by true None e = k.lent_failed c left u e
+          → Case cells h p (Act.GetMut c m left) (if b && is_none m then Answer.Failed else answer_lent (cell_at cells c).kind (if b then content_of_run (cell_at cells c).kind (accepts h) m (replay cells c h) else replay cells c h))
+      by true None e = Case.lent_failed c left u e
       by true (Some v) e =
-          subst (λ b. P (Act.GetMut c (Some v) left) (answer_at Shown b (content_of_run (cell_at cells c).kind (accepts h) (Some v) (replay cells c h))))
-          (sym (made_accessible (cell_at cells c).kind (accepts h) (phase_at cells c h) u.lends)) (k.lent_made c v left u e)
-      by false m e = found (Act.GetMut c m left) c (k.lent_rested c m left u e) (k.lent_denied c m left u e)
+          subst (λ b. Case cells h p (Act.GetMut c (Some v) left) (answer_at Shown b (content_of_run (cell_at cells c).kind (accepts h) (Some v) (replay cells c h))))
+          (sym (made_accessible (cell_at cells c).kind (accepts h) (phase_at cells c h) u.lends)) (Case.lent_made c v left u e)
+      by false m e = found (Act.GetMut c m left) c (Case.lent_rested c m left u e) (Case.lent_denied c m left u e)
 
   -- a step that is not refused
-  pub allowed : (a : Act) (ws : List Wait) (chosen : Bool) → refusal cells h (step cells h p a) ≡ None → P a (due_answer cells h (step cells h p a) ws chosen)
+  pub allowed : (a : Act) (ws : List Wait) (chosen : Bool) → refusal cells h (step cells h p a) ≡ None → Case cells h p a (due_answer cells h (step cells h p a) ws chosen)
   allowed (Act.Call c j) ws chosen f =
       let r : _ = rests cells h p (Act.Call c j) (no_refusal _) f in
-      attempted cells h p P k (Act.Call c j) c (Calls j) ws chosen (record { tried = refl; does = refl; acts = tt }) (mine_where_none cells h p c r.0)
-  allowed Act.Again ws chosen f = again cells h p P k (wait_of p (waits cells h)) refl f ws chosen
+      attempted cells h p (Act.Call c j) c (Calls j) ws chosen (record { tried = refl; does = refl; acts = tt }) (mine_where_none cells h p c r.0)
+  allowed Act.Again ws chosen f = again cells h p (wait_of p (waits cells h)) refl f ws chosen
   allowed (Act.Made v) ws chosen f =
       let t : _ = generates (innermost p (sections h)) refl (rests cells h p (Act.Made v) (no_refusal _) f).1 in rw t.2 (makes v t.0 t.1 t.3)
   allowed Act.MadeFailed ws chosen f =
-      let t : _ = generates (innermost p (sections h)) refl (rests cells h p Act.MadeFailed (no_refusal _) f).1 in k.failed t.0 t.1 t.3
+      let t : _ = generates (innermost p (sections h)) refl (rests cells h p Act.MadeFailed (no_refusal _) f).1 in Case.failed t.0 t.1 t.3
   allowed (Act.Finished left) ws chosen f = ends true left (innermost p (sections h)) refl (rests cells h p (Act.Finished left) (no_refusal _) f).1
   allowed (Act.FinishFailed left) ws chosen f = ends false left (innermost p (sections h)) refl (rests cells h p (Act.FinishFailed left) (no_refusal _) f).1
   allowed (Act.Look g) ws chosen f =
-      let x : _ = is_opened no_guard p (numbered g (guards h)) (no_refusal _) (rests cells h p (Act.Look g) (no_refusal _) f).1 in rw x.1 (k.looked g x.0 x.1)
+      let x : _ = is_opened no_guard p (numbered g (guards h)) (no_refusal _) (rests cells h p (Act.Look g) (no_refusal _) f).1 in rw x.1 (Case.looked g x.0 x.1)
   allowed (Act.Set g v) ws chosen f =
       let x : _ = is_opened no_writer p (numbered g (guards h)) (no_refusal _) (rests cells h p (Act.Set g v) (no_refusal _) f).1 in
-      k.set g v x.0 x.1 (is_writer x.0.writes x.2)
+      Case.set g v x.0 x.1 (is_writer x.0.writes x.2)
   allowed (Act.Release g) ws chosen f =
-      let x : _ = is_opened no_guard p (numbered g (guards h)) (no_refusal _) (rests cells h p (Act.Release g) (no_refusal _) f).1 in k.released g x.0 x.1
+      let x : _ = is_opened no_guard p (numbered g (guards h)) (no_refusal _) (rests cells h p (Act.Release g) (no_refusal _) f).1 in Case.released g x.0 x.1
   allowed (Act.Downgrade g) ws chosen f =
       let x : _ = is_opened no_writer p (numbered g (guards h)) (no_refusal _) (rests cells h p (Act.Downgrade g) (no_refusal _) f).1 in
-      k.downgraded g x.0 x.1 (is_writer x.0.writes x.2)
+      Case.downgraded g x.0 x.1 (is_writer x.0.writes x.2)
   allowed (Act.Clone g) ws chosen f =
       let x : _ = is_opened no_reader p (numbered g (guards h)) (no_refusal _) (rests cells h p (Act.Clone g) (no_refusal _) f).1 in
       rw x.1 (clones g ws x.0 x.1 (is_reader x.0.writes x.2))
   allowed (Act.GetMut c made left) ws chosen f = lends c made left (lendable cells h p c made left f)
-  allowed (Act.TryGetMut c left) ws chosen f = let u : _ = lendable_so cells h p c left f in found (Act.TryGetMut c left) c (k.lent c left u) (k.unlent c left u)
-  allowed Act.Exit ws chosen f = exits cells h p P k (first_of (registry cells h).left) refl (rests cells h p Act.Exit (no_refusal _) f).0 ws chosen
+  allowed (Act.TryGetMut c left) ws chosen f = let u : _ = lendable_so cells h p c left f in found (Act.TryGetMut c left) c (Case.lent c left u) (Case.unlent c left u)
+  allowed Act.Exit ws chosen f = exits cells h p (first_of (registry cells h).left) refl (rests cells h p Act.Exit (no_refusal _) f).0 ws chosen
 
 -- what holds in each case of a step that is not refused, and of a refused step, holds of a legal line
-pub of_free : (cells : List CellPlan) (h : List Event) (s : Step) (l : Line) → IsLegalLine cells h s l → (P : Act → Answer → Type 0)
-    → ((a : Act) (r : Refusal) → P a (Answer.Refused r)) → Cases cells h s.party (λ a r. refusal cells h (step cells h s.party a) ≡ None → P a r) → P s.act l.answer
-of_free cells h s l m P refused k = by (refusal cells h s) refl
-  where
-    ws : List Wait
-    ws = waits_judged cells m.moment h s l.given
-
-    due : (o : Option Refusal) → refusal cells h s ≡ o → l.answer ≡ answer_of o (due_answer cells h s ws m.chosen)
-    due o e =
-        m.answered ∙ ap (λ x. answer_of x (due_at cells m.moment h s l.given m.chosen)) e ∙ ap (answer_of o) (due_at-judged cells m.moment h s l.given m.chosen)
-
-    by : (o : Option Refusal) → refusal cells h s ≡ o → P s.act l.answer
-    by None e = subst (P s.act) (sym (due None e)) (allowed cells h s.party (λ a r. refusal cells h (step cells h s.party a) ≡ None → P a r) k s.act ws m.chosen e e)
-    by (Some r) e = subst (P s.act) (sym (due (Some r) e)) (refused s.act r)
-
--- the same, where the cases do not ask for what is not refused
-pub of_legal : (cells : List CellPlan) (h : List Event) (s : Step) (l : Line) → IsLegalLine cells h s l → (P : Act → Answer → Type 0)
-    → ((a : Act) (r : Refusal) → P a (Answer.Refused r)) → Cases cells h s.party P → P s.act l.answer
-of_legal cells h s l m P refused k = by (refusal cells h s) refl
+pub of_legal : (cells : List CellPlan) (h : List Event) (s : Step) (l : Line) → IsLegalLine cells h s l → (P : Act → Answer → Type 0) → ((a : Act) (r : Refusal) → P a (Answer.Refused r))
+    → ((a : Act) (r : Answer) → Case cells h s.party a r → refusal cells h (step cells h s.party a) ≡ None → P a r) → P s.act l.answer
+of_legal cells h s l m P refused f = by (refusal cells h s) refl
   where
     ws : List Wait
     ws = waits_judged cells m.moment h s l.given
@@ -192,5 +183,5 @@ of_legal cells h s l m P refused k = by (refusal cells h s) refl
     due o e = m.answered ∙ ap (λ x. answer_of x (due_at cells m.moment h s l.given m.chosen)) e ∙ ap (answer_of o) (due_at-judged cells m.moment h s l.given m.chosen)
 
     by : (o : Option Refusal) → refusal cells h s ≡ o → P s.act l.answer
-    by None e = subst (P s.act) (sym (due None e)) (allowed cells h s.party P k s.act ws m.chosen e)
+    by None e = subst (P s.act) (sym (due None e)) (f s.act _ (allowed cells h s.party s.act ws m.chosen e) e)
     by (Some r) e = subst (P s.act) (sym (due (Some r) e)) (refused s.act r)

@@ -1,10 +1,10 @@
 -- Tests of answers, and which answers of what is admitted pass them.
-use Rattle.schedule_rules.proofs.Words.{ℕ, ◌≡◌, true, List, false, Bool, refl, Some, ◌∙◌, ap, sym, None, not, ◌&&◌, ◌||◌, ◌==◌, if◌then◌else◌, is_none, Option, has, initialized}
-use Rattle.schedule_rules.proofs.Words.{Phase, LockNature, How, flags_refused, Tolerance, Call, Kind, Form, Shown, Told, Held, Answer, CellPlan, Place, Act, Want, Calls, Turns}
+use Rattle.schedule_rules.proofs.Words.{ℕ, List, ◌≡◌, true, false, Bool, refl, Some, ◌∙◌, ap, sym, None, not, ◌&&◌, ◌||◌, ◌==◌, if◌then◌else◌, is_none, Option, has, initialized}
+use Rattle.schedule_rules.proofs.Words.{Phase, LockNature, How, flags_refused, Tolerance, Call, Kind, Form, Held, Told, Shown, Answer, CellPlan, Place, Act, Want, Calls, Turns}
 use Rattle.schedule_rules.proofs.Words.{cell_at, tolerance_at, form_of, denies, is_accessible, runs_generator, asks, lock_wanted, Content, asks_to_lend, content_of_run}
-use Rattle.schedule_rules.proofs.Words.{content_to_lend, Event, accepts, is_turn, phase_at, replay, refusal, answer_barred, answer_admitted, answer_made_to_lend, answer_at}
-use Rattle.schedule_rules.proofs.Words.{answer_lent, turn_answer_admitted, is_waiting, is_cyclic, is_finalizing, is_borrowed, is_denied_to_lend, is_closing, is_skipped, is_round}
-use Rattle.schedule_rules.proofs.Words.{is_access, is_running, is_missed, want_denies, is_initializing}
+use Rattle.schedule_rules.proofs.Words.{content_to_lend, Event, accepts, is_turn, replay, phase_at, refusal, answer_barred, answer_admitted, answer_at, answer_lent}
+use Rattle.schedule_rules.proofs.Words.{answer_made_to_lend, turn_answer_admitted, is_waiting, is_cyclic, is_closing, is_skipped, is_access, is_running, is_borrowed, is_finalizing}
+use Rattle.schedule_rules.proofs.Words.{is_missed, is_round, is_denied_to_lend, want_denies, is_initializing}
 use Rattle.schedule_rules.proofs.Answered.{IsShown, IsTold, either, admitted}
 use Rattle.schedule_rules.proofs.Steps.{made_accessible, lendable}
 

@@ -1,10 +1,10 @@
 -- A phase that is not empty tells whether its cell is registered: which flags tell it, what runs and finalizers leave of them,
 -- and that it is so in legal histories.
-use Rattle.schedule_rules.proofs.Words.{ℕ, ◌≡◌, true, List, false, Bool, refl, Some, ◌∷◌, ◌∙◌, ap, [], sym, arith, subst, None, not, ◌&&◌, ◌⊎◌, inl, inr, ◌≢◌, ◌||◌, and_or_apart}
-use Rattle.schedule_rules.proofs.Words.{and_assoc, bit_or, bit_and, AllByRecursion, ◌==◌, if◌then◌else◌, ◌-◌, ◌^◌, Option, has, initialized, is_known, registration, is_finalizable}
-use Rattle.schedule_rules.proofs.Words.{Call, CellPlan, Calls, Turns, cell_at, tolerance_at, tolerance_of, runs_generator, tries_registration, flags_kept, asks, Content, effect}
-use Rattle.schedule_rules.proofs.Words.{Change, Ran, is_declined, Ended, content_after, Deed, Ends, EndsToRead, Visits, Makes, Drops, Finishes, DropsToRead, EndsToWrite, Opens}
-use Rattle.schedule_rules.proofs.Words.{Lends, Holds, Skips, Event, deed_of, accepts, Section, sections, is_turn, runs_in, Guard, guards, numbered, phase_at, replay, registry}
+use Rattle.schedule_rules.proofs.Words.{ℕ, List, ◌≡◌, true, false, Bool, refl, Some, ◌∷◌, ◌∙◌, [], ap, sym, arith, subst, None, not, inl, ◌⊎◌, ◌&&◌, inr, ◌≢◌, ◌||◌, and_or_apart}
+use Rattle.schedule_rules.proofs.Words.{and_assoc, bit_or, bit_and, AllByRecursion, ◌==◌, if◌then◌else◌, ◌^◌, ◌-◌, Option, has, initialized, is_known, registration, is_finalizable}
+use Rattle.schedule_rules.proofs.Words.{Call, CellPlan, Calls, Turns, cell_at, tolerance_at, tolerance_of, runs_generator, flags_kept, tries_registration, asks, Content, effect}
+use Rattle.schedule_rules.proofs.Words.{Change, Ran, is_declined, Ended, content_after, Deed, Visits, Ends, EndsToRead, Makes, Opens, EndsToWrite, DropsToRead, Drops, Finishes}
+use Rattle.schedule_rules.proofs.Words.{Lends, Holds, Skips, Event, accepts, deed_of, Section, sections, is_turn, runs_in, Guard, guards, numbered, replay, phase_at, registry}
 use Rattle.schedule_rules.proofs.Words.{registry_by, write_holds, writes_cell, IsLegal, TellsRegistration}
 use Rattle.schedule_rules.proofs.Facts.{apart}
 use Rattle.schedule_rules.proofs.Exclusion.{alone}

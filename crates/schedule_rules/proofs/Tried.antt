@@ -1,13 +1,12 @@
 -- A legal line shows that its step tried to register a cell exactly where it did.
-use Rattle.schedule_rules.proofs.Words.{ℕ, ◌≡◌, true, List, false, Bool, refl, Some, ◌∷◌, ◌∙◌, ap, [], sym, subst, None, not, ◌&&◌, ◌⊎◌, inl, inr, ◌+◌, ◌≤◌, ◌||◌, ◌==◌}
-use Rattle.schedule_rules.proofs.Words.{if◌then◌else◌, is_none, Option, first_of, is_known, How, flags_refused, Call, Form, Shown, Told, Held, Answer, Line, Refusal, CellPlan}
-use Rattle.schedule_rules.proofs.Words.{Place, Act, Step, Calls, Turns, cell_at, tries_registration, deed_waiting, deed_by, Event, accepts, is_exit, phase_at, replay, registry}
-use Rattle.schedule_rules.proofs.Words.{finishing, waits, Wait, attempt, attempt_of_turn, Attempt, attempt_with, refusal, answer_denied, answer_barred, phase_made, due_answer}
-use Rattle.schedule_rules.proofs.Words.{due_tried, due_attempt, IsLegal, IsLegalLine, answer_of, waits_judged, is_attempted, is_admitted, asks_registration, tells_declined}
-use Rattle.schedule_rules.proofs.Words.{registrations, tries_to_register}
+use Rattle.schedule_rules.proofs.Words.{ℕ, List, ◌≡◌, true, false, Bool, refl, Some, ◌∷◌, ◌∙◌, [], ap, sym, subst, None, not, inl, ◌⊎◌, ◌&&◌, inr, ◌+◌, ◌≤◌, ◌||◌, ◌==◌}
+use Rattle.schedule_rules.proofs.Words.{if◌then◌else◌, is_none, Option, phase_of, Phase, first_of, is_known, How, flags_refused, Call, Answer, Line, Refusal, CellPlan, Place, Act}
+use Rattle.schedule_rules.proofs.Words.{Step, Calls, Turns, cell_at, tries_registration, deed_waiting, deed_by, Event, accepts, is_exit, replay, phase_at, registry, Wait, waits}
+use Rattle.schedule_rules.proofs.Words.{attempt, Attempt, attempt_of_turn, attempt_with, refusal, answer_of_value, answer_barred, due_answer, due_tried, due_attempt, IsLegal}
+use Rattle.schedule_rules.proofs.Words.{IsLegalLine, answer_of, waits_judged, is_attempted, is_admitted, asks_registration, tries_to_register, tells_declined, registrations}
+use Rattle.schedule_rules.proofs.Cases.{Visiting, step, Calling, Resting, Case}
 use Rattle.schedule_rules.proofs.Registrations.{asks_so, deed_registers, shows_registration, registrations_shown, tries-unknown, registered-once}
-use Rattle.schedule_rules.proofs.Answered.{due_at-judged, IsShown, IsTold, opened, denied, made_so}
-use Rattle.schedule_rules.proofs.Cases.{step, Calling, Resting, form_at, Cases}
+use Rattle.schedule_rules.proofs.Answered.{due_at-judged, denied}
 use Rattle.schedule_rules.proofs.Steps.{of_legal}
 use Rattle.schedule_rules.proofs.Facts.{apart}
 use Rattle.schedule_rules.proofs.Tests.{IsBeyond}
@@ -65,32 +64,27 @@ module _ (cells : List CellPlan) (c : ℕ) where
         (subst (λ b. Shows r (deed_registers cells c h (deed_by (accepts h) (is_exit a) b r)) (asks_of d j)) (sym t.does) k)
 
     -- one that asks for no run
-    module _ (a : Act) (d : ℕ) (j : Call) (q : Resting cells h p d j) where
-      none : asks_of d j ≡ false
-      none = ap (λ b. (d == c) && (b && tries_registration (cell_at cells d).kind (phase_at cells d h))) q.unasked ∙ sym (no_more (d == c))
+    none : (d : ℕ) (j : Call) → Resting cells h p d j → asks_of d j ≡ false
+    none d j q = ap (λ b. (d == c) && (b && tries_registration (cell_at cells d).kind (phase_at cells d h))) q.unasked ∙ sym (no_more (d == c))
 
-      never : {r : Answer} → asks_of d j ≡ true → (r ≡ Answer.Running) ⊎ (tells_declined r ≡ true)
-      never e = absurd (apart (sym e ∙ none))
+    -- one that runs nothing, and says so where it is declined
+    visited : (a : Act) (d : ℕ) (j : Call) (q : Phase) (T : Type 0) (r : Answer) → Calling cells h p a d j → Visiting cells h p d j q T → is_back r ≡ false
+        → deed_registers cells c h (deed_by (accepts h) (is_exit a) (Act.Call d j) r) ≡ asks_of d j → (q ≡ phase_of flags_refused → tells_declined r ≡ true) → Tried a r
+    visited a d j q T r t v on is tells = called a d j r t (record { same = is ∙ ap (λ b. not b && asks_of d j) (sym on); answers = λ e. by v (sym is ∙ e) })
+      where
+        by : Visiting cells h p d j q T → asks_of d j ≡ true → (r ≡ Answer.Running) ⊎ (tells_declined r ≡ true)
+        by (inl x) e = inr (tells x.1)
+        by (inr x) e = absurd (apart (sym e ∙ none d j x.0))
 
-      rests : IsTold (Called a d j)
-      rests = record {
-        shown = record {
-          phase = λ x. record { same = refl; answers = never };
-          value = λ v. record { same = sym none; answers = λ e. absurd (cc) };
-          read_guard = record { same = sym none; answers = λ e. absurd (cc) };
-          write_guard = record { same = sym none; answers = λ e. absurd (cc) };
-        };
-        access = λ x. record { same = refl; answers = never };
-        err_guard = record { same = refl; answers = never };
-      }
-
-    -- one that is declined says so
-    declines : (a : Act) (d : ℕ) (j : Call) (f : Form) → Called a d j (answer_denied f flags_refused)
-    declines a d j (Told true) = record { same = refl; answers = λ e. inr refl }
-    declines a d j (Told false) = record { same = refl; answers = λ e. inr refl }
-    declines a d j Shown = record { same = refl; answers = λ e. inr refl }
-    declines a d j (Held writes true) = record { same = refl; answers = λ e. inr refl }
-    declines a d j (Held writes false) = record { same = refl; answers = λ e. inr refl }
+    -- one that gets what the cell holds
+    shows_what_is : (a : Act) (d : ℕ) (j : Call) (r : Answer) → Calling cells h p a d j → Resting cells h p d j → deed_registers cells c h (deed_by (accepts h) (is_exit a) (Act.Call d j) r) ≡ false → Tried a r
+    shows_what_is a d j r t q is = called a d j r t (record {
+      same = is ∙ and_no (not (is_back r)) ∙ ap (λ b. not (is_back r) && b) (sym (none d j q));
+      answers = λ e. absurd (apart (sym e ∙ is));
+    })
+      where
+        and_no : (b : Bool) → false ≡ (b && false)
+        and_no b = no_more b
 
     waited : (b : Bool) → deed_registers cells c h (deed_waiting b) ≡ false
     waited true = refl
@@ -104,55 +98,29 @@ module _ (cells : List CellPlan) (c : ℕ) where
     looked : (cs : List ℕ) → cs ≡ [] → false ≡ asks_so cells c h (attempt_of_turn (first_of cs))
     looked cs e = ap (λ x. asks_so cells c h (attempt_of_turn (first_of x))) (sym e)
 
-    made : (v : ℕ) → IsShown (Tried (Act.Made v))
-    made v = record {
-      phase = λ x. record { same = refl; answers = λ e. absurd (cc) };
-      value = λ w. record { same = refl; answers = λ e. absurd (cc) };
-      read_guard = record { same = refl; answers = λ e. absurd (cc) };
-      write_guard = record { same = refl; answers = λ e. absurd (cc) };
-    }
-
-    finished : (fine : Bool) (left : Option ℕ) (q : _) → Tried (finishing fine left) (Answer.Phase q)
-    finished true left q = record { same = refl; answers = λ e. absurd (cc) }
-    finished false left q = record { same = refl; answers = λ e. absurd (cc) }
-
-    cases : Cases cells h p Tried
-    cases = record {
-      cyclic = λ a d j t. record { same = refl; answers = λ e. absurd (cc) };
-      waiting = λ a d w way t. record { same = waited (is_exit a); answers = λ e. absurd (apart (sym e ∙ waited (is_exit a))) };
-      missed = λ a d w f t. record { same = refl; answers = λ e. absurd (cc) };
-      owned = λ a d w o t. record { same = refl; answers = λ e. absurd (cc) };
-      opened = λ a d j t q e. called a d j _ t (opened (Called a d j) (rests a d j q).shown (form_at cells h p d j) (replay cells d h));
-      denied = λ a d j t q e. called a d j _ t (denied (Called a d j) (rests a d j q) (form_at cells h p d j) (phase_at cells d h));
-      running = λ a d j t q. called a d j Answer.Running t (record { same = refl; answers = λ e. inl refl });
-      declined = λ a d j t q. called a d j _ t (declines a d j (form_at cells h p d j));
-      skipped = λ a d t q. record { same = turned _ d t.tried; answers = λ e. absurd (cc) };
-      finalizing = λ a d t q u. record { same = turned _ d t.tried; answers = λ e. absurd (cc) };
-      round = λ d ds e n. record { same = looked _ n; answers = λ f. absurd (cc) };
-      closed = λ e n. record { same = looked _ n; answers = λ f. absurd (cc) };
-      made = λ v t j g. made_so (Tried (Act.Made v)) (made v) (form_at cells h p t.cell j) v (phase_made cells h t);
-      failed = λ t j g. record { same = refl; answers = λ e. absurd (cc) };
-      finished = λ fine left t g. finished fine left _;
-      looked = λ g x f. record { same = refl; answers = λ e. absurd (cc) };
-      set = λ g v x f w. record { same = refl; answers = λ e. absurd (cc) };
-      released = λ g x f. record { same = refl; answers = λ e. absurd (cc) };
-      downgraded = λ g x f w. record { same = refl; answers = λ e. absurd (cc) };
-      borrowed = λ g x f w. record { same = refl; answers = λ e. absurd (cc) };
-      cloned = λ g x f w. record { same = refl; answers = λ e. absurd (cc) };
-      lent_made = λ d v left u e. record { same = refl; answers = λ f. absurd (cc) };
-      lent_failed = λ d left u e. record { same = refl; answers = λ f. absurd (cc) };
-      lent_rested = λ d made left u e f. record { same = refl; answers = λ g. absurd (cc) };
-      lent_denied = λ d made left u e f. record { same = refl; answers = λ g. absurd (cc) };
-      lent = λ d left u f. record { same = refl; answers = λ g. absurd (cc) };
-      unlent = λ d left u f. record { same = refl; answers = λ g. absurd (cc) };
-    }
+    each : (a : Act) (r : Answer) → Case cells h p a r → Tried a r
+    each _ _ (Case.waiting a d w way t) = record { same = waited (is_exit a); answers = λ e. absurd (apart (sym e ∙ waited (is_exit a))) }
+    each _ _ (Case.told a d j q t v) = visited a d j q _ (Answer.Phase q) t v refl refl (λ e. ap (λ z. tells_declined (Answer.Phase z)) e)
+    each _ _ (Case.denied a d j q t v) = visited a d j q _ (Answer.Access q) t v refl refl (λ e. ap (λ z. tells_declined (Answer.Access z)) e)
+    each _ _ (Case.erring a d j q t v e) = visited a d j q _ Answer.ErrGuard t v refl refl (λ e. refl)
+    each _ _ (Case.shown a d j t q e) = shows_what_is a d j (answer_of_value (replay cells d h)) t q refl
+    each _ _ (Case.reading a d j t q e) = shows_what_is a d j Answer.ReadGuard t q refl
+    each _ _ (Case.writing a d j t q e w) = shows_what_is a d j Answer.WriteGuard t q refl
+    each _ _ (Case.running a d j t q) = called a d j Answer.Running t (record { same = refl; answers = λ e. inl refl })
+    each _ _ (Case.skipped a d t q) = record { same = turned _ d t.tried; answers = λ e. absurd (cc) }
+    each _ _ (Case.finalizing a d t q u) = record { same = turned _ d t.tried; answers = λ e. absurd (cc) }
+    each _ _ (Case.round d ds e n) = record { same = looked _ n; answers = λ f. absurd (cc) }
+    each _ _ (Case.closed e n) = record { same = looked _ n; answers = λ f. absurd (cc) }
+    each _ _ (Case.finished true left t g) = record { same = refl; answers = λ e. absurd (cc) }
+    each _ _ (Case.finished false left t g) = record { same = refl; answers = λ e. absurd (cc) }
+    each _ _ _ = record { same = refl; answers = λ e. absurd (cc) }
 
   module _ (h : List Event) (s : Step) (l : Line) (k : IsLegalLine cells h s l) where
     abbrev ws : List Wait
     ws = waits_judged cells k.moment h s l.given
 
     shows : Shows h s.party l.answer (shows_registration cells c h s l.answer) (asks_so cells c h (attempt cells h s))
-    shows = of_legal cells h s l k (Tried h s.party) (λ a r. record { same = refl; answers = λ e. absurd (cc) }) (cases h s.party)
+    shows = of_legal cells h s l k (Tried h s.party) (λ a r. record { same = refl; answers = λ e. absurd (cc) }) (λ a r k n. each h s.party a r k)
 
     -- what is due for a step that attempts this
     due_of : (a : Act) (x : Attempt) → attempt_with cells (waits cells h) h s.party a ≡ Some x → due_answer cells h (record { party = s.party; act = a }) ws k.chosen ≡ due_attempt cells h s.party x ws k.chosen

@@ -1,8 +1,8 @@
 -- The turns of a legal history are no more than its cells.
-use Rattle.schedule_rules.proofs.Words.{ℕ, ◌≡◌, true, List, false, Bool, refl, Some, ◌∷◌, ◌∙◌, ap, [], arith, ◌&&◌, ◌<◌, ◌+◌, length, cond, ◌≤◌, ◌++◌, All, get_or_past, length-map}
-use Rattle.schedule_rules.proofs.Words.{length-append, All-cons, All-nil, ◌==◌, if◌then◌else◌, cells_of_turns, first_of, is_known, rest_of, occurs, due, CellPlan, Act, Step, Turns}
-use Rattle.schedule_rules.proofs.Words.{Event, count, Section, sections, innermost, is_turn, registry, ended_turns, waits, Wait, wait_of, attempt, attempt_with, IsLegal}
-use Rattle.schedule_rules.proofs.Words.{is_attempted, waits_to_turn, turns_of, finalizes_in, turns_at_hand}
+use Rattle.schedule_rules.proofs.Words.{ℕ, List, ◌≡◌, true, false, Bool, refl, Some, ◌∷◌, ◌∙◌, [], ap, arith, ◌&&◌, ◌<◌, ◌+◌, length, cond, ◌≤◌, ◌++◌, All, get_or_past}
+use Rattle.schedule_rules.proofs.Words.{length-append, length-map, All-nil, All-cons, ◌==◌, if◌then◌else◌, cells_of_turns, first_of, is_known, rest_of, occurs, due, CellPlan, Act}
+use Rattle.schedule_rules.proofs.Words.{Step, Turns, Event, count, Section, sections, innermost, is_turn, registry, ended_turns, Wait, waits, wait_of, attempt, attempt_with}
+use Rattle.schedule_rules.proofs.Words.{IsLegal, is_attempted, waits_to_turn, finalizes_in, turns_of, turns_at_hand}
 use Rattle.exit_registry.proofs.Exiting.{few_below}
 use Rattle.schedule_rules.proofs.Accepts.{known-length}
 use Rattle.schedule_rules.proofs.Counts.{occurs_joined, waits_so, first_so, begins}

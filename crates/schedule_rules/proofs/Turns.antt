@@ -1,19 +1,18 @@
 -- Each registered cell has one turn: to come, waiting, going on or ended.
-use Rattle.schedule_rules.proofs.Words.{ℕ, ◌≡◌, true, List, false, Bool, refl, Some, ◌∷◌, ◌∙◌, ap, [], sym, arith, subst, None, ◌&&◌, ◌<◌, ◌+◌, length, cond, ◌++◌}
-use Rattle.schedule_rules.proofs.Words.{get_or-set_other, get_or-set_same, ◌==◌, if◌then◌else◌, slice_set, slice_index_or, Option, phase_of, cells_of_turns, first_of, is_known}
-use Rattle.schedule_rules.proofs.Words.{rest_of, after_register, occurs, registered, due, Turn, Given, flags_refused, is_finalizable, Call, Answer, Refusal, CellPlan, Act, Want}
-use Rattle.schedule_rules.proofs.Words.{Calls, Turns, cell_at, is_owned, phase_finalized, tries_registration, is_fast, Deed, Ends, EndsToRead, Makes, Finishes, EndsToWrite, Opens}
-use Rattle.schedule_rules.proofs.Words.{Skips, deed_waiting, deed_by, Looks, Takes, Event, deed_of, accepts, count, is_exit, Section, sections, innermost, is_turn, sections_by}
-use Rattle.schedule_rules.proofs.Words.{without_innermost, phase_at, replay, registry, finishing, registry_by, registry_taken, ended_turns, turns_by, turn_of, turn_of_section}
-use Rattle.schedule_rules.proofs.Words.{waits, Wait, wait_of, attempt_with, without_wait, waits_given_with, with_wait, refusal, refusal_waiting, phase_made, IsLegal, waits_to_turn}
-use Rattle.schedule_rules.proofs.Words.{turns_of, finalizes_in}
+use Rattle.schedule_rules.proofs.Words.{ℕ, List, ◌≡◌, true, false, Bool, refl, Some, ◌∷◌, ◌∙◌, [], ap, sym, arith, subst, None, ◌&&◌, ◌<◌, ◌+◌, length, cond, ◌++◌}
+use Rattle.schedule_rules.proofs.Words.{get_or-set_other, get_or-set_same, ◌==◌, if◌then◌else◌, slice_index_or, slice_set, Option, cells_of_turns, first_of, is_known}
+use Rattle.schedule_rules.proofs.Words.{after_register, rest_of, occurs, registered, due, Turn, Given, is_finalizable, Call, Answer, Refusal, CellPlan, Act, Want, Calls, Turns}
+use Rattle.schedule_rules.proofs.Words.{cell_at, is_owned, tries_registration, is_fast, Deed, Ends, EndsToRead, Makes, Opens, EndsToWrite, Finishes, Skips, deed_waiting, deed_by}
+use Rattle.schedule_rules.proofs.Words.{Looks, Takes, Event, accepts, deed_of, count, is_exit, Section, sections, innermost, is_turn, sections_by, without_innermost, replay}
+use Rattle.schedule_rules.proofs.Words.{phase_at, registry, registry_by, ended_turns, registry_taken, turn_of, turns_by, turn_of_section, Wait, waits, wait_of, attempt_with}
+use Rattle.schedule_rules.proofs.Words.{without_wait, waits_given_with, with_wait, refusal, refusal_waiting, answer_of_value, IsLegal, waits_to_turn, finalizes_in, turns_of}
 use Rattle.schedule_rules.proofs.Exclusion.{alone}
 use Rattle.schedule_rules.proofs.Opened.{count_ended}
-use Rattle.schedule_rules.proofs.Cases.{step, IsCalling, IsTurning, Calling, Turning, Tries, Asking, form_at, Cases}
-use Rattle.schedule_rules.proofs.Answered.{IsShown, IsTold, opened, denied, made_so}
+use Rattle.schedule_rules.proofs.Cases.{step, IsCalling, IsTurning, Calling, Turning, Tries, Asking, Case}
+use Rattle.schedule_rules.proofs.Answered.{denied}
 use Rattle.schedule_rules.proofs.WaitsToLock.{waiting-shared}
 use Rattle.schedule_rules.proofs.Attempts.{rests}
-use Rattle.schedule_rules.proofs.Steps.{of_free}
+use Rattle.schedule_rules.proofs.Steps.{of_legal}
 use Rattle.schedule_rules.proofs.Finds.{Inside, Finishing, Finds, finds}
 use Rattle.schedule_rules.proofs.Accepts.{known-length}
 use Rattle.schedule_rules.proofs.Registered.{none_known, known_taken, fresh-unknown, finalizable-inside}
@@ -145,37 +144,14 @@ module _ (cells : List CellPlan) (c : ℕ) where
             let w : _ = waits_so (wait_of p (waits cells h)) d Turns e in absurd (apart (sym o ∙ ap (λ z. is_owned (cell_at cells z).place) (sym w.2) ∙ shared w.0 w.1))
         by _ t e f = absurd t
 
-    -- a call that is answered so leaves the waits of others, and the turns that wait
-    abbrev IsPlain : Act → ℕ → Call → Answer → Type 0
-    IsPlain a d j r =
-        (count (waits_to_turn c) (waits cells (event a r ∷ h)) ≡ count (waits_to_turn c) (others a))
-        × ((n : ℕ) → n ≡ waiting → WaitsSo (deed_by (accepts h) (is_exit a) (Act.Call d j) r) n)
-
-    plain : (a : Act) (d : ℕ) (j : Call) → IsTold (IsPlain a d j)
-    plain a d j = record {
-      shown = record { phase = λ q. (refl, λ n e. e); value = λ v. (refl, λ n e. e); read_guard = (refl, λ n e. e); write_guard = (refl, λ n e. e) };
-      access = λ q. (refl, λ n e. e);
-      err_guard = (refl, λ n e. e);
-    }
-
-    plainly : (a : Act) (d : ℕ) (j : Call) (r : Answer) → Calling cells h p a d j → IsAllowed a → IsPlain a d j r → WaitsSo (deed_of h (step cells h p a) r) (count (waits_to_turn c) (waits cells (event a r ∷ h)))
-    plainly a d j r t f k = let n : _ = k.0 ∙ called_count a d j t f in called a d j r t n (k.1 _ n)
+    -- a call that waits for nothing and opens no turn
+    plainly : (a : Act) (d : ℕ) (j : Call) (r : Answer) → Calling cells h p a d j → IsAllowed a → count (waits_to_turn c) (waits cells (event a r ∷ h)) ≡ count (waits_to_turn c) (others a)
+        → ((n : ℕ) → n ≡ waiting → WaitsSo (deed_by (accepts h) (is_exit a) (Act.Call d j) r) n) → WaitsSo (deed_of h (step cells h p a) r) (count (waits_to_turn c) (waits cells (event a r ∷ h)))
+    plainly a d j r t f same so = let n : _ = same ∙ called_count a d j t f in called a d j r t n (so _ n)
 
     -- what holds of each answer of a step that is allowed
     abbrev Allowed : Act → Answer → Type 0
     Allowed a r = IsAllowed a → WaitsSo (deed_of h (step cells h p a) r) (count (waits_to_turn c) (waits cells (event a r ∷ h)))
-
-    made : (v : ℕ) → IsShown (Allowed (Act.Made v))
-    made v = record {
-      phase = λ q f. resting (Act.Made v) (waits_for _) f;
-      value = λ w f. resting (Act.Made v) (waits_for _) f;
-      read_guard = λ f. resting (Act.Made v) (waits_for _) f;
-      write_guard = λ f. resting (Act.Made v) (waits_for _) f;
-    }
-
-    finished : (fine : Bool) (left : Option ℕ) (q : _) → Allowed (finishing fine left) (Answer.Phase q)
-    finished true left q f = resting (Act.Finished left) (waits_for _) f
-    finished false left q f = resting (Act.FinishFailed left) (waits_for _) f
 
     waits_so_far : (a : Act) (d : ℕ) (w : Want) (way : _) → Tries cells h p a d w → Allowed a (Answer.Waiting way)
     waits_so_far a d (Calls j) way t f = call_waits a d j way t f
@@ -189,36 +165,23 @@ module _ (cells : List CellPlan) (c : ℕ) where
     borrows a d (Calls j) o t f = called_count a d j t f
     borrows a d Turns o t f = borrowing a d o t f
 
-    cases : Cases cells h p Allowed
-    cases = record {
-      cyclic = λ a d j t f. called_count a d j t f;
-      waiting = waits_so_far;
-      missed = misses;
-      owned = borrows;
-      opened = λ a d j t q e f. plainly a d j _ t f (opened (IsPlain a d j) (plain a d j).shown (form_at cells h p d j) (replay cells d h));
-      denied = λ a d j t q e f. plainly a d j _ t f (denied (IsPlain a d j) (plain a d j) (form_at cells h p d j) (phase_at cells d h));
-      running = λ a d j t q f. let n : _ = called_count a d j t f in called a d j Answer.Running t n n;
-      declined = λ a d j t q f. plainly a d j _ t f (denied (IsPlain a d j) (plain a d j) (form_at cells h p d j) flags_refused);
-      skipped = λ a d t q f. took a d t f;
-      finalizing = λ a d t q u f. took a d t f;
-      round = λ d ds e n f. resting Act.Exit (waits_for _) f;
-      closed = λ e n f. resting Act.Exit (waits_for _) f;
-      made = λ v t j g. made_so (Allowed (Act.Made v)) (made v) (form_at cells h p t.cell j) v (phase_made cells h t);
-      failed = λ t j g f. resting Act.MadeFailed (waits_for _) f;
-      finished = λ fine left t g. finished fine left (phase_of (phase_finalized (phase_at cells t.cell h) fine));
-      looked = λ g x e f. resting (Act.Look g) (waits_for _) f;
-      set = λ g v x e w f. resting (Act.Set g v) (waits_for _) f;
-      released = λ g x e f. resting (Act.Release g) (waits_for _) f;
-      downgraded = λ g x e w f. resting (Act.Downgrade g) (waits_for _) f;
-      borrowed = λ g x e w f. resting (Act.Clone g) (waits_for _) f;
-      cloned = λ g x e w f. resting (Act.Clone g) (waits_for _) f;
-      lent_made = λ d v left u e f. resting (Act.GetMut d (Some v) left) (waits_for _) f;
-      lent_failed = λ d left u e f. resting (Act.GetMut d None left) (waits_for _) f;
-      lent_rested = λ d made left u e r f. resting (Act.GetMut d made left) (waits_for _) f;
-      lent_denied = λ d made left u e r f. resting (Act.GetMut d made left) (waits_for _) f;
-      lent = λ d left u r f. resting (Act.TryGetMut d left) (waits_for _) f;
-      unlent = λ d left u r f. resting (Act.TryGetMut d left) (waits_for _) f;
-    }
+    each : (a : Act) (r : Answer) → Case cells h p a r → Allowed a r
+    each _ _ (Case.cyclic a d j t) f = called_count a d j t f
+    each _ _ (Case.waiting a d w way t) f = waits_so_far a d w way t f
+    each _ _ (Case.missed a d w q t) f = misses a d w q t f
+    each _ _ (Case.owned a d w o t) f = borrows a d w o t f
+    each _ _ (Case.told a d j q t v) f = plainly a d j (Answer.Phase q) t f refl (λ n e. e)
+    each _ _ (Case.denied a d j q t v) f = plainly a d j (Answer.Access q) t f refl (λ n e. e)
+    each _ _ (Case.erring a d j q t v e) f = plainly a d j Answer.ErrGuard t f refl (λ n e. e)
+    each _ _ (Case.shown a d j t q e) f = plainly a d j (answer_of_value (replay cells d h)) t f refl (λ n e. e)
+    each _ _ (Case.reading a d j t q e) f = plainly a d j Answer.ReadGuard t f refl (λ n e. e)
+    each _ _ (Case.writing a d j t q e w) f = plainly a d j Answer.WriteGuard t f refl (λ n e. e)
+    each _ _ (Case.running a d j t q) f = plainly a d j Answer.Running t f refl (λ n e. e)
+    each _ _ (Case.skipped a d t q) f = took a d t f
+    each _ _ (Case.finalizing a d t q u) f = took a d t f
+    each _ _ (Case.finished true left t g) f = resting (Act.Finished left) (waits_for _) f
+    each _ _ (Case.finished false left t g) f = resting (Act.FinishFailed left) (waits_for _) f
+    each _ _ _ f = resting _ (waits_for _) f
 
   -- ---- each deed
 
@@ -363,5 +326,5 @@ module _ (cells : List CellPlan) (c : ℕ) where
   one-turn [] k = sym (ap (λ (b : Bool). if b then 1 else 0) (none_known (length cells) c))
   one-turn (e ∷ h) k =
       has_turn h e.step.party e.line.given k.2 (one-turn h k.2) (deed_of h e.step e.line.answer) (count (waits_to_turn c) (waits cells (e ∷ h))) (finds cells h e.step e.line k.0)
-      (of_free cells h e.step e.line k.0 (λ a r. WaitsSo h e.step.party e.line.given (λ w f. waiting-shared cells h e.step.party w k.2 f) (deed_of h (step cells h e.step.party a) r) (count (waits_to_turn c) (waits cells (event h e.step.party e.line.given (λ w f. waiting-shared cells h e.step.party w k.2 f) a r ∷ h))))
-      (λ a r. refl) (cases h e.step.party e.line.given (λ w f. waiting-shared cells h e.step.party w k.2 f)))
+      (of_legal cells h e.step e.line k.0 (λ a r. WaitsSo h e.step.party e.line.given (λ w f. waiting-shared cells h e.step.party w k.2 f) (deed_of h (step cells h e.step.party a) r) (count (waits_to_turn c) (waits cells (event h e.step.party e.line.given (λ w f. waiting-shared cells h e.step.party w k.2 f) a r ∷ h))))
+      (λ a r. refl) (each h e.step.party e.line.given (λ w f. waiting-shared cells h e.step.party w k.2 f)))

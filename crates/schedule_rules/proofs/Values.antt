@@ -1,15 +1,14 @@
 -- A value that is shown is there.
-use Rattle.schedule_rules.proofs.Words.{ℕ, ◌≡◌, true, List, false, Bool, refl, Some, ◌∷◌, ◌∙◌, ap, [], sym, arith, subst, None, not, ◌&&◌, ◌⊎◌, ◌<◌, inl, inr, length, ◌≤◌, ◌||◌}
-use Rattle.schedule_rules.proofs.Words.{and_or_self, and_assoc, and_le_r, bit_or, bit_and, AllByRecursion, ◌==◌, if◌then◌else◌, is_some, ◌-◌, ◌^◌, Option, has, initialized}
-use Rattle.schedule_rules.proofs.Words.{flags_refused, registration, is_finalizable, is_plain, is_primed, is_hard, Call, Form, Shown, Told, Held, Answer, Line, CellPlan, Act, Step}
-use Rattle.schedule_rules.proofs.Words.{cell_at, tolerance_of, is_accessible, phase_finalized, flags_kept, finishes_so, value_finalized, Content, effect, Change, Ran, Put, Asked}
-use Rattle.schedule_rules.proofs.Words.{is_declined, Ended, RanIfAsked, asks_to_lend, content_of_run, content_after, Deed, Ends, EndsToRead, Visits, Makes, Drops, Finishes}
-use Rattle.schedule_rules.proofs.Words.{DropsToRead, EndsToWrite, Lends, Holds, Puts, Beside, Event, deed_of, Section, sections, Guard, guards, numbered, without_guard, guards_by}
-use Rattle.schedule_rules.proofs.Words.{reader_beside, reader_made, writer_made, phase_at, replay, Back, back_of_step, back_of_section, content_after_back, back_by, inside}
-use Rattle.schedule_rules.proofs.Words.{back_of_guard, change_of, read_guards, reads_cell, answer_denied, answer_opened, answer_made, answer_of_value, phase_made, IsLegal}
-use Rattle.schedule_rules.proofs.Words.{IsLegalLine, lends_at, runs_to_lend, ShowsValue}
+use Rattle.schedule_rules.proofs.Words.{ℕ, List, ◌≡◌, true, false, Bool, refl, Some, ◌∷◌, ◌∙◌, [], ap, sym, arith, subst, None, not, inl, ◌⊎◌, ◌&&◌, inr, ◌<◌, length, ◌≤◌, ◌||◌}
+use Rattle.schedule_rules.proofs.Words.{and_or_self, and_assoc, and_le_r, bit_or, bit_and, AllByRecursion, ◌==◌, if◌then◌else◌, is_some, ◌^◌, ◌-◌, Option, has, initialized}
+use Rattle.schedule_rules.proofs.Words.{registration, is_finalizable, is_plain, is_primed, is_hard, Call, Answer, Line, CellPlan, Act, Step, cell_at, tolerance_of, is_accessible}
+use Rattle.schedule_rules.proofs.Words.{flags_kept, finishes_so, phase_finalized, value_finalized, Content, effect, Change, Ran, Put, Asked, is_declined, Ended, asks_to_lend}
+use Rattle.schedule_rules.proofs.Words.{RanIfAsked, content_after, content_of_run, Deed, Visits, Ends, EndsToRead, Makes, EndsToWrite, DropsToRead, Drops, Finishes, Lends, Holds}
+use Rattle.schedule_rules.proofs.Words.{Puts, Beside, Event, deed_of, Section, sections, Guard, guards, numbered, without_guard, guards_by, writer_made, reader_made, reader_beside}
+use Rattle.schedule_rules.proofs.Words.{replay, phase_at, Back, back_of_section, back_of_step, content_after_back, back_by, inside, change_of, back_of_guard, read_guards}
+use Rattle.schedule_rules.proofs.Words.{reads_cell, answer_of_value, IsLegal, IsLegalLine, lends_at, runs_to_lend, ShowsValue}
 use Rattle.std.specs.Option.{unwrap_or}
-use Rattle.schedule_rules.proofs.Cases.{step, Calling, Reach, form_at, Cases}
+use Rattle.schedule_rules.proofs.Cases.{step, Reach, Case}
 use Rattle.schedule_rules.proofs.Steps.{lent_unprimed, of_legal}
 use Rattle.schedule_rules.proofs.Exclusion.{alone}
 use Rattle.schedule_rules.proofs.Found.{each_counted, each_found, each_of, each_removed, each_put}
@@ -297,60 +296,19 @@ module _ (cells : List CellPlan) where
     Showing a (Answer.Value v) = ShowsValue cells h (step cells h p a) v
     Showing a _ = Unit {0}
 
-    opened : (a : Act) (c : ℕ) (k : Call) → Calling cells h p a c k → Reach cells h p c true → (f : Form) → Showing a (answer_opened f (replay cells c h))
-    opened a c k t e (Told tests) = tt
-    opened a c k t e Shown = inl (record { cell = c; call = k; tried = t.tried; reached = e; value = shown_so (replay cells c h).value (accessed-value c h e) })
-    opened a c k t e (Held true falls_back) = tt
-    opened a c k t e (Held false falls_back) = tt
-
-    denied : (a : Act) (f : Form) (q : ℕ) → Showing a (answer_denied f q)
-    denied a (Told true) q = tt
-    denied a (Told false) q = tt
-    denied a Shown q = tt
-    denied a (Held writes true) q = tt
-    denied a (Held writes false) q = tt
-
-    made : (v : ℕ) (f : Form) (q : ℕ) → Showing (Act.Made v) (answer_made f v q)
-    made v (Told tests) q = tt
-    made v Shown q = inr (inr (inl refl))
-    made v (Held true falls_back) q = tt
-    made v (Held false falls_back) q = tt
-
     -- a value that is lent as it is
     found : (a : Act) (c : ℕ) → lends_at c a ≡ true → runs_to_lend cells h a ≡ false → Reach cells h p c true → Showing a (answer_of_value (replay cells c h))
     found a c is e f = inr (inr (inr (inl (record { cell = c; lends = is; unasked = e; reached = f; value = shown_so (replay cells c h).value (accessed-value c h f) }))))
 
-    shows : Cases cells h p Showing
-    shows = record {
-      cyclic = λ a c k t. tt;
-      waiting = λ a c w way t. tt;
-      missed = λ a c w f t. tt;
-      owned = λ a c w o t. tt;
-      opened = λ a c k t q e. opened a c k t e (form_at cells h p c k);
-      denied = λ a c k t q e. denied a (form_at cells h p c k) (phase_at cells c h);
-      running = λ a c k t q. tt;
-      declined = λ a c k t q. denied a (form_at cells h p c k) flags_refused;
-      skipped = λ a c t q. tt;
-      finalizing = λ a c t q u. tt;
-      round = λ c cs e n. tt;
-      closed = λ e n. tt;
-      made = λ v t k g. made v (form_at cells h p t.cell k) (phase_made cells h t);
-      failed = λ t k g. tt;
-      finished = λ fine left t g. tt;
-      looked = λ g x f. inr (inl (record { number = g; guard = x; looks = refl; found = f; value = shown_so _ (shown-value h g x legal f) }));
-      set = λ g v x f w. tt;
-      released = λ g x f. tt;
-      downgraded = λ g x f w. tt;
-      borrowed = λ g x f w. tt;
-      cloned = λ g x f w. tt;
-      lent_made = λ c v left u e. inr (inr (inr (inr (record { cell = c; left = left; acts = refl; asked = e }))));
-      lent_failed = λ c left u e. tt;
-      lent_rested = λ c made left u e f. found (Act.GetMut c made left) c (same_number c c refl) e f;
-      lent_denied = λ c made left u e f. tt;
-      lent = λ c left u f. found (Act.TryGetMut c left) c (same_number c c refl) refl f;
-      unlent = λ c left u f. tt;
-    }
+    each : (a : Act) (r : Answer) → Case cells h p a r → Showing a r
+    each _ _ (Case.shown a c k t q e) = inl (record { cell = c; call = k; tried = t.tried; reached = e; value = shown_so (replay cells c h).value (accessed-value c h e) })
+    each _ _ (Case.made v t k g) = inr (inr (inl refl))
+    each _ _ (Case.looked g x f) = inr (inl (record { number = g; guard = x; looks = refl; found = f; value = shown_so _ (shown-value h g x legal f) }))
+    each _ _ (Case.lent_made c v left u e) = inr (inr (inr (inr (record { cell = c; left = left; acts = refl; asked = e }))))
+    each _ _ (Case.lent_rested c made left u e f) = found (Act.GetMut c made left) c (same_number c c refl) e f
+    each _ _ (Case.lent c left u f) = found (Act.TryGetMut c left) c (same_number c c refl) refl f
+    each _ _ _ = tt
 
   -- a legal line that shows a value shows one that is there
   pub value-shown : (h : List Event) (s : Step) (l : Line) (v : ℕ) → IsLegal cells h → IsLegalLine cells h s l → l.answer ≡ Answer.Value v → ShowsValue cells h s v
-  value-shown h s l v legal k e = subst (Showing h s.party legal s.act) e (of_legal cells h s l k (Showing h s.party legal) (λ a r. tt) (shows h s.party legal))
+  value-shown h s l v legal k e = subst (Showing h s.party legal s.act) e (of_legal cells h s l k (Showing h s.party legal) (λ a r. tt) (λ a r k n. each h s.party legal a r k))
