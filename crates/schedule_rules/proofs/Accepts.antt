@@ -1,17 +1,13 @@
 -- The registry is open as long as a cell may be registered, and knows of each cell whether it was registered.
-use Rattle.schedule_rules.proofs.Words.{ℕ, List, ◌≡◌, true, false, Bool, refl, ◌∷◌, ◌∙◌, [], ap, sym, subst, not, length, length-replicate, length-set, if◌then◌else◌, closed}
-use Rattle.schedule_rules.proofs.Words.{after_register, Registry, CellPlan, Calls, Turns, cell_at, tries_registration, Deed, Opens, Skips, Looks, Event, accepts, deed_of}
-use Rattle.schedule_rules.proofs.Words.{closed_by, is_closed, phase_at, registry, registry_by, registry_taken, registry_of_run, IsLegal}
+use Rattle.schedule_rules.proofs.Words.{ℕ, ◌≡◌, List, Bool, arith, true, refl, false, ◌∷◌, [], ◌∙◌, sym, subst, not, length, length-replicate, length-set, if◌then◌else◌, closed}
+use Rattle.schedule_rules.proofs.Words.{after_register, Registry, CellPlan, Calls, Turns, cell_at, tries_registration, Deed, Opens, Skips, Event, deed_of, accepts, is_closed}
+use Rattle.schedule_rules.proofs.Words.{closed_by, phase_at, registry, registry_by, registry_taken, registry_of_run, IsLegal}
 use Rattle.schedule_rules.proofs.Finds.{Finds, finds}
 
 -- a registration changes neither whether the registry is open nor of how many cells it knows
 module _ (m : Registry) (c : ℕ) where
   open_registered : (after_register c m).is_open ≡ m.is_open
-  open_registered = by m.is_open refl
-    where
-      by : (b : Bool) → m.is_open ≡ b → (after_register c m).is_open ≡ m.is_open
-      by true e = rw e refl
-      by false e = rw e refl
+  open_registered = grind arith
 
   length_registered : length (after_register c m).known ≡ length m.known
   length_registered = by m.is_open refl
@@ -37,11 +33,7 @@ module _ (cells : List CellPlan) where
   -- nor does a run
   module _ (c p : ℕ) (m : Registry) where
     open_run : (registry_of_run cells c p m).is_open ≡ m.is_open
-    open_run = by (tries_registration (cell_at cells c).kind p)
-      where
-        by : (b : Bool) → (if b then after_register c m else m).is_open ≡ m.is_open
-        by true = open_registered m c
-        by false = refl
+    open_run = grind arith
 
     length_run : length (registry_of_run cells c p m).known ≡ length m.known
     length_run = by (tries_registration (cell_at cells c).kind p)
@@ -52,11 +44,7 @@ module _ (cells : List CellPlan) where
 
     -- in a closed registry it changes nothing
     closed_run : registry_of_run cells c p (closed m) ≡ closed m
-    closed_run = by (tries_registration (cell_at cells c).kind p)
-      where
-        by : (b : Bool) → (if b then after_register c (closed m) else closed m) ≡ closed m
-        by true = refl
-        by false = refl
+    closed_run = grind arith
 
   module _ (h : List Event) where
     length_by : (d : Deed) (m : Registry) → length (registry_by cells h d m).known ≡ length m.known
@@ -67,29 +55,18 @@ module _ (cells : List CellPlan) where
 
     -- in a closed registry no deed changes anything
     closed_after : (d : Deed) (m : Registry) → registry_by cells h d (closed m) ≡ closed m
-    closed_after (Opens c (Calls k) taken) m = closed_run c (phase_at cells c h) m
-    closed_after (Opens c Turns taken) m = closed_taken taken m
-    closed_after (Skips c taken) m = closed_taken taken m
-    closed_after _ m = refl
+    closed_after k1 m = grind arith
 
     module _ (p : ℕ) where
       opens : (d : Deed) → Finds cells h p d → (registry cells h).is_open ≡ accepts h → (registry_by cells h d (registry cells h)).is_open ≡ not (closed_by d (is_closed h))
-      opens (Opens c (Calls k) taken) f e = open_run c (phase_at cells c h) (registry cells h) ∙ e
-      opens (Opens c Turns taken) f e = open_taken taken (registry cells h) ∙ e
-      opens (Skips c taken) f e = open_taken taken (registry cells h) ∙ e
-      opens (Looks true) f e = let none : _ = f.1 in rw none refl
-      opens (Looks false) f e = let some : _ = f.1.2 in rw some e
-      opens _ f e = e
+      opens d f e = grind arith
 
       stays : (d : Deed) → registry cells h ≡ closed (registry cells h) → registry_by cells h d (registry cells h) ≡ closed (registry_by cells h d (registry cells h))
-      stays d e =
-          subst (λ m. registry_by cells h d m ≡ closed (registry_by cells h d m)) (sym e)
-          (closed_after d (registry cells h) ∙ sym (ap closed (closed_after d (registry cells h))))
+      stays d e = grind arith
 
       closes : (d : Deed) → Finds cells h p d → (is_closed h ≡ true → registry cells h ≡ closed (registry cells h)) → closed_by d (is_closed h) ≡ true
           → registry_by cells h d (registry cells h) ≡ closed (registry_by cells h d (registry cells h))
-      closes (Looks true) f k e = let none : _ = f.1 in rw none refl
-      closes d f k e = stays d (k e)
+      closes d f k e = grind arith
 
   -- the registry knows of each cell of the plan whether it was registered
   pub known-length : (h : List Event) → length (registry cells h).known ≡ length cells

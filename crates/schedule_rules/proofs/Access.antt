@@ -1,65 +1,38 @@
 -- Where a generator runs, and where a value may not be accessed.
-use Rattle.schedule_rules.proofs.Words.{ℕ, List, ◌≡◌, true, false, Bool, refl, Some, ◌∷◌, ◌∙◌, [], ap, sym, arith, subst, None, not, inl, ◌⊎◌, ◌&&◌, inr, length, ◌≢◌, find, ◌==◌}
-use Rattle.schedule_rules.proofs.Words.{if◌then◌else◌, Option, has, initialized, phase_of, Phase, first_of, Given, shall_init, flags_refused, Tolerance, Call, Answer, Line}
-use Rattle.schedule_rules.proofs.Words.{CellPlan, Act, Step, Want, Calls, Turns, cell_at, tolerance_at, runs_generator, effect, Asked, is_declined, content_asked, deed_visited}
-use Rattle.schedule_rules.proofs.Words.{Event, accepts, act_of, Section, sections, runs_in, sections_by, runs, generates_for, guards, guards_by, replay, phase_at, Back}
-use Rattle.schedule_rules.proofs.Words.{back_of_step, content_after_back, back_by, registry, attempt, attempt_of_turn, cell_concerned, cell_of_attempt, IsLegal, IsLegalLine}
-use Rattle.schedule_rules.proofs.Words.{lends_at, runs_to_lend, IsTurnedAway, KeepsValues}
+use Rattle.schedule_rules.proofs.Words.{ℕ, ◌≡◌, List, Bool, arith, true, refl, false, Some, ◌∷◌, [], ◌∙◌, sym, None, ap, subst, ◌⊎◌, ◌&&◌, inl, not, length, inr, ◌≢◌, find, ◌==◌}
+use Rattle.schedule_rules.proofs.Words.{if◌then◌else◌, Option, has, initialized, phase_of, Phase, Given, shall_init, flags_refused, Tolerance, Call, Answer, Line, CellPlan, Act}
+use Rattle.schedule_rules.proofs.Words.{Step, Want, Calls, Turns, cell_at, tolerance_at, runs_generator, effect, Asked, is_declined, content_asked, deed_visited, Event, accepts}
+use Rattle.schedule_rules.proofs.Words.{act_of, Section, sections, runs_in, sections_by, runs, generates_for, guards, guards_by, replay, phase_at, Back, back_of_step}
+use Rattle.schedule_rules.proofs.Words.{content_after_back, back_by, attempt, cell_concerned, cell_of_attempt, IsLegal, IsLegalLine, lends_at, runs_to_lend, KeepsValues}
+use Rattle.schedule_rules.proofs.Words.{IsTurnedAway}
 use Rattle.schedule_rules.proofs.Found.{found_passes, each_found}
-use Rattle.schedule_rules.proofs.Leaves.{back_here, back_elsewhere, asked_value}
-use Rattle.schedule_rules.proofs.Cases.{IsTrying, Calling, Asking, Resting, AsksToLend, Reach, calling-tries}
-use Rattle.schedule_rules.proofs.Attempts.{asks_due}
+use Rattle.schedule_rules.proofs.Leaves.{back_here, asked_value}
+use Rattle.schedule_rules.proofs.Cases.{IsTrying, Calling, Asking, Resting, Reach}
 use Rattle.schedule_rules.proofs.Means.{Began, Away, Unlent, Means, means}
 use Rattle.schedule_rules.proofs.Grows.{Needs, IsStanding, sound}
-use Rattle.schedule_rules.proofs.Facts.{apart, same_number, number_found}
+use Rattle.schedule_rules.proofs.Facts.{same_number}
 
 -- on the empty phase alone a run is wanted without retry
 empty-where-wanted : (t : Tolerance) (p : ℕ) → shall_init t (phase_of p) ≡ true → t.retry ≡ false → p ≡ 0
-empty-where-wanted t p e once = by t.retry once e
-  where
-    by : (b : Bool) → b ≡ false → (if b then not (has p initialized) else (p == 0)) ≡ true → p ≡ 0
-    by true f g = absurd (apart f)
-    by false f g = grind arith
+empty-where-wanted t p e once = grind arith
 
 -- where no run is wanted and there is no value, the cell has no retry
 once-where-unwanted : (t : Tolerance) (p : ℕ) → shall_init t (phase_of p) ≡ false → has p initialized ≡ false → t.retry ≡ false
-once-where-unwanted t p e lacks = by t.retry e
-  where
-    none : (b : Bool) → not b ≡ false → b ≡ false → ⊥
-    none true f g = apart g
-    none false f g = apart f
-
-    by : (b : Bool) → (if b then not (has p initialized) else (p == 0)) ≡ false → b ≡ false
-    by true f = absurd (none (has p initialized) f lacks)
-    by false f = refl
+once-where-unwanted t p e lacks = grind arith
 
 -- and where no run is wanted, the phase is not empty
 ended-where-unwanted : (t : Tolerance) (p : ℕ) → shall_init t (phase_of p) ≡ false → p ≢ 0
-ended-where-unwanted t p e z = by t.retry (subst (λ n. (if t.retry then not (has n initialized) else (n == 0)) ≡ false) z e)
-  where
-    by : (b : Bool) → (if b then not (has 0 initialized) else (0 == 0)) ≡ false → ⊥
-    by true f = cc
-    by false f = cc
+ended-where-unwanted t p e z = grind arith
 
 module _ (cells : List CellPlan) where
   module _ (h : List Event) (p : ℕ) where
     -- an attempt concerns its cell
     concerned : (a : Act) → IsTrying a → cell_concerned cells h (record { party = p; act = a }) ≡ cell_of_attempt (attempt cells h (record { party = p; act = a }))
-    concerned (Act.Call c k) t = refl
-    concerned Act.Again t = refl
-    concerned Act.Exit t = by (first_of (registry cells h).left)
-      where
-        by : (o : Option ℕ) → o ≡ cell_of_attempt (attempt_of_turn o)
-        by None = refl
-        by (Some c) = refl
-    concerned _ t = absurd t
+    concerned a t = grind arith
 
     -- so a call is at the cell that its step concerns
     called_at : (a : Act) (c d : ℕ) (k : Call) → Calling cells h p a c k → cell_concerned cells h (record { party = p; act = a }) ≡ Some d → c ≡ d
-    called_at a c d k t e = same (sym (concerned a (calling-tries a t.acts) ∙ ap cell_of_attempt t.tried) ∙ e)
-      where
-        same : Some c ≡ Some d → c ≡ d
-        same x = cc
+    called_at a c d k t e = grind arith
 
     module _ (i : Given) where
       -- the event of the party
@@ -76,10 +49,7 @@ module _ (cells : List CellPlan) where
         back = ap (λ b. back_by p (deed_visited (accepts h) false b) (sections h) (guards h)) t.does
 
         others : (d : ℕ) → c ≢ d → replay cells d (event a (Answer.Access q) ∷ h) ≡ replay cells d h
-        others d ne = back_elsewhere cells d (back_of_step h (record { party = p; act = a }) (Answer.Access q)) (asked c j) (replay cells d h) back (other ne)
-          where
-            other : c ≢ d → (c == d) ≡ false
-            other n = grind arith
+        others d ne = grind arith
 
         here : replay cells c (event a (Answer.Access q) ∷ h) ≡ content_asked (cell_at cells c).kind (tolerance_at cells c) (accepts h) j (replay cells c h)
         here = back_here cells c (back_of_step h (record { party = p; act = a }) (Answer.Access q)) (asked c j) (replay cells c h) back (same_number c c refl)
@@ -125,14 +95,10 @@ module _ (cells : List CellPlan) where
   -- a value that is to be lent, and may not be accessed, stays
   module _ (h : List Event) (p : ℕ) (i : Given) (q : Phase) where
     lent_here : (a : Act) (c d : ℕ) → lends_at c a ≡ true → cell_concerned cells h (record { party = p; act = a }) ≡ Some d → c ≡ d
-    lent_here (Act.GetMut b made left) c d e n = let at : b ≡ d = cc in let same : b ≡ c = grind arith in sym same ∙ at
-    lent_here (Act.TryGetMut b left) c d e n = let at : b ≡ d = cc in let same : b ≡ c = grind arith in sym same ∙ at
-    lent_here _ c d e n = absurd (apart (sym e))
+    lent_here k1 c d e n = grind arith
 
     unlent_stays : (a : Act) (c d : ℕ) → lends_at c a ≡ true → replay cells d (event h p i a (Answer.Access q) ∷ h) ≡ replay cells d h
-    unlent_stays (Act.GetMut b made left) c d e = refl
-    unlent_stays (Act.TryGetMut b left) c d e = refl
-    unlent_stays _ c d e = absurd (apart (sym e))
+    unlent_stays k1 c d e = grind arith
 
     unlent : (a : Act) (c : ℕ) → Unlent cells h p a q → cell_concerned cells h (record { party = p; act = a }) ≡ Some c → IsTurnedAway cells h (event h p i a (Answer.Access q)) c q
     unlent a c m n =
@@ -191,26 +157,17 @@ module _ (cells : List CellPlan) where
 
   -- nor is a value made on another phase, to be lent
   pub lends_on_empty : (h : List Event) (s : Step) (c : ℕ) → lends_at c s.act ≡ true → runs_to_lend cells h s.act ≡ true → (cell_at cells c).retry ≡ false → phase_at cells c h ≡ 0
-  lends_on_empty h s c e asked once = by s.act e asked
-    where
-      empty : AsksToLend cells h s.party c true → phase_at cells c h ≡ 0
-      empty a = empty-where-wanted (tolerance_at cells c) (phase_at cells c h) (asks_due (cell_at cells c).kind (tolerance_at cells c) Call.Init (phase_at cells c h) a) once
-
-      by : (a : Act) → lends_at c a ≡ true → runs_to_lend cells h a ≡ true → phase_at cells c h ≡ 0
-      by (Act.GetMut z made left) e r = empty (subst (λ y. AsksToLend cells h s.party y true) (number_found z c e) r)
-      by _ e r = absurd (apart (sym r))
+  lends_on_empty h s c e asked once = grind arith
 
 -- what may not access the value leaves every value, and what is open
 pub keeps_values : (cells : List CellPlan) (h : List Event) (s : Step) (p : Phase) (g : Given) → KeepsValues cells h (record { step = s; line = record { answer = Answer.Access p; given = g } })
 keeps_values cells h s p g = record { sections_stay = same_sections (act_of h s); guards_stay = same_guards (act_of h s); values_stay = λ c. by c (act_of h s) }
   where
     same_sections : (a : Act) → sections_by h s.party (deed_visited (accepts h) false a) (sections h) ≡ sections h
-    same_sections (Act.Call d j) = refl
-    same_sections _ = refl
+    same_sections a = grind arith
 
     same_guards : (a : Act) → guards_by (length h) s.party (deed_visited (accepts h) false a) (sections h) (guards h) ≡ guards h
-    same_guards (Act.Call d j) = refl
-    same_guards _ = refl
+    same_guards a = grind arith
 
     by : (c : ℕ) (a : Act) → (content_after_back cells c (back_by s.party (deed_visited (accepts h) false a) (sections h) (guards h)) (replay cells c h)).value ≡ (replay cells c h).value
     by c (Act.Call d j) = here (d == c)

@@ -1,16 +1,14 @@
 -- What holds of the answers that are due, by what holds of each that may be.
-use Rattle.schedule_rules.proofs.Words.{ℕ, List, ◌≡◌, true, false, Bool, refl, Some, ◌∙◌, ap, None, ◌&&◌, if◌then◌else◌, is_none, Option, Phase, LockNature, Given, How, Tolerance}
-use Rattle.schedule_rules.proofs.Words.{Call, Kind, Form, Held, Told, Shown, Answer, Line, Refusal, CellPlan, Place, Step, Want, Calls, Turns, cell_at, is_owned, form_of}
-use Rattle.schedule_rules.proofs.Words.{is_accessible, Content, asks_to_lend, content_asked, content_to_lend, Event, Section, Guard, Wait, is_barred, holding_with, refusal}
-use Rattle.schedule_rules.proofs.Words.{answer_barred, answer_lent, answer_made_to_lend, call_answer_admitted, answer_made, answer_of_made, answer_opened, answer_denied}
-use Rattle.schedule_rules.proofs.Words.{begins_run, due_answer, due_clone, due_finished, phase_made, due_made, due_look, IsLegalLine, answer_of, due_at, Moment, Last, First}
-use Rattle.schedule_rules.proofs.Words.{waits_judged}
+use Rattle.schedule_rules.proofs.Words.{ℕ, ◌≡◌, List, Bool, arith, true, refl, false, Some, ◌∙◌, None, ap, ◌&&◌, if◌then◌else◌, is_none, Option, Phase, LockNature, Given, How}
+use Rattle.schedule_rules.proofs.Words.{Tolerance, Call, Kind, Form, Held, Told, Shown, Answer, Line, Refusal, CellPlan, Place, Step, Want, Calls, Turns, cell_at, is_owned}
+use Rattle.schedule_rules.proofs.Words.{form_of, is_accessible, Content, asks_to_lend, content_asked, content_to_lend, Event, Section, Guard, Wait, is_barred, holding_with}
+use Rattle.schedule_rules.proofs.Words.{refusal, answer_barred, answer_made_to_lend, answer_lent, answer_made, answer_of_made, answer_opened, answer_denied, call_answer_admitted}
+use Rattle.schedule_rules.proofs.Words.{begins_run, due_answer, due_clone, due_made, due_finished, phase_made, due_look, IsLegalLine, answer_of, due_at, Moment, waits_judged}
 
 -- the answer that is due, where these calls of others wait
 pub due_at-judged : (cells : List CellPlan) (m : Moment) (h : List Event) (s : Step) (g : Given) (chosen : Bool)
     → due_at cells m h s g chosen ≡ due_answer cells h s (waits_judged cells m h s g) chosen
-due_at-judged cells First h s g chosen = refl
-due_at-judged cells Last h s g chosen = refl
+due_at-judged cells k1 h s g chosen = grind arith
 
 module _ (P : Answer → Type 0) where
   -- one of two answers
@@ -107,5 +105,4 @@ legal_by t fails cells h s l k =
     ap t (k.answered ∙ ap (answer_of (refusal cells h s)) (due_at-judged cells k.moment h s l.given k.chosen)) ∙ by (refusal cells h s) _
   where
     by : (o : Option Refusal) (a : Answer) → t (answer_of o a) ≡ (is_none o && t a)
-    by None a = refl
-    by (Some q) a = fails q
+    by k1 a = grind arith

@@ -1,19 +1,16 @@
 -- What an attempt at a cell is answered, case by case.
-use Rattle.schedule_rules.proofs.Words.{ℕ, List, ◌≡◌, true, false, Bool, refl, Some, ◌∷◌, ◌∙◌, [], ap, sym, arith, subst, None, not, inl, ◌&&◌, inr, ◌<◌, ◌+◌, ◌||◌, ◌==◌}
-use Rattle.schedule_rules.proofs.Words.{if◌then◌else◌, is_some, nat_lt, Option, has, initialized, phase_of, first_of, look_at, LockNature, How, shall_init, nature_where}
-use Rattle.schedule_rules.proofs.Words.{flags_refused, Tolerance, asking, Call, Kind, Form, Held, Told, Shown, Answer, CellPlan, Act, Want, Calls, Turns, cell_at, tolerance_at}
-use Rattle.schedule_rules.proofs.Words.{form_of, is_accessible, runs_generator, is_fast, asks, initializes, lock_wanted, lock_asked, seeks, run_asked, seeks_run, Content, Event}
-use Rattle.schedule_rules.proofs.Words.{accepts, count, latest_act, runs, replay, phase_at, registry, Wait, waits, wait_of, attempt_of_turn, attempt_of_wait, act_for, shares_write}
-use Rattle.schedule_rules.proofs.Words.{drains_on, write_holds, is_barred, read_guards, holding_with, writers_with, readers_with, drains_with, readers, keeps, refusal, refusal_by}
-use Rattle.schedule_rules.proofs.Words.{refusal_free, refusal_waiting, answer_barred, answer_admitted, answer_at, call_answer_admitted, turn_answer_admitted, answer_opened}
-use Rattle.schedule_rules.proofs.Words.{answer_denied, due_tried, due_attempt, answer_of_look, IsExclusive}
-use Rattle.phase_seq.specs.Asks.{initializes as run_sought}
-use Rattle.phase_seq.specs.declared.ask.Want.{Want as Sought}
+use Rattle.schedule_rules.proofs.Words.{ℕ, ◌≡◌, List, Bool, arith, true, refl, false, Some, ◌∷◌, [], ◌∙◌, sym, None, ap, subst, ◌<◌, ◌&&◌, ◌+◌, inl, not, inr, ◌==◌, if◌then◌else◌}
+use Rattle.schedule_rules.proofs.Words.{is_some, Option, has, initialized, phase_of, first_of, look_at, LockNature, How, shall_init, flags_refused, Tolerance, asking, Call, Kind}
+use Rattle.schedule_rules.proofs.Words.{Form, Held, Told, Shown, Answer, CellPlan, Act, Want, Calls, Turns, cell_at, tolerance_at, form_of, is_accessible, runs_generator, asks}
+use Rattle.schedule_rules.proofs.Words.{is_fast, initializes, lock_wanted, Content, Event, accepts, count, latest_act, runs, replay, phase_at, registry, Wait, waits, wait_of}
+use Rattle.schedule_rules.proofs.Words.{attempt_of_wait, attempt_of_turn, act_for, shares_write, drains_on, write_holds, is_barred, read_guards, holding_with, readers, keeps}
+use Rattle.schedule_rules.proofs.Words.{refusal, refusal_by, refusal_free, refusal_waiting, answer_barred, answer_admitted, answer_at, answer_opened, answer_denied}
+use Rattle.schedule_rules.proofs.Words.{turn_answer_admitted, call_answer_admitted, due_tried, due_attempt, answer_of_look, IsExclusive}
 use Rattle.schedule_rules.proofs.Found.{found_counts}
 use Rattle.schedule_rules.proofs.GoesOn.{Matches, wait-matches}
 use Rattle.schedule_rules.proofs.Answered.{barred}
 use Rattle.schedule_rules.proofs.Cases.{step, Tries, Case, Calling, Turning, Asking, Resting, Reach, Visiting, form_at, errs, writes}
-use Rattle.schedule_rules.proofs.Facts.{apart, second, same_number}
+use Rattle.schedule_rules.proofs.Facts.{same_number}
 
 -- nothing is written where something drains
 no_writers : (w d : ℕ) → (0 < w → d ≡ 0) → 0 < d → w ≡ 0
@@ -21,8 +18,7 @@ no_writers w d alone e = grind arith
 
 -- where there is no first, there is none
 none_first : (cs : List ℕ) → first_of cs ≡ None → cs ≡ []
-none_first [] e = refl
-none_first (c ∷ cs) e = absurd (cc)
+none_first cs e = grind arith
 
 -- an attempt, by whether it is cyclic or barred
 in_turn : (Q : Answer → Type 0) (own barred : Bool) (w r : Answer) → Q Answer.Cyclic → Q w → (barred ≡ false → Q r)
@@ -38,38 +34,15 @@ waits_or Q false w r y z = z refl
 
 -- where a run is asked, the lock to write is wanted
 pub asks_writes : (q : Kind) (t : Tolerance) (k : Call) (p : ℕ) → asks q t (Calls k) p ≡ true → lock_wanted q t (Calls k) p ≡ LockNature.Write
-asks_writes q t k p e = by (seeks q (Calls k)) (shall_init t (phase_of p)) refl e
-  where
-    by : (o : Option Sought) (b : Bool) → shall_init t (phase_of p) ≡ b → run_asked (asking o (is_fast (Calls k)) t) p ≡ true → lock_asked (asking o (is_fast (Calls k)) t) p ≡ LockNature.Write
-    by None b d e = absurd (apart (sym e))
-    by (Some Sought.Init) true d e = ap (λ x. nature_where Sought.Init x (has p initialized)) d
-    by (Some Sought.Init) false d e = absurd (apart (sym e ∙ d))
-    by (Some Sought.Read) true d e = ap (λ x. nature_where Sought.Read x (has p initialized)) d
-    by (Some Sought.Read) false d e = absurd (apart (sym e ∙ d))
-    by (Some Sought.Write) b d e = refl
-    by (Some Sought.ReadOnly) b d e = absurd (apart (sym e))
-    by (Some Sought.WriteOnly) b d e = refl
-    by (Some Sought.Finalize) b d e = absurd (apart (sym e))
+asks_writes q t k p e = grind arith
 
 -- and a run is due
 pub asks_due : (q : Kind) (t : Tolerance) (k : Call) (p : ℕ) → asks q t (Calls k) p ≡ true → shall_init t (phase_of p) ≡ true
-asks_due q t k p e = by (seeks q (Calls k)) e
-  where
-    by : (o : Option Sought) → run_asked (asking o (is_fast (Calls k)) t) p ≡ true → shall_init t (phase_of p) ≡ true
-    by None e = absurd (apart (sym e))
-    by (Some s) e = second (run_sought s) _ e
+asks_due q t k p e = grind arith
 
 -- and where none is asked by a call for runs, none is
 pub asks_none : (q : Kind) (t : Tolerance) (k : Call) (p : ℕ) → asks q t (Calls k) p ≡ false → initializes q (Calls k) ≡ true → shall_init t (phase_of p) ≡ false
-asks_none q t k p e i = by (seeks q (Calls k)) e i
-  where
-    rest : (x y : Bool) → (x && y) ≡ false → x ≡ true → y ≡ false
-    rest true y e i = e
-    rest false y e i = absurd (apart (sym i))
-
-    by : (o : Option Sought) → run_asked (asking o (is_fast (Calls k)) t) p ≡ false → seeks_run o ≡ true → shall_init t (phase_of p) ≡ false
-    by None e i = absurd (apart (sym i))
-    by (Some s) e i = rest (run_sought s) _ e i
+asks_none q t k p e i = grind arith
 
 -- a call that is admitted: it runs the generator, is declined, or is answered by what the cell holds
 pub call_admitted : (Q : Answer → Type 0) (q : Kind) (t : Tolerance) (o : Bool) (k : Call) (y : Content)
@@ -97,11 +70,7 @@ module _ (cells : List CellPlan) (h : List Event) (p : ℕ) where
   -- what gets the lock to write finds no hold to write
   module _ (c : ℕ) (alone : IsExclusive cells h c) where
     unbarred : (ws : List Wait) → is_barred LockNature.Write (holding_with c h ws) ≡ false → write_holds c h ≡ 0
-    unbarred ws e = by (nat_lt 0 (writers_with c h ws)) refl e
-      where
-        by : (b : Bool) → nat_lt 0 (writers_with c h ws) ≡ b → (b || (nat_lt 0 (drains_with c ws) || nat_lt 0 (readers_with c h ws))) ≡ false → write_holds c h ≡ 0
-        by true f g = absurd (apart g)
-        by false f g = grind arith
+    unbarred ws e = grind arith
 
     unheld : (n : ℕ) (ws : List Wait) → ((w : Wait) → wait_of p (waits cells h) ≡ Some w → w.cell ≡ c)
         → (not (keeps (wait_of p (waits cells h)) LockNature.Write n) && is_barred LockNature.Write (holding_with c h ws)) ≡ false → write_holds c h ≡ 0
@@ -127,13 +96,7 @@ module _ (cells : List CellPlan) (h : List Event) (p : ℕ) where
 
     -- nor a guard to read
     unbarred_read : (ws : List Wait) → is_barred LockNature.Write (holding_with c h ws) ≡ false → read_guards c h ≡ 0
-    unbarred_read ws e = by (nat_lt 0 (writers_with c h ws)) (nat_lt 0 (drains_with c ws)) (nat_lt 0 (readers_with c h ws)) refl e
-      where
-        by : (b d o : Bool) → nat_lt 0 (readers_with c h ws) ≡ o → (b || (d || o)) ≡ false → read_guards c h ≡ 0
-        by false false false f g = grind arith
-        by true d o f g = absurd (apart g)
-        by false true o f g = absurd (apart g)
-        by false false true f g = absurd (apart g)
+    unbarred_read ws e = grind arith
 
     unread : (ws : List Wait) → ((w : Wait) → wait_of p (waits cells h) ≡ Some w → w.cell ≡ c)
         → (not (keeps (wait_of p (waits cells h)) LockNature.Write (readers cells c h)) && is_barred LockNature.Write (holding_with c h ws)) ≡ false → read_guards c h ≡ 0
@@ -143,8 +106,7 @@ module _ (cells : List CellPlan) (h : List Event) (p : ℕ) where
         none n f = omega (arith, f)
 
         drained : (b : Bool) → (readers cells c h == 0) ≡ b → (not b && is_barred LockNature.Write (holding_with c h ws)) ≡ false → read_guards c h ≡ 0
-        drained true f g = let n : readers cells c h ≡ 0 = grind arith in none _ n
-        drained false f g = unbarred_read ws g
+        drained b f g = grind arith
 
         by : (o : Option Wait) → wait_of p (waits cells h) ≡ o → (not (keeps o LockNature.Write (readers cells c h)) && is_barred LockNature.Write (holding_with c h ws)) ≡ false → read_guards c h ≡ 0
         by None f g = unbarred_read ws g
@@ -175,12 +137,7 @@ module _ (cells : List CellPlan) (h : List Event) (p : ℕ) where
   -- a party whose act is not refused, and is no Again, does not wait
   pub rests : (a : Act) → (refusal_waiting a ≡ None → ⊥) → refusal cells h (step cells h p a) ≡ None
       → (wait_of p (waits cells h) ≡ None) × (refusal_free cells h p a ≡ None)
-  rests a waits_for f = by (wait_of p (waits cells h)) refl f
-    where
-      by : (o : Option Wait) → wait_of p (waits cells h) ≡ o → refusal_by cells (is_some o) h p a ≡ None
-          → (wait_of p (waits cells h) ≡ None) × (refusal_free cells h p a ≡ None)
-      by None e g = (e, g)
-      by (Some w) e g = absurd (waits_for g)
+  rests a waits_for f = grind arith
 
   pub mine_where_none : (c : ℕ) → wait_of p (waits cells h) ≡ None → IsMine c
   mine_where_none c e w f = absurd (none (sym e ∙ f))

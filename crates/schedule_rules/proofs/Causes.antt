@@ -1,13 +1,13 @@
 -- Which answer a legal line has, by its cause.
-use Rattle.schedule_rules.proofs.Words.{ℕ, List, ◌≡◌, true, false, Bool, refl, Some, ◌∷◌, ◌∙◌, [], ap, sym, None, not, ◌&&◌, length, ◌≢◌, ◌||◌, ◌==◌, if◌then◌else◌, is_none}
-use Rattle.schedule_rules.proofs.Words.{is_some, Option, has, initialized, first_of, look_at, is_empty, LockNature, Given, How, Call, Answer, Line, Refusal, CellPlan, Place, Act}
-use Rattle.schedule_rules.proofs.Words.{Step, Calls, Turns, cell_at, tolerance_at, is_owned, is_fast, asks, lock_wanted, Event, accepts, is_exit, sections, innermost, is_turn}
-use Rattle.schedule_rules.proofs.Words.{Guard, guards, numbered, replay, phase_at, registry, Wait, waits, wait_of, attempt, Attempt, attempt_of_turn, attempt_of_wait, is_barred}
-use Rattle.schedule_rules.proofs.Words.{holding_with, refusal, refusal_by, answer_barred, answer_admitted, drains_by, way_parked, due_answer, due_tried, due_attempt, due_clone}
-use Rattle.schedule_rules.proofs.Words.{answer_of_look, keeps_own, is_nobody, IsLegalLine, answer_of, due_at, Moment, may_give, waits_judged, is_attempted, is_waiting, is_cyclic}
-use Rattle.schedule_rules.proofs.Words.{is_closing, is_cyclic_step, is_skipped, is_access, is_admitted, is_running, is_borrowed, is_finalizing, phase_met, is_missed, is_round}
-use Rattle.schedule_rules.proofs.Words.{is_denied_to_lend, is_round_step, is_access_step, is_step_of, is_of_own_run, is_kept_out, asks_run, is_closing_step, is_barred_clone, looks}
-use Rattle.schedule_rules.proofs.Words.{is_missing_step, is_borrowing_step, is_running_step, is_turn_step, generates, is_barred_attempt, is_barred_step, is_initializing}
+use Rattle.schedule_rules.proofs.Words.{ℕ, ◌≡◌, List, Bool, arith, true, refl, false, Some, ◌∙◌, sym, None, ap, ◌&&◌, not, length, ◌≢◌, ◌||◌, ◌==◌, if◌then◌else◌, is_none, is_some}
+use Rattle.schedule_rules.proofs.Words.{Option, has, initialized, first_of, look_at, is_empty, Given, How, Call, Answer, Line, Refusal, CellPlan, Place, Act, Step, Calls, cell_at}
+use Rattle.schedule_rules.proofs.Words.{tolerance_at, is_owned, asks, is_fast, lock_wanted, Event, accepts, is_exit, sections, innermost, is_turn, Guard, guards, numbered, replay}
+use Rattle.schedule_rules.proofs.Words.{phase_at, registry, Wait, waits, wait_of, attempt, Attempt, attempt_of_wait, attempt_of_turn, is_barred, holding_with, refusal, refusal_by}
+use Rattle.schedule_rules.proofs.Words.{answer_barred, answer_admitted, drains_by, way_parked, due_answer, due_tried, due_attempt, due_clone, answer_of_look, keeps_own, is_nobody}
+use Rattle.schedule_rules.proofs.Words.{IsLegalLine, answer_of, due_at, Moment, may_give, waits_judged, is_attempted, is_waiting, is_cyclic, is_borrowed, phase_met, is_cyclic_step}
+use Rattle.schedule_rules.proofs.Words.{is_missed, is_finalizing, is_round, is_closing, is_admitted, is_denied_to_lend, is_skipped, is_access, is_running, is_closing_step}
+use Rattle.schedule_rules.proofs.Words.{is_borrowing_step, is_running_step, is_access_step, generates, is_of_own_run, is_step_of, asks_run, is_barred_attempt, looks}
+use Rattle.schedule_rules.proofs.Words.{is_barred_step, is_turn_step, is_round_step, is_barred_clone, is_kept_out, is_missing_step, is_initializing}
 use Rattle.exit_registry.specs.declared.registry.Look.{Look}
 use Rattle.schedule_rules.proofs.Answered.{due_at-judged, lent, made_to_lend, made, finished, looked, cloned, legal_by}
 use Rattle.schedule_rules.proofs.Facts.{apart}
@@ -97,12 +97,7 @@ module _ (t : Answer → Bool) (cells : List CellPlan) (h : List Event) (p : ℕ
 module _ (t : Answer → Bool) {denies : Bool} (is : IsOfTries t denies) (cells : List CellPlan) (cause : Attempt → Bool) (h : List Event) (ws : List Wait) (chosen : Bool) where
   -- a clone is answered so where it is barred, and Borrowed is
   clones : (g : ℕ) (o : Option Guard) → numbered g (guards h) ≡ o → t (due_clone cells h ws o) ≡ (is_barred_clone cells h (Act.Clone g) ws && t Answer.Borrowed)
-  clones g None e = rw e is.done
-  clones g (Some x) e = rw e (by (is_barred LockNature.Read (holding_with x.cell h ws)))
-    where
-      by : (b : Bool) → t (if b then Answer.Borrowed else Answer.ReadGuard) ≡ (b && t Answer.Borrowed)
-      by true = refl
-      by false = is.shown.read_guard
+  clones g k1 e = grind arith
 
   -- each act, where what is attempted is answered so exactly by this cause
   due : (p : ℕ) → ((o : Option Attempt) → t (due_tried cells h p o ws chosen) ≡ is_attempted cause o) → (a : Act)
@@ -135,12 +130,10 @@ module _ (t : Answer → Bool) {denies : Bool} (is : IsOfTries t denies) (refuse
   -- where no look is answered so
   module _ (round : (n : ℕ) → t (Answer.Round n) ≡ false) (closed : t Answer.Closed ≡ false) (cause : Attempt → Bool) (each : (a : Attempt) → t (due_attempt cells h s.party a judged k.chosen) ≡ cause a) where
     told : (l : _) → t (answer_of_look l) ≡ false
-    told (Look.Round n) = round n
-    told Look.Closed = closed
+    told l = grind arith
 
     tried : (o : Option Attempt) → t (due_tried cells h s.party o judged k.chosen) ≡ is_attempted cause o
-    tried None = told (look_at (registry cells h).pending)
-    tried (Some a) = each a
+    tried o = grind arith
 
     -- nor a clone, nor a value that is to be lent
     legal_alone : t Answer.Borrowed ≡ false → denies ≡ false → t l.answer ≡ is_step_of cells cause h s
@@ -187,11 +180,7 @@ module _ (cells : List CellPlan) (h : List Event) (s : Step) (l : Line) (k : IsL
       by false (Place.Own p) w = refl
 
       parts : (n x y u : Bool) → (n && (x || ((y && true) || (u && false)))) ≡ ((n && y) || (n && x))
-      parts false x y u = refl
-      parts true true true u = refl
-      parts true true false u = refl
-      parts true false true u = refl
-      parts true false false u = no_more u
+      parts n x y u = grind arith
 
   -- a run begins
   pub runs_where_asked : is_running l.answer ≡ is_running_step cells h s l.given k.moment
@@ -240,8 +229,7 @@ module _ (cells : List CellPlan) (h : List Event) (s : Step) (l : Line) (k : IsL
       ap is_refused (due_at-judged cells m h s g chosen) ∙ due is_refused of_refused cells (λ a. false) h (waits_judged cells m h s g) chosen s.party tried s.act ∙ none (attempt cells h s) _ _
     where
       told : (l : _) → is_refused (answer_of_look l) ≡ false
-      told (Look.Round n) = refl
-      told Look.Closed = refl
+      told l = grind arith
 
       tried : (o : Option Attempt) → is_refused (due_tried cells h s.party o (waits_judged cells m h s g) chosen) ≡ is_attempted (λ a. false) o
       tried None = told (look_at (registry cells h).pending)
@@ -249,17 +237,14 @@ module _ (cells : List CellPlan) (h : List Event) (s : Step) (l : Line) (k : IsL
           cyclic_alone is_refused cells h s.party (waits_judged cells m h s g) chosen false refl (fails_barred is_refused (record { missed = refl; borrowed = refl; waiting = λ w. refl })) beyond_refused a ∙ no_more _
 
       none : (o : Option Attempt) (b d : Bool) → (is_attempted (λ a. false) o || ((b && false) || (d && false))) ≡ false
-      none None b d = neither b d false false refl refl
-      none (Some a) b d = neither b d false false refl refl
+      none k1 b d = grind arith
 
   -- a line that is refused gives nothing
   pub refused_gives_nothing : (r : Refusal) → l.answer ≡ Answer.Refused r → l.given ≡ Given.Nobody
   refused_gives_nothing r is = by (refusal cells h s) k.answered k.gave
     where
       nobody : (g : Given) → is_nobody g ≡ true → g ≡ Given.Nobody
-      nobody Given.Nobody d = refl
-      nobody Given.Readers d = absurd (cc)
-      nobody (Given.Writer q) d = absurd (cc)
+      nobody g d = grind arith
 
       by : (o : Option Refusal) → l.answer ≡ answer_of o (due_at cells k.moment h s l.given k.chosen) → may_give cells o k.moment h s l ≡ true → l.given ≡ Given.Nobody
       by (Some q) e d = nobody l.given d
@@ -278,8 +263,7 @@ kept_is_answered cells h p a ws chosen keeps =
     by false (Place.Own p) w = refl
 
     nothing : (x y z : Bool) → ((not x && (not true && y)) && z) ≡ false
-    nothing true y z = refl
-    nothing false y z = refl
+    nothing x y z = grind arith
 
 -- ---- looks
 
@@ -308,8 +292,7 @@ module _ (t : Answer → Bool) {denies : Bool} (is : IsOfTries t denies) (beyond
   looked_so Act.Exit = ap (λ b. free Act.Exit && b) (by (first_of (registry cells h).left))
     where
       by : (o : Option ℕ) → t (due_tried cells h p (attempt_of_turn o) ws chosen) ≡ (is_none o && passes)
-      by None = refl
-      by (Some c) = each (record { cell = c; want = Turns })
+      by o = grind arith
   looked_so (Act.Made v) = ap (λ b. free (Act.Made v) && b) (made (λ a. t a ≡ false) cells h is.shown v (innermost p (sections h)) is.done is.failed)
   looked_so Act.MadeFailed = ap (λ b. free Act.MadeFailed && b) is.failed
   looked_so (Act.Finished left) = ap (λ b. free (Act.Finished left) && b) (finished (λ a. t a ≡ false) cells h is.shown true (innermost p (sections h)) is.done)
@@ -332,9 +315,7 @@ module _ (cells : List CellPlan) (h : List Event) (s : Step) (l : Line) (k : IsL
       ∙ three (is_none (refusal cells h s)) (is_exit s.act) _ _
     where
       three : (a b c d : Bool) → (a && (b && (c && d))) ≡ ((a && (b && c)) && d)
-      three true true c d = refl
-      three true false c d = refl
-      three false b c d = refl
+      three a b c d = grind arith
 
   -- a look took so many cells
   pub rounds_where_registered : (n : ℕ) → is_round n l.answer ≡ is_round_step cells n h s
@@ -342,8 +323,7 @@ module _ (cells : List CellPlan) (h : List Event) (s : Step) (l : Line) (k : IsL
       looked_where (is_round n) (of_round n) (beyond_round n) (record { missed = refl; borrowed = refl; waiting = λ w. refl }) refl (λ q. refl) ∙ ap (λ b. looks cells h s && b) (by (registry cells h).pending)
     where
       by : (cs : List ℕ) → is_round n (answer_of_look (look_at cs)) ≡ (not (is_empty cs) && (length cs == n))
-      by [] = refl
-      by (c ∷ cs) = refl
+      by cs = grind arith
 
   -- a look found none
   pub closes_where_none : is_closing l.answer ≡ is_closing_step cells h s
@@ -351,8 +331,7 @@ module _ (cells : List CellPlan) (h : List Event) (s : Step) (l : Line) (k : IsL
       looked_where is_closing of_closing beyond_closing (record { missed = refl; borrowed = refl; waiting = λ w. refl }) refl (λ q. refl) ∙ ap (λ b. looks cells h s && b) (by (registry cells h).pending)
     where
       by : (cs : List ℕ) → is_closing (answer_of_look (look_at cs)) ≡ is_empty cs
-      by [] = refl
-      by (c ∷ cs) = refl
+      by cs = grind arith
 
 module _ (cells : List CellPlan) (h : List Event) (s : Step) (l : Line) (k : IsLegalLine cells h s l) where
   -- so it begins none
@@ -360,10 +339,7 @@ module _ (cells : List CellPlan) (h : List Event) (s : Step) (l : Line) (k : IsL
   only_initializing_run c j e n r = apart (sym (ap is_running r) ∙ runs_where_asked cells h s l k ∙ none)
     where
       never : (x y a g : Bool) → a ≡ false → (x && (y && (a && g))) ≡ false
-      never x y true g f = absurd (apart f)
-      never true true false g f = refl
-      never true false false g f = refl
-      never false y false g f = refl
+      never x y a g f = grind arith
 
       none : is_running_step cells h s l.given k.moment ≡ false
       none = rw e (never (is_none (refusal cells h s)) _ (asks (cell_at cells c).kind (tolerance_at cells c) (Calls j) (phase_at cells c h)) _ (calls_not (cell_at cells c).kind (tolerance_at cells c) j (phase_at cells c h) n))

@@ -1,8 +1,8 @@
 -- How many calls wait and how many turns there are, after one is taken off or added.
-use Rattle.schedule_rules.proofs.Words.{ℕ, List, ◌≡◌, true, false, Bool, refl, Some, ◌∷◌, [], ap, sym, arith, subst, None, not, ◌+◌, cond, ◌≤◌, ◌++◌, ◌==◌, if◌then◌else◌, map}
-use Rattle.schedule_rules.proofs.Words.{Option, cells_of_turns, first_of, rest_of, occurs, Turn, Turned, Given, Answer, CellPlan, Step, Want, Turns, Event, count, Wait, waits}
-use Rattle.schedule_rules.proofs.Words.{wait_of, Attempt, attempt_of_turn, attempt_with, attempt_of_wait, without_wait, cell_concerned_with, waits_given_with, waits_answered}
-use Rattle.schedule_rules.proofs.Words.{with_wait, wake_writer, wake_readers, wake_reader, wait_woken}
+use Rattle.schedule_rules.proofs.Words.{ℕ, ◌≡◌, List, Bool, arith, true, refl, false, Some, ◌∷◌, [], sym, None, subst, ◌+◌, not, cond, ◌≤◌, ◌++◌, ◌==◌, if◌then◌else◌, map, Option}
+use Rattle.schedule_rules.proofs.Words.{cells_of_turns, first_of, rest_of, occurs, Turn, Turned, Given, Answer, CellPlan, Step, Want, Turns, Event, count, Wait, waits, wait_of}
+use Rattle.schedule_rules.proofs.Words.{Attempt, attempt_with, attempt_of_wait, attempt_of_turn, without_wait, waits_given_with, cell_concerned_with, waits_answered, with_wait}
+use Rattle.schedule_rules.proofs.Words.{wait_woken, wake_readers, wake_reader, wake_writer}
 
 -- 1 where the test holds
 abbrev pub one_if : Bool → ℕ
@@ -26,10 +26,7 @@ count_mapped t f same [] = refl
 count_mapped t f same (w ∷ ws) = by (t (f w)) (t w) (same w) (count_mapped t f same ws)
   where
     by : (a b : Bool) → a ≡ b → count t (map f ws) ≡ count t ws → cond a (count t (map f ws) + 1) (count t (map f ws)) ≡ cond b (count t ws + 1) (count t ws)
-    by true true e n = omega (arith, n)
-    by false false e n = n
-    by true false e n = absurd (cc)
-    by false true e n = absurd (cc)
+    by a b e n = grind arith
 
 module _ (t : Wait → Bool) (keeps : (w : Wait) → t (wait_woken w) ≡ t w) where
   woken : (b : Bool) (w : Wait) → t (if b then wait_woken w else w) ≡ t w
@@ -52,8 +49,7 @@ without_none p (w ∷ ws) e = by (w.party == p) e (λ f. without_none p ws f)
   where
     by : (b : Bool) → cond b (Some w) (wait_of p ws) ≡ None → (wait_of p ws ≡ None → without_wait p ws ≡ ws)
         → cond (not b) (w ∷ without_wait p ws) (without_wait p ws) ≡ w ∷ ws
-    by true f rest = absurd (cc)
-    by false f rest = ap (λ vs. w ∷ vs) (rest f)
+    by b f rest = grind arith
 
 none_waits : (p : ℕ) (ws : List Wait) → count (λ w. w.party == p) ws ≡ 0 → wait_of p ws ≡ None
 none_waits p [] e = refl
@@ -73,8 +69,7 @@ count_without t p (v ∷ ws) w e n = by (v.party == p) e n (λ f m. count_withou
     own same none = rw (without_none p ws (none_waits p ws none)) (subst (λ u. cond (t v) (count t ws + 1) (count t ws) ≡ count t ws + cond (t u) 1 0) same (one (t v)))
       where
         one : (b : Bool) → cond b (count t ws + 1) (count t ws) ≡ count t ws + cond b 1 0
-        one true = refl
-        one false = omega arith
+        one b = grind arith
 
     by : (b : Bool) → cond b (Some v) (wait_of p ws) ≡ Some w → cond b (count (λ u. u.party == p) ws + 1) (count (λ u. u.party == p) ws) ≤ 1
         → (wait_of p ws ≡ Some w → count (λ u. u.party == p) ws ≤ 1 → count t ws ≡ count t (without_wait p ws) + cond (t w) 1 0)
@@ -99,8 +94,7 @@ without_fewer t p (w ∷ ws) = by (w.party == p) (without_fewer t p ws)
     most false x y n = n
 
     by : (b : Bool) → count t (without_wait p ws) ≤ count t ws → count t (cond (not b) (w ∷ without_wait p ws) (without_wait p ws)) ≤ cond (t w) (count t ws + 1) (count t ws)
-    by true n = most (t w) (count t (without_wait p ws)) (count t ws) n
-    by false n = more (t w) (count t (without_wait p ws)) (count t ws) n
+    by b n = grind arith
 
 -- and none of its own
 none_own : (p : ℕ) (ws : List Wait) → count (λ w. w.party == p) (without_wait p ws) ≡ 0
@@ -109,8 +103,7 @@ none_own p (w ∷ ws) = by (w.party == p) refl (none_own p ws)
   where
     by : (b : Bool) → (w.party == p) ≡ b → count (λ v. v.party == p) (without_wait p ws) ≡ 0
         → count (λ v. v.party == p) (cond (not b) (w ∷ without_wait p ws) (without_wait p ws)) ≡ 0
-    by true e n = n
-    by false e n = rw e n
+    by b e n = grind arith
 
 module _ (cells : List CellPlan) (p : ℕ) where
   -- the party waits with no more calls than before, besides one that waits by this step
@@ -147,24 +140,15 @@ module _ (cells : List CellPlan) (p : ℕ) where
 
 -- what has a first begins with it
 pub begins : (cs : List ℕ) (d : ℕ) → first_of cs ≡ Some d → cs ≡ d ∷ rest_of cs
-begins [] d e = absurd (cc)
-begins (b ∷ cs) d e = ap (λ x. x ∷ cs) (same e)
-  where
-    same : Some b ≡ Some d → b ≡ d
-    same x = cc
+begins k1 d e = grind arith
 
 -- a call or turn that is attempted again, waits
 same_attempt : (a b : Attempt) → Some a ≡ Some b → a ≡ b
 same_attempt a b e = cc
 
 pub waits_so : (o : Option Wait) (d : ℕ) (v : Want) → attempt_of_wait o ≡ Some (record { cell = d; want = v }) → (w : Wait) × (o ≡ Some w) × (w.cell ≡ d) × (w.want ≡ v)
-waits_so None d v e = absurd (cc)
-waits_so (Some w) d v e =
-    let same : _ = same_attempt (record { cell = w.cell; want = w.want }) (record { cell = d; want = v }) e in
-    (w, refl, ap (λ a. a.cell) same, ap (λ a. a.want) same)
+waits_so k1 d v e = grind arith
 
 -- a turn that is attempted is the first left
 pub first_so : (o : Option ℕ) (d : ℕ) → attempt_of_turn o ≡ Some (record { cell = d; want = Turns }) → o ≡ Some d
-first_so None d e = absurd (cc)
-first_so (Some b) d e =
-    let same : _ = same_attempt (record { cell = b; want = Turns }) (record { cell = d; want = Turns }) e in ap (λ (a : Attempt). Some a.cell) same
+first_so k1 d e = grind arith

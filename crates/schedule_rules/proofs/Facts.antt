@@ -1,23 +1,20 @@
 -- Small facts of truth values and numbers.
-use Rattle.schedule_rules.proofs.Words.{ℕ, ◌≡◌, true, false, Bool, refl, arith, inl, ◌⊎◌, ◌&&◌, inr, ◌+◌, ◌≢◌, cond, ◌≤◌, ◌||◌, ◌==◌}
+use Rattle.schedule_rules.proofs.Words.{ℕ, ◌≡◌, Bool, arith, true, false, ◌⊎◌, ◌&&◌, ◌+◌, cond, ◌≢◌, ◌≤◌, ◌||◌, ◌==◌}
 
 pub apart : true ≡ false → ⊥
 apart x = cc
 
 -- the first of two that both hold
 pub first : (x y : Bool) → (x && y) ≡ true → x ≡ true
-first true y e = refl
-first false y e = absurd (cc)
+first x y e = grind arith
 
 -- and the second
 pub second : (x y : Bool) → (x && y) ≡ true → y ≡ true
-second true y e = e
-second false y e = absurd (cc)
+second x y e = grind arith
 
 -- one of two holds
 pub one_of : (x y : Bool) → (x || y) ≡ true → (x ≡ true) ⊎ (y ≡ true)
-one_of true y e = inl refl
-one_of false y e = inr e
+one_of x y e = grind arith
 
 -- the same number
 pub same_number : (m n : ℕ) → m ≡ n → (m == n) ≡ true

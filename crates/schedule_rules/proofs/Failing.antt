@@ -1,15 +1,14 @@
 -- What a failed run leaves; and of a value that is lent, that nobody uses its cell, and what the step leaves.
-use Rattle.schedule_rules.proofs.Words.{ℕ, List, ◌≡◌, true, false, Bool, refl, Some, ◌∷◌, ◌∙◌, [], ap, sym, arith, subst, None, not, inl, ◌⊎◌, ◌&&◌, inr, ◌+◌, length, ◌≢◌, cond}
-use Rattle.schedule_rules.proofs.Words.{◌||◌, list_any, ◌==◌, if◌then◌else◌, is_none, is_some, Option, Given, lends_value, Answer, Line, Refusal, CellPlan, Act, Step, cell_at}
-use Rattle.schedule_rules.proofs.Words.{tolerance_at, is_of_other, is_parking, is_accessible, Content, effect, Change, Ran, Put, RanIfAsked, Makes, Event, accepts, deed_of, count}
-use Rattle.schedule_rules.proofs.Words.{Section, sections, innermost, sections_by, guards, guards_by, replay, Back, back_of_section, back_of_step, content_after_back, Wait, waits}
-use Rattle.schedule_rules.proofs.Words.{wait_of, attempt_with, cell_concerned, without_wait, cell_concerned_with, cell_of_section, waits_given_with, waits_at, waits_answered}
-use Rattle.schedule_rules.proofs.Words.{other_waits, parks_to_read, parks_to_write, is_in_use, refusal, refusal_by, no_call, refusal_free, refusal_waiting, no_lending, no_guard}
-use Rattle.schedule_rules.proofs.Words.{no_reader, no_outcome, no_writer, no_exit, due_answer, may_give_last, may_give_on, may_give_first, reaches, IsLegalLine, answer_of, due_at}
-use Rattle.schedule_rules.proofs.Words.{Moment, Last, First, may_give, lends_at, waits_judged, is_failed, lends_in_use, is_refused_in_use, is_failure, is_step_in_use, is_lent}
-use Rattle.schedule_rules.proofs.Words.{ChangesCellAlone, Leaves, IsFailedRun, EndsRun, RunsAtOnce, IsUnused}
+use Rattle.schedule_rules.proofs.Words.{ℕ, ◌≡◌, List, Bool, arith, true, refl, false, Some, ◌∷◌, [], ◌∙◌, sym, None, ap, subst, ◌⊎◌, ◌&&◌, ◌+◌, inl, not, length, inr, cond, ◌≢◌}
+use Rattle.schedule_rules.proofs.Words.{◌||◌, list_any, ◌==◌, if◌then◌else◌, is_none, is_some, Option, Given, Answer, Line, Refusal, CellPlan, Act, Step, cell_at, tolerance_at}
+use Rattle.schedule_rules.proofs.Words.{is_parking, is_accessible, Content, Change, effect, Ran, Put, RanIfAsked, Makes, Event, deed_of, accepts, count, Section, sections}
+use Rattle.schedule_rules.proofs.Words.{innermost, sections_by, guards, guards_by, replay, Back, back_of_step, content_after_back, back_of_section, Wait, waits, wait_of}
+use Rattle.schedule_rules.proofs.Words.{attempt_with, without_wait, cell_concerned, cell_of_section, waits_given_with, cell_concerned_with, waits_answered, waits_at, other_waits}
+use Rattle.schedule_rules.proofs.Words.{parks_to_read, parks_to_write, refusal, refusal_by, no_call, refusal_free, refusal_waiting, no_lending, no_reader, no_guard, no_outcome}
+use Rattle.schedule_rules.proofs.Words.{no_writer, no_exit, due_answer, may_give_last, may_give_first, may_give_on, reaches, IsLegalLine, answer_of, due_at, Moment, may_give}
+use Rattle.schedule_rules.proofs.Words.{First, Last, lends_at, waits_judged, is_failed, lends_in_use, is_refused_in_use, is_step_in_use, is_failure, is_lent, ChangesCellAlone}
+use Rattle.schedule_rules.proofs.Words.{IsFailedRun, EndsRun, RunsAtOnce, IsUnused, Leaves}
 use Rattle.schedule_rules.proofs.Cases.{step, IsTrying, trying, Lendable, Case, calling-tries, turning-tries}
-use Rattle.schedule_rules.proofs.Attempts.{rests}
 use Rattle.schedule_rules.proofs.Steps.{lendable, lendable_so, allowed}
 use Rattle.schedule_rules.proofs.Finds.{LendsSo, Both, finds, tells}
 use Rattle.schedule_rules.proofs.Leaves.{back_here, back_elsewhere}
@@ -22,10 +21,7 @@ use Rattle.schedule_rules.proofs.Facts.{apart, first, second, same_number, numbe
 module _ (cells : List CellPlan) (h : List Event) where
   -- what attempts something ends no generator
   no_failure : (a : Act) → IsTrying a → false ≡ is_failure cells h a
-  no_failure (Act.Call c k) t = refl
-  no_failure Act.Again t = refl
-  no_failure Act.Exit t = refl
-  no_failure _ t = absurd t
+  no_failure a t = grind arith
 
   -- of the steps that are not refused a failure fails, and no other
   fails : (p : ℕ) (a : Act) (r : Answer) → Case cells h p a r → is_failed r ≡ is_failure cells h a
@@ -106,8 +102,7 @@ module _ (cells : List CellPlan) (h : List Event) where
 
 -- what is not refused has no reason to be
 none_where : (o : Option Refusal) → is_none o ≡ true → o ≡ None
-none_where None e = refl
-none_where (Some r) e = absurd (apart (sym e))
+none_where o e = grind arith
 
 -- where no call waits at the cell, none is reached by a gift
 module _ (c : ℕ) where
@@ -116,12 +111,10 @@ module _ (c : ℕ) where
   none_any t f (w ∷ ws) n = by (w.cell == c) refl n (none_any t f ws)
     where
       by : (b : Bool) → (w.cell == c) ≡ b → cond b (count (waits_at c) ws + 1) (count (waits_at c) ws) ≡ 0 → (count (waits_at c) ws ≡ 0 → list_any t ws ≡ false) → (t w || list_any t ws) ≡ false
-      by true e n rest = absurd (omega (arith, n))
-      by false e n rest = rw (f w e) (rest n)
+      by b e n rest = grind arith
 
   elsewhere : (b d : Bool) → d ≡ false → (if b then d else false) ≡ false
-  elsewhere true d e = e
-  elsewhere false d e = refl
+  elsewhere b d e = grind arith
 
   pub none_reached : (g : Given) (ws : List Wait) → count (waits_at c) ws ≡ 0 → reaches c g ws ≡ true → g ≡ Given.Nobody
   none_reached Given.Nobody ws n e = refl
@@ -144,15 +137,7 @@ module _ (cells : List CellPlan) (h : List Event) (s : Step) (c : ℕ) (lends : 
 
   -- the party does not wait
   rested : wait_of s.party (waits cells h) ≡ None
-  rested = by s.act lends (none_where (refusal cells h s) free)
-    where
-      waits_for : (r : Refusal) → Some r ≡ None → ⊥
-      waits_for r e = cc
-
-      by : (a : Act) → lends_at c a ≡ true → refusal cells h (record { party = s.party; act = a }) ≡ None → wait_of s.party (waits cells h) ≡ None
-      by (Act.GetMut z made left) e n = (rests cells h s.party (Act.GetMut z made left) (waits_for _) n).0
-      by (Act.TryGetMut z left) e n = (rests cells h s.party (Act.TryGetMut z left) (waits_for _) n).0
-      by _ e n = absurd (apart (sym e))
+  rested = grind arith
 
   others_wait : other_waits cells h s ≡ waits cells h
   others_wait = without_none s.party (waits cells h) rested
@@ -232,10 +217,7 @@ module _ (cells : List CellPlan) (h : List Event) (s : Step) (c : ℕ) (lends : 
       where
         leaves : (z : ℕ) (chs : List Change) (left : ℕ) (a : Act) (r : Answer) → z ≡ c → (effect (cell_at cells z) chs (replay cells z h)).value ≡ Some left → is_failed r ≡ false → LendsSo cells h s.party a r z chs
             → (content : Content) → content ≡ effect (cell_at cells c) chs (replay cells c h) → (content.value ≡ Some left) × (is_accessible (cell_at cells c).kind content.phase ≡ true)
-        leaves z chs left a r at is fine t content e = (
-          ap (λ y. y.value) e ∙ subst (λ y. (effect (cell_at cells y) chs (replay cells y h)).value ≡ Some left) at is,
-          ap (λ y. is_accessible (cell_at cells c).kind y.phase) e ∙ subst (λ y. is_accessible (cell_at cells y).kind (effect (cell_at cells y) chs (replay cells y h)).phase ≡ true) at (t.leaves fine),
-        )
+        leaves z chs left a r content is fine t k1 e = grind arith
 
         by : (a : Act) → lends_at c a ≡ true → Both cells h s.party a (Answer.Value v) (deed_of h (step cells h s.party a) (Answer.Value v))
             → Leaves cells (record { step = step cells h s.party a; line = record { answer = Answer.Value v; given = l.given } } ∷ h) c a
@@ -261,67 +243,37 @@ is_in_use_reason _ = false
 
 module _ (cells : List CellPlan) (h : List Event) where
   lends_used : (other has used : Bool) → is_in_use_reason (no_lending (no_call other has) used) ≡ (not other && (has && used))
-  lends_used true has used = refl
-  lends_used false false used = refl
-  lends_used false true true = refl
-  lends_used false true false = refl
+  lends_used other has used = grind arith
 
   outcome : (o : Option Bool) → is_in_use_reason (no_outcome o) ≡ false
-  outcome None = refl
-  outcome (Some true) = refl
-  outcome (Some false) = refl
+  outcome o = grind arith
 
   guard : (o : Option Bool) → is_in_use_reason (no_guard o) ≡ false
-  guard None = refl
-  guard (Some w) = refl
+  guard o = grind arith
 
   writer : (o : Option Bool) → is_in_use_reason (no_writer o) ≡ false
-  writer None = refl
-  writer (Some true) = refl
-  writer (Some false) = refl
+  writer o = grind arith
 
   reader : (o : Option Bool) → is_in_use_reason (no_reader o) ≡ false
-  reader None = refl
-  reader (Some true) = refl
-  reader (Some false) = refl
+  reader o = grind arith
 
   called : (other has : Bool) → is_in_use_reason (no_call other has) ≡ false
-  called true has = refl
-  called false true = refl
-  called false false = refl
+  called other has = grind arith
 
   exits : (other inside : Bool) → is_in_use_reason (no_exit other inside) ≡ false
-  exits true inside = refl
-  exits false true = refl
-  exits false false = refl
+  exits other inside = grind arith
 
   used_free : (p : ℕ) (a : Act) → is_in_use_reason (refusal_free cells h p a) ≡ lends_in_use cells h p a
-  used_free p (Act.GetMut c made left) = lends_used (is_of_other (cell_at cells c).place p) (lends_value (cell_at cells c).kind) (is_in_use cells c h)
-  used_free p (Act.TryGetMut c left) = lends_used (is_of_other (cell_at cells c).place p) (lends_value (cell_at cells c).kind) (is_in_use cells c h)
-  used_free p (Act.Call c k) = called _ _
-  used_free p Act.Again = refl
-  used_free p (Act.Made v) = outcome _
-  used_free p Act.MadeFailed = outcome _
-  used_free p (Act.Finished left) = outcome _
-  used_free p (Act.FinishFailed left) = outcome _
-  used_free p (Act.Look g) = guard _
-  used_free p (Act.Set g v) = writer _
-  used_free p (Act.Release g) = guard _
-  used_free p (Act.Downgrade g) = writer _
-  used_free p (Act.Clone g) = reader _
-  used_free p Act.Exit = exits _ _
+  used_free p k1 = grind arith
 
   waits_first : (a : Act) → is_in_use_reason (refusal_waiting a) ≡ false
-  waits_first Act.Again = refl
-  waits_first _ = refl
+  waits_first a = grind arith
 
   used_by : (p : ℕ) (a : Act) (o : Option Wait) → is_in_use_reason (refusal_by cells (is_some o) h p a) ≡ (is_none o && lends_in_use cells h p a)
-  used_by p a None = used_free p a
-  used_by p a (Some w) = waits_first a
+  used_by p a k1 = grind arith
 
   unrefused : (r : Answer) → is_refused r ≡ false → is_refused_in_use r ≡ false
-  unrefused (Answer.Refused q) e = absurd (apart e)
-  unrefused _ e = refl
+  unrefused r e = grind arith
 
   pub refused-in-use : (s : Step) (l : Line) → IsLegalLine cells h s l → is_refused_in_use l.answer ≡ is_step_in_use cells h s
   refused-in-use s l k = ap is_refused_in_use k.answered ∙ by (refusal cells h s) ∙ used_by s.party s.act (wait_of s.party (waits cells h))

@@ -1,8 +1,8 @@
 -- What a legal step finds, deed by deed.
-use Rattle.schedule_rules.proofs.Words.{ℕ, List, ◌≡◌, true, false, Bool, refl, Some, ◌∷◌, ◌∙◌, [], ap, sym, subst, None, inl, ◌⊎◌, inr, if◌then◌else◌, Option, has, initialized}
-use Rattle.schedule_rules.proofs.Words.{Phase, Call, Answer, Line, CellPlan, Act, Step, Calls, Turns, cell_at, is_accessible, finishes_so, effect, Change, Ran, Put, Asked}
-use Rattle.schedule_rules.proofs.Words.{RanIfAsked, content_after, content_of_run, Deed, Visits, Ends, EndsToRead, Makes, Opens, EndsToWrite, DropsToRead, Drops, Finishes, Lends}
-use Rattle.schedule_rules.proofs.Words.{Holds, Skips, Puts, deed_waiting, Beside, deed_by, Looks, Takes, Quiet, Event, accepts, deed_of, is_exit, act_of, Section, sections}
+use Rattle.schedule_rules.proofs.Words.{ℕ, ◌≡◌, List, Bool, arith, true, refl, false, Some, ◌∷◌, [], ◌∙◌, sym, None, ap, subst, ◌⊎◌, inl, inr, if◌then◌else◌, Option, has}
+use Rattle.schedule_rules.proofs.Words.{initialized, Phase, Call, Answer, Line, CellPlan, Act, Step, Calls, Turns, cell_at, is_accessible, finishes_so, Change, effect, Ran, Asked}
+use Rattle.schedule_rules.proofs.Words.{Put, RanIfAsked, content_after, content_of_run, Deed, EndsToRead, Visits, Ends, Makes, Finishes, EndsToWrite, Drops, DropsToRead, Opens}
+use Rattle.schedule_rules.proofs.Words.{Lends, Holds, Skips, Beside, deed_waiting, Puts, deed_by, Takes, Looks, Quiet, Event, deed_of, accepts, is_exit, act_of, Section, sections}
 use Rattle.schedule_rules.proofs.Words.{innermost, is_turn, Guard, guards, numbered, replay, phase_at, registry, finishing, write_holds, answer_of_value, IsLegalLine, IsExclusive}
 use Rattle.schedule_rules.proofs.Words.{lends_at, is_failed, is_lent}
 use Rattle.schedule_rules.proofs.Cases.{Calling, step, Asking, Resting, Lendable, AsksToLend, Reach, form_at, Generating, Finalizing, Case, Visiting, errs}
@@ -111,18 +111,13 @@ module _ (cells : List CellPlan) (h : List Event) (p : ℕ) where
   waits a r true = (tt, tt)
   waits a r false = (tt, tt)
 
-  -- what a call does that is answered so
-  abbrev Calls_so : Act → ℕ → Call → Answer → Type 0
-  Calls_so a c k r = Both a r (deed_by (accepts h) (is_exit a) (Act.Call c k) r)
-
   -- one that leaves nothing open, or a guard to read a primed value
   visits : (a : Act) (c : ℕ) (k : Call) (reads : Bool) → Calling cells h p a c k → Asking cells h p c k false ⊎ Resting cells h p c k → (reads ≡ true → errs (form_at cells h p c k) ≡ true)
       → Visit c (Asked (accepts h) k ∷ []) reads × ((v : Visit c (Asked (accepts h) k ∷ []) reads) × Calling cells h p a c v.asked)
   visits a c k reads t f e = let v : Visit c (Asked (accepts h) k ∷ []) reads = record { asked = k; does = refl; finds = f; falls = e } in (v, (v, t))
 
   runs_nothing : {c : ℕ} {k : Call} {q : Phase} {T : Type 0} → Visiting cells h p c k q T → Asking cells h p c k false ⊎ Resting cells h p c k
-  runs_nothing (inl x) = inl x.0
-  runs_nothing (inr x) = inr x.0
+  runs_nothing k1 = grind arith
 
   inside : {t : Section} {k : Call} → Generating cells h p t k → Inside false
   inside {t} g = record { section = t; found = g.found; kind = ap (λ w. is_turn w) g.kind }

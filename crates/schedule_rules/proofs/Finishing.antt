@@ -1,15 +1,14 @@
 -- A finalizer that ends marks the phase of its cell, and nothing else does.
-use Rattle.schedule_rules.proofs.Words.{ℕ, List, ◌≡◌, true, false, Bool, refl, Some, ◌∷◌, ◌∙◌, [], ap, sym, subst, inl, ◌⊎◌, inr, and_or_apart, bit_or, ◌==◌, Option, has}
-use Rattle.schedule_rules.proofs.Words.{initialized, phase_of, Phase, Given, final_outcome, Answer, Line, CellPlan, Act, Step, Want, Calls, Turns, cell_at, phase_finalized}
-use Rattle.schedule_rules.proofs.Words.{Content, effect, Change, Ran, Put, Ended, Deed, Visits, Ends, EndsToRead, Makes, DropsToRead, Drops, Finishes, Lends, Event, accepts}
-use Rattle.schedule_rules.proofs.Words.{deed_of, Section, sections, innermost, is_turn, Guard, guards, numbered, replay, phase_at, Back, back_of_section, back_of_step, finishing}
-use Rattle.schedule_rules.proofs.Words.{cell_concerned, cell_of_section, IsLegal, IsLegalLine, IsEndedTurn}
+use Rattle.schedule_rules.proofs.Words.{ℕ, ◌≡◌, List, Bool, arith, true, refl, false, Some, ◌∷◌, [], ◌∙◌, sym, ap, subst, ◌⊎◌, inl, inr, and_or_apart, bit_or, ◌==◌, Option, has}
+use Rattle.schedule_rules.proofs.Words.{initialized, phase_of, Phase, Given, final_outcome, Answer, Line, CellPlan, Act, Step, Want, cell_at, phase_finalized, Content, Change}
+use Rattle.schedule_rules.proofs.Words.{effect, Ran, Ended, Deed, EndsToRead, Visits, Ends, Makes, Finishes, Drops, DropsToRead, Lends, Event, deed_of, accepts, Section, sections}
+use Rattle.schedule_rules.proofs.Words.{innermost, is_turn, Guard, guards, numbered, replay, phase_at, Back, back_of_step, finishing, cell_concerned, cell_of_section, IsLegal}
+use Rattle.schedule_rules.proofs.Words.{IsLegalLine, IsEndedTurn}
 use Rattle.schedule_rules.specs.Laws.{Finishes as Finishes_so}
 use Rattle.schedule_rules.proofs.Exclusion.{alone}
 use Rattle.schedule_rules.proofs.Found.{each_found}
 use Rattle.schedule_rules.proofs.Leaves.{back_here, back_elsewhere, left_at, GivenAt, GivesOf, moves}
-use Rattle.schedule_rules.proofs.Cases.{AsksToLend, Reach}
-use Rattle.schedule_rules.proofs.Finds.{Comes, Lending, Finds, Tells, finds, tells}
+use Rattle.schedule_rules.proofs.Finds.{Lending, Finds, Tells, finds, tells}
 use Rattle.schedule_rules.proofs.Means.{Finished, EndsNone, Means, means}
 use Rattle.schedule_rules.proofs.Grows.{Needs, IsStanding, sound}
 use Rattle.schedule_rules.proofs.Opening.{IsOfRun, IsRunning, guards-run, beside, run_before, asked_before}
@@ -17,8 +16,7 @@ use Rattle.schedule_rules.proofs.Facts.{apart, same_number, other_number}
 
 -- a finalizer's section needs a value
 pub needs-value : (w : Want) (x : CellPlan) (p : ℕ) → is_turn w ≡ true → Needs w x p → has p initialized ≡ true
-needs-value (Calls k) x p d n = absurd (apart (sym d))
-needs-value Turns x p d n = n
+needs-value k1 x p d n = grind arith
 
 -- what a finalizer adds says how it ended
 same_outcome : (a fine : Bool) (p : ℕ) → has p (final_outcome fine) ≡ false → has (bit_or p (final_outcome a)) (final_outcome fine) ≡ true → a ≡ fine
@@ -35,17 +33,10 @@ module _ (cells : List CellPlan) (c : ℕ) where
 
     -- the cell of the section that ends is concerned
     concerned : (t : Section) → innermost p (sections h) ≡ Some t → cell_of_section (innermost p (sections h)) ≡ Some c → t.cell ≡ c
-    concerned t f e = same (sym (ap cell_of_section f) ∙ e)
-      where
-        same : Some t.cell ≡ Some c → t.cell ≡ c
-        same x = cc
+    concerned t f e = grind arith
 
     concerned_by : (a : Act) (fine : Bool) (left : Option ℕ) → a ≡ finishing fine left → cell_concerned cells h (record { party = p; act = a }) ≡ cell_of_section (innermost p (sections h))
-    concerned_by a fine left e = subst (λ b. cell_concerned cells h (record { party = p; act = b }) ≡ cell_of_section (innermost p (sections h))) (sym e) (by fine)
-      where
-        by : (fine : Bool) → cell_concerned cells h (record { party = p; act = finishing fine left }) ≡ cell_of_section (innermost p (sections h))
-        by true = refl
-        by false = refl
+    concerned_by a fine left e = grind arith
 
     -- the two ends of a finalizer
     same_end : (a fine : Bool) (m left : Option ℕ) → finishing a m ≡ finishing fine left → a ≡ fine
@@ -81,11 +72,7 @@ module _ (cells : List CellPlan) (c : ℕ) where
         b = record { cell = t.cell; changes = Ended m.fine m.left ∷ [] }
 
         back : back_of_step h (record { party = p; act = a }) (Answer.Phase q) ≡ Some b
-        back = subst (λ x. back_of_step h (record { party = p; act = x }) (Answer.Phase q) ≡ Some b) (sym m.acts) (by m.fine m.left)
-          where
-            by : (fine : Bool) (left : Option ℕ) → back_of_step h (record { party = p; act = finishing fine left }) (Answer.Phase q) ≡ Some (record { cell = t.cell; changes = Ended fine left ∷ [] })
-            by true left = ap (back_of_section (Finishes true left)) m.ends.found
-            by false left = ap (back_of_section (Finishes false left)) m.ends.found
+        back = grind arith
 
         changed : replay cells c (event a (Answer.Phase q) ∷ h) ≡ effect (cell_at cells c) (Ended m.fine m.left ∷ []) (replay cells c h)
         changed = back_here cells c (back_of_step h (record { party = p; act = a }) (Answer.Phase q)) b (replay cells c h) back (same_number t.cell c here)
@@ -129,11 +116,7 @@ module _ (cells : List CellPlan) (c : ℕ) where
     dropped g x f = each_found (λ y. y.number == g) IsRunning (guards h) x f (guards-run h)
 
     lends : (z : ℕ) (chs : List Change) → Lending cells h p z chs → has (phase_at cells z h) (final_outcome fine) ≡ false → has (effect (cell_at cells z) chs (replay cells z h)).phase (final_outcome fine) ≡ true → ⊥
-    lends z chs f was is = by f.does
-      where
-        by : (AsksToLend cells h p z true × ((made : Option ℕ) × Comes cells h p z chs (Ran (accepts h) made))) ⊎ (Reach cells h p z true × ((left : ℕ) × Comes cells h p z chs (Put left))) → ⊥
-        by (inl a) = ran z (Ran (accepts h) a.1.0 ∷ []) tt was (subst (λ y. has y.phase (final_outcome fine) ≡ true) a.1.1 is)
-        by (inr a) = ran z (Put a.1.0 ∷ []) tt was (subst (λ y. has y.phase (final_outcome fine) ≡ true) a.1.1 is)
+    lends z chs f was is = grind arith
 
     gives : (d : Deed) (f : Finds cells h p d) → GivesOf cells h p (alone cells h legal) (Marks d) d f
     gives (Ends (Makes made)) f = ran f.section.cell (Ran f.section.is_open made ∷ []) tt

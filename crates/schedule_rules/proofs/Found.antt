@@ -1,5 +1,5 @@
 -- What a test finds in a list, how many pass it, and what holds of each.
-use Rattle.schedule_rules.proofs.Words.{ℕ, List, ◌≡◌, true, false, Bool, refl, Some, ◌∷◌, [], arith, subst, None, ◌<◌, ◌+◌, cond, ◌≤◌, AllByRecursion, find, ◌==◌, count, Section}
+use Rattle.schedule_rules.proofs.Words.{ℕ, ◌≡◌, List, Bool, arith, true, refl, false, Some, ◌∷◌, [], None, subst, ◌<◌, ◌+◌, cond, ◌≤◌, AllByRecursion, find, ◌==◌, count, Section}
 use Rattle.schedule_rules.proofs.Words.{without_innermost, Guard, without_guard, put_in}
 use Rattle.schedule_rules.proofs.Opened.{put}
 
@@ -54,18 +54,10 @@ each_counted t P Q all [] le f ps = tt
 each_counted {X} t P Q all (y ∷ ys) le f ps = (f y (λ e. here e (le y)) ps.0, each_counted t P Q all ys (λ x. rest x (le x)) f ps.1)
   where
     here : t y y ≡ true → cond (t y y) (count (t y) ys + 1) (count (t y) ys) ≤ count (t y) all → 0 < count (t y) all
-    here e n = by (t y y) e n
-      where
-        by : (b : Bool) → b ≡ true → cond b (count (t y) ys + 1) (count (t y) ys) ≤ count (t y) all → 0 < count (t y) all
-        by true e n = omega (arith, n)
-        by false e n = absurd (cc)
+    here e n = grind arith
 
     rest : (x : X) → cond (t x y) (count (t x) ys + 1) (count (t x) ys) ≤ count (t x) all → count (t x) ys ≤ count (t x) all
-    rest x n = by (t x y) n
-      where
-        by : (b : Bool) → cond b (count (t x) ys + 1) (count (t x) ys) ≤ count (t x) all → count (t x) ys ≤ count (t x) all
-        by true n = omega (arith, n)
-        by false n = n
+    rest x n = grind arith
 
 -- a fact that follows from another holds of all
 pub each_mapped : {X : Type 0} (P Q : X → Type 0) (xs : List X) → ((x : X) → P x → Q x) → AllByRecursion P xs → AllByRecursion Q xs

@@ -1,8 +1,8 @@
 -- A waiting call goes on with what its party did last: its wait says the same call as the party's latest act.
-use Rattle.schedule_rules.proofs.Words.{ℕ, List, ◌≡◌, true, false, Bool, refl, Some, ◌∷◌, ◌∙◌, [], ap, sym, arith, subst, None, ◌≢◌, ◌==◌, if◌then◌else◌, map, Option, first_of}
-use Rattle.schedule_rules.proofs.Words.{Given, How, Answer, Refusal, CellPlan, Act, Step, Event, latest_act, latest_act_after, newer_act, registry, Wait, waits, wait_of, attempt}
-use Rattle.schedule_rules.proofs.Words.{Attempt, attempt_of_turn, attempt_with, attempt_of_wait, without_wait, cell_concerned_with, waits_given_with, waits_answered, with_wait}
-use Rattle.schedule_rules.proofs.Words.{wake_writer, act_for, wake_readers, wake_reader, wait_woken}
+use Rattle.schedule_rules.proofs.Words.{ℕ, ◌≡◌, List, Bool, arith, true, refl, false, Some, ◌∷◌, [], ◌∙◌, sym, None, ap, subst, ◌≢◌, ◌==◌, if◌then◌else◌, map, Option, first_of}
+use Rattle.schedule_rules.proofs.Words.{Given, How, Answer, Refusal, CellPlan, Act, Step, Event, latest_act, newer_act, latest_act_after, registry, Wait, waits, wait_of, attempt}
+use Rattle.schedule_rules.proofs.Words.{Attempt, attempt_with, attempt_of_wait, attempt_of_turn, without_wait, waits_given_with, cell_concerned_with, waits_answered, with_wait}
+use Rattle.schedule_rules.proofs.Words.{wait_woken, wake_readers, wake_reader, wake_writer, act_for}
 use Rattle.schedule_rules.proofs.Opened.{wait_removed, wait_kept}
 
 module _ (f : Wait → Wait) (same_party : (w : Wait) → (f w).party ≡ w.party) (same_attempt : (w : Wait) → attempt_of_wait (Some (f w)) ≡ attempt_of_wait (Some w)) where
@@ -12,16 +12,7 @@ module _ (f : Wait → Wait) (same_party : (w : Wait) → (f w).party ≡ w.part
   attempt_mapped p (w ∷ ws) = by ((f w).party == p) (w.party == p) (ap (λ q. q == p) (same_party w)) (attempt_mapped p ws)
     where
       by : (b d : Bool) → b ≡ d → attempt_of_wait (wait_of p (map f ws)) ≡ attempt_of_wait (wait_of p ws) → attempt_of_wait (if b then Some (f w) else wait_of p (map f ws)) ≡ attempt_of_wait (if d then Some w else wait_of p ws)
-      by true true same older = same_attempt w
-      by false false same older = older
-      by true false same older = absurd (apart same)
-        where
-          apart : true ≡ false → ⊥
-          apart e = cc
-      by false true same older = absurd (apart same)
-        where
-          apart : false ≡ true → ⊥
-          apart e = cc
+      by b d same older = grind arith
 
 woken_party : (b : Bool) (w : Wait) → (if b then wait_woken w else w).party ≡ w.party
 woken_party true w = refl
@@ -140,8 +131,7 @@ module _ (cells : List CellPlan) where
   of_matches h p (Some a) t = t
 
   latest_other : (r : Answer) (a older : Act) → latest_act_after r false a older ≡ older
-  latest_other (Answer.Refused q) a older = refl
-  latest_other _ a older = refl
+  latest_other k1 a older = grind arith
 
   pub wait-matches : (p : ℕ) (h : List Event) → Matches (attempt_of_wait (wait_of p (waits cells h))) (latest_act p h)
   wait-matches p h = matches_of h p (waiting h p) (waits_so (λ h. Unit {0}) (λ e h l. tt) Says (record { other = other; refused = refused; now = now }) h p tt)

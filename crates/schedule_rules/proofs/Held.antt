@@ -1,10 +1,10 @@
 -- A phase that is not 0 never is 0 again; and a cell that was touched stays so: its phase is not 0, or a section runs in it,
 -- or a guard writes it.
-use Rattle.schedule_rules.proofs.Words.{ℕ, List, ◌≡◌, true, false, Bool, Some, ◌∷◌, ◌∙◌, [], sym, arith, subst, None, inl, ◌⊎◌, inr, ◌<◌, ◌≢◌, cond, and_or_self, bit_or, bit_and}
-use Rattle.schedule_rules.proofs.Words.{AllByRecursion, ◌==◌, Option, has, initialized, CellPlan, cell_at, tolerance_of, flags_kept, Content, effect, Change, Ran, Put, Asked}
-use Rattle.schedule_rules.proofs.Words.{is_declined, Ended, asks_to_lend, RanIfAsked, content_after, content_of_run, Deed, Visits, Ends, EndsToRead, Makes, EndsToWrite}
-use Rattle.schedule_rules.proofs.Words.{DropsToRead, Drops, Finishes, Lends, Holds, Event, deed_of, Section, sections, Guard, guards, numbered, replay, phase_at, Back}
-use Rattle.schedule_rules.proofs.Words.{back_of_step, content_after_back, write_holds, IsLegal, IsExclusive}
+use Rattle.schedule_rules.proofs.Words.{ℕ, ◌≡◌, List, Bool, arith, true, false, Some, ◌∷◌, [], ◌∙◌, sym, None, subst, ◌<◌, ◌⊎◌, inl, inr, cond, ◌≢◌, and_or_self, bit_or, bit_and}
+use Rattle.schedule_rules.proofs.Words.{AllByRecursion, ◌==◌, Option, has, initialized, CellPlan, cell_at, tolerance_of, flags_kept, Content, Change, effect, Ran, Asked, Put}
+use Rattle.schedule_rules.proofs.Words.{Ended, RanIfAsked, asks_to_lend, content_after, content_of_run, Deed, EndsToRead, Visits, Ends, Makes, Finishes, EndsToWrite, Drops}
+use Rattle.schedule_rules.proofs.Words.{DropsToRead, Lends, Holds, Event, deed_of, Section, sections, Guard, guards, numbered, replay, phase_at, Back, back_of_step}
+use Rattle.schedule_rules.proofs.Words.{content_after_back, write_holds, IsLegal, IsExclusive}
 use Rattle.schedule_rules.proofs.Exclusion.{alone}
 use Rattle.schedule_rules.proofs.Found.{each_of, each_found}
 use Rattle.schedule_rules.proofs.Finds.{Finds, accessed_there, finds}
@@ -34,11 +34,7 @@ module _ (x : CellPlan) where
   ended_touches false left y = with_flag y.phase 128 (λ e. cc)
 
   asked_keeps : (o : Bool) (k : _) (y : Content) → y.phase ≢ 0 → (content_after x (Asked o k) y).phase ≢ 0
-  asked_keeps o k y ne = by (is_declined x.kind (tolerance_of x) k o y.phase)
-    where
-      by : (b : Bool) → (cond b (record { phase = 36; value = y.value }) y).phase ≢ 0
-      by true = λ e. cc
-      by false = ne
+  asked_keeps o k y ne = grind arith
 
   lent_keeps : (o : Bool) (made : Option ℕ) (y : Content) → y.phase ≢ 0 → (content_after x (RanIfAsked o made) y).phase ≢ 0
   lent_keeps o made y ne = by (asks_to_lend x.kind (tolerance_of x) y.phase)
@@ -80,10 +76,7 @@ phase_stays cells c e h ne = back_keeps cells c (back_of_step h e.step e.line.an
 
 -- what has a flag is not 0
 pub has_none : (p : ℕ) → has p initialized ≡ true → p ≢ 0
-has_none p e z = clash (subst (λ q. has q initialized ≡ true) z e)
-  where
-    clash : has 0 initialized ≡ true → ⊥
-    clash x = cc
+has_none p e z = grind arith
 
 module _ (cells : List CellPlan) where
   -- on this content the holder of a write guard sees a phase that is not 0, whatever the section stands on or by what ended
@@ -121,8 +114,7 @@ module _ (cells : List CellPlan) where
     stays d f c none n = by (holding cells h p alone d f c)
       where
         by : Holding cells h p alone d c → (phase_at cells c h ≢ 0) ⊎ (0 < holds_left cells h p d c)
-        by (inl le) = inr (omega (arith, n, le))
-        by (inr g) = absurd (none g)
+        by k1 = grind arith
 
     dropped : (d : Deed) (g : ℕ) (x : Guard) → numbered g (guards h) ≡ Some x → AllGood h → x.writes ≡ true → Touches d x.cell (replay cells x.cell h) (effect (cell_at cells x.cell) x.changes (replay cells x.cell h))
     dropped d g x f k w n = inl (by (each_found (λ y. y.number == g) (λ x. IsGood (replay cells x.cell h) x) (guards h) x f k w))

@@ -1,43 +1,29 @@
 -- The sections and the guards of a legal history are of calls that the kinds of their cells have.
-use Rattle.schedule_rules.proofs.Words.{ℕ, List, ◌≡◌, true, false, Bool, refl, Some, ◌∷◌, ◌∙◌, [], sym, subst, None, not, length, AllByRecursion, ◌==◌, Option, has_call, is_plain}
-use Rattle.schedule_rules.proofs.Words.{is_primed, Call, Kind, Answer, CellPlan, Act, Calls, Turns, cell_at, form_of, Deed, Visits, Ends, EndsToRead, Opens, EndsToWrite}
-use Rattle.schedule_rules.proofs.Words.{DropsToRead, Drops, Holds, Puts, deed_waiting, Beside, deed_by, Event, accepts, deed_of, is_exit, Section, sections, innermost, sections_by}
-use Rattle.schedule_rules.proofs.Words.{Guard, guards, numbered, without_guard, guards_by, writer_made, reader_made, reader_beside, replay, refusal, answer_of_value, IsLegal}
+use Rattle.schedule_rules.proofs.Words.{ℕ, ◌≡◌, List, Bool, arith, true, refl, false, Some, ◌∷◌, [], ◌∙◌, sym, None, subst, not, length, AllByRecursion, ◌==◌, Option, has_call}
+use Rattle.schedule_rules.proofs.Words.{is_plain, is_primed, Call, Kind, Answer, CellPlan, Act, Calls, Turns, cell_at, form_of, Deed, EndsToRead, Visits, Ends, EndsToWrite, Drops}
+use Rattle.schedule_rules.proofs.Words.{DropsToRead, Opens, Holds, Beside, deed_waiting, Puts, deed_by, Event, deed_of, accepts, is_exit, Section, sections, innermost, sections_by}
+use Rattle.schedule_rules.proofs.Words.{Guard, guards, numbered, without_guard, guards_by, reader_made, reader_beside, writer_made, replay, refusal, answer_of_value, IsLegal}
 use Rattle.schedule_rules.proofs.Cases.{errs, writes, step, Calling, Generating, form_at, Case}
 use Rattle.schedule_rules.proofs.Found.{each_found, each_ended, each_removed, each_put}
 use Rattle.schedule_rules.proofs.Steps.{of_legal}
 use Rattle.schedule_rules.proofs.WaitsToLock.{attempted-has}
-use Rattle.schedule_rules.proofs.Facts.{apart}
 
 -- ---- of calls that a kind has
 
 not_so : (b : Bool) → not b ≡ true → b ≡ false
-not_so false e = refl
-not_so true e = absurd (apart (sym e))
+not_so b e = grind arith
 
 -- a primed kind is not plain
 primed_not_plain : (q : Kind) → is_primed q ≡ true → is_plain q ≡ false
-primed_not_plain Kind.PrimedLockedLazy e = refl
-primed_not_plain Kind.PrimedLockedLazyDroped e = refl
-primed_not_plain _ e = absurd (apart (sym e))
+primed_not_plain q e = grind arith
 
 -- no plain kind has one that does
 written_not_plain : (q : Kind) (k : Call) → has_call q k ≡ true → writes (form_of q k) ≡ true → is_plain q ≡ false
-written_not_plain q Call.Write e f = not_so (is_plain q) e
-written_not_plain q Call.FastWrite e f = not_so (is_plain q) e
-written_not_plain q Call.TryWrite e f = not_so (is_plain q) e
-written_not_plain q Call.FastTryWrite e f = not_so (is_plain q) e
-written_not_plain q Call.PrimedWrite e f = primed_not_plain q e
-written_not_plain q Call.PrimedWriteNonInitializing e f = primed_not_plain q e
-written_not_plain q _ e f = absurd (apart (sym f))
+written_not_plain q k1 e f = grind arith
 
 -- a primed kind alone has one that falls back
 falls_primed : (q : Kind) (k : Call) → has_call q k ≡ true → errs (form_of q k) ≡ true → is_primed q ≡ true
-falls_primed q Call.PrimedRead e f = e
-falls_primed q Call.PrimedWrite e f = e
-falls_primed q Call.PrimedReadNonInitializing e f = e
-falls_primed q Call.PrimedWriteNonInitializing e f = e
-falls_primed q _ e f = absurd (apart (sym f))
+falls_primed q k1 e f = grind arith
 
 module _ (cells : List CellPlan) where
   -- the kind of the cell has the call

@@ -1,11 +1,11 @@
 -- What a deed leaves: what is given back changes its own cell, what is published changes only where nothing holds the cell to
 -- write afterwards, and what stands open keeps what is said of it.
-use Rattle.schedule_rules.proofs.Words.{ℕ, List, ◌≡◌, true, false, Bool, refl, Some, ◌∷◌, ◌∙◌, [], ap, sym, arith, subst, None, not, inl, ◌⊎◌, ◌&&◌, inr, ◌<◌, ◌+◌, length, cond}
-use Rattle.schedule_rules.proofs.Words.{◌≤◌, AllByRecursion, ◌==◌, if◌then◌else◌, Option, Call, CellPlan, cell_at, tolerance_at, tolerance_of, runs_generator, Content, effect}
-use Rattle.schedule_rules.proofs.Words.{Change, Asked, is_declined, Ended, content_after, Deed, Visits, Ends, EndsToRead, Makes, Opens, EndsToWrite, DropsToRead, Drops, Finishes}
-use Rattle.schedule_rules.proofs.Words.{Lends, Holds, Puts, Beside, Ending, Event, accepts, count, Section, sections, innermost, runs_in, sections_by, without_innermost, Guard}
-use Rattle.schedule_rules.proofs.Words.{guards, numbered, without_guard, guards_by, writer_made, reader_made, reader_beside, reader, carrier, writer, replay, Back, back_of_section}
-use Rattle.schedule_rules.proofs.Words.{content_after_back, back_by, change_of, back_of_guard, write_holds, writes_cell, IsExclusive}
+use Rattle.schedule_rules.proofs.Words.{ℕ, ◌≡◌, List, Bool, arith, true, refl, false, Some, ◌∷◌, [], ◌∙◌, sym, None, ap, subst, ◌<◌, ◌⊎◌, ◌+◌, inl, length, inr, cond, ◌≤◌}
+use Rattle.schedule_rules.proofs.Words.{AllByRecursion, ◌==◌, if◌then◌else◌, Option, Call, CellPlan, cell_at, Content, Change, effect, Asked, Ended, content_after, Deed}
+use Rattle.schedule_rules.proofs.Words.{EndsToRead, Visits, Ends, Makes, Finishes, EndsToWrite, Drops, DropsToRead, Opens, Lends, Holds, Beside, Puts, Ending, Event, accepts}
+use Rattle.schedule_rules.proofs.Words.{count, Section, sections, innermost, runs_in, sections_by, without_innermost, Guard, guards, numbered, without_guard, guards_by}
+use Rattle.schedule_rules.proofs.Words.{reader_made, reader_beside, writer_made, reader, writer, carrier, replay, Back, content_after_back, back_of_section, back_by, back_of_guard}
+use Rattle.schedule_rules.proofs.Words.{change_of, write_holds, writes_cell, IsExclusive}
 use Rattle.schedule_rules.proofs.Found.{each_counted, each_found, each_ended, each_removed, each_put}
 use Rattle.schedule_rules.proofs.Opened.{put, count_ended, count_removed, writes_put}
 use Rattle.schedule_rules.proofs.Exclusion.{no_writer_beside, no_run_left, no_run_beside, no_writer_left}
@@ -23,11 +23,7 @@ module _ (cells : List CellPlan) (c : ℕ) (o : Option Back) (b : Back) (y : Con
 
 -- a call that leaves nothing open leaves the value
 pub asked_value : (x : CellPlan) (o : Bool) (k : Call) (y : Content) → (content_after x (Asked o k) y).value ≡ y.value
-asked_value x o k y = by (is_declined x.kind (tolerance_of x) k o y.phase)
-  where
-    by : (b : Bool) → (if b then record { phase = 36; value = y.value } else y).value ≡ y.value
-    by true = refl
-    by false = refl
+asked_value x o k y = grind arith
 
 module _ (cells : List CellPlan) (h : List Event) (p : ℕ) where
   -- what is published at the cell after the deed
@@ -96,26 +92,16 @@ module _ (cells : List CellPlan) (h : List Event) (p : ℕ) where
 
     -- a call that leaves nothing open and is not declined
     pub rests : (c : ℕ) (chs : List Change) (k : _) → chs ≡ Asked (accepts h) k ∷ [] → Resting cells h p c k → effect (cell_at cells c) chs (replay cells c h) ≡ replay cells c h
-    rests c chs k e r =
-        ap (λ l. effect (cell_at cells c) l (replay cells c h)) e
-        ∙ ap (λ (b : Bool). if b && not (runs_generator (cell_at cells c).kind (tolerance_at cells c) (accepts h) (replay cells c h).phase) then record { phase = 36; value = (replay cells c h).value } else replay cells c h) r.unasked
+    rests c chs k e r = grind arith
 
     rests_at : (c z : ℕ) (chs : List Change) (reads : Bool) → effect (cell_at cells c) chs (replay cells c h) ≡ replay cells c h → left_at (Visits c chs reads) z ≡ replay cells z h
-    rests_at c z chs reads same = by (c == z) refl
-      where
-        by : (x : Bool) → (c == z) ≡ x → left_at (Visits c chs reads) z ≡ replay cells z h
-        by true d =
-            let at : c ≡ z = grind arith in
-            ap (λ (x : Bool). if x then effect (cell_at cells z) chs (replay cells z h) else replay cells z h) d
-            ∙ subst (λ z. effect (cell_at cells z) chs (replay cells z h) ≡ replay cells z h) at same
-        by false d = ap (λ (x : Bool). if x then effect (cell_at cells z) chs (replay cells z h) else replay cells z h) d
+    rests_at c z chs reads same = grind arith
 
     visits : (c z : ℕ) (chs : List Change) (reads : Bool) → Visit cells h p c chs reads → Settles (Visits c chs reads) z
     visits c z chs reads v = by v.finds
       where
         none_written : (r : Bool) → write_holds c h ≡ 0 → count (writes_cell c) (guards_left (Visits c chs r)) ≡ 0
-        none_written true u = omega (arith, u)
-        none_written false u = omega (arith, u)
+        none_written r u = grind arith
 
         by : Asking cells h p c v.asked false ⊎ Resting cells h p c v.asked → Settles (Visits c chs reads) z
         by (inl q) = let u : _ = q.unheld (alone c) in gives (Visits c chs reads) (record { cell = c; changes = chs }) z refl (omega (arith, u), none_written reads u)
@@ -187,8 +173,7 @@ module _ (cells : List CellPlan) (h : List Event) (p : ℕ) where
       where
         by : (b : Bool) → count (runs_in c) (sections h) ≡ count (runs_in c) (without_innermost p (sections h)) + cond b 1 0
             → write_holds c h ≤ cond b (count (writes_cell c) (guards h) + 1) (count (writes_cell c) (guards h)) + count (runs_in c) (without_innermost p (sections h))
-        by true one = omega (arith, one)
-        by false one = omega (arith, one)
+        by b one = grind arith
 
     pub holding : (d : Deed) → Finds cells h p d → (c : ℕ) → Holding d c
     holding (Ends (Makes made)) f c = ends_hold (Ends (Makes made)) (Makes made) f.section c f.found refl refl refl
@@ -226,10 +211,7 @@ module _ (cells : List CellPlan) (h : List Event) (p : ℕ) where
         back b c e r = by (b.cell == c) refl
           where
             at_back : (g : GivenAt d c) → b.cell ≡ g.back.cell
-            at_back g = one (sym e ∙ g.given)
-              where
-                one : Some b ≡ Some g.back → b.cell ≡ g.back.cell
-                one x = cc
+            at_back g = grind arith
 
             by : (x : Bool) → (b.cell == c) ≡ x → R c (replay cells c h) (left_at d c)
             by false other = stays c (λ g. apart (sym g.here ∙ ap (λ z. z == c) (sym (at_back g)) ∙ other)) (elsewhere d b c e other)

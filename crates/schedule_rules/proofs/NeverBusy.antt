@@ -1,7 +1,7 @@
 -- No turn of the exit that ended is Busy.
-use Rattle.schedule_rules.proofs.Words.{ℕ, List, true, false, Bool, Some, ◌∷◌, [], None, ◌≢◌, ◌++◌, All-nil, All-cons, All-append, Option, Turn, Turned, Deed, Ends, Makes}
-use Rattle.schedule_rules.proofs.Words.{Finishes, Skips, Event, deed_of, Section, sections, innermost, ended_turns, turn_of, turns_by, turn_of_section, NoneBusy, Account}
-use Rattle.schedule_rules.proofs.Words.{IsLegalTranscript, told, Schedule}
+use Rattle.schedule_rules.proofs.Words.{ℕ, List, Bool, arith, Some, ◌∷◌, [], None, ◌≢◌, ◌++◌, All-nil, All-cons, All-append, Option, Turn, Turned, Deed, Ends, Makes, Finishes}
+use Rattle.schedule_rules.proofs.Words.{Skips, Event, deed_of, Section, sections, innermost, ended_turns, turn_of_section, turn_of, turns_by, NoneBusy, told, Account}
+use Rattle.schedule_rules.proofs.Words.{IsLegalTranscript, Schedule}
 
 -- behind turns of which none is Busy, one more that is not
 one_more : (ts : List Turned) (c : ℕ) (t : Turn) → t ≢ Turn.Busy → NoneBusy ts → NoneBusy (ts ++ record { cell = c; turn = t } ∷ [])
@@ -14,8 +14,7 @@ of_section t None ts other before = before
 of_section t (Some s) ts other before = one_more ts s.cell t other before
 
 not_busy : (fine : Bool) → turn_of fine ≢ Turn.Busy
-not_busy true = λ e. cc
-not_busy false = λ e. cc
+not_busy fine = grind arith
 
 after : (p : ℕ) (d : Deed) (ss : List Section) (ts : List Turned) → NoneBusy ts → NoneBusy (turns_by p d ss ts)
 after p (Skips c taken) ss ts before = one_more ts c Turn.Skipped (λ e. cc) before

@@ -1,9 +1,9 @@
 -- A call that waits asks for no run of a generator that its own party is running.
-use Rattle.schedule_rules.proofs.Words.{ℕ, List, ◌≡◌, true, false, Bool, refl, Some, ◌∷◌, ◌∙◌, [], ap, sym, arith, subst, None, not, ◌&&◌, ◌<◌, ◌+◌, ◌≢◌, cond, ◌≤◌, find, ◌==◌}
-use Rattle.schedule_rules.proofs.Words.{if◌then◌else◌, is_none, Option, How, Answer, Line, CellPlan, Act, Step, cell_at, initializes, Deed, Ends, EndsToRead, Opens, EndsToWrite}
+use Rattle.schedule_rules.proofs.Words.{ℕ, ◌≡◌, List, Bool, arith, true, refl, false, Some, ◌∷◌, [], ◌∙◌, sym, None, ap, subst, ◌<◌, ◌&&◌, ◌+◌, not, cond, ◌≢◌, ◌≤◌, find, ◌==◌}
+use Rattle.schedule_rules.proofs.Words.{if◌then◌else◌, is_none, Option, How, Answer, Line, CellPlan, Act, Step, cell_at, initializes, Deed, EndsToRead, Ends, EndsToWrite, Opens}
 use Rattle.schedule_rules.proofs.Words.{deed_waiting, Event, deed_of, count, is_exit, Section, sections, is_turn, runs_in, sections_by, without_innermost, runs, generates_for}
 use Rattle.schedule_rules.proofs.Words.{Wait, waits, wait_of, attempt, Attempt, attempt_of_wait, refusal, IsLegal, IsLegalLine, IsExclusive, waits_judged, is_attempted, is_waiting}
-use Rattle.schedule_rules.proofs.Words.{is_cyclic, is_made_to_wait, is_cyclic_step}
+use Rattle.schedule_rules.proofs.Words.{is_cyclic, is_cyclic_step, is_made_to_wait}
 use Rattle.schedule_rules.proofs.Exclusion.{alone}
 use Rattle.schedule_rules.proofs.Facts.{first, second, apart}
 use Rattle.schedule_rules.proofs.Found.{found_counts, found_passes, none_counted, only_one}
@@ -33,8 +33,7 @@ module _ (p : ℕ) where
       most false x = omega arith
 
       by : (b d : Bool) → own_runs p c (without_innermost q ss) ≤ own_runs p c ss → own_runs p c (cond b ss (s ∷ without_innermost q ss)) ≤ cond (is_own_run p c s) (own_runs p c ss + 1) (own_runs p c ss)
-      by true d n = most (is_own_run p c s) (own_runs p c ss)
-      by false d n = more (is_own_run p c s) (own_runs p c (without_innermost q ss)) (own_runs p c ss) n
+      by b d n = grind arith
 
   -- another's deed opens none of the party's
   others_fewer : (h : List Event) (q : ℕ) (d : Deed) (c : ℕ) (ss : List Section) → (q == p) ≡ false → own_runs p c (sections_by h q d ss) ≤ own_runs p c ss
@@ -76,10 +75,7 @@ module _ (cells : List CellPlan) where
   runs_none h p c none = by (find (runs_in c) (sections h)) refl
     where
       turns : (t m d : Bool) → (m && (d && not t)) ≡ false → d ≡ true → (if t then false else m) ≡ false
-      turns true m d f e = refl
-      turns false false d f e = refl
-      turns false true true f e = absurd (apart f)
-      turns false true false f e = absurd (apart (sym e))
+      turns t m d f e = grind arith
 
       uncounted : (x : Section) → find (runs_in c) (sections h) ≡ Some x → (b : Bool) → is_own_run p c x ≡ b → b ≡ false
       uncounted x f true e = let n : 0 < own_runs p c (sections h) = found_counts (runs_in c) (is_own_run p c) (sections h) x f e in absurd (omega (arith, n, none))
@@ -98,9 +94,7 @@ module _ (cells : List CellPlan) where
   waits_apart h s l legal k w = by (attempt cells h s) (second (is_none (refusal cells h s)) _ (sym (waits_where_barred cells h s l k) ∙ w))
     where
       not_both : (i o rest : Bool) → (not (i && o) && rest) ≡ true → i ≡ true → o ≡ false
-      not_both i false rest f e = refl
-      not_both true true rest f e = absurd (apart (sym f))
-      not_both false true rest f e = absurd (apart (sym e))
+      not_both i o rest f e = grind arith
 
       by : (o : Option Attempt) → is_attempted (is_made_to_wait cells h s.party (waits_judged cells k.moment h s l.given)) o ≡ true → Of (Apart h s.party) o
       by None f = tt

@@ -1,15 +1,15 @@
 -- A generator of a cell succeeds at most once.
-use Rattle.schedule_rules.proofs.Words.{ℕ, List, ◌≡◌, true, false, Bool, refl, Some, ◌∷◌, ◌∙◌, [], ap, sym, arith, subst, None, inl, ◌⊎◌, ◌&&◌, inr, ◌<◌, ◌+◌, cond, ◌≤◌, ◌||◌}
-use Rattle.schedule_rules.proofs.Words.{◌==◌, has, initialized, Answer, CellPlan, Act, cell_at, tolerance_at, flags_kept, Content, effect, Change, Ran, Deed, Visits, Ends}
-use Rattle.schedule_rules.proofs.Words.{EndsToRead, Makes, EndsToWrite, DropsToRead, Drops, Finishes, Lends, Event, deed_of, count, Section, sections, innermost, is_turn, runs_in}
-use Rattle.schedule_rules.proofs.Words.{Guard, guards, numbered, replay, phase_at, back_of_section, back_by, write_holds, writes_cell, IsLegal, lends_at, runs_to_lend, is_failed}
-use Rattle.schedule_rules.proofs.Words.{successes, is_success, is_lent_at}
+use Rattle.schedule_rules.proofs.Words.{ℕ, ◌≡◌, List, Bool, arith, true, refl, false, Some, ◌∷◌, [], ◌∙◌, sym, None, ap, subst, ◌<◌, ◌⊎◌, ◌&&◌, ◌+◌, inl, inr, cond, ◌≤◌, ◌||◌}
+use Rattle.schedule_rules.proofs.Words.{◌==◌, has, initialized, Answer, CellPlan, Act, cell_at, flags_kept, Content, Change, effect, Ran, Deed, EndsToRead, Visits, Ends, Makes}
+use Rattle.schedule_rules.proofs.Words.{Finishes, EndsToWrite, Drops, DropsToRead, Lends, Event, deed_of, count, Section, sections, innermost, is_turn, runs_in, Guard, guards}
+use Rattle.schedule_rules.proofs.Words.{numbered, replay, phase_at, back_of_section, back_by, writes_cell, IsLegal, lends_at, runs_to_lend, is_failed, is_lent_at, successes}
+use Rattle.schedule_rules.proofs.Words.{is_success}
 use Rattle.schedule_rules.proofs.Exclusion.{alone}
 use Rattle.schedule_rules.proofs.Found.{found_counts, each_found}
 use Rattle.schedule_rules.proofs.Leaves.{back_here, left_at, guards_left, GivenAt, Writing, writing, GivesOf, moves}
 use Rattle.schedule_rules.proofs.Cases.{step, AsksToLend}
 use Rattle.schedule_rules.proofs.Finds.{Inside, Lending, LendsSo, Both, Finds, finds, tells}
-use Rattle.schedule_rules.proofs.Grows.{IsReady, IsStanding, has_made, asked-lacks, needs-lacks, sound, initialized-stays}
+use Rattle.schedule_rules.proofs.Grows.{IsReady, IsStanding, has_made, needs-lacks, sound, initialized-stays}
 use Rattle.schedule_rules.proofs.Facts.{apart, first, second, one_of}
 
 module _ (cells : List CellPlan) (c : ℕ) where
@@ -30,8 +30,7 @@ module _ (cells : List CellPlan) (c : ℕ) where
     stays d f z none n = by (writing cells h p (alone cells h legal) d f z)
       where
         by : Writing cells h p (alone cells h legal) d z → (has (phase_at cells z h) initialized ≡ true) ⊎ (0 < count (writes_cell z) (guards_left cells h p d))
-        by (inl le) = inr (omega (arith, n, le))
-        by (inr g) = absurd (none g)
+        by k1 = grind arith
 
     seen : (g : ℕ) (x : Guard) → numbered g (guards h) ≡ Some x → x.writes ≡ true → has (effect (cell_at cells x.cell) x.changes (replay cells x.cell h)).phase initialized ≡ true
     seen g x f w = (each_found (λ y. y.number == g) (IsReady cells h) (guards h) x f (sound cells h legal).ready w).0
@@ -102,13 +101,10 @@ module _ (cells : List CellPlan) (c : ℕ) where
         at = grind arith
 
         never : IsMade h → ⊥
-        never (inl is) = apart (sym (subst (λ y. has (phase_at cells y h) initialized ≡ true) (sym at) is) ∙ asked-lacks (cell_at cells z).kind (tolerance_at cells z) (phase_at cells z h) e)
-        never (inr w) = let none : write_holds c h ≡ 0 = subst (λ y. write_holds y h ≡ 0) at f.free.unheld in omega (arith, w, none)
+        never k1 = grind arith
 
         made : has (left_at cells h p (Lends z chs) c).phase initialized ≡ true
-        made =
-            ap (λ y. has y.phase initialized) (back_here cells c (Some (record { cell = z; changes = chs })) (record { cell = z; changes = chs }) (replay cells c h) refl same)
-            ∙ subst (λ y. has (effect (cell_at cells y) chs (replay cells y h)).phase initialized ≡ true) at (first _ _ (t.leaves fine))
+        made = grind arith
 
     at_once : (a : Act) (r : Answer) → Both cells h p a r (deed_of h (step cells h p a) r) → is_lent_at c a r ≡ true → runs_to_lend cells h a ≡ true → Makes_one (deed_of h (step cells h p a) r)
     at_once a (Answer.Value v) = by a
@@ -152,5 +148,4 @@ module _ (cells : List CellPlan) (c : ℕ) where
   one-success h k = by (counted h k)
     where
       by : IsCounted h → successes cells c h ≤ 1
-      by (inl none) = omega (arith, none)
-      by (inr one) = omega (arith, one.0)
+      by k1 = grind arith

@@ -1,10 +1,9 @@
 -- A schedule of cells that do not park has at most one legal transcript.
-use Rattle.schedule_rules.proofs.Words.{ℕ, List, ◌≡◌, true, false, Bool, refl, Some, ◌∷◌, ◌∙◌, [], ap, sym, arith, subst, None, not, ◌&&◌, ◌<◌, length, get_or_past, same_lists}
-use Rattle.schedule_rules.proofs.Words.{if◌then◌else◌, nat_lt, Option, first_of, LockNature, Given, How, Answer, Line, Refusal, CellPlan, Place, Act, Step, Want, Calls, cell_at}
-use Rattle.schedule_rules.proofs.Words.{tolerance_of, no_cell, is_parking, is_fast, initializes, lock_wanted, Event, registry, ended_turns, Wait, waits, wait_of, attempt, Attempt}
-use Rattle.schedule_rules.proofs.Words.{attempt_of_turn, attempt_of_wait, cell_concerned, other_waits, is_barred, refusal, answer_barred, answer_admitted, drains_by, way_parked}
-use Rattle.schedule_rules.proofs.Words.{Meeting, answer_of_attempt, due_answer, due_tried, meeting, may_give_last, may_give_on, may_give_first, is_nobody, IsLegal, IsLegalLine}
-use Rattle.schedule_rules.proofs.Words.{answer_of, due_at, Moment, Last, First, may_give, Account, IsLegalTranscript, told, Schedule, final_of, AreFinals, NoneParks}
+use Rattle.schedule_rules.proofs.Words.{ℕ, ◌≡◌, List, Bool, arith, true, refl, false, Some, ◌∷◌, [], ◌∙◌, sym, None, ap, subst, ◌<◌, length, get_or_past, same_lists, nat_lt}
+use Rattle.schedule_rules.proofs.Words.{Option, first_of, Given, How, Answer, Line, Refusal, CellPlan, Place, Act, Step, Want, Calls, cell_at, no_cell, is_parking, Event, registry}
+use Rattle.schedule_rules.proofs.Words.{ended_turns, Wait, waits, wait_of, attempt, Attempt, attempt_of_wait, attempt_of_turn, cell_concerned, other_waits, refusal, answer_barred}
+use Rattle.schedule_rules.proofs.Words.{answer_of_attempt, Meeting, due_answer, due_tried, meeting, may_give_last, may_give_first, is_nobody, may_give_on, IsLegal, IsLegalLine}
+use Rattle.schedule_rules.proofs.Words.{answer_of, due_at, Moment, may_give, First, Last, told, Account, IsLegalTranscript, Schedule, final_of, AreFinals, NoneParks}
 use Rattle.std.proofs.lemmas.Option.{get_or_from_slice_get}
 use Rattle.schedule_rules.specs.declared.transcript.Final.{Final}
 
@@ -31,12 +30,7 @@ one_way false Place.Park v w e = absurd (cc)
 
 -- so an attempt there has one answer
 one_answer : (x : CellPlan) (w : Want) (m : Meeting) (b d : Bool) → is_parking x.place ≡ false → answer_of_attempt x w m b ≡ answer_of_attempt x w m d
-one_answer x w m b d e =
-    ap (λ (y : Answer). if initializes x.kind w && m.own_run then Answer.Cyclic else if not m.kept && is_barred n m.holding then y else answer_admitted x.kind (tolerance_of x) m.cell m.is_open w m.content)
-    (one_way (is_fast w) x.place (way_parked x.kind w (drains_by n m.holding b)) (way_parked x.kind w (drains_by n m.holding d)) e)
-  where
-    n : LockNature
-    n = lock_wanted x.kind (tolerance_of x) w m.content.phase
+one_answer x w m b d e = grind arith
 
 apart : false ≡ true → ⊥
 apart e = cc
@@ -79,9 +73,7 @@ module _ (cells : List CellPlan) (spins : NoneParks cells) where
     nothing_last a (Given.Writer q) d = absurd (apart (sym (never_on (cell_concerned cells h s) a (Given.Writer q)) ∙ d))
 
     nobody : (g : Given) → is_nobody g ≡ true → g ≡ Given.Nobody
-    nobody Given.Nobody d = refl
-    nobody Given.Readers d = absurd (cc)
-    nobody (Given.Writer q) d = absurd (cc)
+    nobody g d = grind arith
 
     -- a legal line gives nothing, and its answer is the due one
     just_one : (l : Line) → IsLegalLine cells h s l → (l.answer ≡ answer_of (refusal cells h s) (due_answer cells h s (other_waits cells h s) false)) × (l.given ≡ Given.Nobody)

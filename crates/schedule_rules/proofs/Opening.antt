@@ -1,11 +1,11 @@
 -- What holds of each open guard: what happened in its section, that it bears the number of an earlier step, and that no
 -- section of a cell is open while a guard reads it.
-use Rattle.schedule_rules.proofs.Words.{ℕ, List, ◌≡◌, true, false, Bool, refl, Some, ◌∷◌, ◌∙◌, [], ap, sym, arith, None, ◌<◌, length, ◌++◌, and_or_apart, and_assoc, bit_and}
+use Rattle.schedule_rules.proofs.Words.{ℕ, ◌≡◌, List, Bool, arith, true, refl, false, Some, ◌∷◌, [], ◌∙◌, sym, None, ap, ◌<◌, length, ◌++◌, and_or_apart, and_assoc, bit_and}
 use Rattle.schedule_rules.proofs.Words.{AllByRecursion, ◌==◌, if◌then◌else◌, is_some, ◌^◌, ◌-◌, Option, has, Given, registration, final_outcome, is_finalizable, CellPlan, Act}
-use Rattle.schedule_rules.proofs.Words.{Step, tolerance_of, flags_kept, Content, effect, Change, Ran, Put, Asked, is_declined, Ended, RanIfAsked, Deed, Visits, EndsToRead}
-use Rattle.schedule_rules.proofs.Words.{EndsToWrite, DropsToRead, Drops, Holds, Puts, Beside, deed_read, Event, deed_of, act_by, Section, sections, innermost, Guard, guards}
-use Rattle.schedule_rules.proofs.Words.{numbered, without_guard, guards_by, writer_made, reader_made, reader_beside, reader, waits, cell_concerned, cell_concerned_with}
-use Rattle.schedule_rules.proofs.Words.{cell_of_section, cell_of_guard, write_holds, read_guards, reads_cell, turns_to_read, IsLegal, read_at}
+use Rattle.schedule_rules.proofs.Words.{Step, flags_kept, Content, Change, effect, Ran, Asked, Put, Ended, RanIfAsked, Deed, EndsToRead, Visits, EndsToWrite, Drops, DropsToRead}
+use Rattle.schedule_rules.proofs.Words.{Holds, Beside, Puts, deed_read, Event, deed_of, act_by, Section, sections, innermost, Guard, guards, numbered, without_guard, guards_by}
+use Rattle.schedule_rules.proofs.Words.{reader_made, reader_beside, writer_made, reader, waits, cell_concerned, cell_of_section, cell_concerned_with, cell_of_guard, write_holds}
+use Rattle.schedule_rules.proofs.Words.{read_guards, reads_cell, turns_to_read, IsLegal, read_at}
 use Rattle.schedule_rules.proofs.Opened.{put}
 use Rattle.schedule_rules.proofs.Found.{each_removed, each_put, each_mapped, each_found, found_counts, found_passes}
 use Rattle.schedule_rules.proofs.Facts.{apart, same_number}
@@ -105,11 +105,7 @@ module _ (f : ℕ) (is : IsBeside f) where
 
   -- so it is with a call that leaves nothing open
   pub asked_before : (x : CellPlan) (o : Bool) (k : _) (y : Content) → has (effect x (Asked o k ∷ []) y).phase f ≡ true → has y.phase f ≡ true
-  asked_before x o k y e = by (is_declined x.kind (tolerance_of x) k o y.phase) e
-    where
-      by : (b : Bool) → has (if b then record { phase = 36; value = y.value } else y).phase f ≡ true → has y.phase f ≡ true
-      by true g = absurd (apart (sym g ∙ is.declined))
-      by false g = g
+  asked_before x o k y e = grind arith
 
 -- a guard bears the number of an earlier step
 abbrev IsOlder : List Event → Guard → Type 0

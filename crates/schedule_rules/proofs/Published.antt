@@ -1,8 +1,8 @@
 -- What is published changes only while no guard reads the cell, and its phase where a section of the cell is given back.
-use Rattle.schedule_rules.proofs.Words.{ℕ, List, ◌≡◌, true, false, Bool, refl, Some, ◌∷◌, ◌∙◌, ap, arith, subst, not, inl, ◌⊎◌, inr, ◌<◌, ◌≢◌, ◌==◌, if◌then◌else◌, Answer}
-use Rattle.schedule_rules.proofs.Words.{CellPlan, Step, Calls, cell_at, tolerance_at, Content, effect, Change, is_declined, Deed, Visits, Ends, EndsToRead, Makes, DropsToRead}
-use Rattle.schedule_rules.proofs.Words.{Drops, Finishes, Lends, Event, accepts, deed_of, count, Section, sections, innermost, runs_in, Guard, guards, numbered, replay, phase_at}
-use Rattle.schedule_rules.proofs.Words.{write_holds, writes_cell, read_guards, IsLegal, lends_at, GivesBack, LendsAt, DeclinesAt}
+use Rattle.schedule_rules.proofs.Words.{ℕ, ◌≡◌, List, Bool, arith, true, refl, false, Some, ◌∷◌, ◌∙◌, ap, subst, ◌<◌, ◌⊎◌, inl, not, inr, ◌≢◌, ◌==◌, if◌then◌else◌, Answer}
+use Rattle.schedule_rules.proofs.Words.{CellPlan, Step, Calls, cell_at, tolerance_at, Content, Change, effect, is_declined, Deed, EndsToRead, Visits, Ends, Makes, Finishes, Drops}
+use Rattle.schedule_rules.proofs.Words.{DropsToRead, Lends, Event, deed_of, accepts, count, Section, sections, innermost, runs_in, Guard, guards, numbered, replay, phase_at}
+use Rattle.schedule_rules.proofs.Words.{write_holds, writes_cell, read_guards, IsLegal, lends_at, LendsAt, GivesBack, DeclinesAt}
 use Rattle.schedule_rules.proofs.Exclusion.{alone}
 use Rattle.schedule_rules.proofs.Found.{found_counts}
 use Rattle.schedule_rules.proofs.Cases.{Asking, Resting}
@@ -74,8 +74,7 @@ module _ (cells : List CellPlan) (h : List Event) (s : Step) (r : Answer) (legal
     one_less d f ne was = (by (settles cells h s.party (alone cells h legal) d f c), unread c was)
       where
         by : Settles cells h s.party d c → (holds_left cells h s.party d c < write_holds c h) ⊎ (DeclinesAt cells h s c ⊎ LendsAt s r c)
-        by (inl same) = absurd (ne (ap (λ y. y.phase) same))
-        by (inr none) = let a : _ = none.0 in let b : _ = none.1 in inl (omega (arith, a, b, was))
+        by k1 = grind arith
 
     -- a call that leaves nothing open is declined
     visits : (z : ℕ) (chs : List Change) (reads : Bool) → Tells cells h s.party s.act r (Visits z chs reads) → (left_at cells h s.party (Visits z chs reads) c).phase ≢ phase_at cells c h → IsGiven (Visits z chs reads)

@@ -1,9 +1,9 @@
 -- A cell that the registry knows was touched, and is registered at most once.
-use Rattle.schedule_rules.proofs.Words.{ℕ, List, ◌≡◌, true, false, Bool, refl, Some, ◌∷◌, ◌∙◌, [], ap, sym, arith, subst, inl, ◌⊎◌, inr, ◌<◌, ◌+◌, length, ◌≢◌, cond, ◌≤◌}
-use Rattle.schedule_rules.proofs.Words.{get_or-set_other, get_or_past, length-replicate, get_or-replicate, AllByRecursion, ◌==◌, if◌then◌else◌, nat_lt, slice_index_or, slice_set}
-use Rattle.schedule_rules.proofs.Words.{replicate, first_of, is_known, after_register, rest_of, Registry, is_finalizable, CellPlan, Calls, Turns, cell_at, no_cell}
-use Rattle.schedule_rules.proofs.Words.{tries_registration, Deed, Opens, Skips, Looks, Takes, Event, deed_of, count, sections, runs_in, sections_by, phase_at, registry}
-use Rattle.schedule_rules.proofs.Words.{registry_by, registry_taken, registry_of_run, write_holds, IsLegal}
+use Rattle.schedule_rules.proofs.Words.{ℕ, ◌≡◌, List, Bool, arith, true, refl, false, Some, ◌∷◌, [], ◌∙◌, sym, ◌<◌, ◌⊎◌, ◌+◌, inl, length, inr, cond, ◌≢◌, ◌≤◌, get_or_past}
+use Rattle.schedule_rules.proofs.Words.{get_or-set_other, length-replicate, get_or-replicate, AllByRecursion, ◌==◌, if◌then◌else◌, slice_set, slice_index_or, nat_lt, replicate}
+use Rattle.schedule_rules.proofs.Words.{first_of, is_known, rest_of, after_register, Registry, is_finalizable, CellPlan, Calls, Turns, cell_at, no_cell, tries_registration, Deed}
+use Rattle.schedule_rules.proofs.Words.{Opens, Skips, Takes, Looks, Event, deed_of, count, sections, runs_in, sections_by, phase_at, registry, registry_by, registry_taken}
+use Rattle.schedule_rules.proofs.Words.{registry_of_run, write_holds, IsLegal}
 use Rattle.schedule_rules.proofs.Facts.{first}
 use Rattle.schedule_rules.proofs.Held.{IsHeld, held-stays}
 
@@ -44,8 +44,7 @@ module _ (cells : List CellPlan) where
     where
       new : ((d == c) ≡ true) ⊎ (is_known (registry cells h) c ≡ true)
           → (is_known (registry cells h) c ≡ true) ⊎ (0 < cond (d == c) (count (runs_in c) (sections h) + 1) (count (runs_in c) (sections h)))
-      new (inl same) = inr (rw same (omega arith))
-      new (inr was) = inl was
+      new k1 = grind arith
 
       by : (b : Bool) → is_known (if b then after_register d (registry cells h) else registry cells h) c ≡ true
           → (is_known (registry cells h) c ≡ true) ⊎ (0 < cond (d == c) (count (runs_in c) (sections h) + 1) (count (runs_in c) (sections h)))
@@ -60,8 +59,7 @@ module _ (cells : List CellPlan) where
   known_before c e h known = by (known_by c h e.step.party (deed_of h e.step e.line.answer) known)
     where
       by : (is_known (registry cells h) c ≡ true) ⊎ (0 < count (runs_in c) (sections (e ∷ h))) → (is_known (registry cells h) c ≡ true) ⊎ IsHeld cells (e ∷ h) c
-      by (inl was) = inl was
-      by (inr n) = inr (inr (omega (arith, n)))
+      by k1 = grind arith
 
   -- what the registry knows is held
   known-held : (c : ℕ) (h : List Event) → IsLegal cells h → is_known (registry cells h) c ≡ true → IsHeld cells h c
@@ -80,8 +78,7 @@ module _ (cells : List CellPlan) where
   fresh-unknown h c k empty unheld = by (is_known (registry cells h) c) refl
     where
       never : IsHeld cells h c → ⊥
-      never (inl ne) = ne empty
-      never (inr n) = omega (arith, unheld, n)
+      never k1 = grind arith
 
       by : (b : Bool) → is_known (registry cells h) c ≡ b → is_known (registry cells h) c ≡ false
       by true e = absurd (never (known-held c h k e))
@@ -134,18 +131,14 @@ module _ (cells : List CellPlan) where
       same d f = cc
 
       by : (cs : List ℕ) → AllByRecursion IsRegistered cs → first_of cs ≡ Some c → is_finalizable (cell_at cells c).kind ≡ true
-      by [] k f = absurd (cc)
-      by (d ∷ ds) k f = subst IsRegistered (same d f) k.0
+      by cs k f = grind arith
 
 -- a cell that is registered is one of the plan
 pub finalizable-inside : (cells : List CellPlan) (c : ℕ) → is_finalizable (cell_at cells c).kind ≡ true → c < length cells
 finalizable-inside cells c e = by (nat_lt c (length cells)) refl
   where
     none : cell_at cells c ≡ no_cell → ⊥
-    none f = clash (sym (ap (λ x. is_finalizable x.kind) f) ∙ e)
-      where
-        clash : false ≡ true → ⊥
-        clash x = cc
+    none f = grind arith
 
     by : (b : Bool) → nat_lt c (length cells) ≡ b → c < length cells
     by true f = grind arith

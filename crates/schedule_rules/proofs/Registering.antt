@@ -1,38 +1,27 @@
 -- What a step registers.
-use Rattle.schedule_rules.proofs.Words.{ℕ, List, ◌≡◌, true, false, Bool, refl, Some, ◌∷◌, ◌∙◌, ap, sym, arith, subst, inl, ◌⊎◌, ◌&&◌, inr, ◌<◌, length, ◌||◌, get_or-set_other}
-use Rattle.schedule_rules.proofs.Words.{get_or-set_same, ◌==◌, if◌then◌else◌, slice_index_or, slice_set, without_flags, is_known, after_register, registered, registration}
-use Rattle.schedule_rules.proofs.Words.{flags_generate, initialization_flags, is_finalizable, Call, CellPlan, Calls, Turns, cell_at, tolerance_of, runs_generator}
-use Rattle.schedule_rules.proofs.Words.{tries_registration, Change, Deed, Visits, Opens, Skips, Event, accepts, deed_of, phase_at, registry, registry_by, registry_taken}
+use Rattle.schedule_rules.proofs.Words.{ℕ, ◌≡◌, List, Bool, arith, true, refl, false, ◌∷◌, ◌∙◌, sym, ap, subst, ◌<◌, ◌&&◌, length, ◌||◌, get_or-set_other, get_or-set_same, ◌==◌}
+use Rattle.schedule_rules.proofs.Words.{if◌then◌else◌, slice_set, slice_index_or, is_known, registered, Call, CellPlan, Calls, Turns, cell_at, tolerance_of, tries_registration}
+use Rattle.schedule_rules.proofs.Words.{runs_generator, Change, Deed, Visits, Opens, Skips, Event, deed_of, accepts, phase_at, registry, registry_by, registry_taken}
 use Rattle.schedule_rules.proofs.Words.{registry_of_run, IsLegal}
-use Rattle.schedule_rules.proofs.Registrations.{asks_so, visit_registers, deed_registers, shows_registration}
-use Rattle.schedule_rules.proofs.Facts.{first, second}
-use Rattle.schedule_rules.proofs.Cases.{Asking, Resting}
+use Rattle.schedule_rules.proofs.Registrations.{visit_registers, deed_registers, shows_registration}
+use Rattle.schedule_rules.proofs.Facts.{first}
+use Rattle.schedule_rules.proofs.Cases.{Asking}
 use Rattle.schedule_rules.proofs.Finds.{Visit, Finds, finds}
 use Rattle.schedule_rules.proofs.Accepts.{open-accepts, known-length}
 use Rattle.schedule_rules.proofs.Registered.{known_taken, finalizable-inside}
 
 or_none : (b : Bool) → (b || false) ≡ b
-or_none true = refl
-or_none false = refl
+or_none b = grind arith
 
 or_all : (b : Bool) → (b || true) ≡ true
-or_all true = refl
-or_all false = refl
+or_all b = grind arith
 
 and_none : (b : Bool) → (b && false) ≡ false
-and_none true = refl
-and_none false = refl
+and_none b = grind arith
 
 -- what is declined on the empty phase was asked when no cell could be registered
 declined-closed : (x : CellPlan) (o : Bool) (p : ℕ) → tries_registration x.kind p ≡ true → runs_generator x.kind (tolerance_of x) o p ≡ false → o ≡ false
-declined-closed x o p e f = by (is_finalizable x.kind) (p == 0) o e f
-  where
-    by : (b d o : Bool) → (b && d) ≡ true
-        → (if b then flags_generate x.leak (if b then (if d then registration o else without_flags p initialization_flags) else 0) else true) ≡ false → o ≡ false
-    by true true false e f = refl
-    by true true true e f = absurd (cc)
-    by true false o e f = absurd (cc)
-    by false d o e f = absurd (cc)
+declined-closed x o p e f = grind arith
 
 module _ (cells : List CellPlan) (c : ℕ) (h : List Event) (p : ℕ) (legal : IsLegal cells h) where
   -- after the deed the registry knows the cell where it did, or where the deed tries to register it and cells may be
@@ -46,19 +35,7 @@ module _ (cells : List CellPlan) (c : ℕ) (h : List Event) (p : ℕ) (legal : I
 
   -- a call that leaves nothing open registers nothing
   visits : (d : ℕ) (chs : List Change) (reads : Bool) (v : Visit cells h p d chs reads) → (visit_registers cells c h d chs && accepts h) ≡ false
-  visits d chs reads v = subst (λ l. (visit_registers cells c h d l && accepts h) ≡ false) (sym v.does) (by v.finds)
-    where
-      tried : Bool
-      tried = asks_so cells c h (Some (record { cell = d; want = Calls v.asked }))
-
-      by : Asking cells h p d v.asked false ⊎ Resting cells h p d v.asked → (tried && accepts h) ≡ false
-      by (inl q) = none tried refl
-        where
-          none : (b : Bool) → tried ≡ b → (b && accepts h) ≡ false
-          none false e = refl
-          none true e = declined-closed (cell_at cells d) (accepts h) (phase_at cells d h) (second _ _ (second _ _ e)) q.generates
-      by (inr r) =
-          ap (λ b. ((d == c) && (b && tries_registration (cell_at cells d).kind (phase_at cells d h))) && accepts h) r.unasked ∙ ap (λ b. b && accepts h) (and_none (d == c))
+  visits d chs reads v = grind arith
 
   -- a call that begins a run
   run_registers : (d : ℕ) (j : Call) (taken : Bool) → Asking cells h p d j true → IsRegistering (Opens d (Calls j) taken)
@@ -69,10 +46,7 @@ module _ (cells : List CellPlan) (c : ℕ) (h : List Event) (p : ℕ) (legal : I
       -- what is known of the cell where this is so
       known_by : (b o : Bool) → tries_registration (cell_at cells d).kind (phase_at cells d h) ≡ b → (registry cells h).is_open ≡ o
           → is_known (registry_of_run cells d (phase_at cells d h) (registry cells h)) c ≡ is_known (if b && o then registered d (registry cells h) else registry cells h) c
-      known_by true o e g =
-          ap (λ (b : Bool). is_known (if b then after_register d (registry cells h) else registry cells h) c) e
-          ∙ ap (λ (b : Bool). is_known (if b then registered d (registry cells h) else registry cells h) c) g
-      known_by false o e g = ap (λ (b : Bool). is_known (if b then after_register d (registry cells h) else registry cells h) c) e
+      known_by b o e g = grind arith
 
       -- and what is said of it
       said_by : (b same o : Bool) → tries_registration (cell_at cells d).kind (phase_at cells d h) ≡ b → (d == c) ≡ same → (registry cells h).is_open ≡ o

@@ -1,15 +1,14 @@
 -- Which lines show that their step tried to register a cell, and that it is tried at most once at a cell.
-use Rattle.schedule_rules.proofs.Words.{ℕ, List, ◌≡◌, true, false, Bool, refl, Some, ◌∷◌, ◌∙◌, [], ap, sym, arith, subst, not, inl, ◌⊎◌, inr, ◌<◌, ◌+◌, ◌≢◌, cond, ◌≤◌, ◌==◌}
-use Rattle.schedule_rules.proofs.Words.{if◌then◌else◌, Option, is_known, is_finalizable, Call, Answer, Line, CellPlan, Step, Calls, cell_at, tolerance_at, asks, effect, Change}
-use Rattle.schedule_rules.proofs.Words.{Asked, is_declined, Deed, Visits, Opens, Event, accepts, deed_of, replay, phase_at, registry, Attempt, write_holds, IsLegal, IsLegalLine}
-use Rattle.schedule_rules.proofs.Words.{IsExclusive, is_attempted, asks_registration}
+use Rattle.schedule_rules.proofs.Words.{ℕ, ◌≡◌, List, Bool, arith, true, refl, false, Some, ◌∷◌, [], subst, ◌<◌, ◌⊎◌, ◌+◌, inl, inr, cond, ◌≢◌, ◌≤◌, ◌==◌, if◌then◌else◌, Option}
+use Rattle.schedule_rules.proofs.Words.{is_known, is_finalizable, Call, Answer, Line, CellPlan, Step, Calls, cell_at, tolerance_at, asks, Change, Asked, Deed, Visits, Opens, Event}
+use Rattle.schedule_rules.proofs.Words.{deed_of, phase_at, registry, Attempt, write_holds, IsLegal, IsLegalLine, IsExclusive, is_attempted, asks_registration}
 use Rattle.schedule_rules.proofs.Exclusion.{alone}
 use Rattle.schedule_rules.proofs.Cases.{Asking, Resting}
 use Rattle.schedule_rules.proofs.Finds.{Visit, Finds, finds}
 use Rattle.schedule_rules.proofs.Leaves.{left_at, holds_left}
 use Rattle.schedule_rules.proofs.Held.{IsHeld, held-stays}
 use Rattle.schedule_rules.proofs.Registered.{fresh-unknown}
-use Rattle.schedule_rules.proofs.Facts.{apart, first, second}
+use Rattle.schedule_rules.proofs.Facts.{first, second}
 
 module _ (cells : List CellPlan) where
   -- something is attempted that asks for a run which registers the cell
@@ -75,25 +74,7 @@ module _ (cells : List CellPlan) (c : ℕ) where
       where
         by : Asking cells h p d v.asked false ⊎ Resting cells h p d v.asked → (d ≡ c) × (asks (cell_at cells d).kind (tolerance_at cells d) (Calls v.asked) (phase_at cells d h) ≡ true) × (phase_at cells d h ≡ 0)
             → (phase_at cells c h ≡ 0) × (write_holds c h ≡ 0) × IsHeldBy (Visits d chs reads)
-        by (inr r) t = absurd (apart (sym t.1 ∙ r.unasked))
-        by (inl q) t = asked d v.asked (Visits d chs reads) q.unheld (λ here. inl (left here)) t
-          where
-            declined : is_declined (cell_at cells d).kind (tolerance_at cells d) v.asked (accepts h) (phase_at cells d h) ≡ true
-            declined = rw q.asked (ap not q.generates)
-
-            phase : effect (cell_at cells d) chs (replay cells d h) ≡ record { phase = 36; value = (replay cells d h).value }
-            phase = ap (λ l. effect (cell_at cells d) l (replay cells d h)) v.does ∙ ap (λ (b : Bool). if b then record { phase = 36; value = (replay cells d h).value } else replay cells d h) declined
-
-            left : d ≡ c → (left_at cells h p (Visits d chs reads) c).phase ≢ 0
-            left here z =
-                let same : (d == c) ≡ true = grind arith in
-                let is : left_at cells h p (Visits d chs reads) c ≡ record { phase = 36; value = (replay cells c h).value } =
-                ap (λ (b : Bool). if b then effect (cell_at cells c) chs (replay cells c h) else replay cells c h) same
-                ∙ subst (λ y. effect (cell_at cells y) chs (replay cells y h) ≡ record { phase = 36; value = (replay cells y h).value }) here phase in
-                clash (left_at cells h p (Visits d chs reads) c).phase (ap (λ y. y.phase) is) z
-              where
-                clash : (n : ℕ) → n ≡ 36 → n ≡ 0 → ⊥
-                clash n e z = omega (arith, e, z)
+        by k1 t = grind arith
 
     pub freshly : (d : Deed) → Finds cells h p d → IsFresh d
     freshly (Opens d (Calls j) taken) f = running d j taken f
@@ -119,8 +100,7 @@ module _ (cells : List CellPlan) (c : ℕ) where
   counted (e ∷ h) k = by (shows_registration cells c h e.step e.line.answer) refl (counted h k.2)
     where
       never : (phase_at cells c h ≡ 0) × (write_holds c h ≡ 0) × IsHeld cells (e ∷ h) c → IsHeld cells h c → ⊥
-      never f (inl ne) = ne f.0
-      never f (inr n) = omega (arith, f.1, n)
+      never f k1 = grind arith
 
       by : (b : Bool) → shows_registration cells c h e.step e.line.answer ≡ b → IsTried h
           → (cond b (registrations_shown cells c h + 1) (registrations_shown cells c h) ≡ 0) ⊎ ((cond b (registrations_shown cells c h + 1) (registrations_shown cells c h) ≡ 1) × IsHeld cells (e ∷ h) c)
@@ -134,5 +114,4 @@ module _ (cells : List CellPlan) (c : ℕ) where
   registered-once h k = by (counted h k)
     where
       by : IsTried h → registrations_shown cells c h ≤ 1
-      by (inl none) = omega (arith, none)
-      by (inr one) = omega (arith, one.0)
+      by k1 = grind arith

@@ -1,14 +1,13 @@
 -- A phase that has INITIALIZED changes only where a finalizer of its cell ends, and of a plain cell the value stays.
-use Rattle.schedule_rules.proofs.Words.{ℕ, List, ◌≡◌, true, false, Bool, refl, Some, ◌∷◌, ◌∙◌, [], ap, sym, arith, subst, inl, ◌⊎◌, inr, ◌≢◌, ◌++◌, All, All-tail, All-head, ◌==◌}
-use Rattle.schedule_rules.proofs.Words.{if◌then◌else◌, Option, has, initialized, is_plain, is_hard, Kind, Answer, CellPlan, Act, cell_at, tolerance_at, Content, effect, Change}
-use Rattle.schedule_rules.proofs.Words.{Ran, Put, Asked, Ended, RanIfAsked, Deed, Visits, Ends, EndsToRead, Makes, DropsToRead, Drops, Finishes, Lends, Event, accepts, deed_of}
-use Rattle.schedule_rules.proofs.Words.{sections, innermost, Guard, guards, numbered, replay, phase_at, cell_of_section, IsLegal, lends_at, IsEndedTurn}
+use Rattle.schedule_rules.proofs.Words.{ℕ, ◌≡◌, List, Bool, arith, true, refl, false, Some, ◌∷◌, [], ◌∙◌, sym, ap, ◌⊎◌, inl, inr, ◌≢◌, ◌++◌, All, All-tail, All-head, ◌==◌}
+use Rattle.schedule_rules.proofs.Words.{if◌then◌else◌, has, initialized, is_plain, is_hard, Kind, Answer, CellPlan, Act, cell_at, Content, Change, effect, Ran, Asked, Put, Ended}
+use Rattle.schedule_rules.proofs.Words.{RanIfAsked, Deed, EndsToRead, Visits, Ends, Makes, Finishes, Drops, DropsToRead, Lends, Event, deed_of, sections, innermost, Guard, guards}
+use Rattle.schedule_rules.proofs.Words.{numbered, replay, phase_at, cell_of_section, IsLegal, lends_at, IsEndedTurn}
 use Rattle.schedule_rules.proofs.Exclusion.{alone}
 use Rattle.schedule_rules.proofs.Found.{each_found}
-use Rattle.schedule_rules.proofs.Cases.{Asking, Resting, AsksToLend, Reach}
-use Rattle.schedule_rules.proofs.Finds.{Visit, Comes, Lending, Finds, Tells, finds, tells}
-use Rattle.schedule_rules.proofs.Leaves.{left_at, GivesOf, moves, rests, asked_value}
-use Rattle.schedule_rules.proofs.Grows.{HasRun, IsReady, wanted-lacks, asked-lacks, lacks, sound, initialized-stays}
+use Rattle.schedule_rules.proofs.Finds.{Visit, Lending, Finds, Tells, finds, tells}
+use Rattle.schedule_rules.proofs.Leaves.{left_at, GivesOf, moves, asked_value}
+use Rattle.schedule_rules.proofs.Grows.{HasRun, IsReady, lacks, sound, initialized-stays}
 use Rattle.schedule_rules.proofs.Opening.{IsOfRun, IsRunning, guards-run}
 use Rattle.schedule_rules.proofs.Kinded.{IsUnplain, unplain}
 use Rattle.schedule_rules.proofs.Finishing.{ended-turn}
@@ -25,9 +24,7 @@ puts_keep q (Ended fine left ∷ chs) y r = absurd r
 
 -- a plain kind is soft
 pub plain_soft : (q : Kind) → is_plain q ≡ true → is_hard q ≡ false
-plain_soft Kind.Lazy e = refl
-plain_soft Kind.LazyFinalize e = refl
-plain_soft _ e = absurd (apart (sym e))
+plain_soft q e = grind arith
 
 module _ (cells : List CellPlan) (h : List Event) (p : ℕ) (legal : IsLegal cells h) where
   -- a finalizer of the cell ends
@@ -40,20 +37,11 @@ module _ (cells : List CellPlan) (h : List Event) (p : ℕ) (legal : IsLegal cel
   Settles d z y w = has y.phase initialized ≡ true → (w.phase ≡ y.phase) ⊎ IsEnding d z
 
   visits : (c : ℕ) (chs : List Change) (reads : Bool) (v : Visit cells h p c chs reads) → has (phase_at cells c h) initialized ≡ true → (effect (cell_at cells c) chs (replay cells c h)).phase ≡ phase_at cells c h
-  visits c chs reads v r = by v.finds
-    where
-      by : Asking cells h p c v.asked false ⊎ Resting cells h p c v.asked → (effect (cell_at cells c) chs (replay cells c h)).phase ≡ phase_at cells c h
-      by (inl q) = absurd (apart (sym r ∙ wanted-lacks (tolerance_at cells c) (phase_at cells c h) q.wanted))
-      by (inr q) = ap (λ y. y.phase) (rests cells h p (alone cells h legal) c chs v.asked v.does q)
+  visits c chs reads v r = grind arith
 
   -- no run is asked to lend a value that is there
   lends : (c : ℕ) (chs : List Change) → Lending cells h p c chs → has (phase_at cells c h) initialized ≡ true → (effect (cell_at cells c) chs (replay cells c h)).phase ≡ phase_at cells c h
-  lends c chs f r = by f.does
-    where
-      by : (AsksToLend cells h p c true × ((made : Option ℕ) × Comes cells h p c chs (Ran (accepts h) made))) ⊎ (Reach cells h p c true × ((left : ℕ) × Comes cells h p c chs (Put left)))
-          → (effect (cell_at cells c) chs (replay cells c h)).phase ≡ phase_at cells c h
-      by (inl a) = absurd (apart (sym r ∙ asked-lacks (cell_at cells c).kind (tolerance_at cells c) (phase_at cells c h) a.0))
-      by (inr a) = ap (λ y. y.phase) a.1.1
+  lends c chs f r = grind arith
 
   -- no generator ended in the section of a guard that stands on a value
   dropped : (g : ℕ) (x : Guard) → numbered g (guards h) ≡ Some x → x.writes ≡ true → has (phase_at cells x.cell h) initialized ≡ true
@@ -105,12 +93,7 @@ module _ (cells : List CellPlan) (h : List Event) (p : ℕ) (legal : IsLegal cel
 
   -- a deed lends a value by an act that is to lend it
   lent_by : (a : Act) (r : Answer) (d : Deed) (c : ℕ) → Tells cells h p a r d → lends_at c a ≡ false → lends_to c d ≡ false
-  lent_by a r (Lends z chs) c t n = by (z == c) refl
-    where
-      by : (b : Bool) → (z == c) ≡ b → (z == c) ≡ false
-      by false e = e
-      by true e = let at : z ≡ c = grind arith in absurd (apart (sym (subst (λ y. lends_at y a ≡ true) at t.lends) ∙ n))
-  lent_by a r _ c t n = refl
+  lent_by a r k1 c t n = grind arith
 
 -- the value of a plain cell stays once its phase has INITIALIZED, while no step is to lend it
 pub plain-stays : (cells : List CellPlan) (h later : List Event) (c : ℕ) → IsLegal cells (later ++ h) → All (λ e. lends_at c e.step.act ≡ false) later → is_plain (cell_at cells c).kind ≡ true → has (phase_at cells c h) initialized ≡ true

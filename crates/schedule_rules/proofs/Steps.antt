@@ -1,12 +1,12 @@
 -- What holds in each case, holds of each legal step.
-use Rattle.schedule_rules.proofs.Words.{ℕ, List, ◌≡◌, true, false, Bool, refl, Some, ◌∙◌, ap, sym, arith, subst, None, not, ◌&&◌, ◌+◌, ◌==◌, if◌then◌else◌, is_none, Option}
+use Rattle.schedule_rules.proofs.Words.{ℕ, ◌≡◌, List, Bool, arith, true, refl, false, Some, ◌∙◌, sym, None, ap, subst, ◌&&◌, ◌+◌, not, ◌==◌, if◌then◌else◌, is_none, Option}
 use Rattle.schedule_rules.proofs.Words.{phase_of, first_of, LockNature, is_finalizable, lends_value, is_primed, Call, Kind, Form, Held, Told, Shown, Answer, Line, Refusal}
-use Rattle.schedule_rules.proofs.Words.{CellPlan, Act, Step, Want, Calls, Turns, cell_at, tolerance_at, is_of_other, is_accessible, finishes_so, Success, phase_reached}
-use Rattle.schedule_rules.proofs.Words.{asks_to_lend, content_of_run, Event, accepts, count, Section, sections, innermost, is_turn, Guard, guards, numbered, own, replay, phase_at}
-use Rattle.schedule_rules.proofs.Words.{registry, finishing, Wait, waits, wait_of, waits_at, write_holds, is_barred, read_guards, holding_with, is_in_use, refusal, no_call}
-use Rattle.schedule_rules.proofs.Words.{no_lending, no_guard, no_reader, no_outcome, no_writer, ends_run, writes_of, refusal_to_lend, ends_turn, answer_of_value, answer_at}
-use Rattle.schedule_rules.proofs.Words.{answer_lent, answer_made_to_lend, answer_made, answer_of_made, due_answer, due_clone, due_finished, phase_made, due_made, IsLegalLine}
-use Rattle.schedule_rules.proofs.Words.{answer_of, due_at, waits_judged}
+use Rattle.schedule_rules.proofs.Words.{CellPlan, Act, Step, Calls, cell_at, tolerance_at, is_of_other, is_accessible, finishes_so, phase_reached, Success, asks_to_lend}
+use Rattle.schedule_rules.proofs.Words.{content_of_run, Event, accepts, count, Section, sections, innermost, is_turn, Guard, guards, numbered, own, replay, phase_at, registry}
+use Rattle.schedule_rules.proofs.Words.{finishing, Wait, waits, wait_of, waits_at, write_holds, is_barred, read_guards, holding_with, is_in_use, refusal, no_call, no_lending}
+use Rattle.schedule_rules.proofs.Words.{no_reader, no_guard, no_outcome, no_writer, ends_turn, refusal_to_lend, ends_run, writes_of, answer_of_value, answer_made_to_lend}
+use Rattle.schedule_rules.proofs.Words.{answer_lent, answer_at, answer_made, answer_of_made, due_answer, due_clone, due_made, due_finished, phase_made, IsLegalLine, answer_of}
+use Rattle.schedule_rules.proofs.Words.{due_at, waits_judged}
 use Rattle.schedule_rules.proofs.Cases.{step, Case, Generating, Lendable, AsksToLend, Reach, form_at, writes}
 use Rattle.schedule_rules.proofs.Attempts.{rests, mine_where_none, attempted, again, exits}
 use Rattle.schedule_rules.proofs.Answered.{due_at-judged}
@@ -14,56 +14,39 @@ use Rattle.schedule_rules.proofs.Facts.{first, second}
 
 -- an outcome that is not refused ends its section so
 ends_so : (b : Bool) → no_outcome (Some b) ≡ None → b ≡ true
-ends_so true f = refl
-ends_so false f = absurd (cc)
+ends_so b f = grind arith
 
 -- what is not refused for want of a guard names an open one
 is_opened : (f : Option Bool → Option Refusal) (p : ℕ) (o : Option Guard) → (f None ≡ None → ⊥) → f (writes_of (own p o)) ≡ None
     → (x : Guard) × (o ≡ Some x) × (f (Some x.writes) ≡ None)
-is_opened f p None none e = absurd (none e)
-is_opened f p (Some x) none e = (x, refl, by (x.party == p) e)
-  where
-    by : (b : Bool) → f (writes_of (if b then Some x else None)) ≡ None → f (Some x.writes) ≡ None
-    by true g = g
-    by false g = absurd (none g)
+is_opened f p k1 none e = grind arith
 
 -- a guard that is needed to write, writes
 is_writer : (b : Bool) → no_writer (Some b) ≡ None → b ≡ true
-is_writer true e = refl
-is_writer false e = absurd (cc)
+is_writer b e = grind arith
 
 -- one that is needed to read, does not
 is_reader : (b : Bool) → no_reader (Some b) ≡ None → b ≡ false
-is_reader true e = absurd (cc)
-is_reader false e = refl
+is_reader b e = grind arith
 
 no_refusal : (r : Refusal) → Some r ≡ None → ⊥
 no_refusal r e = cc
 
 -- a cell whose value is lent is of a kind that lends it, and not in use
 is_lendable : (other has used : Bool) → no_lending (no_call other has) used ≡ None → (has ≡ true) × (used ≡ false)
-is_lendable true has used e = absurd (cc)
-is_lendable false false used e = absurd (cc)
-is_lendable false true true e = absurd (cc)
-is_lendable false true false e = (refl, refl)
+is_lendable other has used e = grind arith
 
 -- kinds that lend a value are not registered
 pub lent_unregistered : (q : Kind) → lends_value q ≡ true → is_finalizable q ≡ false
-lent_unregistered Kind.Lazy e = refl
-lent_unregistered Kind.LockedLazy e = refl
-lent_unregistered _ e = absurd (cc)
+lent_unregistered q e = grind arith
 
 -- nor primed
 pub lent_unprimed : (q : Kind) → lends_value q ≡ true → is_primed q ≡ false
-lent_unprimed Kind.Lazy e = refl
-lent_unprimed Kind.LockedLazy e = refl
-lent_unprimed _ e = absurd (cc)
+lent_unprimed q e = grind arith
 
 -- a value that is made to be lent may be accessed
 pub made_accessible : (q : Kind) (o : Bool) (p : ℕ) → lends_value q ≡ true → is_accessible q (phase_reached q o p Success) ≡ true
-made_accessible Kind.Lazy o p e = refl
-made_accessible Kind.LockedLazy o p e = refl
-made_accessible _ o p e = absurd (cc)
+made_accessible k1 o p e = grind arith
 
 module _ (cells : List CellPlan) (h : List Event) (p : ℕ) where
   -- nobody uses a cell whose value is lent
@@ -87,12 +70,7 @@ module _ (cells : List CellPlan) (h : List Event) (p : ℕ) where
   -- the section of a generator
   generates : (o : Option Section) → innermost p (sections h) ≡ o → no_outcome (ends_run o) ≡ None
       → (t : Section) × (j : Call) × (o ≡ Some t) × Generating cells h p t j
-  generates None e f = absurd (cc)
-  generates (Some t) e f = by t.want refl f
-    where
-      by : (u : Want) → t.want ≡ u → no_outcome (Some (not (is_turn u))) ≡ None → (s : Section) × (j : Call) × (Some t ≡ Some s) × Generating cells h p s j
-      by (Calls j) d g = (t, j, refl, record { found = e; kind = d })
-      by Turns d g = absurd (cc)
+  generates o e f = grind arith
 
   -- a value made
   makes : (v : ℕ) (t : Section) (j : Call) → Generating cells h p t j → Case cells h p (Act.Made v) (due_made cells h v (Some t))

@@ -1,12 +1,10 @@
 -- Tests of answers, and which answers of what is admitted pass them.
-use Rattle.schedule_rules.proofs.Words.{ℕ, List, ◌≡◌, true, false, Bool, refl, Some, ◌∙◌, ap, sym, None, not, ◌&&◌, ◌||◌, ◌==◌, if◌then◌else◌, is_none, Option, has, initialized}
-use Rattle.schedule_rules.proofs.Words.{Phase, LockNature, How, flags_refused, Tolerance, Call, Kind, Form, Held, Told, Shown, Answer, CellPlan, Place, Act, Want, Calls, Turns}
-use Rattle.schedule_rules.proofs.Words.{cell_at, tolerance_at, form_of, denies, is_accessible, runs_generator, asks, lock_wanted, Content, asks_to_lend, content_of_run}
-use Rattle.schedule_rules.proofs.Words.{content_to_lend, Event, accepts, is_turn, replay, phase_at, refusal, answer_barred, answer_admitted, answer_at, answer_lent}
-use Rattle.schedule_rules.proofs.Words.{answer_made_to_lend, turn_answer_admitted, is_waiting, is_cyclic, is_closing, is_skipped, is_access, is_running, is_borrowed, is_finalizing}
-use Rattle.schedule_rules.proofs.Words.{is_missed, is_round, is_denied_to_lend, want_denies, is_initializing}
-use Rattle.schedule_rules.proofs.Answered.{IsShown, IsTold, either, admitted}
-use Rattle.schedule_rules.proofs.Steps.{made_accessible, lendable}
+use Rattle.schedule_rules.proofs.Words.{ℕ, ◌≡◌, List, Bool, arith, true, refl, false, sym, None, ◌&&◌, not, ◌||◌, ◌==◌, if◌then◌else◌, Option, has, initialized, Phase, LockNature}
+use Rattle.schedule_rules.proofs.Words.{How, flags_refused, Tolerance, Call, Kind, Form, Held, Told, Shown, Answer, CellPlan, Place, Act, Want, Calls, Turns, cell_at, tolerance_at}
+use Rattle.schedule_rules.proofs.Words.{form_of, denies, is_accessible, runs_generator, asks, lock_wanted, Content, Event, accepts, is_turn, replay, refusal, answer_barred}
+use Rattle.schedule_rules.proofs.Words.{answer_admitted, answer_made_to_lend, answer_lent, answer_at, turn_answer_admitted, is_waiting, is_cyclic, is_borrowed, is_missed}
+use Rattle.schedule_rules.proofs.Words.{is_finalizing, is_round, is_closing, is_denied_to_lend, is_skipped, is_access, is_running, want_denies, is_initializing}
+use Rattle.schedule_rules.proofs.Answered.{IsShown, IsTold, admitted}
 
 -- a test that no answer passes of a step that attempts nothing, but a clone that is barred, and one that is to lend a value which
 -- may not be accessed, where the test is passed by that
@@ -85,27 +83,19 @@ pub beyond_closing : IsBeyond is_closing
 beyond_closing = record { told = record { shown = of_closing.shown; access = λ p. refl; err_guard = refl }; running = refl; finalizing = λ c. refl; skipped = λ c. refl }
 
 pub no_more : (b : Bool) → (b && false) ≡ false
-no_more true = refl
-no_more false = refl
+no_more b = grind arith
 
 pub same_both : (b : Bool) → b ≡ (b && true)
-same_both true = refl
-same_both false = refl
+same_both b = grind arith
 
 pub nothing_else : (b : Bool) → (b || false) ≡ b
-nothing_else true = refl
-nothing_else false = refl
+nothing_else b = grind arith
 
 pub neither : (x y b d : Bool) → b ≡ false → d ≡ false → ((x && b) || (y && d)) ≡ false
-neither true true b d e f = rw (e, f) refl
-neither true false b d e f = rw e refl
-neither false true b d e f = f
-neither false false b d e f = refl
+neither x y b d e f = grind arith
 
 pub unless_first : (x y u v : Bool) → u ≡ v → (x || ((y && false) || (u && true))) ≡ (x || v)
-unless_first true y u v e = refl
-unless_first false true u v e = sym (same_both u) ∙ e
-unless_first false false u v e = sym (same_both u) ∙ e
+unless_first x y u v e = grind arith
 
 -- ---- what is admitted
 
@@ -148,8 +138,7 @@ module _ (q : Kind) (t : Tolerance) (c : ℕ) (o : Bool) (y : Content) where
   admitted_runs Turns = by (has y.phase initialized)
     where
       by : (b : Bool) → is_running (turn_answer_admitted (if b then LockNature.Write else LockNature.None) c) ≡ false
-      by true = refl
-      by false = refl
+      by b = grind arith
 
   -- it is turned away exactly where it runs nothing, is a call that is told where the value may not be accessed, and it may
   -- not be at the phase that it leaves
@@ -159,14 +148,11 @@ module _ (q : Kind) (t : Tolerance) (c : ℕ) (o : Bool) (y : Content) where
     where
       by : (b g : Bool) → is_access (if b && g then Answer.Running else answer_at (form_of q k) (is_accessible q (content b g).phase) (content b g))
           ≡ (not (b && g) && (denies (form_of q k) && not (is_accessible q (if b then flags_refused else y.phase))))
-      by true true = refl
-      by true false = at_denies (form_of q k) false (content true false)
-      by false g = at_denies (form_of q k) (is_accessible q y.phase) y
+      by b g = grind arith
   admitted_away Turns = by (has y.phase initialized)
     where
       by : (b : Bool) → is_access (turn_answer_admitted (if b then LockNature.Write else LockNature.None) c) ≡ false
-      by true = refl
-      by false = refl
+      by b = grind arith
 
   -- a turn finalizes exactly where the value is there
   pub admitted_finalizes : (d : ℕ) (w : Want) → is_finalizing d (answer_admitted q t c o w y) ≡ (is_turn w && ((c == d) && has y.phase initialized))
@@ -174,8 +160,7 @@ module _ (q : Kind) (t : Tolerance) (c : ℕ) (o : Bool) (y : Content) where
   admitted_finalizes d Turns = by (has y.phase initialized)
     where
       by : (b : Bool) → is_finalizing d (turn_answer_admitted (if b then LockNature.Write else LockNature.None) c) ≡ ((c == d) && b)
-      by true = same_both (c == d)
-      by false = sym (no_more (c == d))
+      by b = grind arith
 
   -- and is skipped exactly where it is not
   pub admitted_skips : (d : ℕ) (w : Want) → is_skipped d (answer_admitted q t c o w y) ≡ (is_turn w && ((c == d) && not (has y.phase initialized)))
@@ -183,8 +168,7 @@ module _ (q : Kind) (t : Tolerance) (c : ℕ) (o : Bool) (y : Content) where
   admitted_skips d Turns = by (has y.phase initialized)
     where
       by : (b : Bool) → is_skipped d (turn_answer_admitted (if b then LockNature.Write else LockNature.None) c) ≡ ((c == d) && not b)
-      by true = sym (no_more (c == d))
-      by false = same_both (c == d)
+      by b = grind arith
 
   -- nothing that is admitted passes a test of what is not
   pub admitted_fails : (f : Answer → Bool) → IsBeyond f → (w : Want) → f (answer_admitted q t c o w y) ≡ false
@@ -192,9 +176,7 @@ module _ (q : Kind) (t : Tolerance) (c : ℕ) (o : Bool) (y : Content) where
   admitted_fails f is Turns = by (lock_wanted q t Turns y.phase)
     where
       by : (n : LockNature) → f (turn_answer_admitted n c) ≡ false
-      by LockNature.None = is.skipped c
-      by LockNature.Read = is.finalizing c
-      by LockNature.Write = is.finalizing c
+      by n = grind arith
 
 -- a test that fails on what is barred
 pub record FailsBarred (t : Answer → Bool) : Type 0 where
@@ -210,15 +192,7 @@ fails_barred t k false (Place.Own p) w = k.borrowed
 
 -- a call that does not initialize asks for no run
 pub calls_not : (q : Kind) (t : Tolerance) (k : Call) (p : ℕ) → is_initializing k ≡ false → asks q t (Calls k) p ≡ false
-calls_not q t Call.Phase p e = refl
-calls_not q t Call.TryGet p e = refl
-calls_not q t Call.TryRead p e = refl
-calls_not q t Call.TryWrite p e = refl
-calls_not q t Call.FastTryRead p e = refl
-calls_not q t Call.FastTryWrite p e = refl
-calls_not q t Call.PrimedReadNonInitializing p e = refl
-calls_not q t Call.PrimedWriteNonInitializing p e = refl
-calls_not q t _ p e = absurd (cc)
+calls_not q t k1 p e = grind arith
 
 -- ---- a value that is lent
 
@@ -230,30 +204,13 @@ is_unlent cells h _ = false
 
 -- where it is not refused, exactly where that is so
 pub unlent_where_denied : (cells : List CellPlan) (h : List Event) (p : ℕ) (a : Act) → refusal cells h (record { party = p; act = a }) ≡ None → is_unlent cells h a ≡ is_denied_to_lend cells h a
-unlent_where_denied cells h p (Act.TryGetMut c left) n = at_denies Shown (is_accessible (cell_at cells c).kind (phase_at cells c h)) (replay cells c h)
-unlent_where_denied cells h p (Act.GetMut c made left) n = by (asks_to_lend q (tolerance_at cells c) (phase_at cells c h)) made
-  where
-    q : Kind
-    q = (cell_at cells c).kind
-
-    by : (b : Bool) (m : Option ℕ)
-        → is_access (if b && is_none m then Answer.Failed else answer_lent q (if b then content_of_run q (accepts h) m (replay cells c h) else replay cells c h)) ≡ (not b && not (is_accessible q (phase_at cells c h)))
-    by true None = refl
-    by true (Some v) =
-        ap (λ b. is_access (answer_at Shown b (content_of_run q (accepts h) (Some v) (replay cells c h)))) (made_accessible q (accepts h) (phase_at cells c h) (lendable cells h p c made left n).lends)
-    by false m = at_denies Shown (is_accessible q (phase_at cells c h)) (replay cells c h)
-unlent_where_denied cells h p _ n = refl
+unlent_where_denied cells h p k1 n = grind arith
 
 module _ (t : Answer → Bool) {denies : Bool} (is : IsOfTries t denies) where
   -- of a value that is lent
   pub shows : (q : Kind) (y : Content) → t (answer_lent q y) ≡ (is_access (answer_lent q y) && denies)
-  shows q y = by (is_accessible q y.phase)
-    where
-      by : (b : Bool) → t (answer_at Shown b y) ≡ (is_access (answer_at Shown b y) && denies)
-      by true = is.shown.value _
-      by false = is.access _
+  shows q y = grind arith
 
   -- and of one that a run makes first, where it is asked
   pub makes : (q : Kind) (u : Tolerance) (o : Bool) (made : Option ℕ) (y : Content) → t (answer_made_to_lend q u o made y) ≡ (is_access (answer_made_to_lend q u o made y) && denies)
-  makes q u o made y =
-      either (λ r. t r ≡ (is_access r && denies)) (asks_to_lend q u y.phase && is_none made) Answer.Failed (answer_lent q (content_to_lend q u o made y)) is.failed (shows q (content_to_lend q u o made y))
+  makes q u o made y = grind arith

@@ -1,10 +1,10 @@
 -- A phase that is not empty tells whether its cell is registered: which flags tell it, what runs and finalizers leave of them,
 -- and that it is so in legal histories.
-use Rattle.schedule_rules.proofs.Words.{ℕ, List, ◌≡◌, true, false, Bool, refl, Some, ◌∷◌, ◌∙◌, [], ap, sym, arith, subst, None, not, inl, ◌⊎◌, ◌&&◌, inr, ◌≢◌, ◌||◌, and_or_apart}
+use Rattle.schedule_rules.proofs.Words.{ℕ, ◌≡◌, List, Bool, arith, true, refl, false, Some, ◌∷◌, [], ◌∙◌, sym, None, ap, subst, ◌⊎◌, ◌&&◌, inl, not, inr, ◌≢◌, ◌||◌, and_or_apart}
 use Rattle.schedule_rules.proofs.Words.{and_assoc, bit_or, bit_and, AllByRecursion, ◌==◌, if◌then◌else◌, ◌^◌, ◌-◌, Option, has, initialized, is_known, registration, is_finalizable}
-use Rattle.schedule_rules.proofs.Words.{Call, CellPlan, Calls, Turns, cell_at, tolerance_at, tolerance_of, runs_generator, flags_kept, tries_registration, asks, Content, effect}
-use Rattle.schedule_rules.proofs.Words.{Change, Ran, is_declined, Ended, content_after, Deed, Visits, Ends, EndsToRead, Makes, Opens, EndsToWrite, DropsToRead, Drops, Finishes}
-use Rattle.schedule_rules.proofs.Words.{Lends, Holds, Skips, Event, accepts, deed_of, Section, sections, is_turn, runs_in, Guard, guards, numbered, replay, phase_at, registry}
+use Rattle.schedule_rules.proofs.Words.{Call, CellPlan, Calls, Turns, cell_at, tolerance_at, tolerance_of, tries_registration, flags_kept, runs_generator, asks, Content, Change}
+use Rattle.schedule_rules.proofs.Words.{effect, Ran, Ended, content_after, is_declined, Deed, EndsToRead, Visits, Ends, Makes, Finishes, EndsToWrite, Drops, DropsToRead, Opens}
+use Rattle.schedule_rules.proofs.Words.{Lends, Holds, Skips, Event, deed_of, accepts, Section, sections, is_turn, runs_in, Guard, guards, numbered, replay, phase_at, registry}
 use Rattle.schedule_rules.proofs.Words.{registry_by, write_holds, writes_cell, IsLegal, TellsRegistration}
 use Rattle.schedule_rules.proofs.Facts.{apart}
 use Rattle.schedule_rules.proofs.Exclusion.{alone}
@@ -80,15 +80,10 @@ told_declined x o b p is declines now before = by (p == 0) refl
     by false e = kept (λ z. apart (sym (ap (λ n. n == 0) z) ∙ e))
 
 or_none : (b : Bool) → (b || false) ≡ b
-or_none true = refl
-or_none false = refl
+or_none b = grind arith
 
 not_empty : (p : ℕ) → p ≢ 0 → (p == 0) ≡ false
-not_empty p ne = by (p == 0) refl
-  where
-    by : (b : Bool) → (p == 0) ≡ b → (p == 0) ≡ false
-    by true e = absurd (ne (grind arith))
-    by false e = e
+not_empty p ne = grind arith
 
 module _ (cells : List CellPlan) (c : ℕ) (kind : is_finalizable (cell_at cells c).kind ≡ true) where
   -- where this is known of the cell, and it holds this: a generator that runs in it registered it or not

@@ -1,9 +1,9 @@
 -- A legal line shows that its step tried to register a cell exactly where it did.
-use Rattle.schedule_rules.proofs.Words.{ℕ, List, ◌≡◌, true, false, Bool, refl, Some, ◌∷◌, ◌∙◌, [], ap, sym, subst, None, not, inl, ◌⊎◌, ◌&&◌, inr, ◌+◌, ◌≤◌, ◌||◌, ◌==◌}
+use Rattle.schedule_rules.proofs.Words.{ℕ, ◌≡◌, List, Bool, arith, true, refl, false, Some, ◌∷◌, [], ◌∙◌, sym, None, ap, subst, ◌⊎◌, ◌&&◌, ◌+◌, inl, not, ◌≤◌, ◌||◌, ◌==◌}
 use Rattle.schedule_rules.proofs.Words.{if◌then◌else◌, is_none, Option, phase_of, Phase, first_of, is_known, How, flags_refused, Call, Answer, Line, Refusal, CellPlan, Place, Act}
 use Rattle.schedule_rules.proofs.Words.{Step, Calls, Turns, cell_at, tries_registration, deed_waiting, deed_by, Event, accepts, is_exit, replay, phase_at, registry, Wait, waits}
-use Rattle.schedule_rules.proofs.Words.{attempt, Attempt, attempt_of_turn, attempt_with, refusal, answer_of_value, answer_barred, due_answer, due_tried, due_attempt, IsLegal}
-use Rattle.schedule_rules.proofs.Words.{IsLegalLine, answer_of, waits_judged, is_attempted, is_admitted, asks_registration, tries_to_register, tells_declined, registrations}
+use Rattle.schedule_rules.proofs.Words.{attempt, Attempt, attempt_with, attempt_of_turn, refusal, answer_of_value, answer_barred, due_answer, due_attempt, IsLegal, IsLegalLine}
+use Rattle.schedule_rules.proofs.Words.{answer_of, waits_judged, is_attempted, is_admitted, asks_registration, tells_declined, tries_to_register, registrations}
 use Rattle.schedule_rules.proofs.Cases.{Visiting, step, Calling, Resting, Case}
 use Rattle.schedule_rules.proofs.Registrations.{asks_so, deed_registers, shows_registration, registrations_shown, tries-unknown, registered-once}
 use Rattle.schedule_rules.proofs.Answered.{due_at-judged, denied}
@@ -37,8 +37,7 @@ beyond_back = record {
 }
 
 no_more : (b : Bool) → false ≡ (b && false)
-no_more true = refl
-no_more false = refl
+no_more b = grind arith
 
 module _ (cells : List CellPlan) (c : ℕ) where
   module _ (h : List Event) (p : ℕ) where
@@ -73,8 +72,7 @@ module _ (cells : List CellPlan) (c : ℕ) where
     visited a d j q T r t v on is tells = called a d j r t (record { same = is ∙ ap (λ b. not b && asks_of d j) (sym on); answers = λ e. by v (sym is ∙ e) })
       where
         by : Visiting cells h p d j q T → asks_of d j ≡ true → (r ≡ Answer.Running) ⊎ (tells_declined r ≡ true)
-        by (inl x) e = inr (tells x.1)
-        by (inr x) e = absurd (apart (sym e ∙ none d j x.0))
+        by k1 e = grind arith
 
     -- one that gets what the cell holds
     shows_what_is : (a : Act) (d : ℕ) (j : Call) (r : Answer) → Calling cells h p a d j → Resting cells h p d j → deed_registers cells c h (deed_by (accepts h) (is_exit a) (Act.Call d j) r) ≡ false → Tried a r
@@ -87,8 +85,7 @@ module _ (cells : List CellPlan) (c : ℕ) where
         and_no b = no_more b
 
     waited : (b : Bool) → deed_registers cells c h (deed_waiting b) ≡ false
-    waited true = refl
-    waited false = refl
+    waited b = grind arith
 
     -- that of the turn of a cell
     turned : (o : Option Attempt) (d : ℕ) → o ≡ Some (record { cell = d; want = Turns }) → false ≡ asks_so cells c h o
@@ -124,18 +121,14 @@ module _ (cells : List CellPlan) (c : ℕ) where
 
     -- what is due for a step that attempts this
     due_of : (a : Act) (x : Attempt) → attempt_with cells (waits cells h) h s.party a ≡ Some x → due_answer cells h (record { party = s.party; act = a }) ws k.chosen ≡ due_attempt cells h s.party x ws k.chosen
-    due_of (Act.Call d j) x e = ap (λ o. due_tried cells h s.party o ws k.chosen) e
-    due_of Act.Again x e = ap (λ o. due_tried cells h s.party o ws k.chosen) e
-    due_of Act.Exit x e = ap (λ o. due_tried cells h s.party o ws k.chosen) e
-    due_of _ x e = absurd (cc)
+    due_of k1 x e = grind arith
 
     -- it is not put off exactly where it is admitted
     not_back : (not (is_back l.answer) && asks_so cells c h (attempt cells h s)) ≡ tries_to_register cells c h s l.given k.moment
     not_back = by (refusal cells h s) (attempt cells h s) refl (k.answered ∙ ap (answer_of (refusal cells h s)) (due_at-judged cells k.moment h s l.given k.chosen))
       where
         twice : (b : Bool) → not (not b) ≡ b
-        twice true = refl
-        twice false = refl
+        twice b = grind arith
 
         by : (r : Option Refusal) (o : Option Attempt) → attempt cells h s ≡ o → l.answer ≡ answer_of r (due_answer cells h s ws k.chosen)
             → (not (is_back l.answer) && asks_so cells c h o) ≡ (is_none r && is_attempted (λ a. is_admitted cells h s.party ws a && asks_registration cells c h a) o)

@@ -1,8 +1,8 @@
 -- The turns of a legal history are no more than its cells.
-use Rattle.schedule_rules.proofs.Words.{ℕ, List, ◌≡◌, true, false, Bool, refl, Some, ◌∷◌, ◌∙◌, [], ap, arith, ◌&&◌, ◌<◌, ◌+◌, length, cond, ◌≤◌, ◌++◌, All, get_or_past}
+use Rattle.schedule_rules.proofs.Words.{ℕ, ◌≡◌, List, Bool, arith, true, refl, false, Some, ◌∷◌, [], ◌∙◌, ap, ◌<◌, ◌&&◌, ◌+◌, length, cond, ◌≤◌, ◌++◌, All, get_or_past}
 use Rattle.schedule_rules.proofs.Words.{length-append, length-map, All-nil, All-cons, ◌==◌, if◌then◌else◌, cells_of_turns, first_of, is_known, rest_of, occurs, due, CellPlan, Act}
 use Rattle.schedule_rules.proofs.Words.{Step, Turns, Event, count, Section, sections, innermost, is_turn, registry, ended_turns, Wait, waits, wait_of, attempt, attempt_with}
-use Rattle.schedule_rules.proofs.Words.{IsLegal, is_attempted, waits_to_turn, finalizes_in, turns_of, turns_at_hand}
+use Rattle.schedule_rules.proofs.Words.{IsLegal, is_attempted, waits_to_turn, turns_of, finalizes_in, turns_at_hand}
 use Rattle.exit_registry.proofs.Exiting.{few_below}
 use Rattle.schedule_rules.proofs.Accepts.{known-length}
 use Rattle.schedule_rules.proofs.Counts.{occurs_joined, waits_so, first_so, begins}
@@ -24,9 +24,7 @@ module _ {X : Type 0} (t : X → Bool) (f : X → ℕ) where
     where
       by : (b d : Bool) → (f x == c) ≡ d → occurs c (cells_where t f xs) ≡ count (λ x. t x && (f x == c)) xs
           → occurs c (cond b (f x ∷ cells_where t f xs) (cells_where t f xs)) ≡ cond (b && d) (count (λ x. t x && (f x == c)) xs + 1) (count (λ x. t x && (f x == c)) xs)
-      by true true e n = rw e (omega (arith, n))
-      by true false e n = rw e (omega (arith, n))
-      by false d e n = n
+      by b d e n = grind arith
 
   -- they are as many as those that pass
   length_where : (xs : List X) → length (cells_where t f xs) ≡ count t xs
@@ -34,8 +32,7 @@ module _ {X : Type 0} (t : X → Bool) (f : X → ℕ) where
   length_where (x ∷ xs) = by (t x) (length_where xs)
     where
       by : (b : Bool) → length (cells_where t f xs) ≡ count t xs → length (cond b (f x ∷ cells_where t f xs) (cells_where t f xs)) ≡ cond b (count t xs + 1) (count t xs)
-      by true n = omega (arith, n)
-      by false n = n
+      by b n = grind arith
 
 differ : false ≡ true → ⊥
 differ e = cc

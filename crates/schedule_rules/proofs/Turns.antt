@@ -1,11 +1,11 @@
 -- Each registered cell has one turn: to come, waiting, going on or ended.
-use Rattle.schedule_rules.proofs.Words.{ℕ, List, ◌≡◌, true, false, Bool, refl, Some, ◌∷◌, ◌∙◌, [], ap, sym, arith, subst, None, ◌&&◌, ◌<◌, ◌+◌, length, cond, ◌++◌}
-use Rattle.schedule_rules.proofs.Words.{get_or-set_other, get_or-set_same, ◌==◌, if◌then◌else◌, slice_index_or, slice_set, Option, cells_of_turns, first_of, is_known}
-use Rattle.schedule_rules.proofs.Words.{after_register, rest_of, occurs, registered, due, Turn, Given, is_finalizable, Call, Answer, Refusal, CellPlan, Act, Want, Calls, Turns}
-use Rattle.schedule_rules.proofs.Words.{cell_at, is_owned, tries_registration, is_fast, Deed, Ends, EndsToRead, Makes, Opens, EndsToWrite, Finishes, Skips, deed_waiting, deed_by}
-use Rattle.schedule_rules.proofs.Words.{Looks, Takes, Event, accepts, deed_of, count, is_exit, Section, sections, innermost, is_turn, sections_by, without_innermost, replay}
-use Rattle.schedule_rules.proofs.Words.{phase_at, registry, registry_by, ended_turns, registry_taken, turn_of, turns_by, turn_of_section, Wait, waits, wait_of, attempt_with}
-use Rattle.schedule_rules.proofs.Words.{without_wait, waits_given_with, with_wait, refusal, refusal_waiting, answer_of_value, IsLegal, waits_to_turn, finalizes_in, turns_of}
+use Rattle.schedule_rules.proofs.Words.{ℕ, ◌≡◌, List, Bool, arith, true, refl, false, Some, ◌∷◌, [], ◌∙◌, sym, None, ap, subst, ◌<◌, ◌&&◌, ◌+◌, length, cond, ◌++◌}
+use Rattle.schedule_rules.proofs.Words.{get_or-set_other, get_or-set_same, ◌==◌, if◌then◌else◌, slice_set, slice_index_or, Option, cells_of_turns, first_of, is_known, rest_of}
+use Rattle.schedule_rules.proofs.Words.{occurs, after_register, due, registered, Turn, Given, is_finalizable, Call, Answer, Refusal, CellPlan, Act, Want, Calls, Turns, cell_at}
+use Rattle.schedule_rules.proofs.Words.{is_owned, tries_registration, is_fast, Deed, EndsToRead, Ends, Makes, Finishes, EndsToWrite, Opens, Skips, deed_waiting, deed_by, Takes}
+use Rattle.schedule_rules.proofs.Words.{Looks, Event, deed_of, accepts, count, is_exit, Section, sections, innermost, is_turn, sections_by, without_innermost, replay, phase_at}
+use Rattle.schedule_rules.proofs.Words.{registry, registry_by, ended_turns, registry_taken, turn_of_section, turn_of, turns_by, Wait, waits, wait_of, attempt_with, without_wait}
+use Rattle.schedule_rules.proofs.Words.{waits_given_with, with_wait, refusal, refusal_waiting, answer_of_value, IsLegal, waits_to_turn, turns_of, finalizes_in}
 use Rattle.schedule_rules.proofs.Exclusion.{alone}
 use Rattle.schedule_rules.proofs.Opened.{count_ended}
 use Rattle.schedule_rules.proofs.Cases.{step, IsCalling, IsTurning, Calling, Turning, Tries, Asking, Case}

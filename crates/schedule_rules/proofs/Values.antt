@@ -1,11 +1,11 @@
 -- A value that is shown is there.
-use Rattle.schedule_rules.proofs.Words.{ℕ, List, ◌≡◌, true, false, Bool, refl, Some, ◌∷◌, ◌∙◌, [], ap, sym, arith, subst, None, not, inl, ◌⊎◌, ◌&&◌, inr, ◌<◌, length, ◌≤◌, ◌||◌}
-use Rattle.schedule_rules.proofs.Words.{and_or_self, and_assoc, and_le_r, bit_or, bit_and, AllByRecursion, ◌==◌, if◌then◌else◌, is_some, ◌^◌, ◌-◌, Option, has, initialized}
+use Rattle.schedule_rules.proofs.Words.{ℕ, ◌≡◌, List, Bool, arith, true, refl, false, Some, ◌∷◌, [], ◌∙◌, sym, None, ap, subst, ◌<◌, ◌⊎◌, ◌&&◌, inl, not, length, inr, ◌≤◌, ◌||◌}
+use Rattle.schedule_rules.proofs.Words.{and_assoc, and_or_self, and_le_r, bit_or, bit_and, AllByRecursion, ◌==◌, if◌then◌else◌, is_some, ◌^◌, ◌-◌, Option, has, initialized}
 use Rattle.schedule_rules.proofs.Words.{registration, is_finalizable, is_plain, is_primed, is_hard, Call, Answer, Line, CellPlan, Act, Step, cell_at, tolerance_of, is_accessible}
-use Rattle.schedule_rules.proofs.Words.{flags_kept, finishes_so, phase_finalized, value_finalized, Content, effect, Change, Ran, Put, Asked, is_declined, Ended, asks_to_lend}
-use Rattle.schedule_rules.proofs.Words.{RanIfAsked, content_after, content_of_run, Deed, Visits, Ends, EndsToRead, Makes, EndsToWrite, DropsToRead, Drops, Finishes, Lends, Holds}
-use Rattle.schedule_rules.proofs.Words.{Puts, Beside, Event, deed_of, Section, sections, Guard, guards, numbered, without_guard, guards_by, writer_made, reader_made, reader_beside}
-use Rattle.schedule_rules.proofs.Words.{replay, phase_at, Back, back_of_section, back_of_step, content_after_back, back_by, inside, change_of, back_of_guard, read_guards}
+use Rattle.schedule_rules.proofs.Words.{flags_kept, finishes_so, phase_finalized, value_finalized, Content, Change, effect, Ran, Asked, Put, Ended, RanIfAsked, asks_to_lend}
+use Rattle.schedule_rules.proofs.Words.{content_after, content_of_run, is_declined, Deed, EndsToRead, Visits, Ends, Makes, Finishes, EndsToWrite, Drops, DropsToRead, Lends, Holds}
+use Rattle.schedule_rules.proofs.Words.{Beside, Puts, Event, deed_of, Section, sections, Guard, guards, numbered, without_guard, guards_by, reader_made, reader_beside, writer_made}
+use Rattle.schedule_rules.proofs.Words.{replay, phase_at, Back, back_of_step, content_after_back, back_of_section, back_by, inside, back_of_guard, change_of, read_guards}
 use Rattle.schedule_rules.proofs.Words.{reads_cell, answer_of_value, IsLegal, IsLegalLine, lends_at, runs_to_lend, ShowsValue}
 use Rattle.std.specs.Option.{unwrap_or}
 use Rattle.schedule_rules.proofs.Cases.{step, Reach, Case}
@@ -28,8 +28,7 @@ HasValue y = is_some y.value ≡ true
 
 -- a value that is there is shown
 pub shown_so : (o : Option ℕ) → is_some o ≡ true → o ≡ Some (unwrap_or o 0)
-shown_so None e = absurd (apart (sym e))
-shown_so (Some v) e = refl
+shown_so o e = grind arith
 
 -- no flag that stays is INITIALIZED
 kept_lacks : (x : CellPlan) (o : Bool) (p : ℕ) → has (flags_kept x.kind o p) initialized ≡ false
@@ -53,9 +52,6 @@ module _ (x : CellPlan) where
   ended_true : (fine : Bool) (left : Option ℕ) (y : Content) → IsTrue y → IsTrue (content_after x (Ended fine left) y)
   ended_true fine left y t = by fine (is_hard x.kind) refl
     where
-      marked : (m : ℕ) (b : Bool) → b ≡ false → (b && false) ≡ true → is_some left ≡ true
-      marked m b e f = absurd (apart (sym f ∙ ap (λ z. z && false) e))
-
       out : (i a b : Bool) → (a || b) ≡ true → (i && not (true && (a || b))) ≡ true → is_some left ≡ true
       out i true b e f = absurd (none i f)
         where
@@ -68,10 +64,6 @@ module _ (x : CellPlan) where
           none true g = apart (sym g)
           none false g = apart (sym g)
       out i false false e f = absurd (apart (sym e))
-
-      within : (i b : Bool) → (i && not (false && b)) ≡ true → i ≡ true
-      within true b e = refl
-      within false b e = absurd (apart (sym e))
 
       marks : (fine : Bool) → (has (phase_finalized y.phase fine) 64 || has (phase_finalized y.phase fine) 128) ≡ true
       marks true = ap (λ z. (z == 64) || has (bit_or y.phase 64) 128) (and_or_self 64 y.phase)
@@ -147,9 +139,7 @@ module _ (x : CellPlan) where
   primed_left fine left y p so v = by (is_hard x.kind) (is_primed x.kind) p so
     where
       by : (h q : Bool) → q ≡ true → ((if h && q then is_some left else not (is_some left)) && (fine || (not h || q))) ≡ true → is_some (if h then left else y.value) ≡ true
-      by true true e f = first _ _ f
-      by false q e f = v
-      by true false e f = absurd (apart (sym e))
+      by h q e f = grind arith
 
 module _ (cells : List CellPlan) where
   back_true : (c : ℕ) (o : Option Back) (y : Content) → IsTrue (cell_at cells c) y → IsTrue (cell_at cells c) (content_after_back cells c o y)

@@ -1,9 +1,9 @@
 -- What waits: a call for a lock or a turn, which is not fast, at a cell of no party's own, whose kind has the call.
-use Rattle.schedule_rules.proofs.Words.{ℕ, List, ◌≡◌, true, false, Bool, refl, Some, ◌∙◌, ap, sym, arith, subst, None, not, find, ◌==◌, is_none, is_some, Option, first_of, asking}
+use Rattle.schedule_rules.proofs.Words.{ℕ, ◌≡◌, List, Bool, arith, true, refl, false, Some, ◌∙◌, sym, None, ap, subst, not, find, ◌==◌, is_none, is_some, Option, first_of, asking}
 use Rattle.schedule_rules.proofs.Words.{has_call, lends_value, Call, Answer, Line, Refusal, CellPlan, Act, Step, Calls, Turns, cell_at, tolerance_at, is_owned, is_of_other}
-use Rattle.schedule_rules.proofs.Words.{is_fast, lock_asked, seeks, Event, count, registry, Wait, waits, wait_of, attempt, Attempt, attempt_of_turn, attempt_with, attempt_of_wait}
+use Rattle.schedule_rules.proofs.Words.{is_fast, lock_asked, seeks, Event, count, registry, Wait, waits, wait_of, attempt, Attempt, attempt_with, attempt_of_wait, attempt_of_turn}
 use Rattle.schedule_rules.proofs.Words.{is_barred, holding_with, is_in_use, refusal, refusal_by, no_call, refusal_free, no_lending, IsLegal, IsLegalLine, answer_of, due_at}
-use Rattle.schedule_rules.proofs.Words.{lends_at, waits_judged, is_attempted, is_waiting, is_made_to_wait, phase_met, ChangesNothing}
+use Rattle.schedule_rules.proofs.Words.{lends_at, waits_judged, is_attempted, is_waiting, phase_met, is_made_to_wait, ChangesNothing}
 use Rattle.phase_seq.specs.declared.ask.Want.{Want as Sought}
 use Rattle.schedule_rules.proofs.Facts.{first, second, apart, same_number}
 use Rattle.schedule_rules.proofs.Found.{found_passes, only_one, none_counted}
@@ -31,12 +31,10 @@ module _ (cells : List CellPlan) where
   barred h s l k w = by (attempt cells h s) (second (is_none (refusal cells h s)) _ (sym (waits_where_barred cells h s l k) ∙ w))
     where
       not_so : (b : Bool) → not b ≡ true → b ≡ false
-      not_so true e = absurd (apart (sym e))
-      not_so false e = refl
+      not_so b e = grind arith
 
       sought : (a : Attempt) (o : Option Sought) (x : _) → is_barred (lock_asked (asking o (is_fast a.want) (tolerance_at cells a.cell)) (phase_met cells h s.party a)) x ≡ true → is_some o ≡ true
-      sought a None x e = absurd (apart (sym e))
-      sought a (Some u) x e = refl
+      sought a k1 x e = grind arith
 
       by : (o : Option Attempt) → is_attempted (is_made_to_wait cells h s.party (waits_judged cells k.moment h s l.given)) o ≡ true → Of (Waits cells) o
       by None f = tt
@@ -75,9 +73,7 @@ module _ (cells : List CellPlan) where
   allowed h s n IH = by s.act (wait_of s.party (waits cells h)) refl n
     where
       has : (b d : Bool) → no_call b d ≡ None → d ≡ true
-      has true d e = absurd (cc)
-      has false false e = absurd (cc)
-      has false true e = refl
+      has b d e = grind arith
 
       turned : (o : Option ℕ) → Of HasCall (attempt_of_turn o)
       turned None = tt
@@ -101,17 +97,12 @@ module _ (cells : List CellPlan) where
       unrefused h s l m w = none (refusal cells h s) (first (is_none (refusal cells h s)) _ (sym (waits_where_barred cells h s l m) ∙ w))
         where
           none : (o : Option Refusal) → is_none o ≡ true → o ≡ None
-          none None e = refl
-          none (Some r) e = absurd (cc)
+          none o e = grind arith
 
   -- so is what a step attempts that is not refused
   pub attempted-has : (h : List Event) (s : Step) (c : ℕ) (k : Call) → IsLegal cells h → refusal cells h s ≡ None → attempt cells h s ≡ Some (record { cell = c; want = Calls k })
       → has_call (cell_at cells c).kind k ≡ true
   attempted-has h s c k legal n e = subst (Of HasCall) e (allowed h s n (has-waiting h s.party legal)) k refl
-
-  -- and what waits is a call that its kind has
-  pub waiting-has : (h : List Event) (p : ℕ) (w : Wait) (k : Call) → IsLegal cells h → wait_of p (waits cells h) ≡ Some w → w.want ≡ Calls k → has_call (cell_at cells w.cell).kind k ≡ true
-  waiting-has h p w k legal f e = subst (λ o. Of HasCall (attempt_of_wait o)) f (has-waiting h p legal) k e
 
   -- ---- cells of a party's own
 
@@ -134,8 +125,7 @@ module _ (cells : List CellPlan) where
       (answered, subst (λ r. ChangesNothing cells h (record { step = s; line = record { answer = r; given = l.given } })) (sym answered) nothing)
     where
       none : (x : Option Wait) → is_none x ≡ true → refusal_by cells (is_some x) h s.party s.act ≡ Some Refusal.NotOwner
-      none None f = e
-      none (Some w) f = absurd (cc)
+      none x f = grind arith
 
       refuses : refusal cells h s ≡ Some Refusal.NotOwner
       refuses = none (wait_of s.party (waits cells h)) n
@@ -166,9 +156,7 @@ module _ (cells : List CellPlan) where
   lending-refused h s l c m e o n = refused_so h s l m (by s.act e) n
     where
       other : (z : ℕ) → (z == c) ≡ true → no_lending (no_call (is_of_other (cell_at cells z).place s.party) (lends_value (cell_at cells z).kind)) (is_in_use cells z h) ≡ Some Refusal.NotOwner
-      other z f =
-          let at : z ≡ c = grind arith in
-          ap (λ b. no_lending (no_call b (lends_value (cell_at cells z).kind)) (is_in_use cells z h)) (subst (λ y. is_of_other (cell_at cells y).place s.party ≡ true) (sym at) o)
+      other z f = grind arith
 
       by : (a : Act) → lends_at c a ≡ true → refusal_free cells h s.party a ≡ Some Refusal.NotOwner
       by (Act.GetMut z made left) f = other z f
