@@ -1,7 +1,6 @@
 -- The registry is open as long as a cell may be registered, and knows of each cell whether it was registered.
-use Rattle.schedule_rules.proofs.Words.{ℕ, ◌≡◌, List, Bool, arith, true, refl, false, ◌∷◌, [], ◌∙◌, sym, subst, not, length, length-replicate, length-set, if◌then◌else◌, closed}
-use Rattle.schedule_rules.proofs.Words.{after_register, Registry, CellPlan, Calls, Turns, cell_at, tries_registration, Deed, Opens, Skips, Event, deed_of, accepts, is_closed}
-use Rattle.schedule_rules.proofs.Words.{closed_by, phase_at, registry, registry_by, registry_taken, registry_of_run, IsLegal}
+use Rattle.schedule_rules.proofs.Words.{ℕ, ◌≡◌, List, arith, Bool, true, refl, false, ◌∷◌, [], ◌∙◌, not, length, length-replicate, length-set, closed, after_register, Registry}
+use Rattle.schedule_rules.proofs.Words.{CellPlan, Deed, Event, deed_of, accepts, closed_by, is_closed, registry, registry_by, registry_taken, registry_of_run, IsLegal}
 use Rattle.schedule_rules.proofs.Finds.{Finds, finds}
 
 -- a registration changes neither whether the registry is open nor of how many cells it knows
@@ -10,11 +9,7 @@ module _ (m : Registry) (c : ℕ) where
   open_registered = grind arith
 
   length_registered : length (after_register c m).known ≡ length m.known
-  length_registered = by m.is_open refl
-    where
-      by : (b : Bool) → m.is_open ≡ b → length (after_register c m).known ≡ length m.known
-      by true e = rw e (length-set m.known c true)
-      by false e = rw e refl
+  length_registered = grind (arith, length-set)
 
 -- nor does a turn that is taken
 open_taken : (b : Bool) (m : Registry) → (registry_taken b m).is_open ≡ m.is_open
@@ -36,11 +31,7 @@ module _ (cells : List CellPlan) where
     open_run = grind arith
 
     length_run : length (registry_of_run cells c p m).known ≡ length m.known
-    length_run = by (tries_registration (cell_at cells c).kind p)
-      where
-        by : (b : Bool) → length (if b then after_register c m else m).known ≡ length m.known
-        by true = length_registered m c
-        by false = refl
+    length_run = grind (arith, length_registered)
 
     -- in a closed registry it changes nothing
     closed_run : registry_of_run cells c p (closed m) ≡ closed m
@@ -48,10 +39,7 @@ module _ (cells : List CellPlan) where
 
   module _ (h : List Event) where
     length_by : (d : Deed) (m : Registry) → length (registry_by cells h d m).known ≡ length m.known
-    length_by (Opens c (Calls k) taken) m = length_run c (phase_at cells c h) m
-    length_by (Opens c Turns taken) m = length_taken taken m
-    length_by (Skips c taken) m = length_taken taken m
-    length_by _ m = refl
+    length_by k1 m = grind (arith, length_run, length_taken)
 
     -- in a closed registry no deed changes anything
     closed_after : (d : Deed) (m : Registry) → registry_by cells h d (closed m) ≡ closed m
@@ -85,5 +73,4 @@ module _ (cells : List CellPlan) where
 
   -- and the registry stays as it is
   pub closed-stays : (h : List Event) (e : Event) → IsLegal cells h → is_closed h ≡ true → registry cells (e ∷ h) ≡ registry cells h
-  closed-stays h e k is =
-      subst (λ m. registry_by cells h (deed_of h e.step e.line.answer) m ≡ m) (sym (closed-registry h k is)) (closed_after h (deed_of h e.step e.line.answer) (registry cells h))
+  closed-stays h e k is = grind (arith, closed-registry)

@@ -1,10 +1,9 @@
 -- Where a generator runs, and where a value may not be accessed.
-use Rattle.schedule_rules.proofs.Words.{ℕ, ◌≡◌, List, Bool, arith, true, refl, false, Some, ◌∷◌, [], ◌∙◌, sym, None, ap, subst, ◌⊎◌, ◌&&◌, inl, not, length, inr, ◌≢◌, find, ◌==◌}
-use Rattle.schedule_rules.proofs.Words.{if◌then◌else◌, Option, has, initialized, phase_of, Phase, Given, shall_init, flags_refused, Tolerance, Call, Answer, Line, CellPlan, Act}
-use Rattle.schedule_rules.proofs.Words.{Step, Want, Calls, Turns, cell_at, tolerance_at, runs_generator, effect, Asked, is_declined, content_asked, deed_visited, Event, accepts}
-use Rattle.schedule_rules.proofs.Words.{act_of, Section, sections, runs_in, sections_by, runs, generates_for, guards, guards_by, replay, phase_at, Back, back_of_step}
-use Rattle.schedule_rules.proofs.Words.{content_after_back, back_by, attempt, cell_concerned, cell_of_attempt, IsLegal, IsLegalLine, lends_at, runs_to_lend, KeepsValues}
-use Rattle.schedule_rules.proofs.Words.{IsTurnedAway}
+use Rattle.schedule_rules.proofs.Words.{ℕ, ◌≡◌, List, arith, Bool, true, refl, false, Some, ◌∷◌, [], ◌∙◌, sym, ap, subst, ◌⊎◌, ◌&&◌, not, inl, inr, length, ◌≢◌, if◌then◌else◌, has}
+use Rattle.schedule_rules.proofs.Words.{initialized, phase_of, Phase, Given, shall_init, flags_refused, Tolerance, Call, Answer, Line, CellPlan, Act, Step, cell_at, tolerance_at}
+use Rattle.schedule_rules.proofs.Words.{runs_generator, Asked, is_declined, content_asked, deed_visited, Event, accepts, act_of, sections, sections_by, runs, guards, guards_by}
+use Rattle.schedule_rules.proofs.Words.{replay, phase_at, Back, back_of_step, content_after_back, back_by, attempt, cell_concerned, cell_of_attempt, IsLegal, IsLegalLine, lends_at}
+use Rattle.schedule_rules.proofs.Words.{runs_to_lend, IsTurnedAway, KeepsValues}
 use Rattle.schedule_rules.proofs.Found.{found_passes, each_found}
 use Rattle.schedule_rules.proofs.Leaves.{back_here, asked_value}
 use Rattle.schedule_rules.proofs.Cases.{IsTrying, Calling, Asking, Resting, Reach}
@@ -136,24 +135,7 @@ module _ (cells : List CellPlan) where
 
   -- and it stays empty while the generator runs
   pub runs_on_empty : (h : List Event) (p c : ℕ) → IsLegal cells h → runs p c h ≡ true → (cell_at cells c).retry ≡ false → phase_at cells c h ≡ 0
-  runs_on_empty h p c k r once = by (find (runs_in c) (sections h)) refl r
-    where
-      needed : (s : Section) → find (runs_in c) (sections h) ≡ Some s → (w : Want) → s.want ≡ w → generates_for p (Some s) ≡ true → Needs w (cell_at cells s.cell) (phase_at cells s.cell h) → phase_at cells c h ≡ 0
-      needed s e (Calls j) d g u =
-          let same : (s.cell == c) ≡ true = found_passes (runs_in c) (sections h) s e in
-          let here : s.cell ≡ c = grind arith in
-          empty-where-wanted (tolerance_at cells c) (phase_at cells c h) (subst (λ z. shall_init (tolerance_at cells z) (phase_of (phase_at cells z h)) ≡ true) here u) once
-      needed s e Turns d g u = absurd (by d g)
-        where
-          by : s.want ≡ Turns → generates_for p (Some s) ≡ true → ⊥
-          by d g = turn (rw d at g)
-            where
-              turn : false ≡ true → ⊥
-              turn x = cc
-
-      by : (o : Option Section) → find (runs_in c) (sections h) ≡ o → generates_for p o ≡ true → phase_at cells c h ≡ 0
-      by None e g = absurd (cc)
-      by (Some s) e g = needed s e s.want refl g (each_found (runs_in c) (IsStanding cells h) (sections h) s e (sound cells h k).standing)
+  runs_on_empty h p c k r once = grind (arith, Needs, found_passes, empty-where-wanted, each_found, IsStanding, sound)
 
   -- nor is a value made on another phase, to be lent
   pub lends_on_empty : (h : List Event) (s : Step) (c : ℕ) → lends_at c s.act ≡ true → runs_to_lend cells h s.act ≡ true → (cell_at cells c).retry ≡ false → phase_at cells c h ≡ 0
@@ -170,9 +152,4 @@ keeps_values cells h s p g = record { sections_stay = same_sections (act_of h s)
     same_guards a = grind arith
 
     by : (c : ℕ) (a : Act) → (content_after_back cells c (back_by s.party (deed_visited (accepts h) false a) (sections h) (guards h)) (replay cells c h)).value ≡ (replay cells c h).value
-    by c (Act.Call d j) = here (d == c)
-      where
-        here : (b : Bool) → (if b then effect (cell_at cells c) (Asked (accepts h) j ∷ []) (replay cells c h) else replay cells c h).value ≡ (replay cells c h).value
-        here true = asked_value (cell_at cells c) (accepts h) j (replay cells c h)
-        here false = refl
-    by c _ = refl
+    by c k1 = grind (arith, asked_value)

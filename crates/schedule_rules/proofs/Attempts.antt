@@ -1,16 +1,15 @@
 -- What an attempt at a cell is answered, case by case.
-use Rattle.schedule_rules.proofs.Words.{ℕ, ◌≡◌, List, Bool, arith, true, refl, false, Some, ◌∷◌, [], ◌∙◌, sym, None, ap, subst, ◌<◌, ◌&&◌, ◌+◌, inl, not, inr, ◌==◌, if◌then◌else◌}
-use Rattle.schedule_rules.proofs.Words.{is_some, Option, has, initialized, phase_of, first_of, look_at, LockNature, How, shall_init, flags_refused, Tolerance, asking, Call, Kind}
-use Rattle.schedule_rules.proofs.Words.{Form, Held, Told, Shown, Answer, CellPlan, Act, Want, Calls, Turns, cell_at, tolerance_at, form_of, is_accessible, runs_generator, asks}
-use Rattle.schedule_rules.proofs.Words.{is_fast, initializes, lock_wanted, Content, Event, accepts, count, latest_act, runs, replay, phase_at, registry, Wait, waits, wait_of}
-use Rattle.schedule_rules.proofs.Words.{attempt_of_wait, attempt_of_turn, act_for, shares_write, drains_on, write_holds, is_barred, read_guards, holding_with, readers, keeps}
-use Rattle.schedule_rules.proofs.Words.{refusal, refusal_by, refusal_free, refusal_waiting, answer_barred, answer_admitted, answer_at, answer_opened, answer_denied}
-use Rattle.schedule_rules.proofs.Words.{turn_answer_admitted, call_answer_admitted, due_tried, due_attempt, answer_of_look, IsExclusive}
+use Rattle.schedule_rules.proofs.Words.{ℕ, ◌≡◌, List, arith, Bool, true, refl, false, Some, ◌∷◌, [], ◌∙◌, sym, ap, None, subst, ◌&&◌, not, inl, inr, ◌<◌, if◌then◌else◌, is_some}
+use Rattle.schedule_rules.proofs.Words.{Option, has, initialized, phase_of, first_of, look_at, LockNature, How, shall_init, flags_refused, Tolerance, asking, Call, Kind, Form}
+use Rattle.schedule_rules.proofs.Words.{Held, Told, Shown, Answer, CellPlan, Act, Want, Calls, Turns, cell_at, tolerance_at, form_of, is_accessible, runs_generator, asks, is_fast}
+use Rattle.schedule_rules.proofs.Words.{initializes, lock_wanted, Content, Event, accepts, latest_act, runs, replay, phase_at, registry, Wait, waits, wait_of, attempt_of_wait}
+use Rattle.schedule_rules.proofs.Words.{attempt_of_turn, act_for, write_holds, is_barred, holding_with, read_guards, readers, keeps, refusal, refusal_by, refusal_waiting}
+use Rattle.schedule_rules.proofs.Words.{refusal_free, answer_barred, answer_admitted, answer_at, turn_answer_admitted, answer_opened, answer_denied, call_answer_admitted}
+use Rattle.schedule_rules.proofs.Words.{due_attempt, due_tried, answer_of_look, IsExclusive}
 use Rattle.schedule_rules.proofs.Found.{found_counts}
 use Rattle.schedule_rules.proofs.GoesOn.{Matches, wait-matches}
 use Rattle.schedule_rules.proofs.Answered.{barred}
 use Rattle.schedule_rules.proofs.Cases.{step, Tries, Case, Calling, Turning, Asking, Resting, Reach, Visiting, form_at, errs, writes}
-use Rattle.schedule_rules.proofs.Facts.{same_number}
 
 -- nothing is written where something drains
 no_writers : (w d : ℕ) → (0 < w → d ≡ 0) → 0 < d → w ≡ 0
@@ -74,25 +73,7 @@ module _ (cells : List CellPlan) (h : List Event) (p : ℕ) where
 
     unheld : (n : ℕ) (ws : List Wait) → ((w : Wait) → wait_of p (waits cells h) ≡ Some w → w.cell ≡ c)
         → (not (keeps (wait_of p (waits cells h)) LockNature.Write n) && is_barred LockNature.Write (holding_with c h ws)) ≡ false → write_holds c h ≡ 0
-    unheld n ws mine e = by (wait_of p (waits cells h)) refl e
-      where
-        by : (o : Option Wait) → wait_of p (waits cells h) ≡ o → (not (keeps o LockNature.Write n) && is_barred LockNature.Write (holding_with c h ws)) ≡ false → write_holds c h ≡ 0
-        by None f g = unbarred ws g
-        by (Some w) f g = kept w.way w.woken refl refl g
-          where
-            here : (w.cell == c) ≡ true
-            here = same_number w.cell c (mine w f)
-
-            kept : (y : How) (b : Bool) → w.way ≡ y → w.woken ≡ b → (not (keeps (Some (record { party = w.party; cell = w.cell; want = w.want; way = y; woken = b })) LockNature.Write n) && is_barred LockNature.Write (holding_with c h ws)) ≡ false → write_holds c h ≡ 0
-            kept How.ParkedWrite true u v g =
-                let one : 0 < count (shares_write c) (waits cells h) = found_counts (λ z. z.party == p) (shares_write c) (waits cells h) w f (rw (u, v, here) refl) in
-                omega (arith, alone.one_writer, one)
-            kept How.ParkedWrite false u v g = unbarred ws g
-            kept How.Drain b u v g =
-                let one : 0 < count (drains_on c) (waits cells h) = found_counts (λ z. z.party == p) (drains_on c) (waits cells h) w f (rw (u, here) refl) in
-                omega (arith, no_writers _ _ alone.no_drain one)
-            kept How.ParkedRead b u v g = unbarred ws g
-            kept How.Spin b u v g = unbarred ws g
+    unheld n ws mine e = grind (arith, unbarred, found_counts, no_writers)
 
     -- nor a guard to read
     unbarred_read : (ws : List Wait) → is_barred LockNature.Write (holding_with c h ws) ≡ false → read_guards c h ≡ 0
@@ -100,31 +81,7 @@ module _ (cells : List CellPlan) (h : List Event) (p : ℕ) where
 
     unread : (ws : List Wait) → ((w : Wait) → wait_of p (waits cells h) ≡ Some w → w.cell ≡ c)
         → (not (keeps (wait_of p (waits cells h)) LockNature.Write (readers cells c h)) && is_barred LockNature.Write (holding_with c h ws)) ≡ false → read_guards c h ≡ 0
-    unread ws mine e = by (wait_of p (waits cells h)) refl e
-      where
-        none : (n : ℕ) → read_guards c h + n ≡ 0 → read_guards c h ≡ 0
-        none n f = omega (arith, f)
-
-        drained : (b : Bool) → (readers cells c h == 0) ≡ b → (not b && is_barred LockNature.Write (holding_with c h ws)) ≡ false → read_guards c h ≡ 0
-        drained b f g = grind arith
-
-        by : (o : Option Wait) → wait_of p (waits cells h) ≡ o → (not (keeps o LockNature.Write (readers cells c h)) && is_barred LockNature.Write (holding_with c h ws)) ≡ false → read_guards c h ≡ 0
-        by None f g = unbarred_read ws g
-        by (Some w) f g = kept w.way w.woken refl refl g
-          where
-            here : (w.cell == c) ≡ true
-            here = same_number w.cell c (mine w f)
-
-            kept : (y : How) (b : Bool) → w.way ≡ y → w.woken ≡ b
-                → (not (keeps (Some (record { party = w.party; cell = w.cell; want = w.want; way = y; woken = b })) LockNature.Write (readers cells c h)) && is_barred LockNature.Write (holding_with c h ws)) ≡ false
-                → read_guards c h ≡ 0
-            kept How.ParkedWrite true u v g =
-                let one : 0 < count (shares_write c) (waits cells h) = found_counts (λ z. z.party == p) (shares_write c) (waits cells h) w f (rw (u, v, here) refl) in
-                none _ (alone.no_reader (omega (arith, one)))
-            kept How.ParkedWrite false u v g = unbarred_read ws g
-            kept How.Drain b u v g = drained (readers cells c h == 0) refl g
-            kept How.ParkedRead b u v g = unbarred_read ws g
-            kept How.Spin b u v g = unbarred_read ws g
+    unread ws mine e = grind (arith, unbarred_read, found_counts)
 
   -- whatever of the party waits, waits for the cell
   abbrev pub IsMine : ℕ → Type 0

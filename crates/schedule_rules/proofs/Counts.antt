@@ -1,8 +1,7 @@
 -- How many calls wait and how many turns there are, after one is taken off or added.
-use Rattle.schedule_rules.proofs.Words.{ℕ, ◌≡◌, List, Bool, arith, true, refl, false, Some, ◌∷◌, [], sym, None, subst, ◌+◌, not, cond, ◌≤◌, ◌++◌, ◌==◌, if◌then◌else◌, map, Option}
+use Rattle.schedule_rules.proofs.Words.{ℕ, ◌≡◌, List, arith, Bool, true, refl, false, Some, ◌∷◌, [], None, not, ◌+◌, cond, ◌≤◌, ◌++◌, ◌==◌, if◌then◌else◌, map, Option}
 use Rattle.schedule_rules.proofs.Words.{cells_of_turns, first_of, rest_of, occurs, Turn, Turned, Given, Answer, CellPlan, Step, Want, Turns, Event, count, Wait, waits, wait_of}
-use Rattle.schedule_rules.proofs.Words.{Attempt, attempt_with, attempt_of_wait, attempt_of_turn, without_wait, waits_given_with, cell_concerned_with, waits_answered, with_wait}
-use Rattle.schedule_rules.proofs.Words.{wait_woken, wake_readers, wake_reader, wake_writer}
+use Rattle.schedule_rules.proofs.Words.{Attempt, attempt_of_wait, attempt_of_turn, without_wait, waits_given_with, with_wait, waits_answered, wait_woken}
 
 -- 1 where the test holds
 abbrev pub one_if : Bool → ℕ
@@ -34,13 +33,7 @@ module _ (t : Wait → Bool) (keeps : (w : Wait) → t (wait_woken w) ≡ t w) w
   woken false w = refl
 
   pub count_given : (cells : List CellPlan) (all : List Wait) (h : List Event) (s : Step) (g : Given) (ws : List Wait) → count t (waits_given_with cells all h s g ws) ≡ count t ws
-  count_given cells all h s Given.Nobody ws = refl
-  count_given cells all h s (Given.Writer q) ws = count_mapped t (wake_writer q) (λ w. woken _ w) ws
-  count_given cells all h s Given.Readers ws = by (cell_concerned_with cells all h s.party s.act)
-    where
-      by : (o : Option ℕ) → count t (wake_readers o ws) ≡ count t ws
-      by None = refl
-      by (Some c) = count_mapped t (wake_reader c) (λ w. woken _ w) ws
+  count_given cells all h s k1 ws = grind (arith, count_mapped, woken)
 
 -- where the party does not wait, all are others
 pub without_none : (p : ℕ) (ws : List Wait) → wait_of p ws ≡ None → without_wait p ws ≡ ws
@@ -66,19 +59,12 @@ count_without t p (v ∷ ws) w e n = by (v.party == p) e n (λ f m. count_withou
     more false x y b e = e
 
     own : v ≡ w → count (λ u. u.party == p) ws ≡ 0 → cond (t v) (count t ws + 1) (count t ws) ≡ count t (without_wait p ws) + cond (t w) 1 0
-    own same none = rw (without_none p ws (none_waits p ws none)) (subst (λ u. cond (t v) (count t ws + 1) (count t ws) ≡ count t ws + cond (t u) 1 0) same (one (t v)))
-      where
-        one : (b : Bool) → cond b (count t ws + 1) (count t ws) ≡ count t ws + cond b 1 0
-        one b = grind arith
+    own same none = grind (arith, without_none, none_waits)
 
     by : (b : Bool) → cond b (Some v) (wait_of p ws) ≡ Some w → cond b (count (λ u. u.party == p) ws + 1) (count (λ u. u.party == p) ws) ≤ 1
         → (wait_of p ws ≡ Some w → count (λ u. u.party == p) ws ≤ 1 → count t ws ≡ count t (without_wait p ws) + cond (t w) 1 0)
         → cond (t v) (count t ws + 1) (count t ws) ≡ count t (cond (not b) (v ∷ without_wait p ws) (without_wait p ws)) + cond (t w) 1 0
-    by true f m rest = own (same f) (omega (arith, m))
-      where
-        same : Some v ≡ Some w → v ≡ w
-        same x = cc
-    by false f m rest = more (t v) (count t ws) (count t (without_wait p ws)) (t w) (rest f m)
+    by b f m rest = grind (arith, own, more)
 
 -- without the waits of a party no more wait
 without_fewer : (t : Wait → Bool) (p : ℕ) (ws : List Wait) → count t (without_wait p ws) ≤ count t ws
@@ -118,20 +104,10 @@ module _ (cells : List CellPlan) (p : ℕ) where
     few = let m : _ = without_fewer (λ w. w.party == p) s.party ws in omega (arith, given_others, m, n)
 
     one_more : (way : _) (o : Option Attempt) → count (λ w. w.party == p) (with_wait s.party way o others) ≤ 1
-    one_more way None = few
-    one_more way (Some a) = by (s.party == p) refl
-      where
-        by : (b : Bool) → (s.party == p) ≡ b → cond b (count (λ w. w.party == p) others + 1) (count (λ w. w.party == p) others) ≤ 1
-        by true e =
-            let same : s.party ≡ p = grind arith in
-            let none : count (λ w. w.party == p) (without_wait s.party ws) ≡ 0 = subst (λ q. count (λ w. w.party == p) (without_wait q ws) ≡ 0) (sym same) (none_own p ws) in
-            omega (arith, given_others, none)
-        by false e = few
+    one_more way k1 = grind (arith, few, none_own, given_others)
 
     one_answered : (r : Answer) → count (λ w. w.party == p) (waits_answered cells h s g r ws) ≤ 1
-    one_answered (Answer.Refused q) = n
-    one_answered (Answer.Waiting way) = one_more way (attempt_with cells ws h s.party s.act)
-    one_answered _ = few
+    one_answered r = grind (arith, one_more, few)
 
   -- a party waits with one call at most
   pub one-wait : (h : List Event) → count (λ w. w.party == p) (waits cells h) ≤ 1

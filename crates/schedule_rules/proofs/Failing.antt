@@ -1,13 +1,13 @@
 -- What a failed run leaves; and of a value that is lent, that nobody uses its cell, and what the step leaves.
-use Rattle.schedule_rules.proofs.Words.{ℕ, ◌≡◌, List, Bool, arith, true, refl, false, Some, ◌∷◌, [], ◌∙◌, sym, None, ap, subst, ◌⊎◌, ◌&&◌, ◌+◌, inl, not, length, inr, cond, ◌≢◌}
+use Rattle.schedule_rules.proofs.Words.{ℕ, ◌≡◌, List, arith, Bool, true, refl, false, Some, ◌∷◌, [], ◌∙◌, sym, ap, None, subst, ◌⊎◌, ◌&&◌, not, inl, inr, length, ◌+◌, cond, ◌≢◌}
 use Rattle.schedule_rules.proofs.Words.{◌||◌, list_any, ◌==◌, if◌then◌else◌, is_none, is_some, Option, Given, Answer, Line, Refusal, CellPlan, Act, Step, cell_at, tolerance_at}
-use Rattle.schedule_rules.proofs.Words.{is_parking, is_accessible, Content, Change, effect, Ran, Put, RanIfAsked, Makes, Event, deed_of, accepts, count, Section, sections}
+use Rattle.schedule_rules.proofs.Words.{is_parking, is_accessible, Content, Change, effect, Ran, Put, RanIfAsked, Makes, Event, deed_of, accepts, count, sections, Section}
 use Rattle.schedule_rules.proofs.Words.{innermost, sections_by, guards, guards_by, replay, Back, back_of_step, content_after_back, back_of_section, Wait, waits, wait_of}
-use Rattle.schedule_rules.proofs.Words.{attempt_with, without_wait, cell_concerned, cell_of_section, waits_given_with, cell_concerned_with, waits_answered, waits_at, other_waits}
-use Rattle.schedule_rules.proofs.Words.{parks_to_read, parks_to_write, refusal, refusal_by, no_call, refusal_free, refusal_waiting, no_lending, no_reader, no_guard, no_outcome}
-use Rattle.schedule_rules.proofs.Words.{no_writer, no_exit, due_answer, may_give_last, may_give_first, may_give_on, reaches, IsLegalLine, answer_of, due_at, Moment, may_give}
-use Rattle.schedule_rules.proofs.Words.{First, Last, lends_at, waits_judged, is_failed, lends_in_use, is_refused_in_use, is_step_in_use, is_failure, is_lent, ChangesCellAlone}
-use Rattle.schedule_rules.proofs.Words.{IsFailedRun, EndsRun, RunsAtOnce, IsUnused, Leaves}
+use Rattle.schedule_rules.proofs.Words.{attempt_with, without_wait, waits_given_with, cell_concerned, waits_at, cell_of_section, waits_answered, other_waits, cell_concerned_with}
+use Rattle.schedule_rules.proofs.Words.{refusal, refusal_by, no_call, refusal_waiting, refusal_free, no_lending, no_guard, no_writer, no_outcome, no_reader, no_exit, due_answer}
+use Rattle.schedule_rules.proofs.Words.{may_give_first, may_give_on, may_give_last, reaches, IsLegalLine, answer_of, due_at, Moment, may_give, First, Last, lends_at, waits_judged}
+use Rattle.schedule_rules.proofs.Words.{is_failed, is_refused_in_use, lends_in_use, is_step_in_use, is_failure, is_lent, RunsAtOnce, EndsRun, ChangesCellAlone, IsFailedRun, Leaves}
+use Rattle.schedule_rules.proofs.Words.{IsUnused}
 use Rattle.schedule_rules.proofs.Cases.{step, IsTrying, trying, Lendable, Case, calling-tries, turning-tries}
 use Rattle.schedule_rules.proofs.Steps.{lendable, lendable_so, allowed}
 use Rattle.schedule_rules.proofs.Finds.{LendsSo, Both, finds, tells}
@@ -117,10 +117,7 @@ module _ (c : ℕ) where
   elsewhere b d e = grind arith
 
   pub none_reached : (g : Given) (ws : List Wait) → count (waits_at c) ws ≡ 0 → reaches c g ws ≡ true → g ≡ Given.Nobody
-  none_reached Given.Nobody ws n e = refl
-  none_reached Given.Readers ws n e = absurd (apart (sym e ∙ none_any (parks_to_read c) (λ w f. elsewhere _ _ f) ws n))
-  none_reached (Given.Writer q) ws n e =
-      absurd (apart (sym e ∙ none_any (λ w. (w.party == q) && parks_to_write c w) (λ w f. ap (λ b. (w.party == q) && b) (elsewhere _ _ f) ∙ no_more (w.party == q)) ws n))
+  none_reached k1 ws n e = grind (arith, none_any, elsewhere, no_more)
 
 module _ (cells : List CellPlan) (h : List Event) (s : Step) (c : ℕ) (lends : lends_at c s.act ≡ true) (free : is_none (refusal cells h s) ≡ true) where
   -- its cell is of a kind that lends, and nobody uses it

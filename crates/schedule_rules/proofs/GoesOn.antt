@@ -1,8 +1,7 @@
 -- A waiting call goes on with what its party did last: its wait says the same call as the party's latest act.
-use Rattle.schedule_rules.proofs.Words.{ℕ, ◌≡◌, List, Bool, arith, true, refl, false, Some, ◌∷◌, [], ◌∙◌, sym, None, ap, subst, ◌≢◌, ◌==◌, if◌then◌else◌, map, Option, first_of}
+use Rattle.schedule_rules.proofs.Words.{ℕ, ◌≡◌, List, arith, Bool, true, refl, false, Some, ◌∷◌, [], ◌∙◌, sym, ap, None, subst, ◌≢◌, ◌==◌, if◌then◌else◌, map, Option, first_of}
 use Rattle.schedule_rules.proofs.Words.{Given, How, Answer, Refusal, CellPlan, Act, Step, Event, latest_act, newer_act, latest_act_after, registry, Wait, waits, wait_of, attempt}
-use Rattle.schedule_rules.proofs.Words.{Attempt, attempt_with, attempt_of_wait, attempt_of_turn, without_wait, waits_given_with, cell_concerned_with, waits_answered, with_wait}
-use Rattle.schedule_rules.proofs.Words.{wait_woken, wake_readers, wake_reader, wake_writer, act_for}
+use Rattle.schedule_rules.proofs.Words.{Attempt, attempt_of_wait, attempt_with, attempt_of_turn, without_wait, waits_given_with, with_wait, waits_answered, act_for, wait_woken}
 use Rattle.schedule_rules.proofs.Opened.{wait_removed, wait_kept}
 
 module _ (f : Wait → Wait) (same_party : (w : Wait) → (f w).party ≡ w.party) (same_attempt : (w : Wait) → attempt_of_wait (Some (f w)) ≡ attempt_of_wait (Some w)) where
@@ -39,13 +38,7 @@ each_of T U f (Some a) t = f a t
 module _ (cells : List CellPlan) where
   -- a gift changes no attempt
   pub attempt_given : (all : List Wait) (h : List Event) (s : Step) (g : Given) (p : ℕ) (ws : List Wait) → attempt_of_wait (wait_of p (waits_given_with cells all h s g ws)) ≡ attempt_of_wait (wait_of p ws)
-  attempt_given all h s Given.Nobody p ws = refl
-  attempt_given all h s (Given.Writer q) p ws = attempt_mapped (wake_writer q) (λ w. woken_party _ w) (λ w. woken_attempt _ w) p ws
-  attempt_given all h s Given.Readers p ws = by (cell_concerned_with cells all h s.party s.act)
-    where
-      by : (o : Option ℕ) → attempt_of_wait (wait_of p (wake_readers o ws)) ≡ attempt_of_wait (wait_of p ws)
-      by None = refl
-      by (Some c) = attempt_mapped (wake_reader c) (λ w. woken_party _ w) (λ w. woken_attempt _ w) p ws
+  attempt_given all h s k1 p ws = grind (arith, attempt_mapped, woken_party, woken_attempt)
 
   -- what waits for the party
   abbrev pub waiting : List Event → ℕ → Option Attempt

@@ -1,10 +1,10 @@
 -- What a legal step leaves: each section stands on the phase that it needs, each holder of a write guard sees a value, and
 -- INITIALIZED is never cleared.
-use Rattle.schedule_rules.proofs.Words.{ℕ, ◌≡◌, List, Bool, arith, true, refl, false, Some, ◌∷◌, [], ◌∙◌, sym, ap, ◌⊎◌, and_or_apart, and_or_self, bit_or, bit_and, AllByRecursion}
+use Rattle.schedule_rules.proofs.Words.{ℕ, ◌≡◌, List, arith, Bool, true, refl, false, Some, ◌∷◌, [], ◌∙◌, sym, ap, ◌⊎◌, and_or_apart, and_or_self, bit_and, bit_or, AllByRecursion}
 use Rattle.schedule_rules.proofs.Words.{◌==◌, Option, has, initialized, phase_of, shall_init, Tolerance, Call, Kind, CellPlan, Want, Calls, Turns, cell_at, tolerance_of}
-use Rattle.schedule_rules.proofs.Words.{flags_kept, Content, Change, effect, Ran, Asked, Put, Ended, RanIfAsked, asks_to_lend, Deed, EndsToRead, Visits, Ends, Makes, Finishes}
-use Rattle.schedule_rules.proofs.Words.{EndsToWrite, Drops, DropsToRead, Opens, Lends, Holds, Event, deed_of, accepts, Section, sections, is_turn, Guard, guards, numbered, replay}
-use Rattle.schedule_rules.proofs.Words.{phase_at, IsLegal, IsExclusive}
+use Rattle.schedule_rules.proofs.Words.{flags_kept, Content, Change, effect, Ran, Asked, Ended, Put, RanIfAsked, asks_to_lend, Deed, Visits, EndsToRead, Ends, Makes, Drops}
+use Rattle.schedule_rules.proofs.Words.{DropsToRead, Finishes, EndsToWrite, Lends, Opens, Holds, Event, deed_of, accepts, sections, Section, is_turn, Guard, guards, numbered}
+use Rattle.schedule_rules.proofs.Words.{replay, phase_at, IsLegal, IsExclusive}
 use Rattle.schedule_rules.proofs.Found.{each_found}
 use Rattle.schedule_rules.proofs.Cases.{Asking, Resting, AsksToLend, Reach}
 use Rattle.schedule_rules.proofs.Attempts.{asks_due}

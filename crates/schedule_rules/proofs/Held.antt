@@ -1,10 +1,9 @@
 -- A phase that is not 0 never is 0 again; and a cell that was touched stays so: its phase is not 0, or a section runs in it,
 -- or a guard writes it.
-use Rattle.schedule_rules.proofs.Words.{ℕ, ◌≡◌, List, Bool, arith, true, false, Some, ◌∷◌, [], ◌∙◌, sym, None, subst, ◌<◌, ◌⊎◌, inl, inr, cond, ◌≢◌, and_or_self, bit_or, bit_and}
-use Rattle.schedule_rules.proofs.Words.{AllByRecursion, ◌==◌, Option, has, initialized, CellPlan, cell_at, tolerance_of, flags_kept, Content, Change, effect, Ran, Asked, Put}
-use Rattle.schedule_rules.proofs.Words.{Ended, RanIfAsked, asks_to_lend, content_after, content_of_run, Deed, EndsToRead, Visits, Ends, Makes, Finishes, EndsToWrite, Drops}
-use Rattle.schedule_rules.proofs.Words.{DropsToRead, Lends, Holds, Event, deed_of, Section, sections, Guard, guards, numbered, replay, phase_at, Back, back_of_step}
-use Rattle.schedule_rules.proofs.Words.{content_after_back, write_holds, IsLegal, IsExclusive}
+use Rattle.schedule_rules.proofs.Words.{ℕ, ◌≡◌, List, arith, Bool, true, false, Some, ◌∷◌, [], ◌∙◌, sym, None, subst, ◌⊎◌, inl, inr, ◌<◌, cond, ◌≢◌, and_or_self, bit_and, bit_or}
+use Rattle.schedule_rules.proofs.Words.{AllByRecursion, ◌==◌, Option, has, initialized, CellPlan, cell_at, Content, Change, effect, Ran, Asked, Ended, Put, RanIfAsked}
+use Rattle.schedule_rules.proofs.Words.{content_after, Deed, Visits, EndsToRead, Ends, Makes, Drops, DropsToRead, Finishes, EndsToWrite, Lends, Holds, Event, deed_of, sections}
+use Rattle.schedule_rules.proofs.Words.{Section, Guard, guards, numbered, replay, phase_at, Back, back_of_step, content_after_back, write_holds, IsLegal, IsExclusive}
 use Rattle.schedule_rules.proofs.Exclusion.{alone}
 use Rattle.schedule_rules.proofs.Found.{each_of, each_found}
 use Rattle.schedule_rules.proofs.Finds.{Finds, accessed_there, finds}
@@ -26,8 +25,7 @@ HasEnded (RanIfAsked o m ∷ chs) = HasEnded chs
 
 module _ (x : CellPlan) where
   ran_touches : (o : Bool) (made : Option ℕ) (y : Content) → (content_after x (Ran o made) y).phase ≢ 0
-  ran_touches o (Some v) y = with_flag (flags_kept x.kind o y.phase) 1 (λ e. cc)
-  ran_touches o None y = with_flag (flags_kept x.kind o y.phase) 6 (λ e. cc)
+  ran_touches o k1 y = grind (arith, with_flag)
 
   ended_touches : (fine : Bool) (left : Option ℕ) (y : Content) → (content_after x (Ended fine left) y).phase ≢ 0
   ended_touches true left y = with_flag y.phase 64 (λ e. cc)
@@ -37,11 +35,7 @@ module _ (x : CellPlan) where
   asked_keeps o k y ne = grind arith
 
   lent_keeps : (o : Bool) (made : Option ℕ) (y : Content) → y.phase ≢ 0 → (content_after x (RanIfAsked o made) y).phase ≢ 0
-  lent_keeps o made y ne = by (asks_to_lend x.kind (tolerance_of x) y.phase)
-    where
-      by : (b : Bool) → (cond b (content_of_run x.kind o made y) y).phase ≢ 0
-      by true = ran_touches o made y
-      by false = ne
+  lent_keeps o made y ne = grind (arith, ran_touches)
 
   -- what happens in a section keeps a phase that is not 0
   pub effect_keeps : (chs : List Change) (y : Content) → y.phase ≢ 0 → (effect x chs y).phase ≢ 0
@@ -67,8 +61,7 @@ back_keeps cells c None y ne = ne
 back_keeps cells c (Some b) y ne = by (b.cell == c)
   where
     by : (d : Bool) → (cond d (effect (cell_at cells c) b.changes y) y).phase ≢ 0
-    by true = effect_keeps (cell_at cells c) b.changes y ne
-    by false = ne
+    by d = grind (arith, effect_keeps)
 
 -- a published phase that is not 0 stays so
 pub phase_stays : (cells : List CellPlan) (c : ℕ) (e : Event) (h : List Event) → phase_at cells c h ≢ 0 → phase_at cells c (e ∷ h) ≢ 0
@@ -120,8 +113,7 @@ module _ (cells : List CellPlan) where
     dropped d g x f k w n = inl (by (each_found (λ y. y.number == g) (λ x. IsGood (replay cells x.cell h) x) (guards h) x f k w))
       where
         by : (phase_at cells x.cell h ≢ 0) ⊎ HasEnded x.changes → (effect (cell_at cells x.cell) x.changes (replay cells x.cell h)).phase ≢ 0
-        by (inl ne) = effect_keeps (cell_at cells x.cell) x.changes (replay cells x.cell h) ne
-        by (inr r) = effect_touches (cell_at cells x.cell) x.changes (replay cells x.cell h) r
+        by k1 = grind (arith, effect_keeps, effect_touches)
 
     gives : (d : Deed) (f : Finds cells h p d) → AllGood h → GivesOf cells h p alone (Touches d) d f
     gives (Ends (Makes made)) f k = λ n. inl (effect_touches (cell_at cells f.section.cell) (Ran f.section.is_open made ∷ []) (replay cells f.section.cell h) tt)

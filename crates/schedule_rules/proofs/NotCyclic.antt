@@ -1,9 +1,8 @@
 -- A call that waits asks for no run of a generator that its own party is running.
-use Rattle.schedule_rules.proofs.Words.{ℕ, ◌≡◌, List, Bool, arith, true, refl, false, Some, ◌∷◌, [], ◌∙◌, sym, None, ap, subst, ◌<◌, ◌&&◌, ◌+◌, not, cond, ◌≢◌, ◌≤◌, find, ◌==◌}
-use Rattle.schedule_rules.proofs.Words.{if◌then◌else◌, is_none, Option, How, Answer, Line, CellPlan, Act, Step, cell_at, initializes, Deed, EndsToRead, Ends, EndsToWrite, Opens}
-use Rattle.schedule_rules.proofs.Words.{deed_waiting, Event, deed_of, count, is_exit, Section, sections, is_turn, runs_in, sections_by, without_innermost, runs, generates_for}
-use Rattle.schedule_rules.proofs.Words.{Wait, waits, wait_of, attempt, Attempt, attempt_of_wait, refusal, IsLegal, IsLegalLine, IsExclusive, waits_judged, is_attempted, is_waiting}
-use Rattle.schedule_rules.proofs.Words.{is_cyclic, is_cyclic_step, is_made_to_wait}
+use Rattle.schedule_rules.proofs.Words.{ℕ, ◌≡◌, List, arith, Bool, true, refl, false, Some, ◌∷◌, [], ◌∙◌, sym, ap, None, subst, ◌&&◌, not, ◌+◌, cond, ◌≢◌, ◌≤◌, ◌==◌, is_none}
+use Rattle.schedule_rules.proofs.Words.{Option, How, Answer, Line, CellPlan, Act, Step, cell_at, initializes, Deed, deed_waiting, Event, deed_of, count, is_exit, sections, Section}
+use Rattle.schedule_rules.proofs.Words.{is_turn, runs_in, sections_by, without_innermost, runs, Wait, waits, wait_of, attempt, Attempt, attempt_of_wait, refusal, IsLegal}
+use Rattle.schedule_rules.proofs.Words.{IsLegalLine, IsExclusive, waits_judged, is_attempted, is_waiting, is_cyclic, is_cyclic_step, is_made_to_wait}
 use Rattle.schedule_rules.proofs.Exclusion.{alone}
 use Rattle.schedule_rules.proofs.Facts.{first, second, apart}
 use Rattle.schedule_rules.proofs.Found.{found_counts, found_passes, none_counted, only_one}
@@ -37,11 +36,7 @@ module _ (p : ℕ) where
 
   -- another's deed opens none of the party's
   others_fewer : (h : List Event) (q : ℕ) (d : Deed) (c : ℕ) (ss : List Section) → (q == p) ≡ false → own_runs p c (sections_by h q d ss) ≤ own_runs p c ss
-  others_fewer h q (Opens b w taken) c ss e = rw e (omega arith)
-  others_fewer h q (Ends i) c ss e = ended_fewer q c ss
-  others_fewer h q (EndsToRead v) c ss e = ended_fewer q c ss
-  others_fewer h q (EndsToWrite v) c ss e = ended_fewer q c ss
-  others_fewer h q d c ss e = omega arith
+  others_fewer h q k1 c ss e = grind (arith, ended_fewer)
 
   -- what waits opens and ends none
   waiting_fewer : (h : List Event) (q : ℕ) (b : Bool) (c : ℕ) (ss : List Section) → own_runs p c (sections_by h q (deed_waiting b) ss) ≤ own_runs p c ss
@@ -53,37 +48,11 @@ module _ (cells : List CellPlan) where
 
   -- where the party does not run the generator of the cell, it has no such section
   none_own : (h : List Event) (p c : ℕ) → IsExclusive cells h c → runs p c h ≡ false → own_runs p c (sections h) ≡ 0
-  none_own h p c only e = by (find (is_own_run p c) (sections h)) refl
-    where
-      by : (o : Option Section) → find (is_own_run p c) (sections h) ≡ o → own_runs p c (sections h) ≡ 0
-      by None f = none_counted (is_own_run p c) (sections h) f
-      by (Some x) f =
-          let own : is_own_run p c x ≡ true = found_passes (is_own_run p c) (sections h) x f in
-          let mine : (x.party == p) ≡ true = first _ _ own in
-          let here : runs_in c x ≡ true = first _ _ (second (x.party == p) _ own) in
-          let calls : not (is_turn x.want) ≡ true = second (runs_in c x) _ (second (x.party == p) _ own) in
-          let one : count (runs_in c) (sections h) ≤ 1 = omega (arith, only.one_writer) in
-          let found : find (runs_in c) (sections h) ≡ Some x = only_one (is_own_run p c) (runs_in c) (sections h) x f here one in
-          absurd (apart (sym (generates (is_turn x.want) (x.party == p) calls mine) ∙ sym (ap (generates_for p) found) ∙ e))
-        where
-          generates : (t m : Bool) → not t ≡ true → m ≡ true → (if t then false else m) ≡ true
-          generates true m u v = absurd (cc)
-          generates false m u v = v
+  none_own h p c only e = grind (arith, none_counted, found_passes, first, second, only_one)
 
   -- where it has none, it does not run it
   runs_none : (h : List Event) (p c : ℕ) → own_runs p c (sections h) ≡ 0 → runs p c h ≡ false
-  runs_none h p c none = by (find (runs_in c) (sections h)) refl
-    where
-      turns : (t m d : Bool) → (m && (d && not t)) ≡ false → d ≡ true → (if t then false else m) ≡ false
-      turns t m d f e = grind arith
-
-      uncounted : (x : Section) → find (runs_in c) (sections h) ≡ Some x → (b : Bool) → is_own_run p c x ≡ b → b ≡ false
-      uncounted x f true e = let n : 0 < own_runs p c (sections h) = found_counts (runs_in c) (is_own_run p c) (sections h) x f e in absurd (omega (arith, n, none))
-      uncounted x f false e = refl
-
-      by : (o : Option Section) → find (runs_in c) (sections h) ≡ o → generates_for p o ≡ false
-      by None f = refl
-      by (Some x) f = turns (is_turn x.want) (x.party == p) (runs_in c x) (uncounted x f (is_own_run p c x) refl) (found_passes (runs_in c) (sections h) x f)
+  runs_none h p c none = grind (arith, found_counts, found_passes)
 
   -- what is attempted asks for no run that its party is running
   abbrev Apart : List Event → ℕ → Attempt → Type 0

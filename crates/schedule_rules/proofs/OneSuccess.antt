@@ -1,9 +1,9 @@
 -- A generator of a cell succeeds at most once.
-use Rattle.schedule_rules.proofs.Words.{ℕ, ◌≡◌, List, Bool, arith, true, refl, false, Some, ◌∷◌, [], ◌∙◌, sym, None, ap, subst, ◌<◌, ◌⊎◌, ◌&&◌, ◌+◌, inl, inr, cond, ◌≤◌, ◌||◌}
-use Rattle.schedule_rules.proofs.Words.{◌==◌, has, initialized, Answer, CellPlan, Act, cell_at, flags_kept, Content, Change, effect, Ran, Deed, EndsToRead, Visits, Ends, Makes}
-use Rattle.schedule_rules.proofs.Words.{Finishes, EndsToWrite, Drops, DropsToRead, Lends, Event, deed_of, count, Section, sections, innermost, is_turn, runs_in, Guard, guards}
-use Rattle.schedule_rules.proofs.Words.{numbered, replay, phase_at, back_of_section, back_by, writes_cell, IsLegal, lends_at, runs_to_lend, is_failed, is_lent_at, successes}
-use Rattle.schedule_rules.proofs.Words.{is_success}
+use Rattle.schedule_rules.proofs.Words.{ℕ, ◌≡◌, List, arith, Bool, true, refl, false, Some, ◌∷◌, [], ◌∙◌, sym, ap, None, subst, ◌⊎◌, ◌&&◌, inl, inr, ◌<◌, ◌+◌, cond, ◌||◌, ◌≤◌}
+use Rattle.schedule_rules.proofs.Words.{◌==◌, has, initialized, Answer, CellPlan, Act, cell_at, flags_kept, Content, Change, effect, Ran, Deed, Visits, EndsToRead, Ends, Makes}
+use Rattle.schedule_rules.proofs.Words.{Drops, DropsToRead, Finishes, EndsToWrite, Lends, Event, deed_of, count, sections, Section, innermost, is_turn, runs_in, Guard, guards}
+use Rattle.schedule_rules.proofs.Words.{numbered, replay, phase_at, back_by, back_of_section, writes_cell, IsLegal, lends_at, runs_to_lend, is_failed, successes, is_success}
+use Rattle.schedule_rules.proofs.Words.{is_lent_at}
 use Rattle.schedule_rules.proofs.Exclusion.{alone}
 use Rattle.schedule_rules.proofs.Found.{found_counts, each_found}
 use Rattle.schedule_rules.proofs.Leaves.{back_here, left_at, guards_left, GivenAt, Writing, writing, GivesOf, moves}
@@ -138,14 +138,8 @@ module _ (cells : List CellPlan) (c : ℕ) where
 
       by : (b : Bool) → (is_success c d (innermost e.step.party (sections h)) || (is_lent_at c e.step.act e.line.answer && runs_to_lend cells h e.step.act)) ≡ b → IsCounted h
           → (cond b (successes cells c h + 1) (successes cells c h) ≡ 0) ⊎ ((cond b (successes cells c h + 1) (successes cells c h) ≡ 1) × IsMade (e ∷ h))
-      by true ok (inl none) = inr (omega (arith, none), (makes (one_of _ _ ok)).1)
-      by true ok (inr one) = absurd ((makes (one_of _ _ ok)).0 one.1)
-      by false ok (inl none) = inl none
-      by false ok (inr one) = inr (one.0, made_stays one.1)
+      by b ok k1 = grind (arith, makes, one_of, made_stays)
 
   -- at most one generator of the cell ends by a value
   pub one-success : (h : List Event) → IsLegal cells h → successes cells c h ≤ 1
-  one-success h k = by (counted h k)
-    where
-      by : IsCounted h → successes cells c h ≤ 1
-      by k1 = grind arith
+  one-success h k = grind (arith, counted)

@@ -1,9 +1,9 @@
 -- A schedule of cells that do not park has at most one legal transcript.
-use Rattle.schedule_rules.proofs.Words.{ℕ, ◌≡◌, List, Bool, arith, true, refl, false, Some, ◌∷◌, [], ◌∙◌, sym, None, ap, subst, ◌<◌, length, get_or_past, same_lists, nat_lt}
-use Rattle.schedule_rules.proofs.Words.{Option, first_of, Given, How, Answer, Line, Refusal, CellPlan, Place, Act, Step, Want, Calls, cell_at, no_cell, is_parking, Event, registry}
-use Rattle.schedule_rules.proofs.Words.{ended_turns, Wait, waits, wait_of, attempt, Attempt, attempt_of_wait, attempt_of_turn, cell_concerned, other_waits, refusal, answer_barred}
-use Rattle.schedule_rules.proofs.Words.{answer_of_attempt, Meeting, due_answer, due_tried, meeting, may_give_last, may_give_first, is_nobody, may_give_on, IsLegal, IsLegalLine}
-use Rattle.schedule_rules.proofs.Words.{answer_of, due_at, Moment, may_give, First, Last, told, Account, IsLegalTranscript, Schedule, final_of, AreFinals, NoneParks}
+use Rattle.schedule_rules.proofs.Words.{ℕ, ◌≡◌, List, arith, Bool, true, refl, false, Some, ◌∷◌, [], ◌∙◌, sym, ap, None, subst, ◌<◌, length, get_or_past, same_lists, Option, Given}
+use Rattle.schedule_rules.proofs.Words.{How, Answer, Line, Refusal, CellPlan, Place, Act, Step, Want, cell_at, is_parking, Event, ended_turns, Wait, attempt, Attempt, other_waits}
+use Rattle.schedule_rules.proofs.Words.{refusal, answer_barred, Meeting, answer_of_attempt, due_answer, due_tried, meeting, is_nobody, may_give_first, may_give_on, may_give_last}
+use Rattle.schedule_rules.proofs.Words.{IsLegal, IsLegalLine, answer_of, due_at, Moment, may_give, First, Last, Schedule, told, IsLegalTranscript, Account, AreFinals, final_of}
+use Rattle.schedule_rules.proofs.Words.{NoneParks}
 use Rattle.std.proofs.lemmas.Option.{get_or_from_slice_get}
 use Rattle.schedule_rules.specs.declared.transcript.Final.{Final}
 
@@ -38,11 +38,7 @@ apart e = cc
 module _ (cells : List CellPlan) (spins : NoneParks cells) where
   -- no cell parks, also none that no plan has
   never_parks : (c : ℕ) → is_parking (cell_at cells c).place ≡ false
-  never_parks c = by (nat_lt c (length cells)) refl
-    where
-      by : (b : Bool) → nat_lt c (length cells) ≡ b → is_parking (cell_at cells c).place ≡ false
-      by true e = spins c no_cell (grind arith)
-      by false e = ap (λ x. is_parking x.place) (get_or_past cells c no_cell (grind arith))
+  never_parks c = grind (arith, get_or_past)
 
   module _ (h : List Event) (s : Step) where
     -- a step has no choice how it waits
@@ -52,25 +48,18 @@ module _ (cells : List CellPlan) (spins : NoneParks cells) where
         one_answer (cell_at cells a.cell) a.want (meeting cells h p a ws) b d (never_parks a.cell)
 
     due_alike : (p : ℕ) (a : Act) (ws : List Wait) (b d : Bool) → due_answer cells h (record { party = p; act = a }) ws b ≡ due_answer cells h (record { party = p; act = a }) ws d
-    due_alike p (Act.Call c k) ws b d = tried_alike p (Some (record { cell = c; want = Calls k })) ws b d
-    due_alike p Act.Again ws b d = tried_alike p (attempt_of_wait (wait_of p (waits cells h))) ws b d
-    due_alike p Act.Exit ws b d = tried_alike p (attempt_of_turn (first_of (registry cells h).left)) ws b d
-    due_alike p _ ws b d = refl
+    due_alike p k1 ws b d = grind (arith, tried_alike)
 
     -- nothing may be given at the first moment
     never_first : (o : Option Attempt) (g : Given) → may_give_first cells h s o g ≡ false
-    never_first None g = refl
-    never_first (Some a) g = rw (never_parks a.cell) refl
+    never_first k1 g = grind (arith, never_parks)
 
     -- nor at the last
     never_on : (o : Option ℕ) (a : Answer) (g : Given) → may_give_on cells h s o a g ≡ false
-    never_on None a g = refl
-    never_on (Some c) a g = rw (never_parks c) refl
+    never_on k1 a g = grind (arith, never_parks)
 
     nothing_last : (a : Answer) (g : Given) → may_give_last cells h s a g ≡ true → g ≡ Given.Nobody
-    nothing_last a Given.Nobody d = refl
-    nothing_last a Given.Readers d = absurd (apart (sym (never_on (cell_concerned cells h s) a Given.Readers) ∙ d))
-    nothing_last a (Given.Writer q) d = absurd (apart (sym (never_on (cell_concerned cells h s) a (Given.Writer q)) ∙ d))
+    nothing_last a k1 d = grind (arith, never_on)
 
     nobody : (g : Given) → is_nobody g ≡ true → g ≡ Given.Nobody
     nobody g d = grind arith

@@ -1,14 +1,13 @@
 -- What holds of each open guard: what happened in its section, that it bears the number of an earlier step, and that no
 -- section of a cell is open while a guard reads it.
-use Rattle.schedule_rules.proofs.Words.{ℕ, ◌≡◌, List, Bool, arith, true, refl, false, Some, ◌∷◌, [], ◌∙◌, sym, None, ap, ◌<◌, length, ◌++◌, and_or_apart, and_assoc, bit_and}
-use Rattle.schedule_rules.proofs.Words.{AllByRecursion, ◌==◌, if◌then◌else◌, is_some, ◌^◌, ◌-◌, Option, has, Given, registration, final_outcome, is_finalizable, CellPlan, Act}
-use Rattle.schedule_rules.proofs.Words.{Step, flags_kept, Content, Change, effect, Ran, Asked, Put, Ended, RanIfAsked, Deed, EndsToRead, Visits, EndsToWrite, Drops, DropsToRead}
-use Rattle.schedule_rules.proofs.Words.{Holds, Beside, Puts, deed_read, Event, deed_of, act_by, Section, sections, innermost, Guard, guards, numbered, without_guard, guards_by}
-use Rattle.schedule_rules.proofs.Words.{reader_made, reader_beside, writer_made, reader, waits, cell_concerned, cell_of_section, cell_concerned_with, cell_of_guard, write_holds}
+use Rattle.schedule_rules.proofs.Words.{ℕ, ◌≡◌, List, arith, Bool, true, refl, false, Some, ◌∷◌, [], ◌∙◌, sym, ap, None, ◌<◌, length, ◌++◌, and_or_apart, and_assoc, bit_and}
+use Rattle.schedule_rules.proofs.Words.{AllByRecursion, ◌==◌, is_some, ◌^◌, ◌-◌, Option, has, Given, final_outcome, CellPlan, Step, flags_kept, Content, Change, effect, Ran, Asked}
+use Rattle.schedule_rules.proofs.Words.{Ended, Put, RanIfAsked, Deed, Visits, EndsToRead, Drops, DropsToRead, EndsToWrite, Holds, Beside, Puts, Event, deed_of, sections, Section}
+use Rattle.schedule_rules.proofs.Words.{innermost, Guard, guards, numbered, without_guard, guards_by, writer_made, reader_beside, reader_made, reader, cell_concerned, write_holds}
 use Rattle.schedule_rules.proofs.Words.{read_guards, reads_cell, turns_to_read, IsLegal, read_at}
 use Rattle.schedule_rules.proofs.Opened.{put}
 use Rattle.schedule_rules.proofs.Found.{each_removed, each_put, each_mapped, each_found, found_counts, found_passes}
-use Rattle.schedule_rules.proofs.Facts.{apart, same_number}
+use Rattle.schedule_rules.proofs.Facts.{same_number}
 use Rattle.schedule_rules.proofs.Exclusion.{alone}
 
 -- a generator ran in the section, or values were set, and no more
@@ -81,13 +80,7 @@ beside false = record { made = refl; failed = refl; stays = refl; nothing = refl
 module _ (f : ℕ) (is : IsBeside f) where
   -- it is among the flags that stay only where it was
   kept_before : (x : CellPlan) (o : Bool) (p : ℕ) → has (flags_kept x.kind o p) f ≡ true → has p f ≡ true
-  kept_before x o p e = by (is_finalizable x.kind) (p == 0) o e
-    where
-      by : (b d o : Bool) → has (if b then (if d then registration o else bit_and p (2 ^ 32 - 1 - 7)) else 0) f ≡ true → has p f ≡ true
-      by false d o g = absurd (apart (sym g ∙ is.nothing))
-      by true true true g = absurd (apart (sym g ∙ is.registered))
-      by true true false g = absurd (apart (sym g ∙ is.refused))
-      by true false o g = sym (ap (λ z. z == f) (and_assoc f p (2 ^ 32 - 1 - 7) ∙ ap (bit_and p) is.stays)) ∙ g
+  kept_before x o p e = grind (arith, and_assoc)
 
   -- and after a run only where it was
   pub run_before : (x : CellPlan) (chs : List Change) (y : Content) → IsOfRun chs → has (effect x chs y).phase f ≡ true → has y.phase f ≡ true
@@ -151,41 +144,12 @@ module _ (h : List Event) (s : Step) (i : Given) (c : ℕ) where
   -- where one guard more reads the cell, and the others are older, what bears the number of this step reads the cell
   now : (gs : List Guard) → guards (read_at s i ∷ h) ≡ reader (length h) s.party c ∷ gs → AllByRecursion (IsOlder h) gs
       → AllByRecursion (Reads (length h) c) (guards (read_at s i ∷ h)) × (numbered (length h) (guards (read_at s i ∷ h)) ≡ Some (reader (length h) s.party c))
-  now gs e le = rw e (
-    ((λ same. (refl, refl)), each_mapped (IsOlder h) (Reads (length h) c) gs (λ x m same. absurd (other x.number m same)) le),
-    ap (λ (b : Bool). if b then Some (reader (length h) s.party c) else numbered (length h) gs) (same_number (length h) (length h) refl),
-  )
-    where
-      other : (m : ℕ) → m < length h → (m == length h) ≡ true → ⊥
-      other m le same = let at : m ≡ length h = grind arith in omega (arith, at, le)
+  now gs e le = grind (arith, each_mapped)
 
   -- a downgrade opens a guard to read on the cell that the step concerns
   downgraded : (cells : List CellPlan) → turns_to_read s.act ≡ true → cell_concerned cells h s ≡ Some c
       → AllByRecursion (Reads (length h) c) (guards (read_at s i ∷ h)) × (numbered (length h) (guards (read_at s i ∷ h)) ≡ Some (reader (length h) s.party c))
-  downgraded cells = by s.act refl
-    where
-      cell : (x y : ℕ) → Some x ≡ Some y → x ≡ y
-      cell x y e = cc
-
-      made : (v : ℕ) (o : Option Section) → s.act ≡ Act.Made v → innermost s.party (sections h) ≡ o → cell_of_section o ≡ Some c
-          → AllByRecursion (Reads (length h) c) (guards (read_at s i ∷ h)) × (numbered (length h) (guards (read_at s i ∷ h)) ≡ Some (reader (length h) s.party c))
-      made v None d f n = absurd (cc)
-      made v (Some t) d f n =
-          now (guards h) (ap (λ b. guards_by (length h) s.party (deed_read (act_by b s.party h)) (sections h) (guards h)) d ∙ ap (λ o. reader_made (length h) s.party o (guards h)) f ∙ ap (λ z. reader (length h) s.party z ∷ guards h) (cell t.cell c n)) (older h)
-
-      dropped : (g : ℕ) (o : Option Guard) → s.act ≡ Act.Downgrade g → numbered g (guards h) ≡ o → cell_of_guard o ≡ Some c
-          → AllByRecursion (Reads (length h) c) (guards (read_at s i ∷ h)) × (numbered (length h) (guards (read_at s i ∷ h)) ≡ Some (reader (length h) s.party c))
-      dropped g None d f n = absurd (cc)
-      dropped g (Some x) d f n =
-          now (without_guard g (guards h))
-          (ap (λ b. guards_by (length h) s.party (deed_read (act_by b s.party h)) (sections h) (guards h)) d ∙ ap (λ o. reader_beside (length h) s.party o (without_guard g (guards h))) f ∙ ap (λ z. reader (length h) s.party z ∷ without_guard g (guards h)) (cell x.cell c n))
-          (each_removed (IsOlder h) g (guards h) (older h))
-
-      by : (a : Act) → s.act ≡ a → turns_to_read a ≡ true → cell_concerned_with cells (waits cells h) h s.party a ≡ Some c
-          → AllByRecursion (Reads (length h) c) (guards (read_at s i ∷ h)) × (numbered (length h) (guards (read_at s i ∷ h)) ≡ Some (reader (length h) s.party c))
-      by (Act.Made v) d t n = made v (innermost s.party (sections h)) d refl n
-      by (Act.Downgrade g) d t n = dropped g (numbered g (guards h)) d refl n
-      by _ d t n = absurd (cc)
+  downgraded cells = grind (arith, now, older, each_removed)
 
   -- the guard that a downgrade opens
   pub downgrade-opens : (cells : List CellPlan) → turns_to_read s.act ≡ true → cell_concerned cells h s ≡ Some c → numbered (length h) (guards (read_at s i ∷ h)) ≡ Some (reader (length h) s.party c)

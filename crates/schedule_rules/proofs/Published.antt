@@ -1,8 +1,8 @@
 -- What is published changes only while no guard reads the cell, and its phase where a section of the cell is given back.
-use Rattle.schedule_rules.proofs.Words.{ℕ, ◌≡◌, List, Bool, arith, true, refl, false, Some, ◌∷◌, ◌∙◌, ap, subst, ◌<◌, ◌⊎◌, inl, not, inr, ◌≢◌, ◌==◌, if◌then◌else◌, Answer}
-use Rattle.schedule_rules.proofs.Words.{CellPlan, Step, Calls, cell_at, tolerance_at, Content, Change, effect, is_declined, Deed, EndsToRead, Visits, Ends, Makes, Finishes, Drops}
-use Rattle.schedule_rules.proofs.Words.{DropsToRead, Lends, Event, deed_of, accepts, count, Section, sections, innermost, runs_in, Guard, guards, numbered, replay, phase_at}
-use Rattle.schedule_rules.proofs.Words.{write_holds, writes_cell, read_guards, IsLegal, lends_at, LendsAt, GivesBack, DeclinesAt}
+use Rattle.schedule_rules.proofs.Words.{ℕ, ◌≡◌, List, arith, Bool, true, refl, false, Some, ◌∷◌, ◌∙◌, ap, subst, ◌⊎◌, not, inl, inr, ◌<◌, ◌≢◌, ◌==◌, if◌then◌else◌, Answer}
+use Rattle.schedule_rules.proofs.Words.{CellPlan, Step, Calls, cell_at, tolerance_at, Content, Change, effect, is_declined, Deed, Visits, EndsToRead, Ends, Makes, Drops}
+use Rattle.schedule_rules.proofs.Words.{DropsToRead, Finishes, Lends, Event, deed_of, accepts, count, sections, Section, innermost, runs_in, Guard, guards, numbered, replay}
+use Rattle.schedule_rules.proofs.Words.{phase_at, write_holds, writes_cell, read_guards, IsLegal, lends_at, LendsAt, DeclinesAt, GivesBack}
 use Rattle.schedule_rules.proofs.Exclusion.{alone}
 use Rattle.schedule_rules.proofs.Found.{found_counts}
 use Rattle.schedule_rules.proofs.Cases.{Asking, Resting}
@@ -97,10 +97,7 @@ module _ (cells : List CellPlan) (h : List Event) (s : Step) (r : Answer) (legal
             declines = rw q.asked (ap not q.generates)
 
         still : (z == c) ≡ true → Resting cells h s.party z v.asked → (left_at cells h s.party (Visits z chs reads) c).phase ≡ phase_at cells c h
-        still same q =
-            let at : z ≡ c = number_found z c same in
-            ap (λ (b : Bool). (if b then effect (cell_at cells c) chs (replay cells c h) else replay cells c h).phase) same
-            ∙ subst (λ y. (effect (cell_at cells y) chs (replay cells y h)).phase ≡ phase_at cells y h) at (ap (λ y. y.phase) (rests cells h s.party (alone cells h legal) z chs v.asked v.does q))
+        still same q = grind (arith, number_found, rests, alone)
 
         by : (b : Bool) → (z == c) ≡ b → Asking cells h s.party z v.asked false ⊎ Resting cells h s.party z v.asked → IsGiven (Visits z chs reads)
         by true same (inl q) = declined same q

@@ -1,8 +1,7 @@
 -- What a step registers.
-use Rattle.schedule_rules.proofs.Words.{ℕ, ◌≡◌, List, Bool, arith, true, refl, false, ◌∷◌, ◌∙◌, sym, ap, subst, ◌<◌, ◌&&◌, length, ◌||◌, get_or-set_other, get_or-set_same, ◌==◌}
-use Rattle.schedule_rules.proofs.Words.{if◌then◌else◌, slice_set, slice_index_or, is_known, registered, Call, CellPlan, Calls, Turns, cell_at, tolerance_of, tries_registration}
-use Rattle.schedule_rules.proofs.Words.{runs_generator, Change, Deed, Visits, Opens, Skips, Event, deed_of, accepts, phase_at, registry, registry_by, registry_taken}
-use Rattle.schedule_rules.proofs.Words.{registry_of_run, IsLegal}
+use Rattle.schedule_rules.proofs.Words.{ℕ, ◌≡◌, List, arith, Bool, true, refl, false, ◌∷◌, ◌∙◌, sym, ap, ◌&&◌, ◌||◌, get_or-set_other, get_or-set_same, ◌==◌, if◌then◌else◌}
+use Rattle.schedule_rules.proofs.Words.{is_known, registered, Call, CellPlan, Calls, Turns, cell_at, tolerance_of, runs_generator, tries_registration, Change, Deed, Visits, Opens}
+use Rattle.schedule_rules.proofs.Words.{Skips, Event, deed_of, accepts, phase_at, registry, registry_by, registry_taken, registry_of_run, IsLegal}
 use Rattle.schedule_rules.proofs.Registrations.{visit_registers, deed_registers, shows_registration}
 use Rattle.schedule_rules.proofs.Facts.{first}
 use Rattle.schedule_rules.proofs.Cases.{Asking}
@@ -51,17 +50,10 @@ module _ (cells : List CellPlan) (c : ℕ) (h : List Event) (p : ℕ) (legal : I
       -- and what is said of it
       said_by : (b same o : Bool) → tries_registration (cell_at cells d).kind (phase_at cells d h) ≡ b → (d == c) ≡ same → (registry cells h).is_open ≡ o
           → ((same && b) && o) ≡ (((d == c) && (true && tries_registration (cell_at cells d).kind (phase_at cells d h))) && accepts h)
-      said_by b same o e f g =
-          ap (λ x. (x && b) && o) (sym f) ∙ ap (λ x. ((d == c) && x) && o) (sym e)
-          ∙ ap (λ x. ((d == c) && tries_registration (cell_at cells d).kind (phase_at cells d h)) && x) (sym g ∙ open-accepts cells h legal)
+      said_by b same o e f g = grind (arith, open-accepts)
 
       same_cell : (d == c) ≡ true → tries_registration (cell_at cells d).kind (phase_at cells d h) ≡ true → is_known (registered d (registry cells h)) c ≡ true
-      same_cell same e =
-          let at : d ≡ c = grind arith in
-          let inside : d < length cells = finalizable-inside cells d (first _ _ e) in
-          let long : _ = known-length cells h in
-          subst (λ z. slice_index_or (slice_set (registry cells h).known d true) z false ≡ true) at
-          (get_or-set_same (registry cells h).known d true false (omega (arith, inside, long)))
+      same_cell same e = grind (arith, finalizable-inside, first, known-length, get_or-set_same)
 
       other_cell : (d == c) ≡ false → is_known (registered d (registry cells h)) c ≡ is_known (registry cells h) c
       other_cell other = get_or-set_other (registry cells h).known d c true false (grind arith)
@@ -69,12 +61,7 @@ module _ (cells : List CellPlan) (c : ℕ) (h : List Event) (p : ℕ) (legal : I
       -- the two are the same
       meet : (b same o : Bool) → tries_registration (cell_at cells d).kind (phase_at cells d h) ≡ b → (d == c) ≡ same
           → is_known (if b && o then registered d (registry cells h) else registry cells h) c ≡ (is_known (registry cells h) c || ((same && b) && o))
-      meet true true true e f = same_cell f e ∙ sym (or_all (is_known (registry cells h) c))
-      meet true false true e f = other_cell f ∙ sym (or_none (is_known (registry cells h) c))
-      meet true true false e f = sym (or_none (is_known (registry cells h) c))
-      meet true false false e f = sym (or_none (is_known (registry cells h) c))
-      meet false true o e f = sym (or_none (is_known (registry cells h) c))
-      meet false false o e f = sym (or_none (is_known (registry cells h) c))
+      meet b same o e f = grind (arith, same_cell, or_all, other_cell, or_none)
 
       by : (b same o : Bool) → tries_registration (cell_at cells d).kind (phase_at cells d h) ≡ b → (d == c) ≡ same → (registry cells h).is_open ≡ o
           → is_known (registry_of_run cells d (phase_at cells d h) (registry cells h)) c

@@ -1,7 +1,7 @@
 -- Which lines show that their step tried to register a cell, and that it is tried at most once at a cell.
-use Rattle.schedule_rules.proofs.Words.{ℕ, ◌≡◌, List, Bool, arith, true, refl, false, Some, ◌∷◌, [], subst, ◌<◌, ◌⊎◌, ◌+◌, inl, inr, cond, ◌≢◌, ◌≤◌, ◌==◌, if◌then◌else◌, Option}
-use Rattle.schedule_rules.proofs.Words.{is_known, is_finalizable, Call, Answer, Line, CellPlan, Step, Calls, cell_at, tolerance_at, asks, Change, Asked, Deed, Visits, Opens, Event}
-use Rattle.schedule_rules.proofs.Words.{deed_of, phase_at, registry, Attempt, write_holds, IsLegal, IsLegalLine, IsExclusive, is_attempted, asks_registration}
+use Rattle.schedule_rules.proofs.Words.{ℕ, ◌≡◌, List, arith, Bool, true, refl, false, Some, ◌∷◌, [], subst, ◌⊎◌, inl, inr, ◌<◌, ◌+◌, cond, ◌≢◌, ◌≤◌, ◌==◌, if◌then◌else◌, Option}
+use Rattle.schedule_rules.proofs.Words.{is_known, Call, Answer, Line, CellPlan, Step, Calls, cell_at, tolerance_at, asks, Change, Asked, Deed, Visits, Opens, Event, deed_of}
+use Rattle.schedule_rules.proofs.Words.{phase_at, registry, Attempt, write_holds, IsLegal, IsLegalLine, IsExclusive, is_attempted, asks_registration}
 use Rattle.schedule_rules.proofs.Exclusion.{alone}
 use Rattle.schedule_rules.proofs.Cases.{Asking, Resting}
 use Rattle.schedule_rules.proofs.Finds.{Visit, Finds, finds}
@@ -50,13 +50,7 @@ module _ (cells : List CellPlan) (c : ℕ) where
     -- what a call asks that tries to register the cell
     tried : (d : ℕ) (j : Call) → asks_so cells c h (Some (record { cell = d; want = Calls j })) ≡ true
         → (d ≡ c) × (asks (cell_at cells d).kind (tolerance_at cells d) (Calls j) (phase_at cells d h) ≡ true) × (phase_at cells d h ≡ 0)
-    tried d j e = (same (first _ _ e), first _ _ (second _ _ e), empty (second (is_finalizable (cell_at cells d).kind) _ (second _ _ (second _ _ e))))
-      where
-        same : (d == c) ≡ true → d ≡ c
-        same f = grind arith
-
-        empty : (phase_at cells d h == 0) ≡ true → phase_at cells d h ≡ 0
-        empty f = grind arith
+    tried d j e = grind (arith, first, second)
 
     asked : (d : ℕ) (j : Call) (x : Deed) → (IsExclusive cells h d → write_holds d h ≡ 0) → (d ≡ c → IsHeldBy x)
         → (d ≡ c) × (asks (cell_at cells d).kind (tolerance_at cells d) (Calls j) (phase_at cells d h) ≡ true) × (phase_at cells d h ≡ 0)
@@ -111,7 +105,4 @@ module _ (cells : List CellPlan) (c : ℕ) where
 
   -- so registration is tried at most once
   pub registered-once : (h : List Event) → IsLegal cells h → registrations_shown cells c h ≤ 1
-  registered-once h k = by (counted h k)
-    where
-      by : IsTried h → registrations_shown cells c h ≤ 1
-      by k1 = grind arith
+  registered-once h k = grind (arith, counted)

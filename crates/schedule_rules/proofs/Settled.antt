@@ -1,7 +1,7 @@
 -- A phase that has INITIALIZED changes only where a finalizer of its cell ends, and of a plain cell the value stays.
-use Rattle.schedule_rules.proofs.Words.{ℕ, ◌≡◌, List, Bool, arith, true, refl, false, Some, ◌∷◌, [], ◌∙◌, sym, ap, ◌⊎◌, inl, inr, ◌≢◌, ◌++◌, All, All-tail, All-head, ◌==◌}
-use Rattle.schedule_rules.proofs.Words.{if◌then◌else◌, has, initialized, is_plain, is_hard, Kind, Answer, CellPlan, Act, cell_at, Content, Change, effect, Ran, Asked, Put, Ended}
-use Rattle.schedule_rules.proofs.Words.{RanIfAsked, Deed, EndsToRead, Visits, Ends, Makes, Finishes, Drops, DropsToRead, Lends, Event, deed_of, sections, innermost, Guard, guards}
+use Rattle.schedule_rules.proofs.Words.{ℕ, ◌≡◌, List, arith, Bool, true, refl, false, Some, ◌∷◌, [], ◌∙◌, sym, ap, ◌⊎◌, inl, inr, ◌≢◌, ◌++◌, All, All-tail, All-head, ◌==◌}
+use Rattle.schedule_rules.proofs.Words.{if◌then◌else◌, has, initialized, is_plain, is_hard, Kind, Answer, CellPlan, Act, cell_at, Content, Change, effect, Ran, Asked, Ended, Put}
+use Rattle.schedule_rules.proofs.Words.{RanIfAsked, Deed, Visits, EndsToRead, Ends, Makes, Drops, DropsToRead, Finishes, Lends, Event, deed_of, sections, innermost, Guard, guards}
 use Rattle.schedule_rules.proofs.Words.{numbered, replay, phase_at, cell_of_section, IsLegal, lends_at, IsEndedTurn}
 use Rattle.schedule_rules.proofs.Exclusion.{alone}
 use Rattle.schedule_rules.proofs.Found.{each_found}
@@ -49,8 +49,7 @@ module _ (cells : List CellPlan) (h : List Event) (p : ℕ) (legal : IsLegal cel
   dropped g x f w r = by (puts_keep (cell_at cells x.cell) x.changes (replay cells x.cell h) (each_found (λ y. y.number == g) IsRunning (guards h) x f (guards-run h)))
     where
       by : HasRun x.changes ⊎ ((effect (cell_at cells x.cell) x.changes (replay cells x.cell h)).phase ≡ phase_at cells x.cell h) → (effect (cell_at cells x.cell) x.changes (replay cells x.cell h)).phase ≡ phase_at cells x.cell h
-      by (inl n) = absurd (apart (sym r ∙ (each_found (λ y. y.number == g) (IsReady cells h) (guards h) x f (sound cells h legal).ready w).1 n))
-      by (inr e) = e
+      by k1 = grind (arith, each_found, IsReady, sound)
 
   gives : (d : Deed) (f : Finds cells h p d) → GivesOf cells h p (alone cells h legal) (Settles d) d f
   gives (Ends (Makes made)) f = λ r. absurd (apart (sym r ∙ lacks cells h p (alone cells h legal) (sound cells h legal) f))

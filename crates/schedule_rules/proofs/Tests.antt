@@ -1,9 +1,9 @@
 -- Tests of answers, and which answers of what is admitted pass them.
-use Rattle.schedule_rules.proofs.Words.{ℕ, ◌≡◌, List, Bool, arith, true, refl, false, sym, None, ◌&&◌, not, ◌||◌, ◌==◌, if◌then◌else◌, Option, has, initialized, Phase, LockNature}
+use Rattle.schedule_rules.proofs.Words.{ℕ, ◌≡◌, List, arith, Bool, true, refl, false, sym, None, ◌&&◌, not, ◌||◌, ◌==◌, if◌then◌else◌, Option, has, initialized, Phase, LockNature}
 use Rattle.schedule_rules.proofs.Words.{How, flags_refused, Tolerance, Call, Kind, Form, Held, Told, Shown, Answer, CellPlan, Place, Act, Want, Calls, Turns, cell_at, tolerance_at}
 use Rattle.schedule_rules.proofs.Words.{form_of, denies, is_accessible, runs_generator, asks, lock_wanted, Content, Event, accepts, is_turn, replay, refusal, answer_barred}
-use Rattle.schedule_rules.proofs.Words.{answer_admitted, answer_made_to_lend, answer_lent, answer_at, turn_answer_admitted, is_waiting, is_cyclic, is_borrowed, is_missed}
-use Rattle.schedule_rules.proofs.Words.{is_finalizing, is_round, is_closing, is_denied_to_lend, is_skipped, is_access, is_running, want_denies, is_initializing}
+use Rattle.schedule_rules.proofs.Words.{answer_made_to_lend, answer_lent, answer_admitted, answer_at, turn_answer_admitted, is_waiting, is_cyclic, is_running, is_access, is_round}
+use Rattle.schedule_rules.proofs.Words.{is_skipped, is_finalizing, is_closing, is_denied_to_lend, is_borrowed, is_missed, want_denies, is_initializing}
 use Rattle.schedule_rules.proofs.Answered.{IsShown, IsTold, admitted}
 
 -- a test that no answer passes of a step that attempts nothing, but a clone that is barred, and one that is to lend a value which
@@ -132,9 +132,7 @@ module _ (q : Kind) (t : Tolerance) (c : ℕ) (o : Bool) (y : Content) where
       shows (Held writes false) false z = refl
 
       by : (b g : Bool) → is_running (if b && g then Answer.Running else answer_at (form_of q k) (is_accessible q (content b g).phase) (content b g)) ≡ (b && g)
-      by true true = refl
-      by true false = shows (form_of q k) false (content true false)
-      by false g = shows (form_of q k) (is_accessible q y.phase) y
+      by b g = grind (arith, shows)
   admitted_runs Turns = by (has y.phase initialized)
     where
       by : (b : Bool) → is_running (turn_answer_admitted (if b then LockNature.Write else LockNature.None) c) ≡ false

@@ -1,11 +1,11 @@
 -- Each registered cell has one turn: to come, waiting, going on or ended.
-use Rattle.schedule_rules.proofs.Words.{ℕ, ◌≡◌, List, Bool, arith, true, refl, false, Some, ◌∷◌, [], ◌∙◌, sym, None, ap, subst, ◌<◌, ◌&&◌, ◌+◌, length, cond, ◌++◌}
-use Rattle.schedule_rules.proofs.Words.{get_or-set_other, get_or-set_same, ◌==◌, if◌then◌else◌, slice_set, slice_index_or, Option, cells_of_turns, first_of, is_known, rest_of}
+use Rattle.schedule_rules.proofs.Words.{ℕ, ◌≡◌, List, arith, Bool, true, refl, false, Some, ◌∷◌, [], ◌∙◌, sym, ap, None, subst, ◌&&◌, ◌<◌, length, ◌+◌, cond, ◌++◌}
+use Rattle.schedule_rules.proofs.Words.{get_or-set_other, get_or-set_same, ◌==◌, if◌then◌else◌, slice_index_or, slice_set, Option, cells_of_turns, first_of, is_known, rest_of}
 use Rattle.schedule_rules.proofs.Words.{occurs, after_register, due, registered, Turn, Given, is_finalizable, Call, Answer, Refusal, CellPlan, Act, Want, Calls, Turns, cell_at}
-use Rattle.schedule_rules.proofs.Words.{is_owned, tries_registration, is_fast, Deed, EndsToRead, Ends, Makes, Finishes, EndsToWrite, Opens, Skips, deed_waiting, deed_by, Takes}
-use Rattle.schedule_rules.proofs.Words.{Looks, Event, deed_of, accepts, count, is_exit, Section, sections, innermost, is_turn, sections_by, without_innermost, replay, phase_at}
-use Rattle.schedule_rules.proofs.Words.{registry, registry_by, ended_turns, registry_taken, turn_of_section, turn_of, turns_by, Wait, waits, wait_of, attempt_with, without_wait}
-use Rattle.schedule_rules.proofs.Words.{waits_given_with, with_wait, refusal, refusal_waiting, answer_of_value, IsLegal, waits_to_turn, turns_of, finalizes_in}
+use Rattle.schedule_rules.proofs.Words.{is_owned, tries_registration, is_fast, Deed, EndsToRead, Ends, Makes, Finishes, EndsToWrite, Opens, Skips, deed_waiting, deed_by, Looks}
+use Rattle.schedule_rules.proofs.Words.{Takes, Event, deed_of, accepts, count, is_exit, sections, Section, innermost, is_turn, sections_by, without_innermost, replay, phase_at}
+use Rattle.schedule_rules.proofs.Words.{registry, registry_by, registry_taken, ended_turns, turns_by, turn_of_section, turn_of, Wait, waits, wait_of, attempt_with, without_wait}
+use Rattle.schedule_rules.proofs.Words.{waits_given_with, with_wait, refusal, refusal_waiting, answer_of_value, IsLegal, turns_of, waits_to_turn, finalizes_in}
 use Rattle.schedule_rules.proofs.Exclusion.{alone}
 use Rattle.schedule_rules.proofs.Opened.{count_ended}
 use Rattle.schedule_rules.proofs.Cases.{step, IsCalling, IsTurning, Calling, Turning, Tries, Asking, Case}
@@ -136,13 +136,7 @@ module _ (cells : List CellPlan) (c : ℕ) where
 
     -- a turn that is barred at a cell of the party's own does not wait: the act is an Exit
     borrowing : (a : Act) (d : ℕ) → is_owned (cell_at cells d).place ≡ true → Turning cells h p a d → IsAllowed a → count (waits_to_turn c) (others a) ≡ waiting
-    borrowing a d o t f = by a t.acts t.tried f
-      where
-        by : (a : Act) → IsTurning a → attempt_with cells (waits cells h) h p a ≡ Some (record { cell = d; want = Turns }) → IsAllowed a → count (waits_to_turn c) (others a) ≡ waiting
-        by Act.Exit t e f = resting Act.Exit (waits_for _) f
-        by Act.Again t e f =
-            let w : _ = waits_so (wait_of p (waits cells h)) d Turns e in absurd (apart (sym o ∙ ap (λ z. is_owned (cell_at cells z).place) (sym w.2) ∙ shared w.0 w.1))
-        by _ t e f = absurd t
+    borrowing a d o t f = grind (arith, IsTurning, resting, waits_for, waits_so)
 
     -- a call that waits for nothing and opens no turn
     plainly : (a : Act) (d : ℕ) (j : Call) (r : Answer) → Calling cells h p a d j → IsAllowed a → count (waits_to_turn c) (waits cells (event a r ∷ h)) ≡ count (waits_to_turn c) (others a)
@@ -262,11 +256,7 @@ module _ (cells : List CellPlan) (c : ℕ) where
 
       module _ (fresh : is_known (registry cells h) d ≡ false) (inside : d < length (registry cells h).known) (now : registry_by cells h (Opens d (Calls j) b) (registry cells h) ≡ registered d (registry cells h)) where
         to_come : occurs c (due (registry_by cells h (Opens d (Calls j) b) (registry cells h))) ≡ occurs c (due (registry cells h)) + one_if (d == c)
-        to_come =
-            let more : occurs c (due (registry_by cells h (Opens d (Calls j) b) (registry cells h))) ≡ occurs c ((registry cells h).left ++ d ∷ (registry cells h).pending) = ap (λ m. occurs c (due m)) now in
-            let new : _ = occurs_joined c (registry cells h).left (d ∷ (registry cells h).pending) in
-            let old : _ = occurs_joined c (registry cells h).left (registry cells h).pending in
-            omega (arith, more, new, old)
+        to_come = grind (arith, occurs_joined)
 
         here : (d == c) ≡ true → HasTurnBy (Opens d (Calls j) b) n
         here same =

@@ -1,12 +1,12 @@
 -- A value that is shown is there.
-use Rattle.schedule_rules.proofs.Words.{ℕ, ◌≡◌, List, Bool, arith, true, refl, false, Some, ◌∷◌, [], ◌∙◌, sym, None, ap, subst, ◌<◌, ◌⊎◌, ◌&&◌, inl, not, length, inr, ◌≤◌, ◌||◌}
-use Rattle.schedule_rules.proofs.Words.{and_assoc, and_or_self, and_le_r, bit_or, bit_and, AllByRecursion, ◌==◌, if◌then◌else◌, is_some, ◌^◌, ◌-◌, Option, has, initialized}
-use Rattle.schedule_rules.proofs.Words.{registration, is_finalizable, is_plain, is_primed, is_hard, Call, Answer, Line, CellPlan, Act, Step, cell_at, tolerance_of, is_accessible}
-use Rattle.schedule_rules.proofs.Words.{flags_kept, finishes_so, phase_finalized, value_finalized, Content, Change, effect, Ran, Asked, Put, Ended, RanIfAsked, asks_to_lend}
-use Rattle.schedule_rules.proofs.Words.{content_after, content_of_run, is_declined, Deed, EndsToRead, Visits, Ends, Makes, Finishes, EndsToWrite, Drops, DropsToRead, Lends, Holds}
-use Rattle.schedule_rules.proofs.Words.{Beside, Puts, Event, deed_of, Section, sections, Guard, guards, numbered, without_guard, guards_by, reader_made, reader_beside, writer_made}
-use Rattle.schedule_rules.proofs.Words.{replay, phase_at, Back, back_of_step, content_after_back, back_of_section, back_by, inside, back_of_guard, change_of, read_guards}
-use Rattle.schedule_rules.proofs.Words.{reads_cell, answer_of_value, IsLegal, IsLegalLine, lends_at, runs_to_lend, ShowsValue}
+use Rattle.schedule_rules.proofs.Words.{ℕ, ◌≡◌, List, arith, Bool, true, refl, false, Some, ◌∷◌, [], ◌∙◌, sym, ap, None, subst, ◌⊎◌, ◌&&◌, not, inl, inr, ◌<◌, length, ◌||◌}
+use Rattle.schedule_rules.proofs.Words.{and_or_self, and_assoc, and_le_r, AllByRecursion, ◌==◌, if◌then◌else◌, is_some, Option, has, initialized, is_primed, is_plain, is_hard}
+use Rattle.schedule_rules.proofs.Words.{Call, Answer, Line, CellPlan, Act, Step, cell_at, tolerance_of, is_accessible, flags_kept, finishes_so, phase_finalized, value_finalized}
+use Rattle.schedule_rules.proofs.Words.{Content, Change, effect, Ran, Asked, Ended, Put, RanIfAsked, asks_to_lend, content_after, is_declined, content_of_run, Deed, Visits}
+use Rattle.schedule_rules.proofs.Words.{EndsToRead, Ends, Makes, Drops, DropsToRead, Finishes, EndsToWrite, Lends, Holds, Beside, Puts, Event, deed_of, sections, Section, Guard}
+use Rattle.schedule_rules.proofs.Words.{guards, numbered, without_guard, guards_by, writer_made, reader_beside, reader_made, replay, phase_at, Back, back_of_step}
+use Rattle.schedule_rules.proofs.Words.{content_after_back, back_by, back_of_section, inside, back_of_guard, change_of, read_guards, reads_cell, answer_of_value, IsLegal}
+use Rattle.schedule_rules.proofs.Words.{IsLegalLine, lends_at, runs_to_lend, ShowsValue}
 use Rattle.std.specs.Option.{unwrap_or}
 use Rattle.schedule_rules.proofs.Cases.{step, Reach, Case}
 use Rattle.schedule_rules.proofs.Steps.{lent_unprimed, of_legal}
@@ -32,16 +32,7 @@ shown_so o e = grind arith
 
 -- no flag that stays is INITIALIZED
 kept_lacks : (x : CellPlan) (o : Bool) (p : ℕ) → has (flags_kept x.kind o p) initialized ≡ false
-kept_lacks x o p = by (is_finalizable x.kind) (p == 0) o
-  where
-    none : bit_and p 0 ≤ 0 → bit_and p 0 ≡ 0
-    none le = omega (arith, le)
-
-    by : (b d o : Bool) → has (if b then (if d then registration o else bit_and p (2 ^ 32 - 1 - 7)) else 0) initialized ≡ false
-    by false d o = refl
-    by true true true = refl
-    by true true false = refl
-    by true false o = ap (λ z. z == 1) (and_assoc 1 p (2 ^ 32 - 1 - 7) ∙ none (and_le_r p 0))
+kept_lacks x o p = grind (arith, and_assoc, and_le_r)
 
 module _ (x : CellPlan) where
   -- there is one where it may be accessed
@@ -66,28 +57,13 @@ module _ (x : CellPlan) where
       out i false false e f = absurd (apart (sym e))
 
       marks : (fine : Bool) → (has (phase_finalized y.phase fine) 64 || has (phase_finalized y.phase fine) 128) ≡ true
-      marks true = ap (λ z. (z == 64) || has (bit_or y.phase 64) 128) (and_or_self 64 y.phase)
-      marks false = ap (λ z. has (bit_or y.phase 128) 64 || (z == 128)) (and_or_self 128 y.phase) ∙ or_true (has (bit_or y.phase 128) 64)
-        where
-          or_true : (b : Bool) → (b || true) ≡ true
-          or_true true = refl
-          or_true false = refl
+      marks fine = grind (arith, and_or_self)
 
       kept : (fine : Bool) → has (phase_finalized y.phase fine) initialized ≡ has y.phase initialized
-      kept true = has_more y.phase 64 refl
-      kept false = has_more y.phase 128 refl
+      kept fine = grind (arith, has_more)
 
       by : (fine h : Bool) → is_hard x.kind ≡ h → is_accessible x.kind (phase_finalized y.phase fine) ≡ true → is_some (value_finalized x.kind left y.value) ≡ true
-      by fine true e a =
-          ap (λ b. is_some (if b then left else y.value)) e
-          ∙ out (has (phase_finalized y.phase fine) initialized) (has (phase_finalized y.phase fine) 64) (has (phase_finalized y.phase fine) 128) (marks fine)
-          (sym (ap (λ b. has (phase_finalized y.phase fine) initialized && not (b && (has (phase_finalized y.phase fine) 64 || has (phase_finalized y.phase fine) 128))) e) ∙ a)
-      by fine false e a =
-          ap (λ b. is_some (if b then left else y.value)) e
-          ∙ t (soft (has y.phase initialized) _ e (sym (kept fine) ∙ first _ _ a))
-        where
-          soft : (i b : Bool) → is_hard x.kind ≡ false → i ≡ true → (i && not (is_hard x.kind && b)) ≡ true
-          soft i b f g = ap (λ z. z && not (is_hard x.kind && b)) g ∙ ap (λ z. not (z && b)) f
+      by fine h e a = grind (arith, out, marks, kept, first)
 
   asked_true : (o : Bool) (k : Call) (y : Content) → IsTrue y → IsTrue (content_after x (Asked o k) y)
   asked_true o k y t = by (is_declined x.kind (tolerance_of x) k o y.phase)
@@ -270,13 +246,7 @@ module _ (cells : List CellPlan) where
 
   -- what an open guard shows has a value
   pub shown-value : (h : List Event) (g : ℕ) (x : Guard) → IsLegal cells h → numbered g (guards h) ≡ Some x → is_some (if x.writes then inside cells h x else replay cells x.cell h).value ≡ true
-  shown-value h g x legal f = by x.writes refl
-    where
-      by : (b : Bool) → x.writes ≡ b → HasValue (if b then inside cells h x else replay cells x.cell h)
-      by true w =
-          subst HasValue (sym (guard-shows cells h g x legal f w))
-          (each_found (λ y. y.number == g) (λ x. x.writes ≡ true → HasValue (effect (cell_at cells x.cell) x.changes (replay cells x.cell h))) (guards h) x f (all_see h legal) w)
-      by false w = each_found (λ y. y.number == g) (Reads h) (guards h) x f (all_read h legal) w
+  shown-value h g x legal f = grind (arith, guard-shows, each_found, all_see, all_read)
 
   -- ---- lines that show a value
 
