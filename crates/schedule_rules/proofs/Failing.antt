@@ -148,14 +148,10 @@ module _ (cells : List CellPlan) (h : List Event) (s : Step) (c : ℕ) (lends : 
     nobody = by k.moment (subst (λ o. may_give cells o k.moment h s l ≡ true) (none_where (refusal cells h s) free) k.gave)
       where
         first_never : (a : Act) → lends_at c a ≡ true → may_give_first cells h s (attempt_with cells (waits cells h) h s.party a) l.given ≡ false
-        first_never (Act.GetMut z made left) e = refl
-        first_never (Act.TryGetMut z left) e = refl
-        first_never _ e = absurd (apart (sym e))
+        first_never a e = grind arith
 
         concerned : (a : Act) → lends_at c a ≡ true → cell_concerned_with cells (waits cells h) h s.party a ≡ Some c
-        concerned (Act.GetMut z made left) e = let at : z ≡ c = number_found z c e in ap (λ y. Some y) at
-        concerned (Act.TryGetMut z left) e = let at : z ≡ c = number_found z c e in ap (λ y. Some y) at
-        concerned _ e = absurd (apart (sym e))
+        concerned a e = grind (arith, number_found)
 
         reached : (g : Given) → may_give_on cells h s (cell_concerned cells h s) l.answer g ≡ true → g ≡ Given.Nobody
         reached g e =
@@ -163,13 +159,10 @@ module _ (cells : List CellPlan) (h : List Event) (s : Step) (c : ℕ) (lends : 
             (subst (λ ws. reaches c g ws ≡ true) others_wait (first (reaches c g (other_waits cells h s)) _ (second (is_parking (cell_at cells c).place) _ (subst (λ o. may_give_on cells h s o l.answer g ≡ true) (concerned s.act lends) e))))
 
         last : (g : Given) → may_give_last cells h s l.answer g ≡ true → g ≡ Given.Nobody
-        last Given.Nobody e = refl
-        last Given.Readers e = reached Given.Readers e
-        last (Given.Writer q) e = reached (Given.Writer q) e
+        last g e = grind (arith, reached)
 
         by : (m : Moment) → may_give cells None m h s l ≡ true → l.given ≡ Given.Nobody
-        by First e = absurd (apart (sym e ∙ first_never s.act lends))
-        by Last e = last l.given e
+        by m e = grind (arith, first_never, last)
 
     -- what an answer leaves, where the act is to lend the value of the cell
     record Alone (a : Act) (r : Answer) : Type 0 where
@@ -276,8 +269,7 @@ module _ (cells : List CellPlan) (h : List Event) where
   refused-in-use s l k = ap is_refused_in_use k.answered ∙ by (refusal cells h s) ∙ used_by s.party s.act (wait_of s.party (waits cells h))
     where
       reason : (q : Refusal) → is_refused_in_use (Answer.Refused q) ≡ is_in_use_reason (Some q)
-      reason Refusal.InUse = refl
-      reason _ = refl
+      reason q = grind arith
 
       by : (o : Option Refusal) → is_refused_in_use (answer_of o (due_at cells k.moment h s l.given k.chosen)) ≡ is_in_use_reason o
       by (Some q) = reason q

@@ -90,13 +90,11 @@ module _ (cells : List CellPlan) where
       mine = subst (λ o. Of (Apart h p) (attempt_of_wait o)) f (waits_so cells (IsLegal cells) (λ e h l. l.2) Apart goes h p k)
 
       by : (b : Bool) → initializes (cell_at cells w.cell).kind w.want ≡ b → (b && runs p w.cell h) ≡ false
-      by true i = runs_none h p w.cell (mine i)
-      by false i = refl
+      by b i = grind (arith, runs_none, mine)
 
   -- and an Again is not answered so
   pub again-not-cyclic : (h : List Event) (s : Step) (l : Line) → IsLegal cells h → IsLegalLine cells h s l → s.act ≡ Act.Again → l.answer ≢ Answer.Cyclic
   again-not-cyclic h s l legal k a e = apart (sym (ap is_cyclic e) ∙ cyclic_where_own cells h s l k ∙ none (wait_of s.party (waits cells h)) refl)
     where
       none : (o : Option Wait) → wait_of s.party (waits cells h) ≡ o → is_cyclic_step cells h s ≡ false
-      none None f = rw (a, f) refl
-      none (Some w) f = rw (a, f) (rw (waiting-not-cyclic h s.party w legal f) refl)
+      none o f = grind (arith, waiting-not-cyclic)

@@ -76,8 +76,7 @@ told_declined x o b p is declines now before = by (p == 0) refl
         sym t.taken ∙ neither (has (flags_kept x.kind o p) 8) x.leak (sym (ap (λ (d : Bool). if d then has (flags_kept x.kind o p) 8 || x.leak else true) is) ∙ declines)
 
     by : (d : Bool) → (p == 0) ≡ d → b ≡ false
-    by true e = now (grind arith)
-    by false e = kept (λ z. apart (sym (ap (λ n. n == 0) z) ∙ e))
+    by d e = grind (arith, kept)
 
 or_none : (b : Bool) → (b || false) ≡ b
 or_none b = grind arith

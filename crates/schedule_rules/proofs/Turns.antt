@@ -77,9 +77,7 @@ module _ (cells : List CellPlan) (c : ℕ) where
             omega (arith, others_count Act.Again, less)
 
         by : (a : Act) → IsCalling a → attempt_with cells (waits cells h) h p a ≡ Some (record { cell = d; want = Calls j }) → IsAllowed a → count (waits_to_turn c) (others a) ≡ count (waits_to_turn c) (waits cells h)
-        by (Act.Call b m) t e f = rests_count (Act.Call b m) (rests cells h p (Act.Call b m) (λ x. cc) f).0
-        by Act.Again t e f = goes_on (waits_so (wait_of p (waits cells h)) d (Calls j) e)
-        by _ t e f = absurd t
+        by a t e f = grind (arith, rests_count, rests, goes_on, waits_so)
 
     one_or_none : (b : Bool) (n : ℕ) → cond b (n + 1) n ≡ n + one_if b
     one_or_none true n = refl

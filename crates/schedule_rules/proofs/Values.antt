@@ -44,17 +44,7 @@ module _ (x : CellPlan) where
   ended_true fine left y t = by fine (is_hard x.kind) refl
     where
       out : (i a b : Bool) → (a || b) ≡ true → (i && not (true && (a || b))) ≡ true → is_some left ≡ true
-      out i true b e f = absurd (none i f)
-        where
-          none : (i : Bool) → (i && false) ≡ true → ⊥
-          none true g = apart (sym g)
-          none false g = apart (sym g)
-      out i false true e f = absurd (none i f)
-        where
-          none : (i : Bool) → (i && false) ≡ true → ⊥
-          none true g = apart (sym g)
-          none false g = apart (sym g)
-      out i false false e f = absurd (apart (sym e))
+      out i a b e f = grind arith
 
       marks : (fine : Bool) → (has (phase_finalized y.phase fine) 64 || has (phase_finalized y.phase fine) 128) ≡ true
       marks fine = grind (arith, and_or_self)

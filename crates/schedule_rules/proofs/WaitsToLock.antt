@@ -159,6 +159,4 @@ module _ (cells : List CellPlan) where
       other z f = grind arith
 
       by : (a : Act) → lends_at c a ≡ true → refusal_free cells h s.party a ≡ Some Refusal.NotOwner
-      by (Act.GetMut z made left) f = other z f
-      by (Act.TryGetMut z left) f = other z f
-      by _ f = absurd (apart (sym f))
+      by a f = grind (arith, other)
