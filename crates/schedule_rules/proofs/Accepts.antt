@@ -1,56 +1,30 @@
 -- The registry is open as long as a cell may be registered, and knows of each cell whether it was registered.
-use Rattle.schedule_rules.proofs.Words.{ℕ, ◌≡◌, List, arith, Bool, true, refl, false, ◌∷◌, [], ◌∙◌, not, length, length-replicate, length-set, closed, after_register, Registry}
-use Rattle.schedule_rules.proofs.Words.{CellPlan, Deed, Event, deed_of, accepts, closed_by, is_closed, registry, registry_by, registry_taken, registry_of_run, IsLegal}
+use Rattle.schedule_rules.proofs.Words.{ℕ, ◌≡◌, List, Bool, arith, refl, true, false, ◌∷◌, [], ◌∙◌, length, not, length-replicate, length-set, closed, after_register, Registry}
+use Rattle.schedule_rules.proofs.Words.{CellPlan, Deed, Event, deed_of, accepts, is_closed, closed_by, registry, registry_by, registry_taken, registry_of_run, IsLegal}
 use Rattle.schedule_rules.proofs.Finds.{Finds, finds}
 
 -- a registration changes neither whether the registry is open nor of how many cells it knows
 module _ (m : Registry) (c : ℕ) where
-  open_registered : (after_register c m).is_open ≡ m.is_open
-  open_registered = grind arith
-
   length_registered : length (after_register c m).known ≡ length m.known
   length_registered = grind (arith, length-set)
-
--- nor does a turn that is taken
-open_taken : (b : Bool) (m : Registry) → (registry_taken b m).is_open ≡ m.is_open
-open_taken true m = refl
-open_taken false m = refl
 
 length_taken : (b : Bool) (m : Registry) → length (registry_taken b m).known ≡ length m.known
 length_taken true m = refl
 length_taken false m = refl
 
-closed_taken : (b : Bool) (m : Registry) → registry_taken b (closed m) ≡ closed m
-closed_taken true m = refl
-closed_taken false m = refl
-
 module _ (cells : List CellPlan) where
   -- nor does a run
   module _ (c p : ℕ) (m : Registry) where
-    open_run : (registry_of_run cells c p m).is_open ≡ m.is_open
-    open_run = grind arith
-
     length_run : length (registry_of_run cells c p m).known ≡ length m.known
     length_run = grind (arith, length_registered)
-
-    -- in a closed registry it changes nothing
-    closed_run : registry_of_run cells c p (closed m) ≡ closed m
-    closed_run = grind arith
 
   module _ (h : List Event) where
     length_by : (d : Deed) (m : Registry) → length (registry_by cells h d m).known ≡ length m.known
     length_by k1 m = grind (arith, length_run, length_taken)
 
-    -- in a closed registry no deed changes anything
-    closed_after : (d : Deed) (m : Registry) → registry_by cells h d (closed m) ≡ closed m
-    closed_after k1 m = grind arith
-
     module _ (p : ℕ) where
       opens : (d : Deed) → Finds cells h p d → (registry cells h).is_open ≡ accepts h → (registry_by cells h d (registry cells h)).is_open ≡ not (closed_by d (is_closed h))
       opens d f e = grind arith
-
-      stays : (d : Deed) → registry cells h ≡ closed (registry cells h) → registry_by cells h d (registry cells h) ≡ closed (registry_by cells h d (registry cells h))
-      stays d e = grind arith
 
       closes : (d : Deed) → Finds cells h p d → (is_closed h ≡ true → registry cells h ≡ closed (registry cells h)) → closed_by d (is_closed h) ≡ true
           → registry_by cells h d (registry cells h) ≡ closed (registry_by cells h d (registry cells h))

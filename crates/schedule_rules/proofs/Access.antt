@@ -1,12 +1,12 @@
 -- Where a generator runs, and where a value may not be accessed.
-use Rattle.schedule_rules.proofs.Words.{ℕ, ◌≡◌, List, arith, Bool, true, refl, false, Some, ◌∷◌, [], ◌∙◌, sym, ap, subst, ◌⊎◌, ◌&&◌, not, inl, inr, length, ◌≢◌, if◌then◌else◌, has}
+use Rattle.schedule_rules.proofs.Words.{ℕ, ◌≡◌, List, Bool, arith, refl, true, false, Some, ◌∷◌, [], ◌∙◌, sym, ap, subst, ◌⊎◌, ◌&&◌, inl, inr, length, not, ◌≢◌, if◌then◌else◌, has}
 use Rattle.schedule_rules.proofs.Words.{initialized, phase_of, Phase, Given, shall_init, flags_refused, Tolerance, Call, Answer, Line, CellPlan, Act, Step, cell_at, tolerance_at}
 use Rattle.schedule_rules.proofs.Words.{runs_generator, Asked, is_declined, content_asked, deed_visited, Event, accepts, act_of, sections, sections_by, runs, guards, guards_by}
-use Rattle.schedule_rules.proofs.Words.{replay, phase_at, Back, back_of_step, content_after_back, back_by, attempt, cell_concerned, cell_of_attempt, IsLegal, IsLegalLine, lends_at}
-use Rattle.schedule_rules.proofs.Words.{runs_to_lend, IsTurnedAway, KeepsValues}
+use Rattle.schedule_rules.proofs.Words.{replay, phase_at, Back, content_after_back, back_of_step, back_by, cell_concerned, IsLegal, IsLegalLine, lends_at, runs_to_lend}
+use Rattle.schedule_rules.proofs.Words.{IsTurnedAway, KeepsValues}
 use Rattle.schedule_rules.proofs.Found.{found_passes, each_found}
 use Rattle.schedule_rules.proofs.Leaves.{back_here, asked_value}
-use Rattle.schedule_rules.proofs.Cases.{IsTrying, Calling, Asking, Resting, Reach}
+use Rattle.schedule_rules.proofs.Cases.{Calling, Asking, Resting, Reach}
 use Rattle.schedule_rules.proofs.Means.{Began, Away, Unlent, Means, means}
 use Rattle.schedule_rules.proofs.Grows.{Needs, IsStanding, sound}
 use Rattle.schedule_rules.proofs.Facts.{same_number}
@@ -25,10 +25,6 @@ ended-where-unwanted t p e z = grind arith
 
 module _ (cells : List CellPlan) where
   module _ (h : List Event) (p : ℕ) where
-    -- an attempt concerns its cell
-    concerned : (a : Act) → IsTrying a → cell_concerned cells h (record { party = p; act = a }) ≡ cell_of_attempt (attempt cells h (record { party = p; act = a }))
-    concerned a t = grind arith
-
     -- so a call is at the cell that its step concerns
     called_at : (a : Act) (c d : ℕ) (k : Call) → Calling cells h p a c k → cell_concerned cells h (record { party = p; act = a }) ≡ Some d → c ≡ d
     called_at a c d k t e = grind arith

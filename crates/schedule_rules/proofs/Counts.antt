@@ -1,7 +1,7 @@
 -- How many calls wait and how many turns there are, after one is taken off or added.
-use Rattle.schedule_rules.proofs.Words.{ℕ, ◌≡◌, List, arith, Bool, true, refl, false, Some, ◌∷◌, [], None, not, ◌+◌, cond, ◌≤◌, ◌++◌, ◌==◌, if◌then◌else◌, map, Option}
-use Rattle.schedule_rules.proofs.Words.{cells_of_turns, first_of, rest_of, occurs, Turn, Turned, Given, Answer, CellPlan, Step, Want, Turns, Event, count, Wait, waits, wait_of}
-use Rattle.schedule_rules.proofs.Words.{Attempt, attempt_of_wait, attempt_of_turn, without_wait, waits_given_with, with_wait, waits_answered, wait_woken}
+use Rattle.schedule_rules.proofs.Words.{ℕ, ◌≡◌, List, Bool, arith, refl, Some, ◌∷◌, [], None, ◌+◌, cond, ◌≤◌, ◌++◌, ◌==◌, if◌then◌else◌, map, Option, cells_of_turns, first_of}
+use Rattle.schedule_rules.proofs.Words.{rest_of, occurs, Turn, Turned, Given, Answer, CellPlan, Step, Want, Turns, Event, count, Wait, waits, wait_of, Attempt, attempt_of_turn}
+use Rattle.schedule_rules.proofs.Words.{attempt_of_wait, without_wait, waits_given_with, waits_answered, with_wait, wait_woken}
 
 -- 1 where the test holds
 abbrev pub one_if : Bool → ℕ
@@ -22,15 +22,11 @@ occurs_ended c d t (x ∷ ts) = let e : _ = occurs_ended c d t ts in omega (arit
 -- what a gift leaves alone counts as before
 pub count_mapped : (t : Wait → Bool) (f : Wait → Wait) → ((w : Wait) → t (f w) ≡ t w) → (ws : List Wait) → count t (map f ws) ≡ count t ws
 count_mapped t f same [] = refl
-count_mapped t f same (w ∷ ws) = by (t (f w)) (t w) (same w) (count_mapped t f same ws)
-  where
-    by : (a b : Bool) → a ≡ b → count t (map f ws) ≡ count t ws → cond a (count t (map f ws) + 1) (count t (map f ws)) ≡ cond b (count t ws + 1) (count t ws)
-    by a b e n = grind arith
+count_mapped t f same (w ∷ ws) = grind (arith, count_mapped t f same ws, same w)
 
 module _ (t : Wait → Bool) (keeps : (w : Wait) → t (wait_woken w) ≡ t w) where
   woken : (b : Bool) (w : Wait) → t (if b then wait_woken w else w) ≡ t w
-  woken true w = keeps w
-  woken false w = refl
+  woken b w = grind (arith, keeps)
 
   pub count_given : (cells : List CellPlan) (all : List Wait) (h : List Event) (s : Step) (g : Given) (ws : List Wait) → count t (waits_given_with cells all h s g ws) ≡ count t ws
   count_given cells all h s k1 ws = grind (arith, count_mapped, woken)
@@ -38,11 +34,7 @@ module _ (t : Wait → Bool) (keeps : (w : Wait) → t (wait_woken w) ≡ t w) w
 -- where the party does not wait, all are others
 pub without_none : (p : ℕ) (ws : List Wait) → wait_of p ws ≡ None → without_wait p ws ≡ ws
 without_none p [] e = refl
-without_none p (w ∷ ws) e = by (w.party == p) e (λ f. without_none p ws f)
-  where
-    by : (b : Bool) → cond b (Some w) (wait_of p ws) ≡ None → (wait_of p ws ≡ None → without_wait p ws ≡ ws)
-        → cond (not b) (w ∷ without_wait p ws) (without_wait p ws) ≡ w ∷ ws
-    by b f rest = grind arith
+without_none p (w ∷ ws) e = grind (arith, without_none p ws)
 
 none_waits : (p : ℕ) (ws : List Wait) → count (λ w. w.party == p) ws ≡ 0 → wait_of p ws ≡ None
 none_waits p [] e = refl
@@ -52,44 +44,17 @@ none_waits p (w ∷ ws) e = grind (arith, none_waits p ws)
 pub count_without : (t : Wait → Bool) (p : ℕ) (ws : List Wait) (w : Wait) → wait_of p ws ≡ Some w → count (λ v. v.party == p) ws ≤ 1
     → count t ws ≡ count t (without_wait p ws) + cond (t w) 1 0
 count_without t p [] w e n = absurd (cc)
-count_without t p (v ∷ ws) w e n = by (v.party == p) e n (λ f m. count_without t p ws w f m)
-  where
-    more : (a : Bool) (x y : ℕ) (b : Bool) → x ≡ y + cond b 1 0 → cond a (x + 1) x ≡ cond a (y + 1) y + cond b 1 0
-    more true x y b e = omega (arith, e)
-    more false x y b e = e
-
-    own : v ≡ w → count (λ u. u.party == p) ws ≡ 0 → cond (t v) (count t ws + 1) (count t ws) ≡ count t (without_wait p ws) + cond (t w) 1 0
-    own same none = grind (arith, without_none, none_waits)
-
-    by : (b : Bool) → cond b (Some v) (wait_of p ws) ≡ Some w → cond b (count (λ u. u.party == p) ws + 1) (count (λ u. u.party == p) ws) ≤ 1
-        → (wait_of p ws ≡ Some w → count (λ u. u.party == p) ws ≤ 1 → count t ws ≡ count t (without_wait p ws) + cond (t w) 1 0)
-        → cond (t v) (count t ws + 1) (count t ws) ≡ count t (cond (not b) (v ∷ without_wait p ws) (without_wait p ws)) + cond (t w) 1 0
-    by b f m rest = grind (arith, own, more)
+count_without t p (v ∷ ws) w e n = grind (arith, count_without t p ws w, without_none p ws, none_waits p ws)
 
 -- without the waits of a party no more wait
 without_fewer : (t : Wait → Bool) (p : ℕ) (ws : List Wait) → count t (without_wait p ws) ≤ count t ws
 without_fewer t p [] = omega arith
-without_fewer t p (w ∷ ws) = by (w.party == p) (without_fewer t p ws)
-  where
-    more : (d : Bool) (x y : ℕ) → x ≤ y → cond d (x + 1) x ≤ cond d (y + 1) y
-    more true x y n = omega (arith, n)
-    more false x y n = n
-
-    most : (d : Bool) (x y : ℕ) → x ≤ y → x ≤ cond d (y + 1) y
-    most true x y n = omega (arith, n)
-    most false x y n = n
-
-    by : (b : Bool) → count t (without_wait p ws) ≤ count t ws → count t (cond (not b) (w ∷ without_wait p ws) (without_wait p ws)) ≤ cond (t w) (count t ws + 1) (count t ws)
-    by b n = grind arith
+without_fewer t p (w ∷ ws) = grind (arith, without_fewer t p ws)
 
 -- and none of its own
 none_own : (p : ℕ) (ws : List Wait) → count (λ w. w.party == p) (without_wait p ws) ≡ 0
 none_own p [] = refl
-none_own p (w ∷ ws) = by (w.party == p) refl (none_own p ws)
-  where
-    by : (b : Bool) → (w.party == p) ≡ b → count (λ v. v.party == p) (without_wait p ws) ≡ 0
-        → count (λ v. v.party == p) (cond (not b) (w ∷ without_wait p ws) (without_wait p ws)) ≡ 0
-    by b e n = grind arith
+none_own p (w ∷ ws) = grind (arith, none_own p ws)
 
 module _ (cells : List CellPlan) (p : ℕ) where
   -- the party waits with no more calls than before, besides one that waits by this step
@@ -117,10 +82,6 @@ module _ (cells : List CellPlan) (p : ℕ) where
 -- what has a first begins with it
 pub begins : (cs : List ℕ) (d : ℕ) → first_of cs ≡ Some d → cs ≡ d ∷ rest_of cs
 begins k1 d e = grind arith
-
--- a call or turn that is attempted again, waits
-same_attempt : (a b : Attempt) → Some a ≡ Some b → a ≡ b
-same_attempt a b e = cc
 
 pub waits_so : (o : Option Wait) (d : ℕ) (v : Want) → attempt_of_wait o ≡ Some (record { cell = d; want = v }) → (w : Wait) × (o ≡ Some w) × (w.cell ≡ d) × (w.want ≡ v)
 waits_so k1 d v e = grind arith

@@ -1,13 +1,12 @@
 -- What a failed run leaves; and of a value that is lent, that nobody uses its cell, and what the step leaves.
-use Rattle.schedule_rules.proofs.Words.{ℕ, ◌≡◌, List, arith, Bool, true, refl, false, Some, ◌∷◌, [], ◌∙◌, sym, ap, None, subst, ◌⊎◌, ◌&&◌, not, inl, inr, length, ◌+◌, cond, ◌≢◌}
-use Rattle.schedule_rules.proofs.Words.{◌||◌, list_any, ◌==◌, if◌then◌else◌, is_none, is_some, Option, Given, Answer, Line, Refusal, CellPlan, Act, Step, cell_at, tolerance_at}
-use Rattle.schedule_rules.proofs.Words.{is_parking, is_accessible, Content, Change, effect, Ran, Put, RanIfAsked, Makes, Event, deed_of, accepts, count, sections, Section}
-use Rattle.schedule_rules.proofs.Words.{innermost, sections_by, guards, guards_by, replay, Back, back_of_step, content_after_back, back_of_section, Wait, waits, wait_of}
-use Rattle.schedule_rules.proofs.Words.{attempt_with, without_wait, waits_given_with, cell_concerned, waits_at, cell_of_section, waits_answered, other_waits, cell_concerned_with}
-use Rattle.schedule_rules.proofs.Words.{refusal, refusal_by, no_call, refusal_waiting, refusal_free, no_lending, no_guard, no_writer, no_outcome, no_reader, no_exit, due_answer}
-use Rattle.schedule_rules.proofs.Words.{may_give_first, may_give_on, may_give_last, reaches, IsLegalLine, answer_of, due_at, Moment, may_give, First, Last, lends_at, waits_judged}
-use Rattle.schedule_rules.proofs.Words.{is_failed, is_refused_in_use, lends_in_use, is_step_in_use, is_failure, is_lent, RunsAtOnce, EndsRun, ChangesCellAlone, IsFailedRun, Leaves}
-use Rattle.schedule_rules.proofs.Words.{IsUnused}
+use Rattle.schedule_rules.proofs.Words.{ℕ, ◌≡◌, List, Bool, arith, refl, true, false, Some, ◌∷◌, [], ◌∙◌, sym, ap, None, subst, ◌⊎◌, ◌&&◌, inl, inr, length, ◌≢◌, list_any, ◌==◌}
+use Rattle.schedule_rules.proofs.Words.{if◌then◌else◌, is_none, is_some, Option, Given, Answer, Line, Refusal, CellPlan, Act, Step, cell_at, tolerance_at, is_parking}
+use Rattle.schedule_rules.proofs.Words.{is_accessible, Content, Change, effect, Ran, Put, RanIfAsked, Makes, Event, deed_of, accepts, count, sections, Section, innermost}
+use Rattle.schedule_rules.proofs.Words.{sections_by, guards, guards_by, replay, Back, content_after_back, back_of_step, back_of_section, Wait, waits, wait_of, attempt_with}
+use Rattle.schedule_rules.proofs.Words.{without_wait, cell_concerned, waits_given_with, cell_of_section, waits_at, waits_answered, other_waits, cell_concerned_with, refusal}
+use Rattle.schedule_rules.proofs.Words.{refusal_by, due_answer, may_give_first, may_give_last, may_give_on, reaches, IsLegalLine, answer_of, due_at, Moment, may_give, lends_at}
+use Rattle.schedule_rules.proofs.Words.{waits_judged, is_failed, is_step_in_use, is_refused_in_use, lends_in_use, is_failure, is_lent, IsFailedRun, IsUnused, ChangesCellAlone}
+use Rattle.schedule_rules.proofs.Words.{EndsRun, Leaves, RunsAtOnce}
 use Rattle.schedule_rules.proofs.Cases.{step, IsTrying, trying, Lendable, Case, calling-tries, turning-tries}
 use Rattle.schedule_rules.proofs.Steps.{lendable, lendable_so, allowed}
 use Rattle.schedule_rules.proofs.Finds.{LendsSo, Both, finds, tells}
@@ -108,10 +107,7 @@ none_where o e = grind arith
 module _ (c : ℕ) where
   none_any : (t : Wait → Bool) → ((w : Wait) → (w.cell == c) ≡ false → t w ≡ false) → (ws : List Wait) → count (waits_at c) ws ≡ 0 → list_any t ws ≡ false
   none_any t f [] n = refl
-  none_any t f (w ∷ ws) n = by (w.cell == c) refl n (none_any t f ws)
-    where
-      by : (b : Bool) → (w.cell == c) ≡ b → cond b (count (waits_at c) ws + 1) (count (waits_at c) ws) ≡ 0 → (count (waits_at c) ws ≡ 0 → list_any t ws ≡ false) → (t w || list_any t ws) ≡ false
-      by b e n rest = grind arith
+  none_any t f (w ∷ ws) n = grind (arith, none_any t f ws, f w)
 
   elsewhere : (b d : Bool) → d ≡ false → (if b then d else false) ≡ false
   elsewhere b d e = grind arith
@@ -232,33 +228,6 @@ is_in_use_reason (Some Refusal.InUse) = true
 is_in_use_reason _ = false
 
 module _ (cells : List CellPlan) (h : List Event) where
-  lends_used : (other has used : Bool) → is_in_use_reason (no_lending (no_call other has) used) ≡ (not other && (has && used))
-  lends_used other has used = grind arith
-
-  outcome : (o : Option Bool) → is_in_use_reason (no_outcome o) ≡ false
-  outcome o = grind arith
-
-  guard : (o : Option Bool) → is_in_use_reason (no_guard o) ≡ false
-  guard o = grind arith
-
-  writer : (o : Option Bool) → is_in_use_reason (no_writer o) ≡ false
-  writer o = grind arith
-
-  reader : (o : Option Bool) → is_in_use_reason (no_reader o) ≡ false
-  reader o = grind arith
-
-  called : (other has : Bool) → is_in_use_reason (no_call other has) ≡ false
-  called other has = grind arith
-
-  exits : (other inside : Bool) → is_in_use_reason (no_exit other inside) ≡ false
-  exits other inside = grind arith
-
-  used_free : (p : ℕ) (a : Act) → is_in_use_reason (refusal_free cells h p a) ≡ lends_in_use cells h p a
-  used_free p k1 = grind arith
-
-  waits_first : (a : Act) → is_in_use_reason (refusal_waiting a) ≡ false
-  waits_first a = grind arith
-
   used_by : (p : ℕ) (a : Act) (o : Option Wait) → is_in_use_reason (refusal_by cells (is_some o) h p a) ≡ (is_none o && lends_in_use cells h p a)
   used_by p a k1 = grind arith
 

@@ -1,5 +1,5 @@
 -- What a test finds in a list, how many pass it, and what holds of each.
-use Rattle.schedule_rules.proofs.Words.{ℕ, ◌≡◌, List, arith, Bool, true, refl, false, Some, ◌∷◌, [], None, subst, ◌<◌, ◌+◌, cond, ◌≤◌, AllByRecursion, find, ◌==◌, count, Section}
+use Rattle.schedule_rules.proofs.Words.{ℕ, ◌≡◌, List, Bool, arith, refl, true, false, Some, ◌∷◌, [], None, subst, ◌<◌, ◌+◌, cond, ◌≤◌, AllByRecursion, find, ◌==◌, count, Section}
 use Rattle.schedule_rules.proofs.Words.{without_innermost, Guard, without_guard, put_in}
 use Rattle.schedule_rules.proofs.Opened.{put}
 
@@ -27,16 +27,6 @@ found_passes p (y ∷ xs) x e = grind (arith, found_passes p xs x)
 pub none_counted : {X : Type 0} (p : X → Bool) (xs : List X) → find p xs ≡ None → count p xs ≡ 0
 none_counted p [] e = refl
 none_counted p (x ∷ xs) e = grind (arith, none_counted p xs)
-
--- where none passes a test, a fact of those that do not pass is one of all
-pub each_else : {X : Type 0} (t : X → Bool) (P Q : X → Type 0) (xs : List X) → count t xs ≡ 0
-    → ((x : X) → t x ≡ false → P x → Q x) → AllByRecursion P xs → AllByRecursion Q xs
-each_else t P Q [] none f ps = tt
-each_else {X} t P Q (x ∷ xs) none f ps = by (t x) refl none (λ n. each_else t P Q xs n f ps.1)
-  where
-    by : (b : Bool) → t x ≡ b → cond b (count t xs + 1) (count t xs) ≡ 0 → (count t xs ≡ 0 → AllByRecursion Q xs) → AllByRecursion Q (x ∷ xs)
-    by true e n rest = absurd (omega arith)
-    by false e n rest = (f x e ps.0, rest n)
 
 -- where none passes a test, what holds of those that do not pass holds of all
 pub each_none : {X : Type 0} (t : X → Bool) (Q : X → Type 0) (xs : List X) → count t xs ≡ 0 → ((x : X) → t x ≡ false → Q x) → AllByRecursion Q xs

@@ -1,25 +1,20 @@
 -- A waiting call goes on with what its party did last: its wait says the same call as the party's latest act.
-use Rattle.schedule_rules.proofs.Words.{ℕ, ◌≡◌, List, arith, Bool, true, refl, false, Some, ◌∷◌, [], ◌∙◌, sym, ap, None, subst, ◌≢◌, ◌==◌, if◌then◌else◌, map, Option, first_of}
-use Rattle.schedule_rules.proofs.Words.{Given, How, Answer, Refusal, CellPlan, Act, Step, Event, latest_act, newer_act, latest_act_after, registry, Wait, waits, wait_of, attempt}
-use Rattle.schedule_rules.proofs.Words.{Attempt, attempt_of_wait, attempt_with, attempt_of_turn, without_wait, waits_given_with, with_wait, waits_answered, act_for, wait_woken}
+use Rattle.schedule_rules.proofs.Words.{ℕ, ◌≡◌, List, Bool, arith, refl, true, false, Some, ◌∷◌, [], ◌∙◌, sym, ap, None, subst, ◌≢◌, ◌==◌, if◌then◌else◌, map, Option, first_of}
+use Rattle.schedule_rules.proofs.Words.{Given, How, Answer, Refusal, CellPlan, Act, Step, Event, latest_act, latest_act_after, newer_act, registry, Wait, waits, wait_of, attempt}
+use Rattle.schedule_rules.proofs.Words.{Attempt, attempt_of_turn, attempt_of_wait, attempt_with, without_wait, waits_given_with, waits_answered, with_wait, wait_woken, act_for}
 use Rattle.schedule_rules.proofs.Opened.{wait_removed, wait_kept}
 
 module _ (f : Wait → Wait) (same_party : (w : Wait) → (f w).party ≡ w.party) (same_attempt : (w : Wait) → attempt_of_wait (Some (f w)) ≡ attempt_of_wait (Some w)) where
   -- what keeps party, cell and want of each wait keeps what is attempted
   attempt_mapped : (p : ℕ) (ws : List Wait) → attempt_of_wait (wait_of p (map f ws)) ≡ attempt_of_wait (wait_of p ws)
   attempt_mapped p [] = refl
-  attempt_mapped p (w ∷ ws) = by ((f w).party == p) (w.party == p) (ap (λ q. q == p) (same_party w)) (attempt_mapped p ws)
-    where
-      by : (b d : Bool) → b ≡ d → attempt_of_wait (wait_of p (map f ws)) ≡ attempt_of_wait (wait_of p ws) → attempt_of_wait (if b then Some (f w) else wait_of p (map f ws)) ≡ attempt_of_wait (if d then Some w else wait_of p ws)
-      by b d same older = grind arith
+  attempt_mapped p (w ∷ ws) = grind (arith, attempt_mapped p ws, same_party w, same_attempt w)
 
 woken_party : (b : Bool) (w : Wait) → (if b then wait_woken w else w).party ≡ w.party
-woken_party true w = refl
-woken_party false w = refl
+woken_party b w = grind arith
 
 woken_attempt : (b : Bool) (w : Wait) → attempt_of_wait (Some (if b then wait_woken w else w)) ≡ attempt_of_wait (Some w)
-woken_attempt true w = refl
-woken_attempt false w = refl
+woken_attempt b w = grind arith
 
 -- what is attempted again is the act
 abbrev pub Matches : Option Attempt → Act → Type 0

@@ -1,25 +1,15 @@
 -- What a legal step leaves: each section stands on the phase that it needs, each holder of a write guard sees a value, and
 -- INITIALIZED is never cleared.
-use Rattle.schedule_rules.proofs.Words.{ℕ, ◌≡◌, List, arith, Bool, true, refl, false, Some, ◌∷◌, [], ◌∙◌, sym, ap, ◌⊎◌, and_or_apart, and_or_self, bit_and, bit_or, AllByRecursion}
-use Rattle.schedule_rules.proofs.Words.{◌==◌, Option, has, initialized, phase_of, shall_init, Tolerance, Call, Kind, CellPlan, Want, Calls, Turns, cell_at, tolerance_of}
-use Rattle.schedule_rules.proofs.Words.{flags_kept, Content, Change, effect, Ran, Asked, Ended, Put, RanIfAsked, asks_to_lend, Deed, Visits, EndsToRead, Ends, Makes, Drops}
-use Rattle.schedule_rules.proofs.Words.{DropsToRead, Finishes, EndsToWrite, Lends, Opens, Holds, Event, deed_of, accepts, sections, Section, is_turn, Guard, guards, numbered}
-use Rattle.schedule_rules.proofs.Words.{replay, phase_at, IsLegal, IsExclusive}
+use Rattle.schedule_rules.proofs.Words.{ℕ, ◌≡◌, List, Bool, arith, refl, true, false, Some, ◌∷◌, [], ◌∙◌, sym, ap, ◌⊎◌, and_or_apart, and_or_self, bit_or, bit_and, AllByRecursion}
+use Rattle.schedule_rules.proofs.Words.{◌==◌, Option, has, initialized, phase_of, shall_init, CellPlan, Want, Calls, Turns, cell_at, tolerance_of, flags_kept, Content, Change}
+use Rattle.schedule_rules.proofs.Words.{effect, Ran, Put, Asked, Ended, RanIfAsked, Deed, Visits, EndsToRead, Ends, Makes, Finishes, Drops, DropsToRead, EndsToWrite, Lends, Opens}
+use Rattle.schedule_rules.proofs.Words.{Holds, Event, deed_of, accepts, sections, Section, is_turn, Guard, guards, numbered, replay, phase_at, IsLegal, IsExclusive}
 use Rattle.schedule_rules.proofs.Found.{each_found}
 use Rattle.schedule_rules.proofs.Cases.{Asking, Resting, AsksToLend, Reach}
-use Rattle.schedule_rules.proofs.Attempts.{asks_due}
 use Rattle.schedule_rules.proofs.Finds.{Inside, Visit, Comes, Lending, accessed_there, Finds, finds}
 use Rattle.schedule_rules.proofs.Leaves.{left_at, sections_left, guards_left, NewOf, Says, sections_say, guards_say, GivesOf, moves}
 use Rattle.schedule_rules.proofs.Facts.{apart}
 use Rattle.schedule_rules.proofs.Exclusion.{alone}
-
--- where a run is wanted, INITIALIZED is not there
-pub wanted-lacks : (t : Tolerance) (p : ℕ) → shall_init t (phase_of p) ≡ true → has p initialized ≡ false
-wanted-lacks t p e = grind arith
-
--- nor where one is asked before the value is lent
-pub asked-lacks : (q : Kind) (t : Tolerance) (p : ℕ) → asks_to_lend q t p ≡ true → has p initialized ≡ false
-asked-lacks q t p e = wanted-lacks t p (asks_due q t Call.Init p e)
 
 -- a run that succeeds sets it
 pub has_made : (p : ℕ) → has (bit_or p initialized) initialized ≡ true

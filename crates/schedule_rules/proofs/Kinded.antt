@@ -1,21 +1,14 @@
 -- The sections and the guards of a legal history are of calls that the kinds of their cells have.
-use Rattle.schedule_rules.proofs.Words.{ℕ, ◌≡◌, List, arith, Bool, true, refl, false, Some, ◌∷◌, [], ◌∙◌, sym, None, subst, not, length, AllByRecursion, ◌==◌, Option, has_call}
+use Rattle.schedule_rules.proofs.Words.{ℕ, ◌≡◌, List, Bool, arith, refl, true, false, Some, ◌∷◌, [], ◌∙◌, sym, None, subst, length, AllByRecursion, ◌==◌, Option, has_call}
 use Rattle.schedule_rules.proofs.Words.{is_primed, is_plain, Call, Kind, Answer, CellPlan, Act, Calls, Turns, cell_at, form_of, Deed, Visits, EndsToRead, Ends, Drops, DropsToRead}
-use Rattle.schedule_rules.proofs.Words.{EndsToWrite, Opens, Holds, Beside, deed_waiting, Puts, deed_by, Event, deed_of, accepts, is_exit, sections, Section, innermost, sections_by}
-use Rattle.schedule_rules.proofs.Words.{Guard, guards, numbered, without_guard, guards_by, writer_made, reader_beside, reader_made, replay, refusal, answer_of_value, IsLegal}
+use Rattle.schedule_rules.proofs.Words.{EndsToWrite, Opens, Holds, Puts, Beside, deed_waiting, deed_by, Event, deed_of, accepts, is_exit, sections, Section, innermost, sections_by}
+use Rattle.schedule_rules.proofs.Words.{Guard, guards, numbered, without_guard, guards_by, reader_made, reader_beside, writer_made, replay, refusal, answer_of_value, IsLegal}
 use Rattle.schedule_rules.proofs.Cases.{errs, writes, step, Calling, Generating, form_at, Case}
 use Rattle.schedule_rules.proofs.Found.{each_found, each_ended, each_removed, each_put}
 use Rattle.schedule_rules.proofs.Steps.{of_legal}
 use Rattle.schedule_rules.proofs.WaitsToLock.{attempted-has}
 
 -- ---- of calls that a kind has
-
-not_so : (b : Bool) → not b ≡ true → b ≡ false
-not_so b e = grind arith
-
--- a primed kind is not plain
-primed_not_plain : (q : Kind) → is_primed q ≡ true → is_plain q ≡ false
-primed_not_plain q e = grind arith
 
 -- no plain kind has one that does
 written_not_plain : (q : Kind) (k : Call) → has_call q k ≡ true → writes (form_of q k) ≡ true → is_plain q ≡ false

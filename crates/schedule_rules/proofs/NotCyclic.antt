@@ -1,8 +1,8 @@
 -- A call that waits asks for no run of a generator that its own party is running.
-use Rattle.schedule_rules.proofs.Words.{ℕ, ◌≡◌, List, arith, Bool, true, refl, false, Some, ◌∷◌, [], ◌∙◌, sym, ap, None, subst, ◌&&◌, not, ◌+◌, cond, ◌≢◌, ◌≤◌, ◌==◌, is_none}
-use Rattle.schedule_rules.proofs.Words.{Option, How, Answer, Line, CellPlan, Act, Step, cell_at, initializes, Deed, deed_waiting, Event, deed_of, count, is_exit, sections, Section}
-use Rattle.schedule_rules.proofs.Words.{is_turn, runs_in, sections_by, without_innermost, runs, Wait, waits, wait_of, attempt, Attempt, attempt_of_wait, refusal, IsLegal}
-use Rattle.schedule_rules.proofs.Words.{IsLegalLine, IsExclusive, waits_judged, is_attempted, is_waiting, is_cyclic, is_cyclic_step, is_made_to_wait}
+use Rattle.schedule_rules.proofs.Words.{ℕ, ◌≡◌, List, Bool, arith, refl, true, false, Some, ◌∷◌, [], ◌∙◌, sym, ap, None, subst, ◌&&◌, not, ◌≢◌, ◌≤◌, ◌==◌, is_none, Option, How}
+use Rattle.schedule_rules.proofs.Words.{Answer, Line, CellPlan, Act, Step, cell_at, initializes, Deed, deed_waiting, Event, deed_of, count, is_exit, sections, Section, is_turn}
+use Rattle.schedule_rules.proofs.Words.{sections_by, runs_in, without_innermost, runs, Wait, waits, wait_of, attempt, Attempt, attempt_of_wait, refusal, IsLegal, IsLegalLine}
+use Rattle.schedule_rules.proofs.Words.{IsExclusive, waits_judged, is_attempted, is_waiting, is_cyclic, is_made_to_wait, is_cyclic_step}
 use Rattle.schedule_rules.proofs.Exclusion.{alone}
 use Rattle.schedule_rules.proofs.Facts.{first, second, apart}
 use Rattle.schedule_rules.proofs.Found.{found_counts, found_passes, none_counted, only_one}
@@ -21,18 +21,7 @@ module _ (p : ℕ) where
 
   ended_fewer : (q c : ℕ) (ss : List Section) → own_runs p c (without_innermost q ss) ≤ own_runs p c ss
   ended_fewer q c [] = omega arith
-  ended_fewer q c (s ∷ ss) = by (s.party == q) (is_own_run p c s) (ended_fewer q c ss)
-    where
-      more : (d : Bool) (x y : ℕ) → x ≤ y → cond d (x + 1) x ≤ cond d (y + 1) y
-      more true x y n = omega (arith, n)
-      more false x y n = n
-
-      most : (d : Bool) (x : ℕ) → x ≤ cond d (x + 1) x
-      most true x = omega arith
-      most false x = omega arith
-
-      by : (b d : Bool) → own_runs p c (without_innermost q ss) ≤ own_runs p c ss → own_runs p c (cond b ss (s ∷ without_innermost q ss)) ≤ cond (is_own_run p c s) (own_runs p c ss + 1) (own_runs p c ss)
-      by b d n = grind arith
+  ended_fewer q c (s ∷ ss) = grind (arith, ended_fewer q c ss)
 
   -- another's deed opens none of the party's
   others_fewer : (h : List Event) (q : ℕ) (d : Deed) (c : ℕ) (ss : List Section) → (q == p) ≡ false → own_runs p c (sections_by h q d ss) ≤ own_runs p c ss

@@ -1,9 +1,9 @@
 -- A generator of a cell succeeds at most once.
-use Rattle.schedule_rules.proofs.Words.{ℕ, ◌≡◌, List, arith, Bool, true, refl, false, Some, ◌∷◌, [], ◌∙◌, sym, ap, None, subst, ◌⊎◌, ◌&&◌, inl, inr, ◌<◌, ◌+◌, cond, ◌||◌, ◌≤◌}
+use Rattle.schedule_rules.proofs.Words.{ℕ, ◌≡◌, List, Bool, arith, refl, true, false, Some, ◌∷◌, [], ◌∙◌, sym, ap, None, subst, ◌⊎◌, ◌&&◌, inl, ◌<◌, inr, ◌+◌, cond, ◌≤◌, ◌||◌}
 use Rattle.schedule_rules.proofs.Words.{◌==◌, has, initialized, Answer, CellPlan, Act, cell_at, flags_kept, Content, Change, effect, Ran, Deed, Visits, EndsToRead, Ends, Makes}
-use Rattle.schedule_rules.proofs.Words.{Drops, DropsToRead, Finishes, EndsToWrite, Lends, Event, deed_of, count, sections, Section, innermost, is_turn, runs_in, Guard, guards}
-use Rattle.schedule_rules.proofs.Words.{numbered, replay, phase_at, back_by, back_of_section, writes_cell, IsLegal, lends_at, runs_to_lend, is_failed, successes, is_success}
-use Rattle.schedule_rules.proofs.Words.{is_lent_at}
+use Rattle.schedule_rules.proofs.Words.{Finishes, Drops, DropsToRead, EndsToWrite, Lends, Event, deed_of, count, sections, Section, innermost, is_turn, runs_in, Guard, guards}
+use Rattle.schedule_rules.proofs.Words.{numbered, replay, phase_at, back_by, back_of_section, writes_cell, IsLegal, lends_at, runs_to_lend, is_failed, is_success, is_lent_at}
+use Rattle.schedule_rules.proofs.Words.{successes}
 use Rattle.schedule_rules.proofs.Exclusion.{alone}
 use Rattle.schedule_rules.proofs.Found.{found_counts, each_found}
 use Rattle.schedule_rules.proofs.Leaves.{back_here, left_at, guards_left, GivenAt, Writing, writing, GivesOf, moves}
@@ -142,4 +142,4 @@ module _ (cells : List CellPlan) (c : ℕ) where
 
   -- at most one generator of the cell ends by a value
   pub one-success : (h : List Event) → IsLegal cells h → successes cells c h ≤ 1
-  one-success h k = grind (arith, counted)
+  one-success h k = grind (arith, counted h k)

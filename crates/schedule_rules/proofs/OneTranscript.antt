@@ -1,9 +1,8 @@
 -- A schedule of cells that do not park has at most one legal transcript.
-use Rattle.schedule_rules.proofs.Words.{ℕ, ◌≡◌, List, arith, Bool, true, refl, false, Some, ◌∷◌, [], ◌∙◌, sym, ap, None, subst, ◌<◌, length, get_or_past, same_lists, Option, Given}
-use Rattle.schedule_rules.proofs.Words.{How, Answer, Line, Refusal, CellPlan, Place, Act, Step, Want, cell_at, is_parking, Event, ended_turns, Wait, attempt, Attempt, other_waits}
-use Rattle.schedule_rules.proofs.Words.{refusal, answer_barred, Meeting, answer_of_attempt, due_answer, due_tried, meeting, is_nobody, may_give_first, may_give_on, may_give_last}
-use Rattle.schedule_rules.proofs.Words.{IsLegal, IsLegalLine, answer_of, due_at, Moment, may_give, First, Last, Schedule, told, IsLegalTranscript, Account, AreFinals, final_of}
-use Rattle.schedule_rules.proofs.Words.{NoneParks}
+use Rattle.schedule_rules.proofs.Words.{ℕ, ◌≡◌, List, Bool, arith, refl, true, false, Some, ◌∷◌, [], ◌∙◌, sym, ap, None, subst, ◌<◌, length, get_or_past, same_lists, Option, Given}
+use Rattle.schedule_rules.proofs.Words.{Answer, Line, Refusal, CellPlan, Act, Step, Want, cell_at, is_parking, Event, ended_turns, Wait, attempt, Attempt, other_waits, refusal}
+use Rattle.schedule_rules.proofs.Words.{Meeting, answer_of_attempt, due_answer, due_tried, meeting, may_give_first, may_give_last, may_give_on, is_nobody, IsLegal, IsLegalLine}
+use Rattle.schedule_rules.proofs.Words.{answer_of, due_at, Moment, may_give, Last, First, told, Schedule, Account, IsLegalTranscript, final_of, AreFinals, NoneParks}
 use Rattle.std.proofs.lemmas.Option.{get_or_from_slice_get}
 use Rattle.schedule_rules.specs.declared.transcript.Final.{Final}
 
@@ -20,13 +19,6 @@ line a g = record { answer = a; given = g }
 -- lines with the same answer and the same gift are the same
 line_by_answer : (a b : Answer) (g k : Given) → a ≡ b → g ≡ k → line a g ≡ line b k
 line_by_answer a b g k e f = ap (λ x. line x g) e ∙ ap (λ x. line b x) f
-
--- at a place where no call parks, a barred call is answered in one way
-one_way : (fast : Bool) (p : Place) (v w : How) → is_parking p ≡ false → answer_barred fast p v ≡ answer_barred fast p w
-one_way true p v w e = refl
-one_way false Place.Spin v w e = refl
-one_way false (Place.Own q) v w e = refl
-one_way false Place.Park v w e = absurd (cc)
 
 -- so an attempt there has one answer
 one_answer : (x : CellPlan) (w : Want) (m : Meeting) (b d : Bool) → is_parking x.place ≡ false → answer_of_attempt x w m b ≡ answer_of_attempt x w m d

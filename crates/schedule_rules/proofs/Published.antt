@@ -1,8 +1,8 @@
 -- What is published changes only while no guard reads the cell, and its phase where a section of the cell is given back.
-use Rattle.schedule_rules.proofs.Words.{ℕ, ◌≡◌, List, arith, Bool, true, refl, false, Some, ◌∷◌, ◌∙◌, ap, subst, ◌⊎◌, not, inl, inr, ◌<◌, ◌≢◌, ◌==◌, if◌then◌else◌, Answer}
-use Rattle.schedule_rules.proofs.Words.{CellPlan, Step, Calls, cell_at, tolerance_at, Content, Change, effect, is_declined, Deed, Visits, EndsToRead, Ends, Makes, Drops}
-use Rattle.schedule_rules.proofs.Words.{DropsToRead, Finishes, Lends, Event, deed_of, accepts, count, sections, Section, innermost, runs_in, Guard, guards, numbered, replay}
-use Rattle.schedule_rules.proofs.Words.{phase_at, write_holds, writes_cell, read_guards, IsLegal, lends_at, LendsAt, DeclinesAt, GivesBack}
+use Rattle.schedule_rules.proofs.Words.{ℕ, ◌≡◌, List, Bool, arith, refl, true, false, Some, ◌∷◌, ◌∙◌, ap, subst, ◌⊎◌, inl, ◌<◌, inr, not, ◌≢◌, ◌==◌, if◌then◌else◌, Answer}
+use Rattle.schedule_rules.proofs.Words.{CellPlan, Step, Calls, cell_at, tolerance_at, Content, Change, effect, is_declined, Deed, Visits, EndsToRead, Ends, Makes, Finishes, Drops}
+use Rattle.schedule_rules.proofs.Words.{DropsToRead, Lends, Event, deed_of, accepts, count, sections, Section, innermost, runs_in, Guard, guards, numbered, replay, phase_at}
+use Rattle.schedule_rules.proofs.Words.{write_holds, read_guards, writes_cell, IsLegal, lends_at, LendsAt, GivesBack, DeclinesAt}
 use Rattle.schedule_rules.proofs.Exclusion.{alone}
 use Rattle.schedule_rules.proofs.Found.{found_counts}
 use Rattle.schedule_rules.proofs.Cases.{Asking, Resting}

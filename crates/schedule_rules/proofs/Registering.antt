@@ -1,7 +1,7 @@
 -- What a step registers.
-use Rattle.schedule_rules.proofs.Words.{ℕ, ◌≡◌, List, arith, Bool, true, refl, false, ◌∷◌, ◌∙◌, sym, ap, ◌&&◌, ◌||◌, get_or-set_other, get_or-set_same, ◌==◌, if◌then◌else◌}
-use Rattle.schedule_rules.proofs.Words.{is_known, registered, Call, CellPlan, Calls, Turns, cell_at, tolerance_of, runs_generator, tries_registration, Change, Deed, Visits, Opens}
-use Rattle.schedule_rules.proofs.Words.{Skips, Event, deed_of, accepts, phase_at, registry, registry_by, registry_taken, registry_of_run, IsLegal}
+use Rattle.schedule_rules.proofs.Words.{ℕ, ◌≡◌, List, Bool, arith, refl, true, false, ◌∷◌, ◌∙◌, sym, ap, ◌&&◌, ◌||◌, get_or-set_other, get_or-set_same, ◌==◌, if◌then◌else◌}
+use Rattle.schedule_rules.proofs.Words.{is_known, registered, Call, CellPlan, Calls, Turns, cell_at, tries_registration, Change, Deed, Visits, Opens, Skips, Event, deed_of}
+use Rattle.schedule_rules.proofs.Words.{accepts, phase_at, registry, registry_by, registry_taken, registry_of_run, IsLegal}
 use Rattle.schedule_rules.proofs.Registrations.{visit_registers, deed_registers, shows_registration}
 use Rattle.schedule_rules.proofs.Facts.{first}
 use Rattle.schedule_rules.proofs.Cases.{Asking}
@@ -14,13 +14,6 @@ or_none b = grind arith
 
 or_all : (b : Bool) → (b || true) ≡ true
 or_all b = grind arith
-
-and_none : (b : Bool) → (b && false) ≡ false
-and_none b = grind arith
-
--- what is declined on the empty phase was asked when no cell could be registered
-declined-closed : (x : CellPlan) (o : Bool) (p : ℕ) → tries_registration x.kind p ≡ true → runs_generator x.kind (tolerance_of x) o p ≡ false → o ≡ false
-declined-closed x o p e f = grind arith
 
 module _ (cells : List CellPlan) (c : ℕ) (h : List Event) (p : ℕ) (legal : IsLegal cells h) where
   -- after the deed the registry knows the cell where it did, or where the deed tries to register it and cells may be

@@ -1,8 +1,8 @@
 -- A phase that has INITIALIZED changes only where a finalizer of its cell ends, and of a plain cell the value stays.
-use Rattle.schedule_rules.proofs.Words.{ℕ, ◌≡◌, List, arith, Bool, true, refl, false, Some, ◌∷◌, [], ◌∙◌, sym, ap, ◌⊎◌, inl, inr, ◌≢◌, ◌++◌, All, All-tail, All-head, ◌==◌}
-use Rattle.schedule_rules.proofs.Words.{if◌then◌else◌, has, initialized, is_plain, is_hard, Kind, Answer, CellPlan, Act, cell_at, Content, Change, effect, Ran, Asked, Ended, Put}
-use Rattle.schedule_rules.proofs.Words.{RanIfAsked, Deed, Visits, EndsToRead, Ends, Makes, Drops, DropsToRead, Finishes, Lends, Event, deed_of, sections, innermost, Guard, guards}
-use Rattle.schedule_rules.proofs.Words.{numbered, replay, phase_at, cell_of_section, IsLegal, lends_at, IsEndedTurn}
+use Rattle.schedule_rules.proofs.Words.{ℕ, ◌≡◌, List, Bool, arith, refl, true, false, Some, ◌∷◌, [], ◌∙◌, sym, ap, ◌⊎◌, inl, inr, ◌≢◌, ◌++◌, All, All-head, All-tail, ◌==◌}
+use Rattle.schedule_rules.proofs.Words.{if◌then◌else◌, has, initialized, is_plain, is_hard, Kind, Answer, CellPlan, Act, cell_at, Content, Change, effect, Ran, Put, Deed, Visits}
+use Rattle.schedule_rules.proofs.Words.{EndsToRead, Ends, Makes, Finishes, Drops, DropsToRead, Lends, Event, deed_of, sections, innermost, Guard, guards, numbered, replay}
+use Rattle.schedule_rules.proofs.Words.{phase_at, cell_of_section, IsLegal, lends_at, IsEndedTurn}
 use Rattle.schedule_rules.proofs.Exclusion.{alone}
 use Rattle.schedule_rules.proofs.Found.{each_found}
 use Rattle.schedule_rules.proofs.Finds.{Visit, Lending, Finds, Tells, finds, tells}
@@ -16,11 +16,9 @@ use Rattle.schedule_rules.proofs.Facts.{apart, same_number}
 -- a section of sets alone keeps the phase
 puts_keep : (q : CellPlan) (chs : List Change) (y : Content) → IsOfRun chs → HasRun chs ⊎ ((effect q chs y).phase ≡ y.phase)
 puts_keep q [] y r = inr refl
-puts_keep q (Ran o m ∷ chs) y r = inl tt
 puts_keep q (Put v ∷ chs) y r = puts_keep q chs y r
-puts_keep q (Asked o k ∷ chs) y r = absurd r
-puts_keep q (RanIfAsked o m ∷ chs) y r = absurd r
-puts_keep q (Ended fine left ∷ chs) y r = absurd r
+puts_keep q (Ran o m ∷ chs) y r = inl tt
+puts_keep q (ch ∷ chs) y r = absurd r
 
 -- a plain kind is soft
 pub plain_soft : (q : Kind) → is_plain q ≡ true → is_hard q ≡ false

@@ -1,9 +1,9 @@
 -- Tests of answers, and which answers of what is admitted pass them.
-use Rattle.schedule_rules.proofs.Words.{ℕ, ◌≡◌, List, arith, Bool, true, refl, false, sym, None, ◌&&◌, not, ◌||◌, ◌==◌, if◌then◌else◌, Option, has, initialized, Phase, LockNature}
-use Rattle.schedule_rules.proofs.Words.{How, flags_refused, Tolerance, Call, Kind, Form, Held, Told, Shown, Answer, CellPlan, Place, Act, Want, Calls, Turns, cell_at, tolerance_at}
+use Rattle.schedule_rules.proofs.Words.{ℕ, ◌≡◌, List, Bool, arith, refl, true, false, None, ◌&&◌, not, ◌||◌, ◌==◌, if◌then◌else◌, Option, has, initialized, Phase, LockNature, How}
+use Rattle.schedule_rules.proofs.Words.{flags_refused, Tolerance, Call, Kind, Form, Held, Shown, Told, Answer, CellPlan, Place, Act, Want, Calls, Turns, cell_at, tolerance_at}
 use Rattle.schedule_rules.proofs.Words.{form_of, denies, is_accessible, runs_generator, asks, lock_wanted, Content, Event, accepts, is_turn, replay, refusal, answer_barred}
-use Rattle.schedule_rules.proofs.Words.{answer_made_to_lend, answer_lent, answer_admitted, answer_at, turn_answer_admitted, is_waiting, is_cyclic, is_running, is_access, is_round}
-use Rattle.schedule_rules.proofs.Words.{is_skipped, is_finalizing, is_closing, is_denied_to_lend, is_borrowed, is_missed, want_denies, is_initializing}
+use Rattle.schedule_rules.proofs.Words.{answer_admitted, answer_lent, answer_made_to_lend, answer_at, turn_answer_admitted, is_waiting, is_cyclic, is_skipped, is_closing}
+use Rattle.schedule_rules.proofs.Words.{is_running, is_round, is_borrowed, is_missed, is_access, is_denied_to_lend, is_finalizing, want_denies, is_initializing}
 use Rattle.schedule_rules.proofs.Answered.{IsShown, IsTold, admitted}
 
 -- a test that no answer passes of a step that attempts nothing, but a clone that is barred, and one that is to lend a value which
@@ -98,18 +98,6 @@ pub unless_first : (x y u v : Bool) → u ≡ v → (x || ((y && false) || (u &&
 unless_first x y u v e = grind arith
 
 -- ---- what is admitted
-
--- the answer of a call that runs nothing says that the value may not be accessed, where it may not be and the call is told so
-pub at_denies : (f : Form) (b : Bool) (y : Content) → is_access (answer_at f b y) ≡ (denies f && not b)
-at_denies (Told tests) true y = sym (no_more tests)
-at_denies (Told true) false y = refl
-at_denies (Told false) false y = refl
-at_denies Shown true y = refl
-at_denies Shown false y = refl
-at_denies (Held true falls_back) true y = sym (no_more (not falls_back))
-at_denies (Held false falls_back) true y = sym (no_more (not falls_back))
-at_denies (Held writes true) false y = refl
-at_denies (Held writes false) false y = refl
 
 module _ (q : Kind) (t : Tolerance) (c : ℕ) (o : Bool) (y : Content) where
   -- what it holds where a run is asked, and its generator runs

@@ -1,8 +1,8 @@
 -- The turns of a legal history are no more than its cells.
-use Rattle.schedule_rules.proofs.Words.{ℕ, ◌≡◌, List, arith, Bool, true, refl, false, Some, ◌∷◌, [], ◌∙◌, ap, ◌&&◌, ◌<◌, length, ◌+◌, cond, ◌≤◌, ◌++◌, All, get_or_past}
-use Rattle.schedule_rules.proofs.Words.{length-append, length-map, All-cons, All-nil, ◌==◌, if◌then◌else◌, cells_of_turns, is_known, rest_of, occurs, due, CellPlan, Act, Step}
-use Rattle.schedule_rules.proofs.Words.{Turns, Event, count, sections, Section, innermost, is_turn, registry, ended_turns, Wait, waits, wait_of, attempt, attempt_with, IsLegal}
-use Rattle.schedule_rules.proofs.Words.{turns_of, turns_at_hand}
+use Rattle.schedule_rules.proofs.Words.{ℕ, ◌≡◌, List, Bool, arith, refl, true, false, Some, ◌∷◌, [], ◌∙◌, ap, ◌&&◌, ◌<◌, length, ◌+◌, ◌≤◌, ◌++◌, All, get_or_past, length-map}
+use Rattle.schedule_rules.proofs.Words.{length-append, All-cons, All-nil, ◌==◌, if◌then◌else◌, cells_of_turns, is_known, rest_of, occurs, due, CellPlan, Act, Step, Turns, Event}
+use Rattle.schedule_rules.proofs.Words.{count, sections, Section, innermost, is_turn, registry, ended_turns, Wait, waits, wait_of, attempt, attempt_with, IsLegal, turns_of}
+use Rattle.schedule_rules.proofs.Words.{turns_at_hand}
 use Rattle.exit_registry.proofs.Exiting.{few_below}
 use Rattle.schedule_rules.proofs.Accepts.{known-length}
 use Rattle.schedule_rules.proofs.Counts.{occurs_joined, waits_so, first_so, begins}
@@ -20,19 +20,12 @@ module _ {X : Type 0} (t : X → Bool) (f : X → ℕ) where
   -- a cell is as often in them as one of it passes
   occurs_where : (c : ℕ) (xs : List X) → occurs c (cells_where t f xs) ≡ count (λ x. t x && (f x == c)) xs
   occurs_where c [] = refl
-  occurs_where c (x ∷ xs) = by (t x) (f x == c) refl (occurs_where c xs)
-    where
-      by : (b d : Bool) → (f x == c) ≡ d → occurs c (cells_where t f xs) ≡ count (λ x. t x && (f x == c)) xs
-          → occurs c (cond b (f x ∷ cells_where t f xs) (cells_where t f xs)) ≡ cond (b && d) (count (λ x. t x && (f x == c)) xs + 1) (count (λ x. t x && (f x == c)) xs)
-      by b d e n = grind arith
+  occurs_where c (x ∷ xs) = grind (arith, occurs_where c xs)
 
   -- they are as many as those that pass
   length_where : (xs : List X) → length (cells_where t f xs) ≡ count t xs
   length_where [] = refl
-  length_where (x ∷ xs) = by (t x) (length_where xs)
-    where
-      by : (b : Bool) → length (cells_where t f xs) ≡ count t xs → length (cond b (f x ∷ cells_where t f xs) (cells_where t f xs)) ≡ cond b (count t xs + 1) (count t xs)
-      by b n = grind arith
+  length_where (x ∷ xs) = grind (arith, length_where xs)
 
 differ : false ≡ true → ⊥
 differ e = cc

@@ -1,12 +1,12 @@
 -- A value that is shown is there.
-use Rattle.schedule_rules.proofs.Words.{ℕ, ◌≡◌, List, arith, Bool, true, refl, false, Some, ◌∷◌, [], ◌∙◌, sym, ap, None, subst, ◌⊎◌, ◌&&◌, not, inl, inr, ◌<◌, length, ◌||◌}
+use Rattle.schedule_rules.proofs.Words.{ℕ, ◌≡◌, List, Bool, arith, refl, true, false, Some, ◌∷◌, [], ◌∙◌, sym, ap, None, subst, ◌⊎◌, ◌&&◌, inl, ◌<◌, inr, length, not, ◌||◌}
 use Rattle.schedule_rules.proofs.Words.{and_or_self, and_assoc, and_le_r, AllByRecursion, ◌==◌, if◌then◌else◌, is_some, Option, has, initialized, is_primed, is_plain, is_hard}
-use Rattle.schedule_rules.proofs.Words.{Call, Answer, Line, CellPlan, Act, Step, cell_at, tolerance_of, is_accessible, flags_kept, finishes_so, phase_finalized, value_finalized}
-use Rattle.schedule_rules.proofs.Words.{Content, Change, effect, Ran, Asked, Ended, Put, RanIfAsked, asks_to_lend, content_after, is_declined, content_of_run, Deed, Visits}
-use Rattle.schedule_rules.proofs.Words.{EndsToRead, Ends, Makes, Drops, DropsToRead, Finishes, EndsToWrite, Lends, Holds, Beside, Puts, Event, deed_of, sections, Section, Guard}
-use Rattle.schedule_rules.proofs.Words.{guards, numbered, without_guard, guards_by, writer_made, reader_beside, reader_made, replay, phase_at, Back, back_of_step}
-use Rattle.schedule_rules.proofs.Words.{content_after_back, back_by, back_of_section, inside, back_of_guard, change_of, read_guards, reads_cell, answer_of_value, IsLegal}
-use Rattle.schedule_rules.proofs.Words.{IsLegalLine, lends_at, runs_to_lend, ShowsValue}
+use Rattle.schedule_rules.proofs.Words.{Call, Answer, Line, CellPlan, Act, Step, cell_at, tolerance_of, is_accessible, flags_kept, phase_finalized, finishes_so, value_finalized}
+use Rattle.schedule_rules.proofs.Words.{Content, Change, effect, Ran, Put, Asked, Ended, RanIfAsked, content_after, asks_to_lend, is_declined, content_of_run, Deed, Visits}
+use Rattle.schedule_rules.proofs.Words.{EndsToRead, Ends, Makes, Finishes, Drops, DropsToRead, EndsToWrite, Lends, Holds, Puts, Beside, Event, deed_of, sections, Section, Guard}
+use Rattle.schedule_rules.proofs.Words.{guards, numbered, without_guard, guards_by, reader_made, reader_beside, writer_made, replay, phase_at, Back, content_after_back}
+use Rattle.schedule_rules.proofs.Words.{back_of_step, back_by, back_of_section, inside, back_of_guard, change_of, read_guards, reads_cell, answer_of_value, IsLegal, IsLegalLine}
+use Rattle.schedule_rules.proofs.Words.{lends_at, runs_to_lend, ShowsValue}
 use Rattle.std.specs.Option.{unwrap_or}
 use Rattle.schedule_rules.proofs.Cases.{step, Reach, Case}
 use Rattle.schedule_rules.proofs.Steps.{lent_unprimed, of_legal}
@@ -85,12 +85,10 @@ module _ (x : CellPlan) where
   -- and no value is lost where no finalizer ends
   effect_stays : (chs : List Change) (y : Content) → IsOfRun chs → HasValue y → HasValue (effect x chs y)
   effect_stays [] y r v = v
+  effect_stays (Put w ∷ chs) y r v = refl
   effect_stays (Ran o (Some w) ∷ chs) y r v = refl
   effect_stays (Ran o None ∷ chs) y r v = effect_stays chs y r v
-  effect_stays (Put w ∷ chs) y r v = refl
-  effect_stays (Asked o k ∷ chs) y r v = absurd r
-  effect_stays (RanIfAsked o m ∷ chs) y r v = absurd r
-  effect_stays (Ended fine left ∷ chs) y r v = absurd r
+  effect_stays (ch ∷ chs) y r v = absurd r
 
   -- nor by a call that leaves nothing open
   asked_stays : (o : Bool) (k : Call) (y : Content) → HasValue y → HasValue (content_after x (Asked o k) y)
