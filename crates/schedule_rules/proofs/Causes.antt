@@ -1,13 +1,13 @@
 -- Which answer a legal line has, by its cause.
-use Rattle.schedule_rules.proofs.Words.{ℕ, ◌≡◌, List, Bool, arith, refl, true, false, Some, ◌∙◌, sym, ap, None, ◌&&◌, length, not, ◌≢◌, ◌||◌, ◌==◌, if◌then◌else◌, is_none, is_some}
+use Rattle.schedule_rules.proofs.Words.{ℕ, List, ◌≡◌, arith, refl, Bool, true, false, Some, ◌∙◌, ap, sym, None, ◌&&◌, length, not, ◌≢◌, ◌||◌, ◌==◌, if◌then◌else◌, is_none, is_some}
 use Rattle.schedule_rules.proofs.Words.{Option, has, initialized, first_of, look_at, is_empty, Given, How, Call, Answer, Line, Refusal, CellPlan, Place, Act, Step, Calls, cell_at}
 use Rattle.schedule_rules.proofs.Words.{tolerance_at, is_owned, asks, is_fast, lock_wanted, Event, accepts, is_exit, sections, innermost, is_turn, Guard, guards, numbered, replay}
-use Rattle.schedule_rules.proofs.Words.{phase_at, registry, Wait, waits, wait_of, attempt, Attempt, attempt_of_turn, attempt_of_wait, is_barred, holding_with, refusal, refusal_by}
-use Rattle.schedule_rules.proofs.Words.{answer_barred, answer_admitted, way_parked, drains_by, due_answer, due_attempt, due_clone, due_tried, answer_of_look, keeps_own, is_nobody}
-use Rattle.schedule_rules.proofs.Words.{IsLegalLine, answer_of, due_at, Moment, may_give, waits_judged, is_attempted, is_waiting, is_cyclic, is_skipped, is_closing, is_running}
-use Rattle.schedule_rules.proofs.Words.{phase_met, is_round, is_borrowed, is_cyclic_step, is_missed, is_admitted, is_access, is_denied_to_lend, is_finalizing, is_running_step}
-use Rattle.schedule_rules.proofs.Words.{is_barred_step, is_kept_out, is_barred_attempt, is_round_step, is_barred_clone, is_of_own_run, is_borrowing_step, is_access_step, generates}
-use Rattle.schedule_rules.proofs.Words.{is_closing_step, is_missing_step, asks_run, looks, is_step_of, is_turn_step, is_initializing}
+use Rattle.schedule_rules.proofs.Words.{phase_at, registry, Wait, waits, wait_of, Attempt, attempt, attempt_of_turn, attempt_of_wait, is_barred, holding_with, refusal, refusal_by}
+use Rattle.schedule_rules.proofs.Words.{answer_barred, answer_admitted, way_parked, drains_by, due_answer, due_clone, due_tried, due_attempt, answer_of_look, keeps_own, is_nobody}
+use Rattle.schedule_rules.proofs.Words.{IsLegalLine, answer_of, due_at, Moment, may_give, waits_judged, is_attempted, is_waiting, is_cyclic, is_round, is_finalizing}
+use Rattle.schedule_rules.proofs.Words.{is_cyclic_step, is_running, is_missed, is_skipped, is_borrowed, is_admitted, phase_met, is_access, is_denied_to_lend, is_closing}
+use Rattle.schedule_rules.proofs.Words.{is_missing_step, is_barred_step, is_of_own_run, is_access_step, is_running_step, is_round_step, generates, is_barred_clone, is_closing_step}
+use Rattle.schedule_rules.proofs.Words.{asks_run, is_barred_attempt, looks, is_kept_out, is_turn_step, is_borrowing_step, is_step_of, is_initializing}
 use Rattle.exit_registry.specs.declared.registry.Look.{Look}
 use Rattle.schedule_rules.proofs.Answered.{due_at-judged, lent, made_to_lend, made, finished, looked, cloned, legal_by}
 use Rattle.schedule_rules.proofs.Facts.{apart}

@@ -1,5 +1,5 @@
 -- Small facts of truth values and numbers.
-use Rattle.schedule_rules.proofs.Words.{ℕ, ◌≡◌, Bool, arith, true, false, ◌⊎◌, ◌&&◌, ◌≢◌, ◌+◌, cond, ◌≤◌, ◌||◌, ◌==◌}
+use Rattle.schedule_rules.proofs.Words.{ℕ, ◌≡◌, arith, refl, Bool, true, false, ◌⊎◌, ◌&&◌, ◌≢◌, ◌+◌, ◌≤◌, cond, ◌||◌, ◌==◌}
 
 pub apart : true ≡ false → ⊥
 apart x = cc
@@ -32,3 +32,8 @@ other_number m n k e ne = grind arith
 pub at_least : (b : Bool) (n : ℕ) → n ≤ cond b (n + 1) n
 at_least true n = omega arith
 at_least false n = omega arith
+
+-- by whether a test holds
+pub whether : {P : Type 0} (b : Bool) → (b ≡ true → P) → (b ≡ false → P) → P
+whether true t f = t refl
+whether false t f = f refl

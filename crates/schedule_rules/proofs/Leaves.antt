@@ -1,16 +1,16 @@
 -- What a deed leaves: what is given back changes its own cell, what is published changes only where nothing holds the cell to
 -- write afterwards, and what stands open keeps what is said of it.
-use Rattle.schedule_rules.proofs.Words.{ℕ, ◌≡◌, List, Bool, arith, refl, true, false, Some, ◌∷◌, [], ◌∙◌, sym, ap, None, subst, ◌⊎◌, inl, ◌<◌, inr, length, ◌+◌, cond, ◌≤◌}
+use Rattle.schedule_rules.proofs.Words.{ℕ, List, ◌≡◌, arith, refl, Bool, true, false, Some, ◌∷◌, [], ◌∙◌, ap, sym, None, subst, ◌⊎◌, inl, inr, ◌<◌, length, ◌+◌, ◌≤◌, cond}
 use Rattle.schedule_rules.proofs.Words.{AllByRecursion, ◌==◌, if◌then◌else◌, Option, Call, CellPlan, cell_at, Content, Change, effect, Asked, Ended, content_after, Deed, Visits}
-use Rattle.schedule_rules.proofs.Words.{EndsToRead, Ends, Makes, Finishes, Drops, DropsToRead, EndsToWrite, Lends, Opens, Holds, Puts, Beside, Ending, Event, accepts, count}
+use Rattle.schedule_rules.proofs.Words.{Makes, EndsToRead, Ends, DropsToRead, Finishes, Drops, EndsToWrite, Opens, Lends, Holds, Puts, Beside, Ending, Event, accepts, count}
 use Rattle.schedule_rules.proofs.Words.{sections, Section, innermost, sections_by, runs_in, without_innermost, Guard, guards, numbered, without_guard, guards_by, reader_made}
-use Rattle.schedule_rules.proofs.Words.{reader_beside, writer_made, reader, writer, carrier, replay, Back, content_after_back, back_by, back_of_section, back_of_guard, change_of}
+use Rattle.schedule_rules.proofs.Words.{reader_beside, writer_made, reader, carrier, writer, replay, Back, content_after_back, back_of_section, back_by, back_of_guard, change_of}
 use Rattle.schedule_rules.proofs.Words.{write_holds, writes_cell, IsExclusive}
+use Rattle.schedule_rules.proofs.Facts.{whether, apart, same_number, at_least}
 use Rattle.schedule_rules.proofs.Found.{each_counted, each_found, each_ended, each_removed, each_put}
 use Rattle.schedule_rules.proofs.Opened.{put, count_ended, count_removed, writes_put}
 use Rattle.schedule_rules.proofs.Exclusion.{no_writer_beside, no_run_left, no_run_beside, no_writer_left}
 use Rattle.schedule_rules.proofs.Counts.{one_if}
-use Rattle.schedule_rules.proofs.Facts.{apart, same_number, at_least}
 use Rattle.schedule_rules.proofs.Cases.{Asking, Resting}
 use Rattle.schedule_rules.proofs.Finds.{Visit, Finds}
 
@@ -61,13 +61,10 @@ module _ (cells : List CellPlan) (h : List Event) (p : ℕ) where
     -- one that gives back what held its cell
     gives : (d : Deed) (b : Back) (c : ℕ) → back_by p d (sections h) (guards h) ≡ Some b
         → (count (runs_in b.cell) (sections_left d) ≡ 0) × (count (writes_cell b.cell) (guards_left d) ≡ 0) → Settles d c
-    gives d b c e none = by (b.cell == c) refl
-      where
-        by : (x : Bool) → (b.cell == c) ≡ x → Settles d c
-        by false other = inl (elsewhere d b c e other)
-        by true same =
-            let at : b.cell ≡ c = grind arith in
-            inr (subst (λ z. (count (runs_in z) (sections_left d) ≡ 0) × (count (writes_cell z) (guards_left d) ≡ 0)) at none)
+    gives d b c e none =
+        whether (b.cell == c)
+        (λ same. let at : b.cell ≡ c = grind arith in inr (subst (λ z. (count (runs_in z) (sections_left d) ≡ 0) × (count (writes_cell z) (guards_left d) ≡ 0)) at none))
+        (λ other. inl (elsewhere d b c e other))
 
     -- a guard that is taken off
     drops : (d : Deed) (g : ℕ) (x : Guard) (c : ℕ) → numbered g (guards h) ≡ Some x → back_by p d (sections h) (guards h) ≡ back_of_guard (numbered g (guards h))
@@ -222,11 +219,10 @@ module _ (cells : List CellPlan) (h : List Event) (p : ℕ) where
 
         dropped : (g : ℕ) (x : Guard) (c : ℕ) → numbered g (guards h) ≡ Some x → back_by p d (sections h) (guards h) ≡ back_of_guard (numbered g (guards h))
             → (x.writes ≡ true → R x.cell (replay cells x.cell h) (effect (cell_at cells x.cell) x.changes (replay cells x.cell h))) → R c (replay cells c h) (left_at d c)
-        dropped g x c f e r = by x.writes refl
-          where
-            by : (b : Bool) → x.writes ≡ b → R c (replay cells c h) (left_at d c)
-            by true w = back (record { cell = x.cell; changes = x.changes }) c (e ∙ ap back_of_guard f ∙ ap (λ b. cond b (Some (record { cell = x.cell; changes = x.changes })) None) w) (r w)
-            by false w = nothing c (e ∙ ap back_of_guard f ∙ ap (λ b. cond b (Some (record { cell = x.cell; changes = x.changes })) None) w)
+        dropped g x c f e r =
+            whether (x.writes)
+            (λ w. back (record { cell = x.cell; changes = x.changes }) c (e ∙ ap back_of_guard f ∙ ap (λ b. cond b (Some (record { cell = x.cell; changes = x.changes })) None) w) (r w))
+            (λ w. nothing c (e ∙ ap back_of_guard f ∙ ap (λ b. cond b (Some (record { cell = x.cell; changes = x.changes })) None) w))
 
       -- so it is of each cell, where it is said of those of which nothing is given back
       pub moves : (d : Deed) (f : Finds cells h p d) → ((c : ℕ) → (GivenAt d c → ⊥) → R c (replay cells c h) (replay cells c h)) → GivesOf d f → (c : ℕ) → R c (replay cells c h) (left_at d c)

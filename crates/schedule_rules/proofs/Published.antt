@@ -1,14 +1,14 @@
 -- What is published changes only while no guard reads the cell, and its phase where a section of the cell is given back.
-use Rattle.schedule_rules.proofs.Words.{ℕ, ◌≡◌, List, Bool, arith, refl, true, false, Some, ◌∷◌, ◌∙◌, ap, subst, ◌⊎◌, inl, ◌<◌, inr, not, ◌≢◌, ◌==◌, if◌then◌else◌, Answer}
-use Rattle.schedule_rules.proofs.Words.{CellPlan, Step, Calls, cell_at, tolerance_at, Content, Change, effect, is_declined, Deed, Visits, EndsToRead, Ends, Makes, Finishes, Drops}
-use Rattle.schedule_rules.proofs.Words.{DropsToRead, Lends, Event, deed_of, accepts, count, sections, Section, innermost, runs_in, Guard, guards, numbered, replay, phase_at}
-use Rattle.schedule_rules.proofs.Words.{write_holds, read_guards, writes_cell, IsLegal, lends_at, LendsAt, GivesBack, DeclinesAt}
+use Rattle.schedule_rules.proofs.Words.{ℕ, List, ◌≡◌, arith, refl, Bool, true, false, Some, ◌∷◌, ◌∙◌, ap, subst, ◌⊎◌, inl, inr, ◌<◌, not, ◌≢◌, ◌==◌, if◌then◌else◌, Answer}
+use Rattle.schedule_rules.proofs.Words.{CellPlan, Step, Calls, cell_at, tolerance_at, Content, Change, effect, is_declined, Deed, Visits, Makes, EndsToRead, Ends, DropsToRead}
+use Rattle.schedule_rules.proofs.Words.{Finishes, Drops, Lends, Event, deed_of, accepts, count, sections, Section, innermost, runs_in, Guard, guards, numbered, replay, phase_at}
+use Rattle.schedule_rules.proofs.Words.{write_holds, read_guards, writes_cell, IsLegal, lends_at, GivesBack, DeclinesAt, LendsAt}
+use Rattle.schedule_rules.proofs.Facts.{whether, same_number, number_found}
 use Rattle.schedule_rules.proofs.Exclusion.{alone}
 use Rattle.schedule_rules.proofs.Found.{found_counts}
 use Rattle.schedule_rules.proofs.Cases.{Asking, Resting}
 use Rattle.schedule_rules.proofs.Finds.{Lending, LendsSo, Finds, Tells, finds, tells}
 use Rattle.schedule_rules.proofs.Leaves.{left_at, holds_left, Settles, settles, rests, GivesOf, moves}
-use Rattle.schedule_rules.proofs.Facts.{same_number, number_found}
 
 module _ (cells : List CellPlan) (h : List Event) (s : Step) (r : Answer) (legal : IsLegal cells h) where
   -- it is a section at once: a call that leaves nothing open, or a value that is lent
@@ -106,13 +106,10 @@ module _ (cells : List CellPlan) (h : List Event) (s : Step) (r : Answer) (legal
 
     -- a value that is lent
     lends : (z : ℕ) (chs : List Change) → Lending cells h s.party z chs → LendsSo cells h s.party s.act r z chs → (left_at cells h s.party (Lends z chs) c).phase ≢ phase_at cells c h → IsGiven (Lends z chs)
-    lends z chs f t ne = by (z == c) refl
-      where
-        by : (b : Bool) → (z == c) ≡ b → IsGiven (Lends z chs)
-        by true same =
-            let at : z ≡ c = number_found z c same in
-            (inr (inr (record { lends = subst (λ y. lends_at y s.act ≡ true) at t.lends; answered = t.answered })), subst (λ y. read_guards y h ≡ 0) at f.free.unread)
-        by false other = absurd (ne (ap (λ (b : Bool). (if b then effect (cell_at cells c) chs (replay cells c h) else replay cells c h).phase) other))
+    lends z chs f t ne =
+        whether (z == c)
+        (λ same. let at : z ≡ c = number_found z c same in (inr (inr (record { lends = subst (λ y. lends_at y s.act ≡ true) at t.lends; answered = t.answered })), subst (λ y. read_guards y h ≡ 0) at f.free.unread))
+        (λ other. absurd (ne (ap (λ (b : Bool). (if b then effect (cell_at cells c) chs (replay cells c h) else replay cells c h).phase) other)))
 
     published : (d : Deed) → Finds cells h s.party d → Tells cells h s.party s.act r d → (left_at cells h s.party d c).phase ≢ phase_at cells c h → IsGiven d
     published (Visits z chs reads) f t ne = visits z chs reads t ne

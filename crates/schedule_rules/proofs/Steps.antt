@@ -1,12 +1,12 @@
 -- What holds in each case, holds of each legal step.
-use Rattle.schedule_rules.proofs.Words.{ℕ, ◌≡◌, List, Bool, arith, refl, true, false, Some, ◌∙◌, sym, ap, None, subst, ◌&&◌, not, ◌+◌, ◌==◌, if◌then◌else◌, is_none, Option}
-use Rattle.schedule_rules.proofs.Words.{phase_of, first_of, LockNature, is_finalizable, is_primed, lends_value, Call, Kind, Form, Held, Shown, Told, Answer, Line, Refusal}
+use Rattle.schedule_rules.proofs.Words.{ℕ, List, ◌≡◌, arith, refl, Bool, true, false, Some, ◌∙◌, ap, sym, None, subst, ◌&&◌, not, ◌+◌, ◌==◌, if◌then◌else◌, is_none, Option}
+use Rattle.schedule_rules.proofs.Words.{phase_of, first_of, LockNature, is_finalizable, is_primed, lends_value, Call, Kind, Form, Held, Told, Shown, Answer, Line, Refusal}
 use Rattle.schedule_rules.proofs.Words.{CellPlan, Act, Step, Calls, cell_at, tolerance_at, is_of_other, is_accessible, finishes_so, phase_reached, Success, asks_to_lend}
 use Rattle.schedule_rules.proofs.Words.{content_of_run, Event, accepts, count, sections, Section, innermost, is_turn, Guard, guards, numbered, own, replay, phase_at, registry}
-use Rattle.schedule_rules.proofs.Words.{finishing, Wait, waits, wait_of, waits_at, write_holds, read_guards, is_barred, holding_with, is_in_use, refusal, no_call, no_lending}
-use Rattle.schedule_rules.proofs.Words.{no_writer, no_guard, ends_turn, no_outcome, writes_of, refusal_to_lend, ends_run, no_reader, answer_of_value, answer_lent}
-use Rattle.schedule_rules.proofs.Words.{answer_made_to_lend, answer_at, answer_made, answer_of_made, due_answer, due_clone, due_made, phase_made, due_finished, IsLegalLine}
-use Rattle.schedule_rules.proofs.Words.{answer_of, due_at, waits_judged}
+use Rattle.schedule_rules.proofs.Words.{finishing, Wait, waits, wait_of, waits_at, write_holds, is_barred, read_guards, holding_with, is_in_use, refusal, no_call, no_lending}
+use Rattle.schedule_rules.proofs.Words.{ends_turn, ends_run, no_writer, no_outcome, writes_of, no_guard, refusal_to_lend, no_reader, answer_of_value, answer_made_to_lend}
+use Rattle.schedule_rules.proofs.Words.{answer_at, answer_lent, answer_made, answer_of_made, due_answer, due_clone, due_finished, due_made, phase_made, IsLegalLine, answer_of}
+use Rattle.schedule_rules.proofs.Words.{due_at, waits_judged}
 use Rattle.schedule_rules.proofs.Cases.{step, Case, Generating, Lendable, AsksToLend, Reach, form_at, writes}
 use Rattle.schedule_rules.proofs.Attempts.{rests, mine_where_none, attempted, again, exits}
 use Rattle.schedule_rules.proofs.Answered.{due_at-judged}
@@ -92,20 +92,16 @@ module _ (cells : List CellPlan) (h : List Event) (p : ℕ) where
 
   -- a clone
   clones : (g : ℕ) (ws : List Wait) (x : Guard) → numbered g (guards h) ≡ Some x → x.writes ≡ false → Case cells h p (Act.Clone g) (due_clone cells h ws (Some x))
-  clones g ws x e d = by (is_barred LockNature.Read (holding_with x.cell h ws))
-    where
-      by : (b : Bool) → Case cells h p (Act.Clone g) (if b then Answer.Borrowed else Answer.ReadGuard)
-      by true = Case.borrowed g x e d
-      by false = Case.cloned g x e d
+  clones g ws x e d =
+      elim (is_barred LockNature.Read (holding_with x.cell h ws)) as (λ b. Case cells h p (Act.Clone g) (if b then Answer.Borrowed else Answer.ReadGuard))
+      [ true ↦ Case.borrowed g x e d | false ↦ Case.cloned g x e d ]
 
   -- the value of the cell is lent as it is, where it may be accessed
   found : (a : Act) (c : ℕ) → (Reach cells h p c true → Case cells h p a (answer_of_value (replay cells c h))) → (Reach cells h p c false → Case cells h p a (Answer.Access (phase_of (phase_at cells c h))))
       → Case cells h p a (answer_lent (cell_at cells c).kind (replay cells c h))
-  found a c shows denies = by (is_accessible (cell_at cells c).kind (phase_at cells c h)) refl
-    where
-      by : (b : Bool) → is_accessible (cell_at cells c).kind (phase_at cells c h) ≡ b → Case cells h p a (answer_at Shown b (replay cells c h))
-      by true e = shows e
-      by false e = denies e
+  found a c shows denies =
+      (elim (is_accessible (cell_at cells c).kind (phase_at cells c h)) as (λ b. is_accessible (cell_at cells c).kind (phase_at cells c h) ≡ b → Case cells h p a (answer_at Shown b (replay cells c h)))
+      [ true ↦ λ e. shows e | false ↦ λ e. denies e ]) refl
 
   -- or as a run makes it that is asked
   lends : (c : ℕ) (made : Option ℕ) (left : ℕ) → Lendable cells h p c

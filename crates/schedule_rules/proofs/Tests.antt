@@ -1,9 +1,9 @@
 -- Tests of answers, and which answers of what is admitted pass them.
-use Rattle.schedule_rules.proofs.Words.{ℕ, ◌≡◌, List, Bool, arith, refl, true, false, None, ◌&&◌, not, ◌||◌, ◌==◌, if◌then◌else◌, Option, has, initialized, Phase, LockNature, How}
-use Rattle.schedule_rules.proofs.Words.{flags_refused, Tolerance, Call, Kind, Form, Held, Shown, Told, Answer, CellPlan, Place, Act, Want, Calls, Turns, cell_at, tolerance_at}
+use Rattle.schedule_rules.proofs.Words.{ℕ, List, ◌≡◌, arith, refl, Bool, true, false, None, ◌&&◌, not, ◌||◌, ◌==◌, if◌then◌else◌, Option, has, initialized, Phase, LockNature, How}
+use Rattle.schedule_rules.proofs.Words.{flags_refused, Tolerance, Call, Kind, Form, Held, Told, Shown, Answer, CellPlan, Place, Act, Want, Calls, Turns, cell_at, tolerance_at}
 use Rattle.schedule_rules.proofs.Words.{form_of, denies, is_accessible, runs_generator, asks, lock_wanted, Content, Event, accepts, is_turn, replay, refusal, answer_barred}
-use Rattle.schedule_rules.proofs.Words.{answer_admitted, answer_lent, answer_made_to_lend, answer_at, turn_answer_admitted, is_waiting, is_cyclic, is_skipped, is_closing}
-use Rattle.schedule_rules.proofs.Words.{is_running, is_round, is_borrowed, is_missed, is_access, is_denied_to_lend, is_finalizing, want_denies, is_initializing}
+use Rattle.schedule_rules.proofs.Words.{answer_made_to_lend, answer_admitted, answer_at, answer_lent, turn_answer_admitted, is_waiting, is_cyclic, is_round, is_finalizing}
+use Rattle.schedule_rules.proofs.Words.{is_running, is_missed, is_skipped, is_borrowed, is_access, is_denied_to_lend, is_closing, want_denies, is_initializing}
 use Rattle.schedule_rules.proofs.Answered.{IsShown, IsTold, admitted}
 
 -- a test that no answer passes of a step that attempts nothing, but a clone that is barred, and one that is to lend a value which

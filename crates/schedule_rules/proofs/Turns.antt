@@ -1,11 +1,12 @@
 -- Each registered cell has one turn: to come, waiting, going on or ended.
-use Rattle.schedule_rules.proofs.Words.{ℕ, ◌≡◌, List, Bool, arith, refl, true, false, Some, ◌∷◌, [], ◌∙◌, sym, ap, None, subst, ◌&&◌, ◌<◌, length, ◌+◌, cond, ◌++◌}
+use Rattle.schedule_rules.proofs.Words.{ℕ, List, ◌≡◌, arith, refl, Bool, true, false, Some, ◌∷◌, [], ◌∙◌, ap, sym, None, subst, ◌&&◌, ◌<◌, length, ◌+◌, cond, ◌++◌}
 use Rattle.schedule_rules.proofs.Words.{get_or-set_other, get_or-set_same, ◌==◌, if◌then◌else◌, slice_set, slice_index_or, Option, cells_of_turns, first_of, is_known, rest_of}
-use Rattle.schedule_rules.proofs.Words.{after_register, occurs, registered, due, Turn, Given, is_finalizable, Call, Answer, Refusal, CellPlan, Act, Want, Calls, Turns, cell_at}
-use Rattle.schedule_rules.proofs.Words.{is_owned, tries_registration, is_fast, Deed, EndsToRead, Ends, Makes, Finishes, EndsToWrite, Opens, Skips, deed_waiting, deed_by, Looks}
+use Rattle.schedule_rules.proofs.Words.{after_register, occurs, due, registered, Turn, Given, is_finalizable, Call, Answer, Refusal, CellPlan, Act, Want, Calls, Turns, cell_at}
+use Rattle.schedule_rules.proofs.Words.{is_owned, tries_registration, is_fast, Deed, Makes, EndsToRead, Ends, Finishes, EndsToWrite, Opens, Skips, deed_waiting, deed_by, Looks}
 use Rattle.schedule_rules.proofs.Words.{Takes, Event, deed_of, accepts, count, is_exit, sections, Section, innermost, is_turn, sections_by, without_innermost, replay, phase_at}
-use Rattle.schedule_rules.proofs.Words.{registry, registry_by, ended_turns, registry_taken, turns_by, turn_of_section, turn_of, Wait, waits, wait_of, attempt_with, without_wait}
-use Rattle.schedule_rules.proofs.Words.{waits_given_with, with_wait, refusal, refusal_waiting, answer_of_value, IsLegal, turns_of, finalizes_in, waits_to_turn}
+use Rattle.schedule_rules.proofs.Words.{registry, registry_by, registry_taken, ended_turns, turns_by, turn_of, turn_of_section, Wait, waits, wait_of, attempt_with, without_wait}
+use Rattle.schedule_rules.proofs.Words.{waits_given_with, with_wait, refusal, refusal_waiting, answer_of_value, IsLegal, turns_of, waits_to_turn, finalizes_in}
+use Rattle.schedule_rules.proofs.Facts.{whether, first, second, apart}
 use Rattle.schedule_rules.proofs.Exclusion.{alone}
 use Rattle.schedule_rules.proofs.Opened.{count_ended}
 use Rattle.schedule_rules.proofs.Cases.{step, IsCalling, IsTurning, Calling, Turning, Tries, Asking, Case}
@@ -17,7 +18,6 @@ use Rattle.schedule_rules.proofs.Finds.{Inside, Finishing, Finds, finds}
 use Rattle.schedule_rules.proofs.Accepts.{known-length}
 use Rattle.schedule_rules.proofs.Registered.{none_known, known_taken, fresh-unknown, finalizable-inside}
 use Rattle.schedule_rules.proofs.Counts.{one_if, occurs_joined, occurs_ended, count_given, without_none, count_without, one-wait, begins, waits_so, first_so}
-use Rattle.schedule_rules.proofs.Facts.{first, second, apart}
 
 module _ (cells : List CellPlan) (c : ℕ) where
   -- one turn where the cell is registered, and else none
@@ -274,11 +274,7 @@ module _ (cells : List CellPlan) (c : ℕ) where
             keeps (Opens d (Calls j) b) n (ap (λ m. is_known m c) now ∙ get_or-set_other (registry cells h).known d c true false (grind arith)) (omega (arith, more, none, w))
 
         registers : HasTurnBy (Opens d (Calls j) b) n
-        registers = by (d == c) refl
-          where
-            by : (x : Bool) → (d == c) ≡ x → HasTurnBy (Opens d (Calls j) b) n
-            by true same = here same
-            by false other = elsewhere other
+        registers = whether (d == c) (λ same. here same) (λ other. elsewhere other)
 
       running : Asking cells h p d j true → HasTurnBy (Opens d (Calls j) b) n
       running q = by (tries_registration (cell_at cells d).kind (phase_at cells d h)) (registry cells h).is_open refl refl

@@ -1,12 +1,12 @@
 -- A value that is shown is there.
-use Rattle.schedule_rules.proofs.Words.{ℕ, ◌≡◌, List, Bool, arith, refl, true, false, Some, ◌∷◌, [], ◌∙◌, sym, ap, None, subst, ◌⊎◌, ◌&&◌, inl, ◌<◌, inr, length, not, ◌||◌}
+use Rattle.schedule_rules.proofs.Words.{ℕ, List, ◌≡◌, arith, refl, Bool, true, false, Some, ◌∷◌, [], ◌∙◌, ap, sym, None, subst, ◌⊎◌, ◌&&◌, inl, inr, ◌<◌, length, not, ◌||◌}
 use Rattle.schedule_rules.proofs.Words.{and_or_self, and_assoc, and_le_r, AllByRecursion, ◌==◌, if◌then◌else◌, is_some, Option, has, initialized, is_primed, is_plain, is_hard}
-use Rattle.schedule_rules.proofs.Words.{Call, Answer, Line, CellPlan, Act, Step, cell_at, tolerance_of, is_accessible, flags_kept, phase_finalized, finishes_so, value_finalized}
-use Rattle.schedule_rules.proofs.Words.{Content, Change, effect, Ran, Put, Asked, Ended, RanIfAsked, content_after, asks_to_lend, is_declined, content_of_run, Deed, Visits}
-use Rattle.schedule_rules.proofs.Words.{EndsToRead, Ends, Makes, Finishes, Drops, DropsToRead, EndsToWrite, Lends, Holds, Puts, Beside, Event, deed_of, sections, Section, Guard}
-use Rattle.schedule_rules.proofs.Words.{guards, numbered, without_guard, guards_by, reader_made, reader_beside, writer_made, replay, phase_at, Back, content_after_back}
-use Rattle.schedule_rules.proofs.Words.{back_of_step, back_by, back_of_section, inside, back_of_guard, change_of, read_guards, reads_cell, answer_of_value, IsLegal, IsLegalLine}
-use Rattle.schedule_rules.proofs.Words.{lends_at, runs_to_lend, ShowsValue}
+use Rattle.schedule_rules.proofs.Words.{Call, Answer, Line, CellPlan, Act, Step, cell_at, tolerance_of, is_accessible, flags_kept, finishes_so, phase_finalized, value_finalized}
+use Rattle.schedule_rules.proofs.Words.{Content, Change, effect, Ran, Asked, Put, Ended, RanIfAsked, content_after, is_declined, asks_to_lend, content_of_run, Deed, Visits, Makes}
+use Rattle.schedule_rules.proofs.Words.{EndsToRead, Ends, DropsToRead, Finishes, Drops, EndsToWrite, Lends, Holds, Puts, Beside, Event, deed_of, sections, Section, Guard, guards}
+use Rattle.schedule_rules.proofs.Words.{numbered, without_guard, guards_by, reader_made, reader_beside, writer_made, replay, phase_at, Back, content_after_back, back_of_step}
+use Rattle.schedule_rules.proofs.Words.{back_of_section, back_by, inside, back_of_guard, change_of, read_guards, reads_cell, answer_of_value, IsLegal, IsLegalLine, lends_at}
+use Rattle.schedule_rules.proofs.Words.{runs_to_lend, ShowsValue}
 use Rattle.std.specs.Option.{unwrap_or}
 use Rattle.schedule_rules.proofs.Cases.{step, Reach, Case}
 use Rattle.schedule_rules.proofs.Steps.{lent_unprimed, of_legal}
@@ -56,22 +56,16 @@ module _ (x : CellPlan) where
       by fine h e a = grind (arith, out, marks, kept, first)
 
   asked_true : (o : Bool) (k : Call) (y : Content) → IsTrue y → IsTrue (content_after x (Asked o k) y)
-  asked_true o k y t = by (is_declined x.kind (tolerance_of x) k o y.phase)
-    where
-      by : (b : Bool) → IsTrue (if b then record { phase = 36; value = y.value } else y)
-      by true = λ e. absurd (apart (sym e))
-      by false = t
+  asked_true o k y t =
+      elim (is_declined x.kind (tolerance_of x) k o y.phase) as (λ b. IsTrue (if b then record { phase = 36; value = y.value } else y))
+      [ true ↦ λ e. absurd (apart (sym e)) | false ↦ t ]
 
   ran_true : (o : Bool) (made : Option ℕ) (y : Content) → IsTrue (content_after x (Ran o made) y)
   ran_true o (Some v) y = λ e. refl
   ran_true o None y = λ e. absurd (apart (sym (first _ _ e) ∙ has_more (flags_kept x.kind o y.phase) 6 refl ∙ kept_lacks x o y.phase))
 
   lent_true : (o : Bool) (made : Option ℕ) (y : Content) → IsTrue y → IsTrue (content_after x (RanIfAsked o made) y)
-  lent_true o made y t = by (asks_to_lend x.kind (tolerance_of x) y.phase)
-    where
-      by : (b : Bool) → IsTrue (if b then content_of_run x.kind o made y else y)
-      by true = ran_true o made y
-      by false = t
+  lent_true o made y t = elim (asks_to_lend x.kind (tolerance_of x) y.phase) as (λ b. IsTrue (if b then content_of_run x.kind o made y else y)) [ true ↦ ran_true o made y | false ↦ t ]
 
   -- what happens in a section keeps this
   effect_true : (chs : List Change) (y : Content) → IsTrue y → IsTrue (effect x chs y)
@@ -92,11 +86,7 @@ module _ (x : CellPlan) where
 
   -- nor by a call that leaves nothing open
   asked_stays : (o : Bool) (k : Call) (y : Content) → HasValue y → HasValue (content_after x (Asked o k) y)
-  asked_stays o k y v = by (is_declined x.kind (tolerance_of x) k o y.phase)
-    where
-      by : (b : Bool) → HasValue (if b then record { phase = 36; value = y.value } else y)
-      by true = v
-      by false = v
+  asked_stays o k y v = elim (is_declined x.kind (tolerance_of x) k o y.phase) as (λ b. HasValue (if b then record { phase = 36; value = y.value } else y)) [ true ↦ v | false ↦ v ]
 
   -- nor by a finalizer of a primed kind, which leaves one where it takes it out of reach
   primed_left : (fine : Bool) (left : Option ℕ) (y : Content) → is_primed x.kind ≡ true → finishes_so x.kind fine left ≡ true → HasValue y → HasValue (content_after x (Ended fine left) y)
