@@ -1,20 +1,21 @@
 -- Which answer a legal line has, by its cause.
-use Rattle.schedule_rules.proofs.Words.{ℕ, List, ◌≡◌, arith, refl, Bool, true, false, Some, ◌∙◌, ap, sym, None, ◌&&◌, length, not, ◌≢◌, ◌||◌, ◌==◌, if◌then◌else◌, is_none, is_some}
-use Rattle.schedule_rules.proofs.Words.{Option, has, initialized, first_of, look_at, is_empty, Given, How, Call, Answer, Line, Refusal, CellPlan, Place, Act, Step, Calls, cell_at}
-use Rattle.schedule_rules.proofs.Words.{tolerance_at, is_owned, asks, is_fast, lock_wanted, Event, accepts, is_exit, sections, innermost, is_turn, Guard, guards, numbered, replay}
-use Rattle.schedule_rules.proofs.Words.{phase_at, registry, Wait, waits, wait_of, Attempt, attempt, attempt_of_turn, attempt_of_wait, is_barred, holding_with, refusal, refusal_by}
-use Rattle.schedule_rules.proofs.Words.{answer_barred, answer_admitted, way_parked, drains_by, due_answer, due_clone, due_tried, due_attempt, answer_of_look, keeps_own, is_nobody}
-use Rattle.schedule_rules.proofs.Words.{IsLegalLine, answer_of, due_at, Moment, may_give, waits_judged, is_attempted, is_waiting, is_cyclic, is_round, is_finalizing}
-use Rattle.schedule_rules.proofs.Words.{is_cyclic_step, is_running, is_missed, is_skipped, is_borrowed, is_admitted, phase_met, is_access, is_denied_to_lend, is_closing}
-use Rattle.schedule_rules.proofs.Words.{is_missing_step, is_barred_step, is_of_own_run, is_access_step, is_running_step, is_round_step, generates, is_barred_clone, is_closing_step}
-use Rattle.schedule_rules.proofs.Words.{asks_run, is_barred_attempt, looks, is_kept_out, is_turn_step, is_borrowing_step, is_step_of, is_initializing}
+use Rattle.schedule_rules.proofs.Words.{ℕ, List, ◌≡◌, refl, arith, Bool, true, false, Some, ◌∙◌, ap, sym, None, ◌&&◌, not, ◌≢◌, ◌||◌, if◌then◌else◌, is_none, is_some, Option}
+use Rattle.schedule_rules.proofs.Words.{first_of, look_at, Given, How, Call, Answer, Line, Refusal, CellPlan, Place, Act, Step, Calls, cell_at, tolerance_at, is_owned, asks}
+use Rattle.schedule_rules.proofs.Words.{is_fast, lock_wanted, Event, accepts, is_exit, sections, innermost, Guard, guards, numbered, replay, phase_at, registry, Wait, waits}
+use Rattle.schedule_rules.proofs.Words.{wait_of, attempt, Attempt, attempt_of_wait, attempt_of_turn, is_barred, holding_with, refusal, refusal_by, answer_barred, answer_admitted}
+use Rattle.schedule_rules.proofs.Words.{drains_by, way_parked, due_answer, due_clone, answer_of_look, due_attempt, due_tried, keeps_own, is_nobody, IsLegalLine, answer_of, due_at}
+use Rattle.schedule_rules.proofs.Words.{Moment, may_give, waits_judged, is_attempted, is_waiting, is_cyclic, is_missed, is_admitted, is_finalizing, is_closing, is_skipped}
+use Rattle.schedule_rules.proofs.Words.{is_borrowed, is_access, is_running, is_denied_to_lend, is_cyclic_step, is_round, is_borrowing_step, is_access_step, looks, is_step_of}
+use Rattle.schedule_rules.proofs.Words.{is_closing_step, is_missing_step, is_of_own_run, is_turn_step, is_round_step, is_barred_step, is_running_step, is_barred_clone}
+use Rattle.schedule_rules.proofs.Words.{is_barred_attempt, is_initializing}
+use Rattle.schedule_rules.proofs.Tests.{look_closes, look_rounds, barred_borrows, barred_misses, barred_waits, parts_of_borrowing, parts_of_look, not_admitted, only_own}
+use Rattle.schedule_rules.proofs.Tests.{only_admitted, only_barred, is_refused, IsBeyond, IsOfTries, of_running, of_access, of_cyclic, of_finalizing, of_skipped, of_round}
+use Rattle.schedule_rules.proofs.Tests.{of_closing, of_waiting, of_missed, of_borrowed, of_refused, no_more, same_both, nothing_else, neither, unless_first, is_unlent}
+use Rattle.schedule_rules.proofs.Tests.{unlent_where_denied, shows, makes, admitted_runs, admitted_away, admitted_finalizes, admitted_skips, admitted_fails, fails_barred}
+use Rattle.schedule_rules.proofs.Tests.{calls_not}
 use Rattle.exit_registry.specs.declared.registry.Look.{Look}
 use Rattle.schedule_rules.proofs.Answered.{due_at-judged, lent, made_to_lend, made, finished, looked, cloned, legal_by}
 use Rattle.schedule_rules.proofs.Facts.{apart}
-use Rattle.schedule_rules.proofs.Tests.{is_refused, IsBeyond, IsOfTries, of_running, of_access, of_cyclic, of_finalizing, of_skipped, of_round, of_closing, of_waiting, of_missed}
-use Rattle.schedule_rules.proofs.Tests.{of_borrowed, of_refused, beyond_waiting, beyond_missed, beyond_borrowed, beyond_refused, beyond_cyclic, beyond_round, beyond_closing}
-use Rattle.schedule_rules.proofs.Tests.{no_more, same_both, nothing_else, neither, unless_first, is_unlent, unlent_where_denied, shows, makes, admitted_runs, admitted_away}
-use Rattle.schedule_rules.proofs.Tests.{admitted_finalizes, admitted_skips, admitted_fails, FailsBarred, fails_barred, calls_not}
 
 -- ---- attempts, by whether they are cyclic, barred or admitted
 
@@ -35,62 +36,36 @@ module _ (t : Answer → Bool) (cells : List CellPlan) (h : List Event) (p : ℕ
   abbrev where_admitted : Attempt → Answer
   where_admitted a = answer_admitted (cell_at cells a.cell).kind (tolerance_at cells a.cell) a.cell (accepts h) a.want (replay cells a.cell h)
 
-  -- of a test that no answer passes of a call that is cyclic
-  module _ (cyclic : t Answer.Cyclic ≡ false) where
-    -- it is passed by what is barred alone
-    barred_alone : IsBeyond t → (b : Bool → Bool → Bool) → ((fast : Bool) (x : Place) (w : How) → t (answer_barred fast x w) ≡ b fast (is_owned x)) → (a : Attempt)
-        → t (due_attempt cells h p a ws chosen) ≡ (is_barred_attempt cells h p ws a && b (is_fast a.want) (is_owned (cell_at cells a.cell).place))
-    barred_alone is b passes a =
-        by (is_of_own_run cells h p a) (keeps_own cells h p a) (bars a) (where_barred a) (where_admitted a) (passes (is_fast a.want) (cell_at cells a.cell).place (parks a))
-        (admitted_fails (cell_at cells a.cell).kind (tolerance_at cells a.cell) a.cell (accepts h) (replay cells a.cell h) t is a.want)
-      where
-        by : (own kept barred : Bool) (w r : Answer) → t w ≡ b (is_fast a.want) (is_owned (cell_at cells a.cell).place) → t r ≡ false
-            → t (if own then Answer.Cyclic else if not kept && barred then w else r) ≡ ((not own && (not kept && barred)) && b (is_fast a.want) (is_owned (cell_at cells a.cell).place))
-        by true kept barred w r e f = cyclic
-        by false true barred w r e f = f
-        by false false true w r e f = e
-        by false false false w r e f = f
+  -- how the test is passed, by how it is in the three cases
+  pub attempt_passes : (a : Attempt) (u x y : Bool) → t Answer.Cyclic ≡ u → t (where_barred a) ≡ x → t (where_admitted a) ≡ y
+      → t (due_attempt cells h p a ws chosen) ≡ (if is_of_own_run cells h p a then u else if not (keeps_own cells h p a) && bars a then x else y)
+  attempt_passes a u x y e f g = by (is_of_own_run cells h p a) (keeps_own cells h p a) (bars a)
+    where
+      by : (own kept barred : Bool) → t (if own then Answer.Cyclic else if not kept && barred then where_barred a else where_admitted a) ≡ (if own then u else if not kept && barred then x else y)
+      by true kept barred = e
+      by false true barred = g
+      by false false true = f
+      by false false false = g
 
-    -- or by what is admitted alone
-    admitted_alone : ((fast : Bool) (x : Place) (w : How) → t (answer_barred fast x w) ≡ false) → (cause : Attempt → Bool) (a : Attempt)
-        → t (answer_admitted (cell_at cells a.cell).kind (tolerance_at cells a.cell) a.cell (accepts h) a.want (replay cells a.cell h)) ≡ cause a
-        → t (due_attempt cells h p a ws chosen) ≡ (is_admitted cells h p ws a && cause a)
-    admitted_alone fails cause a e =
-        by (is_of_own_run cells h p a) (keeps_own cells h p a) (bars a) (where_barred a) (where_admitted a) (fails (is_fast a.want) (cell_at cells a.cell).place (parks a)) ∙ ap (λ b. is_admitted cells h p ws a && b) e
-      where
-        by : (own kept barred : Bool) (w r : Answer) → t w ≡ false
-            → t (if own then Answer.Cyclic else if not kept && barred then w else r) ≡ ((not own && not (not own && (not kept && barred))) && t r)
-        by true kept barred w r f = cyclic
-        by false true barred w r f = refl
-        by false false true w r f = f
-        by false false false w r f = refl
+  -- it fails on what is admitted, and is passed by what is barred alone, or by what is cyclic alone
+  admits_none : IsBeyond t → (a : Attempt) → t (where_admitted a) ≡ false
+  admits_none is a = admitted_fails (cell_at cells a.cell).kind (tolerance_at cells a.cell) a.cell (accepts h) (replay cells a.cell h) t is a.want
 
-  -- or by what is cyclic alone
+  barred_alone : IsBeyond t → t Answer.Cyclic ≡ false → (a : Attempt) (x : Bool) → t (where_barred a) ≡ x → t (due_attempt cells h p a ws chosen) ≡ (is_barred_attempt cells h p ws a && x)
+  barred_alone is c a x e = attempt_passes a false x false c e (admits_none is a) ∙ only_barred (is_of_own_run cells h p a) (keeps_own cells h p a) (bars a) x
+
+  admitted_alone : t Answer.Cyclic ≡ false → ((fast : Bool) (x : Place) (w : How) → t (answer_barred fast x w) ≡ false) → (a : Attempt) (x : Bool) → t (where_admitted a) ≡ x
+      → t (due_attempt cells h p a ws chosen) ≡ (is_admitted cells h p ws a && x)
+  admitted_alone c fails a x e = attempt_passes a false false x c (fails _ _ _) e ∙ only_admitted (is_of_own_run cells h p a) (keeps_own cells h p a) (bars a) x
+
   cyclic_alone : (b : Bool) → t Answer.Cyclic ≡ b → ((fast : Bool) (x : Place) (w : How) → t (answer_barred fast x w) ≡ false) → IsBeyond t → (a : Attempt)
       → t (due_attempt cells h p a ws chosen) ≡ (is_of_own_run cells h p a && b)
-  cyclic_alone b c fails is a =
-      by (is_of_own_run cells h p a) (keeps_own cells h p a) (bars a) (where_barred a) (where_admitted a) (fails (is_fast a.want) (cell_at cells a.cell).place (parks a))
-      (admitted_fails (cell_at cells a.cell).kind (tolerance_at cells a.cell) a.cell (accepts h) (replay cells a.cell h) t is a.want)
-    where
-      by : (own kept barred : Bool) (w r : Answer) → t w ≡ false → t r ≡ false → t (if own then Answer.Cyclic else if not kept && barred then w else r) ≡ (own && b)
-      by true kept barred w r e f = c
-      by false true barred w r e f = f
-      by false false true w r e f = e
-      by false false false w r e f = f
+  cyclic_alone b c fails is a = attempt_passes a b false false c (fails _ _ _) (admits_none is a) ∙ only_own (is_of_own_run cells h p a) (keeps_own cells h p a) (bars a) b
 
   -- or by all that is not admitted
   pub unless_admitted : t Answer.Cyclic ≡ true → ((fast : Bool) (x : Place) (w : How) → t (answer_barred fast x w) ≡ true) → IsBeyond t → (a : Attempt)
       → t (due_attempt cells h p a ws chosen) ≡ not (is_admitted cells h p ws a)
-  unless_admitted c passes is a =
-      by (is_of_own_run cells h p a) (keeps_own cells h p a) (bars a) (where_barred a) (where_admitted a) (passes (is_fast a.want) (cell_at cells a.cell).place (parks a))
-      (admitted_fails (cell_at cells a.cell).kind (tolerance_at cells a.cell) a.cell (accepts h) (replay cells a.cell h) t is a.want)
-    where
-      by : (own kept barred : Bool) (w r : Answer) → t w ≡ true → t r ≡ false
-          → t (if own then Answer.Cyclic else if not kept && barred then w else r) ≡ not (not own && not (not own && (not kept && barred)))
-      by true kept barred w r e f = c
-      by false true barred w r e f = f
-      by false false true w r e f = e
-      by false false false w r e f = f
+  unless_admitted c passes is a = attempt_passes a true true false c (passes _ _ _) (admits_none is a) ∙ not_admitted (is_of_own_run cells h p a) (keeps_own cells h p a) (bars a)
 
 -- ---- legal lines
 
@@ -148,45 +123,26 @@ module _ (cells : List CellPlan) (h : List Event) (s : Step) (l : Line) (k : IsL
 
   -- a legal line waits exactly where the step is barred, and neither fast nor at a cell of the party's own
   pub waits_where_barred : is_waiting l.answer ≡ is_barred_step cells h s l.given k.moment
-  waits_where_barred = legal_alone is_waiting of_waiting (λ q. refl) cells h s l k (λ n. refl) refl _ (λ a. barred_alone is_waiting cells h s.party ws k.chosen refl beyond_waiting (λ f o. not f && not o) by a) refl refl
-    where
-      by : (fast : Bool) (x : Place) (w : How) → is_waiting (answer_barred fast x w) ≡ (not fast && not (is_owned x))
-      by true x w = refl
-      by false Place.Park w = refl
-      by false Place.Spin w = refl
-      by false (Place.Own p) w = refl
+  waits_where_barred =
+      legal_alone is_waiting of_waiting.tries (λ q. refl) cells h s l k (λ n. refl) refl _ (λ a. barred_alone is_waiting cells h s.party ws k.chosen of_waiting refl a _ (barred_waits _ _ _)) refl refl
 
   -- misses exactly where it is barred and fast
   pub misses_where_barred : is_missed l.answer ≡ is_missing_step cells h s l.given k.moment
-  misses_where_barred = legal_alone is_missed of_missed (λ q. refl) cells h s l k (λ n. refl) refl _ (λ a. barred_alone is_missed cells h s.party ws k.chosen refl beyond_missed (λ f o. f) by a) refl refl
-    where
-      by : (fast : Bool) (x : Place) (w : How) → is_missed (answer_barred fast x w) ≡ fast
-      by true x w = refl
-      by false Place.Park w = refl
-      by false Place.Spin w = refl
-      by false (Place.Own p) w = refl
+  misses_where_barred =
+      legal_alone is_missed of_missed.tries (λ q. refl) cells h s l k (λ n. refl) refl _ (λ a. barred_alone is_missed cells h s.party ws k.chosen of_missed refl a _ (barred_misses _ _ _)) refl refl
 
   -- and borrows exactly where it is a clone that is barred, or is barred and not fast at a cell of the party's own
   pub borrows_where_barred : is_borrowed l.answer ≡ is_borrowing_step cells h s l.given k.moment
   borrows_where_barred =
-      legal is_borrowed of_borrowed (λ q. refl) cells h s l k _
-      (tried is_borrowed of_borrowed (λ q. refl) cells h s l k (λ n. refl) refl _ (λ a. barred_alone is_borrowed cells h s.party ws k.chosen refl beyond_borrowed (λ f o. not f && o) by a))
-      ∙ parts (is_none (refusal cells h s)) _ _ (is_unlent cells h s.act)
-    where
-      by : (fast : Bool) (x : Place) (w : How) → is_borrowed (answer_barred fast x w) ≡ (not fast && is_owned x)
-      by true x w = refl
-      by false Place.Park w = refl
-      by false Place.Spin w = refl
-      by false (Place.Own p) w = refl
-
-      parts : (n x y u : Bool) → (n && (x || ((y && true) || (u && false)))) ≡ ((n && y) || (n && x))
-      parts n x y u = grind arith
+      legal is_borrowed of_borrowed.tries (λ q. refl) cells h s l k _
+      (tried is_borrowed of_borrowed.tries (λ q. refl) cells h s l k (λ n. refl) refl _ (λ a. barred_alone is_borrowed cells h s.party ws k.chosen of_borrowed refl a _ (barred_borrows _ _ _)))
+      ∙ parts_of_borrowing (is_none (refusal cells h s)) _ _ (is_unlent cells h s.act)
 
   -- a run begins
   pub runs_where_asked : is_running l.answer ≡ is_running_step cells h s l.given k.moment
   runs_where_asked =
       legal_alone is_running of_running (λ q. refl) cells h s l k (λ n. refl) refl _
-      (λ a. admitted_alone is_running cells h s.party ws k.chosen refl (fails_barred is_running (record { missed = refl; borrowed = refl; waiting = λ w. refl })) (λ a. asks_run cells h s.party a && generates cells h s.party a) a
+      (λ a. admitted_alone is_running cells h s.party ws k.chosen refl (fails_barred is_running refl refl (λ w. refl)) a _
       (admitted_runs (cell_at cells a.cell).kind (tolerance_at cells a.cell) a.cell (accepts h) (replay cells a.cell h) a.want)) refl refl
 
   -- the value may not be accessed
@@ -194,7 +150,7 @@ module _ (cells : List CellPlan) (h : List Event) (s : Step) (l : Line) (k : IsL
   accesses_where_turned_away =
       legal is_access of_access (λ q. refl) cells h s l k _
       (tried is_access of_access (λ q. refl) cells h s l k (λ n. refl) refl _
-      (λ a. admitted_alone is_access cells h s.party ws k.chosen refl (fails_barred is_access (record { missed = refl; borrowed = refl; waiting = λ w. refl })) (λ a. not (asks_run cells h s.party a && generates cells h s.party a) && is_kept_out cells h s.party a) a
+      (λ a. admitted_alone is_access cells h s.party ws k.chosen refl (fails_barred is_access refl refl (λ w. refl)) a _
       (admitted_away (cell_at cells a.cell).kind (tolerance_at cells a.cell) a.cell (accepts h) (replay cells a.cell h) a.want)))
       ∙ parts (refusal cells h s) refl _ (is_barred_clone cells h s.act ws)
     where
@@ -206,26 +162,26 @@ module _ (cells : List CellPlan) (h : List Event) (s : Step) (l : Line) (k : IsL
   pub finalizes_where_ready : (c : ℕ) → is_finalizing c l.answer ≡ is_turn_step cells c true h s l.given k.moment
   finalizes_where_ready c =
       legal_alone (is_finalizing c) (of_finalizing c) (λ q. refl) cells h s l k (λ n. refl) refl _
-      (λ a. admitted_alone (is_finalizing c) cells h s.party ws k.chosen refl (fails_barred (is_finalizing c) (record { missed = refl; borrowed = refl; waiting = λ w. refl })) (λ a. is_turn a.want && ((a.cell == c) && has (phase_met cells h s.party a) initialized)) a
+      (λ a. admitted_alone (is_finalizing c) cells h s.party ws k.chosen refl (fails_barred (is_finalizing c) refl refl (λ w. refl)) a _
       (admitted_finalizes (cell_at cells a.cell).kind (tolerance_at cells a.cell) a.cell (accepts h) (replay cells a.cell h) c a.want)) refl refl
 
   -- a turn is skipped
   pub skips_where_unready : (c : ℕ) → is_skipped c l.answer ≡ is_turn_step cells c false h s l.given k.moment
   skips_where_unready c =
       legal_alone (is_skipped c) (of_skipped c) (λ q. refl) cells h s l k (λ n. refl) refl _
-      (λ a. admitted_alone (is_skipped c) cells h s.party ws k.chosen refl (fails_barred (is_skipped c) (record { missed = refl; borrowed = refl; waiting = λ w. refl })) (λ a. is_turn a.want && ((a.cell == c) && not (has (phase_met cells h s.party a) initialized))) a
+      (λ a. admitted_alone (is_skipped c) cells h s.party ws k.chosen refl (fails_barred (is_skipped c) refl refl (λ w. refl)) a _
       (admitted_skips (cell_at cells a.cell).kind (tolerance_at cells a.cell) a.cell (accepts h) (replay cells a.cell h) c a.want)) refl refl
 
   -- a call is cyclic
   pub cyclic_where_own : is_cyclic l.answer ≡ is_cyclic_step cells h s
   cyclic_where_own =
-      legal_alone is_cyclic of_cyclic (λ q. refl) cells h s l k (λ n. refl) refl _
-      (λ a. cyclic_alone is_cyclic cells h s.party ws k.chosen true refl (fails_barred is_cyclic (record { missed = refl; borrowed = refl; waiting = λ w. refl })) beyond_cyclic a ∙ sym (same_both _)) refl refl
+      legal_alone is_cyclic of_cyclic.tries (λ q. refl) cells h s l k (λ n. refl) refl _
+      (λ a. cyclic_alone is_cyclic cells h s.party ws k.chosen true refl (fails_barred is_cyclic refl refl (λ w. refl)) of_cyclic a ∙ sym (same_both _)) refl refl
 
   -- no answer that is due is a refusal
   pub due_is_answered : (m : Moment) (g : Given) (chosen : Bool) → is_refused (due_at cells m h s g chosen) ≡ false
   due_is_answered m g chosen =
-      ap is_refused (due_at-judged cells m h s g chosen) ∙ due is_refused of_refused cells (λ a. false) h (waits_judged cells m h s g) chosen s.party tried s.act ∙ none (attempt cells h s) _ _
+      ap is_refused (due_at-judged cells m h s g chosen) ∙ due is_refused of_refused.tries cells (λ a. false) h (waits_judged cells m h s g) chosen s.party tried s.act ∙ none (attempt cells h s) _ _
     where
       told : (l : _) → is_refused (answer_of_look l) ≡ false
       told l = grind arith
@@ -233,7 +189,7 @@ module _ (cells : List CellPlan) (h : List Event) (s : Step) (l : Line) (k : IsL
       tried : (o : Option Attempt) → is_refused (due_tried cells h s.party o (waits_judged cells m h s g) chosen) ≡ is_attempted (λ a. false) o
       tried None = told (look_at (registry cells h).pending)
       tried (Some a) =
-          cyclic_alone is_refused cells h s.party (waits_judged cells m h s g) chosen false refl (fails_barred is_refused (record { missed = refl; borrowed = refl; waiting = λ w. refl })) beyond_refused a ∙ no_more _
+          cyclic_alone is_refused cells h s.party (waits_judged cells m h s g) chosen false refl (fails_barred is_refused refl refl (λ w. refl)) of_refused a ∙ no_more _
 
       none : (o : Option Attempt) (b d : Bool) → (is_attempted (λ a. false) o || ((b && false) || (d && false))) ≡ false
       none k1 b d = grind arith
@@ -253,20 +209,15 @@ module _ (cells : List CellPlan) (h : List Event) (s : Step) (l : Line) (k : IsL
 pub kept_is_answered : (cells : List CellPlan) (h : List Event) (p : ℕ) (a : Attempt) (ws : List Wait) (chosen : Bool)
     → keeps_own cells h p a ≡ true → is_waiting (due_attempt cells h p a ws chosen) ≡ false
 kept_is_answered cells h p a ws chosen keeps =
-    barred_alone is_waiting cells h p ws chosen refl beyond_waiting (λ f o. not f && not o) by a ∙ ap (λ b. (not (is_of_own_run cells h p a) && (not b && bars is_waiting cells h p ws chosen a)) && (not (is_fast a.want) && not (is_owned (cell_at cells a.cell).place))) keeps ∙ nothing (is_of_own_run cells h p a) (bars is_waiting cells h p ws chosen a) _
+    barred_alone is_waiting cells h p ws chosen of_waiting refl a _ (barred_waits _ _ _)
+    ∙ ap (λ b. (not (is_of_own_run cells h p a) && (not b && bars is_waiting cells h p ws chosen a)) && (not (is_fast a.want) && not (is_owned (cell_at cells a.cell).place))) keeps ∙ nothing (is_of_own_run cells h p a) (bars is_waiting cells h p ws chosen a) _
   where
-    by : (fast : Bool) (x : Place) (w : How) → is_waiting (answer_barred fast x w) ≡ (not fast && not (is_owned x))
-    by true x w = refl
-    by false Place.Park w = refl
-    by false Place.Spin w = refl
-    by false (Place.Own p) w = refl
-
     nothing : (x y z : Bool) → ((not x && (not true && y)) && z) ≡ false
     nothing x y z = grind arith
 
 -- ---- looks
 
-module _ (t : Answer → Bool) {denies : Bool} (is : IsOfTries t denies) (beyond : IsBeyond t) (fails : FailsBarred t) (cyclic : t Answer.Cyclic ≡ false) (cells : List CellPlan) (h : List Event) (ws : List Wait) (chosen : Bool) (p : ℕ) where
+module _ (t : Answer → Bool) (is : IsBeyond t) (missed : t Answer.Missed ≡ false) (borrowed : t Answer.Borrowed ≡ false) (waiting : (w : How) → t (Answer.Waiting w) ≡ false) (cyclic : t Answer.Cyclic ≡ false) (cells : List CellPlan) (h : List Event) (ws : List Wait) (chosen : Bool) (p : ℕ) where
   -- the answer of a look
   abbrev passes : Bool
   passes = t (answer_of_look (look_at (registry cells h).pending))
@@ -277,7 +228,7 @@ module _ (t : Answer → Bool) {denies : Bool} (is : IsOfTries t denies) (beyond
 
   -- no attempt is answered so
   each : (a : Attempt) → t (due_attempt cells h p a ws chosen) ≡ false
-  each a = cyclic_alone t cells h p ws chosen false cyclic (fails_barred t fails) beyond a ∙ no_more _
+  each a = cyclic_alone t cells h p ws chosen false cyclic (fails_barred t missed borrowed waiting) is a ∙ no_more _
 
   -- an Exit with no cell left is, and no other step
   looked_so : (a : Act) → (free a && t (due_answer cells h (record { party = p; act = a }) ws chosen)) ≡ (free a && (is_exit a && (is_none (first_of (registry cells h).left) && passes)))
@@ -292,45 +243,34 @@ module _ (t : Answer → Bool) {denies : Bool} (is : IsOfTries t denies) (beyond
     where
       by : (o : Option ℕ) → t (due_tried cells h p (attempt_of_turn o) ws chosen) ≡ (is_none o && passes)
       by o = grind arith
-  looked_so (Act.Made v) = ap (λ b. free (Act.Made v) && b) (made (λ a. t a ≡ false) cells h is.shown v (innermost p (sections h)) is.done is.failed)
-  looked_so Act.MadeFailed = ap (λ b. free Act.MadeFailed && b) is.failed
-  looked_so (Act.Finished left) = ap (λ b. free (Act.Finished left) && b) (finished (λ a. t a ≡ false) cells h is.shown true (innermost p (sections h)) is.done)
-  looked_so (Act.FinishFailed left) = ap (λ b. free (Act.FinishFailed left) && b) (finished (λ a. t a ≡ false) cells h is.shown false (innermost p (sections h)) is.done)
-  looked_so (Act.Look g) = ap (λ b. free (Act.Look g) && b) (looked (λ a. t a ≡ false) cells h is.shown (numbered g (guards h)) is.done)
-  looked_so (Act.Set g v) = ap (λ b. free (Act.Set g v) && b) is.done
-  looked_so (Act.Release g) = ap (λ b. free (Act.Release g) && b) is.done
-  looked_so (Act.Downgrade g) = ap (λ b. free (Act.Downgrade g) && b) is.shown.read_guard
+  looked_so (Act.Made v) = ap (λ b. free (Act.Made v) && b) (made (λ a. t a ≡ false) cells h is.tries.shown v (innermost p (sections h)) is.tries.done is.tries.failed)
+  looked_so Act.MadeFailed = ap (λ b. free Act.MadeFailed && b) is.tries.failed
+  looked_so (Act.Finished left) = ap (λ b. free (Act.Finished left) && b) (finished (λ a. t a ≡ false) cells h is.tries.shown true (innermost p (sections h)) is.tries.done)
+  looked_so (Act.FinishFailed left) = ap (λ b. free (Act.FinishFailed left) && b) (finished (λ a. t a ≡ false) cells h is.tries.shown false (innermost p (sections h)) is.tries.done)
+  looked_so (Act.Look g) = ap (λ b. free (Act.Look g) && b) (looked (λ a. t a ≡ false) cells h is.tries.shown (numbered g (guards h)) is.tries.done)
+  looked_so (Act.Set g v) = ap (λ b. free (Act.Set g v) && b) is.tries.done
+  looked_so (Act.Release g) = ap (λ b. free (Act.Release g) && b) is.tries.done
+  looked_so (Act.Downgrade g) = ap (λ b. free (Act.Downgrade g) && b) is.tries.shown.read_guard
   looked_so (Act.GetMut c made left) =
-      ap (λ b. free (Act.GetMut c made left) && b) (made_to_lend (λ a. t a ≡ false) is.shown.value beyond.told.access is.failed (cell_at cells c).kind (tolerance_at cells c) (accepts h) made (replay cells c h))
-  looked_so (Act.TryGetMut c left) = ap (λ b. free (Act.TryGetMut c left) && b) (lent (λ a. t a ≡ false) is.shown.value beyond.told.access (cell_at cells c).kind (replay cells c h))
-  looked_so (Act.Clone g) = ap (λ b. free (Act.Clone g) && b) (cloned (λ a. t a ≡ false) cells h ws (numbered g (guards h)) is.done fails.borrowed is.shown.read_guard)
+      ap (λ b. free (Act.GetMut c made left) && b) (made_to_lend (λ a. t a ≡ false) is.tries.shown.value is.tries.access is.tries.failed (cell_at cells c).kind (tolerance_at cells c) (accepts h) made (replay cells c h))
+  looked_so (Act.TryGetMut c left) = ap (λ b. free (Act.TryGetMut c left) && b) (lent (λ a. t a ≡ false) is.tries.shown.value is.tries.access (cell_at cells c).kind (replay cells c h))
+  looked_so (Act.Clone g) = ap (λ b. free (Act.Clone g) && b) (cloned (λ a. t a ≡ false) cells h ws (numbered g (guards h)) is.tries.done borrowed is.tries.shown.read_guard)
 
 module _ (cells : List CellPlan) (h : List Event) (s : Step) (l : Line) (k : IsLegalLine cells h s l) where
   -- it is passed exactly where the step looks, and the look passes it
-  looked_where : (t : Answer → Bool) {denies : Bool} → IsOfTries t denies → IsBeyond t → FailsBarred t → t Answer.Cyclic ≡ false → ((q : Refusal) → t (Answer.Refused q) ≡ false)
-      → t l.answer ≡ (looks cells h s && t (answer_of_look (look_at (registry cells h).pending)))
-  looked_where t {denies} is beyond fails cyclic refused =
-      legal_by t refused cells h s l k ∙ looked_so t is beyond fails cyclic cells h (waits_judged cells k.moment h s l.given) k.chosen s.party s.act
-      ∙ three (is_none (refusal cells h s)) (is_exit s.act) _ _
-    where
-      three : (a b c d : Bool) → (a && (b && (c && d))) ≡ ((a && (b && c)) && d)
-      three a b c d = grind arith
+  looked_where : (t : Answer → Bool) → IsBeyond t → t Answer.Missed ≡ false → t Answer.Borrowed ≡ false → ((w : How) → t (Answer.Waiting w) ≡ false) → t Answer.Cyclic ≡ false
+      → ((q : Refusal) → t (Answer.Refused q) ≡ false) → t l.answer ≡ (looks cells h s && t (answer_of_look (look_at (registry cells h).pending)))
+  looked_where t is missed borrowed waiting cyclic refused =
+      legal_by t refused cells h s l k ∙ looked_so t is missed borrowed waiting cyclic cells h (waits_judged cells k.moment h s l.given) k.chosen s.party s.act
+      ∙ parts_of_look (is_none (refusal cells h s)) (is_exit s.act) _ _
 
   -- a look took so many cells
   pub rounds_where_registered : (n : ℕ) → is_round n l.answer ≡ is_round_step cells n h s
-  rounds_where_registered n =
-      looked_where (is_round n) (of_round n) (beyond_round n) (record { missed = refl; borrowed = refl; waiting = λ w. refl }) refl (λ q. refl) ∙ ap (λ b. looks cells h s && b) (by (registry cells h).pending)
-    where
-      by : (cs : List ℕ) → is_round n (answer_of_look (look_at cs)) ≡ (not (is_empty cs) && (length cs == n))
-      by cs = grind arith
+  rounds_where_registered n = looked_where (is_round n) (of_round n) refl refl (λ w. refl) refl (λ q. refl) ∙ ap (λ b. looks cells h s && b) (look_rounds n (registry cells h).pending)
 
   -- a look found none
   pub closes_where_none : is_closing l.answer ≡ is_closing_step cells h s
-  closes_where_none =
-      looked_where is_closing of_closing beyond_closing (record { missed = refl; borrowed = refl; waiting = λ w. refl }) refl (λ q. refl) ∙ ap (λ b. looks cells h s && b) (by (registry cells h).pending)
-    where
-      by : (cs : List ℕ) → is_closing (answer_of_look (look_at cs)) ≡ is_empty cs
-      by cs = grind arith
+  closes_where_none = looked_where is_closing of_closing refl refl (λ w. refl) refl (λ q. refl) ∙ ap (λ b. looks cells h s && b) (look_closes (registry cells h).pending)
 
 module _ (cells : List CellPlan) (h : List Event) (s : Step) (l : Line) (k : IsLegalLine cells h s l) where
   -- so it begins none

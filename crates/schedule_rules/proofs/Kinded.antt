@@ -1,8 +1,8 @@
 -- The sections and the guards of a legal history are of calls that the kinds of their cells have.
-use Rattle.schedule_rules.proofs.Words.{ℕ, List, ◌≡◌, arith, refl, Bool, true, false, Some, ◌∷◌, [], ◌∙◌, sym, None, subst, length, AllByRecursion, ◌==◌, Option, has_call}
+use Rattle.schedule_rules.proofs.Words.{ℕ, List, ◌≡◌, refl, arith, Bool, true, false, Some, ◌∷◌, ◌∙◌, [], sym, None, subst, length, AllByRecursion, ◌==◌, Option, has_call}
 use Rattle.schedule_rules.proofs.Words.{is_primed, is_plain, Call, Kind, Answer, CellPlan, Act, Calls, Turns, cell_at, form_of, Deed, Visits, EndsToRead, Ends, DropsToRead, Drops}
-use Rattle.schedule_rules.proofs.Words.{EndsToWrite, Opens, Holds, Puts, deed_waiting, Beside, deed_by, Event, deed_of, accepts, is_exit, sections, Section, innermost, sections_by}
-use Rattle.schedule_rules.proofs.Words.{Guard, guards, numbered, without_guard, guards_by, reader_made, reader_beside, writer_made, replay, refusal, answer_of_value, IsLegal}
+use Rattle.schedule_rules.proofs.Words.{EndsToWrite, Opens, Holds, Beside, Puts, deed_waiting, deed_by, Event, deed_of, accepts, is_exit, Section, sections, innermost, sections_by}
+use Rattle.schedule_rules.proofs.Words.{Guard, guards, numbered, without_guard, guards_by, reader_beside, reader_made, writer_made, replay, refusal, answer_of_value, IsLegal}
 use Rattle.schedule_rules.proofs.Cases.{errs, writes, step, Calling, Generating, form_at, Case}
 use Rattle.schedule_rules.proofs.Found.{each_found, each_ended, each_removed, each_put}
 use Rattle.schedule_rules.proofs.Steps.{of_legal}

@@ -1,9 +1,9 @@
 -- What holds of each open guard: what happened in its section, that it bears the number of an earlier step, and that no
 -- section of a cell is open while a guard reads it.
-use Rattle.schedule_rules.proofs.Words.{ℕ, List, ◌≡◌, arith, refl, Bool, true, false, Some, ◌∷◌, [], ◌∙◌, ap, sym, None, ◌<◌, length, ◌++◌, and_or_apart, and_assoc, bit_and}
-use Rattle.schedule_rules.proofs.Words.{AllByRecursion, ◌==◌, is_some, ◌^◌, ◌-◌, Option, has, Given, final_outcome, CellPlan, Step, flags_kept, Content, Change, effect, Ran, Asked}
-use Rattle.schedule_rules.proofs.Words.{Put, Ended, RanIfAsked, Deed, Visits, EndsToRead, DropsToRead, Drops, EndsToWrite, Holds, Puts, Beside, Event, deed_of, sections, Section}
-use Rattle.schedule_rules.proofs.Words.{innermost, Guard, guards, numbered, without_guard, guards_by, reader_made, reader_beside, writer_made, reader, cell_concerned, write_holds}
+use Rattle.schedule_rules.proofs.Words.{ℕ, List, ◌≡◌, refl, arith, Bool, true, false, Some, ◌∷◌, ◌∙◌, [], ap, sym, None, ◌<◌, length, ◌++◌, and_or_apart, and_assoc, bit_and}
+use Rattle.schedule_rules.proofs.Words.{AllByRecursion, ◌==◌, is_some, ◌-◌, ◌^◌, Option, has, Given, final_outcome, CellPlan, Step, flags_kept, Content, Change, effect, Ran, Put}
+use Rattle.schedule_rules.proofs.Words.{Asked, Ended, RanIfAsked, Deed, Visits, EndsToRead, DropsToRead, Drops, EndsToWrite, Holds, Beside, Puts, Event, deed_of, Section, sections}
+use Rattle.schedule_rules.proofs.Words.{innermost, Guard, guards, numbered, without_guard, guards_by, reader_beside, reader_made, writer_made, reader, cell_concerned, write_holds}
 use Rattle.schedule_rules.proofs.Words.{read_guards, reads_cell, turns_to_read, IsLegal, read_at}
 use Rattle.schedule_rules.proofs.Opened.{put}
 use Rattle.schedule_rules.proofs.Found.{each_removed, each_put, each_mapped, each_found, found_counts, found_passes}

@@ -1,9 +1,10 @@
 -- Tests of answers, and which answers of what is admitted pass them.
-use Rattle.schedule_rules.proofs.Words.{ℕ, List, ◌≡◌, arith, refl, Bool, true, false, None, ◌&&◌, not, ◌||◌, ◌==◌, if◌then◌else◌, Option, has, initialized, Phase, LockNature, How}
-use Rattle.schedule_rules.proofs.Words.{flags_refused, Tolerance, Call, Kind, Form, Held, Told, Shown, Answer, CellPlan, Place, Act, Want, Calls, Turns, cell_at, tolerance_at}
-use Rattle.schedule_rules.proofs.Words.{form_of, denies, is_accessible, runs_generator, asks, lock_wanted, Content, Event, accepts, is_turn, replay, refusal, answer_barred}
-use Rattle.schedule_rules.proofs.Words.{answer_made_to_lend, answer_admitted, answer_at, answer_lent, turn_answer_admitted, is_waiting, is_cyclic, is_round, is_finalizing}
-use Rattle.schedule_rules.proofs.Words.{is_running, is_missed, is_skipped, is_borrowed, is_access, is_denied_to_lend, is_closing, want_denies, is_initializing}
+use Rattle.schedule_rules.proofs.Words.{ℕ, List, ◌≡◌, refl, arith, Bool, true, false, None, ◌&&◌, length, not, ◌||◌, ◌==◌, if◌then◌else◌, Option, has, initialized, Phase, look_at}
+use Rattle.schedule_rules.proofs.Words.{is_empty, LockNature, How, flags_refused, Tolerance, Call, Kind, Form, Answer, CellPlan, Place, Act, Want, Calls, Turns, cell_at}
+use Rattle.schedule_rules.proofs.Words.{tolerance_at, is_owned, form_of, denies, is_accessible, runs_generator, asks, lock_wanted, Content, Event, accepts, is_turn, replay}
+use Rattle.schedule_rules.proofs.Words.{refusal, answer_barred, answer_lent, answer_made_to_lend, answer_at, answer_admitted, turn_answer_admitted, answer_of_look, is_waiting}
+use Rattle.schedule_rules.proofs.Words.{is_cyclic, is_missed, is_finalizing, is_closing, is_skipped, is_borrowed, is_access, is_running, is_denied_to_lend, is_round, want_denies}
+use Rattle.schedule_rules.proofs.Words.{is_initializing}
 use Rattle.schedule_rules.proofs.Answered.{IsShown, IsTold, admitted}
 
 -- a test that no answer passes of a step that attempts nothing, but a clone that is barred, and one that is to lend a value which
@@ -14,13 +15,17 @@ pub record IsOfTries (t : Answer → Bool) (denies : Bool) : Type 0 where
   pub done : t Answer.Done ≡ false
   pub failed : t Answer.Failed ≡ false
 
--- one that no answer passes of a step that is neither refused nor barred, nor begins a run, is told that it may not access the
--- value, or is a turn
+-- one that no answer passes either of a step that is neither refused nor barred, nor begins a run, is told that it may not
+-- access the value, or is a turn
 pub record IsBeyond (t : Answer → Bool) : Type 0 where
-  pub told : IsTold (λ a. t a ≡ false)
+  pub tries : IsOfTries t false
+  pub err_guard : t Answer.ErrGuard ≡ false
   pub running : t Answer.Running ≡ false
   pub finalizing : (c : ℕ) → t (Answer.Finalizing c) ≡ false
   pub skipped : (c : ℕ) → t (Answer.Skipped c) ≡ false
+
+pub told_of : (t : Answer → Bool) → IsOfTries t false → t Answer.ErrGuard ≡ false → IsTold (λ a. t a ≡ false)
+told_of t is e = record { shown = is.shown; access = is.access; err_guard = e }
 
 -- the answer says that the step is refused
 abbrev pub is_refused : Answer → Bool
@@ -33,54 +38,33 @@ of_running = record { shown = record { phase = λ p. refl; value = λ v. refl; r
 pub of_access : IsOfTries is_access true
 of_access = record { shown = record { phase = λ p. refl; value = λ v. refl; read_guard = refl; write_guard = refl }; access = λ p. refl; done = refl; failed = refl }
 
-pub of_cyclic : IsOfTries is_cyclic false
-of_cyclic = record { shown = record { phase = λ p. refl; value = λ v. refl; read_guard = refl; write_guard = refl }; access = λ p. refl; done = refl; failed = refl }
-
 pub of_finalizing : (c : ℕ) → IsOfTries (is_finalizing c) false
 of_finalizing c = record { shown = record { phase = λ p. refl; value = λ v. refl; read_guard = refl; write_guard = refl }; access = λ p. refl; done = refl; failed = refl }
 
 pub of_skipped : (c : ℕ) → IsOfTries (is_skipped c) false
 of_skipped c = record { shown = record { phase = λ p. refl; value = λ v. refl; read_guard = refl; write_guard = refl }; access = λ p. refl; done = refl; failed = refl }
 
-pub of_round : (n : ℕ) → IsOfTries (is_round n) false
-of_round n = record { shown = record { phase = λ p. refl; value = λ v. refl; read_guard = refl; write_guard = refl }; access = λ p. refl; done = refl; failed = refl }
-
-pub of_closing : IsOfTries is_closing false
-of_closing = record { shown = record { phase = λ p. refl; value = λ v. refl; read_guard = refl; write_guard = refl }; access = λ p. refl; done = refl; failed = refl }
-
-pub of_waiting : IsOfTries is_waiting false
-of_waiting = record { shown = record { phase = λ p. refl; value = λ v. refl; read_guard = refl; write_guard = refl }; access = λ p. refl; done = refl; failed = refl }
-
-pub of_missed : IsOfTries is_missed false
-of_missed = record { shown = record { phase = λ p. refl; value = λ v. refl; read_guard = refl; write_guard = refl }; access = λ p. refl; done = refl; failed = refl }
-
-pub of_borrowed : IsOfTries is_borrowed false
-of_borrowed = record { shown = record { phase = λ p. refl; value = λ v. refl; read_guard = refl; write_guard = refl }; access = λ p. refl; done = refl; failed = refl }
-
-pub of_refused : IsOfTries is_refused false
-of_refused = record { shown = record { phase = λ p. refl; value = λ v. refl; read_guard = refl; write_guard = refl }; access = λ p. refl; done = refl; failed = refl }
-
 -- those that look at the ways of being barred, and so on
-pub beyond_waiting : IsBeyond is_waiting
-beyond_waiting = record { told = record { shown = of_waiting.shown; access = λ p. refl; err_guard = refl }; running = refl; finalizing = λ c. refl; skipped = λ c. refl }
+pub of_waiting : IsBeyond is_waiting
+of_waiting = record { tries = record { shown = record { phase = λ p. refl; value = λ v. refl; read_guard = refl; write_guard = refl }; access = λ p. refl; done = refl; failed = refl }; err_guard = refl; running = refl; finalizing = λ c. refl; skipped = λ c. refl }
 
-pub beyond_missed : IsBeyond is_missed
-beyond_missed = record { told = record { shown = of_missed.shown; access = λ p. refl; err_guard = refl }; running = refl; finalizing = λ c. refl; skipped = λ c. refl }
+pub of_missed : IsBeyond is_missed
+of_missed = record { tries = record { shown = record { phase = λ p. refl; value = λ v. refl; read_guard = refl; write_guard = refl }; access = λ p. refl; done = refl; failed = refl }; err_guard = refl; running = refl; finalizing = λ c. refl; skipped = λ c. refl }
 
-pub beyond_borrowed : IsBeyond is_borrowed
-beyond_borrowed = record { told = record { shown = of_borrowed.shown; access = λ p. refl; err_guard = refl }; running = refl; finalizing = λ c. refl; skipped = λ c. refl }
+pub of_borrowed : IsBeyond is_borrowed
+of_borrowed = record { tries = record { shown = record { phase = λ p. refl; value = λ v. refl; read_guard = refl; write_guard = refl }; access = λ p. refl; done = refl; failed = refl }; err_guard = refl; running = refl; finalizing = λ c. refl; skipped = λ c. refl }
 
-pub beyond_refused : IsBeyond is_refused
-beyond_refused = record { told = record { shown = of_refused.shown; access = λ p. refl; err_guard = refl }; running = refl; finalizing = λ c. refl; skipped = λ c. refl }
+pub of_refused : IsBeyond is_refused
+of_refused = record { tries = record { shown = record { phase = λ p. refl; value = λ v. refl; read_guard = refl; write_guard = refl }; access = λ p. refl; done = refl; failed = refl }; err_guard = refl; running = refl; finalizing = λ c. refl; skipped = λ c. refl }
 
-pub beyond_cyclic : IsBeyond is_cyclic
-beyond_cyclic = record { told = record { shown = of_cyclic.shown; access = λ p. refl; err_guard = refl }; running = refl; finalizing = λ c. refl; skipped = λ c. refl }
+pub of_cyclic : IsBeyond is_cyclic
+of_cyclic = record { tries = record { shown = record { phase = λ p. refl; value = λ v. refl; read_guard = refl; write_guard = refl }; access = λ p. refl; done = refl; failed = refl }; err_guard = refl; running = refl; finalizing = λ c. refl; skipped = λ c. refl }
 
-pub beyond_round : (n : ℕ) → IsBeyond (is_round n)
-beyond_round n = let is : _ = of_round n in record { told = record { shown = is.shown; access = λ p. refl; err_guard = refl }; running = refl; finalizing = λ c. refl; skipped = λ c. refl }
+pub of_round : (n : ℕ) → IsBeyond (is_round n)
+of_round n = record { tries = record { shown = record { phase = λ p. refl; value = λ v. refl; read_guard = refl; write_guard = refl }; access = λ p. refl; done = refl; failed = refl }; err_guard = refl; running = refl; finalizing = λ c. refl; skipped = λ c. refl }
 
-pub beyond_closing : IsBeyond is_closing
-beyond_closing = record { told = record { shown = of_closing.shown; access = λ p. refl; err_guard = refl }; running = refl; finalizing = λ c. refl; skipped = λ c. refl }
+pub of_closing : IsBeyond is_closing
+of_closing = record { tries = record { shown = record { phase = λ p. refl; value = λ v. refl; read_guard = refl; write_guard = refl }; access = λ p. refl; done = refl; failed = refl }; err_guard = refl; running = refl; finalizing = λ c. refl; skipped = λ c. refl }
 
 pub no_more : (b : Bool) → (b && false) ≡ false
 no_more b = grind arith
@@ -97,6 +81,45 @@ neither x y b d e f = grind arith
 pub unless_first : (x y u v : Bool) → u ≡ v → (x || ((y && false) || (u && true))) ≡ (x || v)
 unless_first x y u v e = grind arith
 
+-- what is barred alone, what is admitted alone, what is its own run alone, and what is not admitted
+pub only_barred : (own kept barred x : Bool) → (if own then false else if not kept && barred then x else false) ≡ ((not own && (not kept && barred)) && x)
+only_barred own kept barred x = grind arith
+
+pub only_admitted : (own kept barred x : Bool) → (if own then false else if not kept && barred then false else x) ≡ ((not own && not (not own && (not kept && barred))) && x)
+only_admitted own kept barred x = grind arith
+
+pub only_own : (own kept barred x : Bool) → (if own then x else if not kept && barred then false else false) ≡ (own && x)
+only_own own kept barred x = grind arith
+
+pub not_admitted : (own kept barred : Bool) → (if own then true else if not kept && barred then true else false) ≡ not (not own && not (not own && (not kept && barred)))
+not_admitted own kept barred = grind arith
+
+pub parts_of_look : (a b c d : Bool) → (a && (b && (c && d))) ≡ ((a && (b && c)) && d)
+parts_of_look a b c d = grind arith
+
+pub parts_of_borrowing : (n x y u : Bool) → (n && (x || ((y && true) || (u && false)))) ≡ ((n && y) || (n && x))
+parts_of_borrowing n x y u = grind arith
+
+-- which of what is barred waits, misses and borrows
+pub barred_waits : (fast : Bool) (x : Place) (w : How) → is_waiting (answer_barred fast x w) ≡ (not fast && not (is_owned x))
+barred_waits fast x w = grind arith
+
+pub barred_misses : (fast : Bool) (x : Place) (w : How) → is_missed (answer_barred fast x w) ≡ fast
+barred_misses fast x w = grind arith
+
+pub barred_borrows : (fast : Bool) (x : Place) (w : How) → is_borrowed (answer_barred fast x w) ≡ (not fast && is_owned x)
+barred_borrows fast x w = grind arith
+
+-- a look took so many, or found none
+pub look_rounds : (n : ℕ) (cs : List ℕ) → is_round n (answer_of_look (look_at cs)) ≡ (not (is_empty cs) && (length cs == n))
+look_rounds n cs = grind arith
+
+pub look_closes : (cs : List ℕ) → is_closing (answer_of_look (look_at cs)) ≡ is_empty cs
+look_closes cs = grind arith
+
+pub runs_at : (f : Form) (b : Bool) (z : Content) → is_running (answer_at f b z) ≡ false
+runs_at f b z = grind arith
+
 -- ---- what is admitted
 
 module _ (q : Kind) (t : Tolerance) (c : ℕ) (o : Bool) (y : Content) where
@@ -108,19 +131,8 @@ module _ (q : Kind) (t : Tolerance) (c : ℕ) (o : Bool) (y : Content) where
   pub admitted_runs : (w : Want) → is_running (answer_admitted q t c o w y) ≡ (asks q t w y.phase && runs_generator q t o y.phase)
   admitted_runs (Calls k) = by (asks q t (Calls k) y.phase) (runs_generator q t o y.phase)
     where
-      shows : (f : Form) (b : Bool) (z : Content) → is_running (answer_at f b z) ≡ false
-      shows (Told tests) true z = refl
-      shows (Told true) false z = refl
-      shows (Told false) false z = refl
-      shows Shown true z = refl
-      shows Shown false z = refl
-      shows (Held true falls_back) true z = refl
-      shows (Held false falls_back) true z = refl
-      shows (Held writes true) false z = refl
-      shows (Held writes false) false z = refl
-
       by : (b g : Bool) → is_running (if b && g then Answer.Running else answer_at (form_of q k) (is_accessible q (content b g).phase) (content b g)) ≡ (b && g)
-      by b g = grind (arith, shows)
+      by b g = grind (arith, runs_at)
   admitted_runs Turns = by (has y.phase initialized)
     where
       by : (b : Bool) → is_running (turn_answer_admitted (if b then LockNature.Write else LockNature.None) c) ≡ false
@@ -142,7 +154,7 @@ module _ (q : Kind) (t : Tolerance) (c : ℕ) (o : Bool) (y : Content) where
 
   -- a turn finalizes exactly where the value is there
   pub admitted_finalizes : (d : ℕ) (w : Want) → is_finalizing d (answer_admitted q t c o w y) ≡ (is_turn w && ((c == d) && has y.phase initialized))
-  admitted_finalizes d (Calls k) = admitted (λ a. is_finalizing d a ≡ false) (record { shown = (of_finalizing d).shown; access = λ p. refl; err_guard = refl }) refl q t o k y
+  admitted_finalizes d (Calls k) = admitted (λ a. is_finalizing d a ≡ false) (told_of (is_finalizing d) (of_finalizing d) refl) refl q t o k y
   admitted_finalizes d Turns = by (has y.phase initialized)
     where
       by : (b : Bool) → is_finalizing d (turn_answer_admitted (if b then LockNature.Write else LockNature.None) c) ≡ ((c == d) && b)
@@ -150,7 +162,7 @@ module _ (q : Kind) (t : Tolerance) (c : ℕ) (o : Bool) (y : Content) where
 
   -- and is skipped exactly where it is not
   pub admitted_skips : (d : ℕ) (w : Want) → is_skipped d (answer_admitted q t c o w y) ≡ (is_turn w && ((c == d) && not (has y.phase initialized)))
-  admitted_skips d (Calls k) = admitted (λ a. is_skipped d a ≡ false) (record { shown = (of_skipped d).shown; access = λ p. refl; err_guard = refl }) refl q t o k y
+  admitted_skips d (Calls k) = admitted (λ a. is_skipped d a ≡ false) (told_of (is_skipped d) (of_skipped d) refl) refl q t o k y
   admitted_skips d Turns = by (has y.phase initialized)
     where
       by : (b : Bool) → is_skipped d (turn_answer_admitted (if b then LockNature.Write else LockNature.None) c) ≡ ((c == d) && not b)
@@ -158,23 +170,15 @@ module _ (q : Kind) (t : Tolerance) (c : ℕ) (o : Bool) (y : Content) where
 
   -- nothing that is admitted passes a test of what is not
   pub admitted_fails : (f : Answer → Bool) → IsBeyond f → (w : Want) → f (answer_admitted q t c o w y) ≡ false
-  admitted_fails f is (Calls k) = admitted (λ a. f a ≡ false) is.told is.running q t o k y
+  admitted_fails f is (Calls k) = admitted (λ a. f a ≡ false) (told_of f is.tries is.err_guard) is.running q t o k y
   admitted_fails f is Turns = by (lock_wanted q t Turns y.phase)
     where
       by : (n : LockNature) → f (turn_answer_admitted n c) ≡ false
       by n = grind arith
 
--- a test that fails on what is barred
-pub record FailsBarred (t : Answer → Bool) : Type 0 where
-  pub missed : t Answer.Missed ≡ false
-  pub borrowed : t Answer.Borrowed ≡ false
-  pub waiting : (w : How) → t (Answer.Waiting w) ≡ false
-
-pub fails_barred : (t : Answer → Bool) → FailsBarred t → (fast : Bool) (x : Place) (w : How) → t (answer_barred fast x w) ≡ false
-fails_barred t k true x w = k.missed
-fails_barred t k false Place.Park w = k.waiting _
-fails_barred t k false Place.Spin w = k.waiting _
-fails_barred t k false (Place.Own p) w = k.borrowed
+-- a test fails on what is barred
+pub fails_barred : (t : Answer → Bool) → t Answer.Missed ≡ false → t Answer.Borrowed ≡ false → ((w : How) → t (Answer.Waiting w) ≡ false) → (fast : Bool) (x : Place) (w : How) → t (answer_barred fast x w) ≡ false
+fails_barred t m b k fast x w = grind (arith, k)
 
 -- a call that does not initialize asks for no run
 pub calls_not : (q : Kind) (t : Tolerance) (k : Call) (p : ℕ) → is_initializing k ≡ false → asks q t (Calls k) p ≡ false

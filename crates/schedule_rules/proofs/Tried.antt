@@ -1,9 +1,9 @@
 -- A legal line shows that its step tried to register a cell exactly where it did.
-use Rattle.schedule_rules.proofs.Words.{ℕ, List, ◌≡◌, arith, refl, Bool, true, false, Some, ◌∷◌, [], ◌∙◌, ap, sym, None, subst, ◌⊎◌, ◌&&◌, inl, not, ◌+◌, ◌≤◌, ◌||◌, ◌==◌}
+use Rattle.schedule_rules.proofs.Words.{ℕ, List, ◌≡◌, refl, arith, Bool, true, false, Some, ◌∷◌, ◌∙◌, [], ap, sym, None, subst, ◌⊎◌, ◌&&◌, inl, not, ◌+◌, ◌≤◌, ◌||◌, ◌==◌}
 use Rattle.schedule_rules.proofs.Words.{if◌then◌else◌, is_none, Option, phase_of, Phase, first_of, is_known, How, flags_refused, Call, Answer, Line, Refusal, CellPlan, Place, Act}
 use Rattle.schedule_rules.proofs.Words.{Step, Calls, Turns, cell_at, tries_registration, deed_waiting, deed_by, Event, accepts, is_exit, replay, phase_at, registry, Wait, waits}
-use Rattle.schedule_rules.proofs.Words.{Attempt, attempt, attempt_with, attempt_of_turn, refusal, answer_of_value, answer_barred, due_answer, due_attempt, IsLegal, IsLegalLine}
-use Rattle.schedule_rules.proofs.Words.{answer_of, waits_judged, is_attempted, is_admitted, asks_registration, tries_to_register, tells_declined, registrations}
+use Rattle.schedule_rules.proofs.Words.{attempt, Attempt, attempt_of_turn, attempt_with, refusal, answer_of_value, answer_barred, due_answer, due_attempt, IsLegal, IsLegalLine}
+use Rattle.schedule_rules.proofs.Words.{answer_of, waits_judged, is_attempted, is_admitted, asks_registration, registrations, tells_declined, tries_to_register}
 use Rattle.schedule_rules.proofs.Cases.{Visiting, step, Calling, Resting, Case}
 use Rattle.schedule_rules.proofs.Registrations.{asks_so, deed_registers, shows_registration, registrations_shown, tries-unknown, registered-once}
 use Rattle.schedule_rules.proofs.Answered.{due_at-judged, denied}
@@ -30,7 +30,8 @@ barred_back false (Place.Own p) w = refl
 
 beyond_back : IsBeyond is_back
 beyond_back = record {
-  told = record { shown = record { phase = λ p. refl; value = λ v. refl; read_guard = refl; write_guard = refl }; access = λ p. refl; err_guard = refl };
+  tries = record { shown = record { phase = λ p. refl; value = λ v. refl; read_guard = refl; write_guard = refl }; access = λ p. refl; done = refl; failed = refl };
+  err_guard = refl;
   running = refl;
   finalizing = λ c. refl;
   skipped = λ c. refl;
