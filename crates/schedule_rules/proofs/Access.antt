@@ -1,9 +1,9 @@
 -- Where a generator runs, and where a value may not be accessed.
-use Rattle.schedule_rules.proofs.Words.{ℕ, List, ◌≡◌, refl, arith, Bool, true, false, Some, ◌∷◌, ◌∙◌, [], ap, sym, subst, ◌⊎◌, ◌&&◌, inl, inr, length, not, ◌≢◌, if◌then◌else◌, has}
+use Rattle.schedule_rules.proofs.Words.{ℕ, ◌≡◌, List, arith, Bool, refl, true, false, Some, ◌∷◌, ◌∙◌, [], ap, sym, subst, ◌⊎◌, ◌&&◌, inl, inr, length, ◌≢◌, not, if◌then◌else◌, has}
 use Rattle.schedule_rules.proofs.Words.{initialized, phase_of, Phase, Given, shall_init, flags_refused, Tolerance, Call, Answer, Line, CellPlan, Act, Step, cell_at, tolerance_at}
 use Rattle.schedule_rules.proofs.Words.{runs_generator, Asked, is_declined, content_asked, deed_visited, Event, accepts, act_of, sections, sections_by, runs, guards, guards_by}
-use Rattle.schedule_rules.proofs.Words.{replay, phase_at, Back, back_of_step, content_after_back, back_by, cell_concerned, IsLegal, IsLegalLine, lends_at, runs_to_lend}
-use Rattle.schedule_rules.proofs.Words.{KeepsValues, IsTurnedAway}
+use Rattle.schedule_rules.proofs.Words.{replay, phase_at, Back, content_after_back, back_of_step, back_by, cell_concerned, IsLegal, IsLegalLine, lends_at, runs_to_lend}
+use Rattle.schedule_rules.proofs.Words.{IsTurnedAway, KeepsValues}
 use Rattle.schedule_rules.proofs.Found.{found_passes, each_found}
 use Rattle.schedule_rules.proofs.Leaves.{back_here, asked_value}
 use Rattle.schedule_rules.proofs.Cases.{Calling, Asking, Resting, Reach}

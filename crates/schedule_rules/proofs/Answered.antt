@@ -1,9 +1,9 @@
 -- What holds of the answers that are due, by what holds of each that may be.
-use Rattle.schedule_rules.proofs.Words.{ℕ, List, ◌≡◌, refl, arith, Bool, true, false, Some, ◌∙◌, ap, None, ◌&&◌, if◌then◌else◌, is_none, Option, Phase, LockNature, Given, How}
+use Rattle.schedule_rules.proofs.Words.{ℕ, ◌≡◌, List, arith, Bool, refl, true, false, Some, ◌∙◌, ap, None, ◌&&◌, if◌then◌else◌, is_none, Option, Phase, LockNature, Given, How}
 use Rattle.schedule_rules.proofs.Words.{Tolerance, Call, Kind, Form, Held, Told, Shown, Answer, Line, Refusal, CellPlan, Place, Step, Want, Calls, Turns, cell_at, is_owned}
 use Rattle.schedule_rules.proofs.Words.{form_of, is_accessible, Content, asks_to_lend, content_asked, content_to_lend, Event, Section, Guard, Wait, is_barred, holding_with}
-use Rattle.schedule_rules.proofs.Words.{refusal, answer_barred, answer_lent, answer_made_to_lend, answer_denied, answer_opened, answer_made, answer_of_made, call_answer_admitted}
-use Rattle.schedule_rules.proofs.Words.{begins_run, due_answer, due_clone, due_finished, due_made, phase_made, due_look, IsLegalLine, answer_of, due_at, Moment, waits_judged}
+use Rattle.schedule_rules.proofs.Words.{refusal, answer_barred, answer_made_to_lend, answer_lent, answer_made, answer_denied, answer_of_made, answer_opened, call_answer_admitted}
+use Rattle.schedule_rules.proofs.Words.{begins_run, due_answer, due_clone, due_made, phase_made, due_finished, due_look, IsLegalLine, answer_of, due_at, Moment, waits_judged}
 
 -- the answer that is due, where these calls of others wait
 pub due_at-judged : (cells : List CellPlan) (m : Moment) (h : List Event) (s : Step) (g : Given) (chosen : Bool)

@@ -1,11 +1,11 @@
 -- What an attempt at a cell is answered, case by case.
-use Rattle.schedule_rules.proofs.Words.{ℕ, List, ◌≡◌, refl, arith, Bool, true, false, Some, ◌∷◌, ◌∙◌, [], ap, sym, None, subst, ◌&&◌, inl, ◌<◌, inr, not, if◌then◌else◌, is_some}
+use Rattle.schedule_rules.proofs.Words.{ℕ, ◌≡◌, List, arith, Bool, refl, true, false, Some, ◌∷◌, ◌∙◌, [], ap, sym, None, subst, ◌&&◌, inl, inr, ◌<◌, not, if◌then◌else◌, is_some}
 use Rattle.schedule_rules.proofs.Words.{Option, has, initialized, phase_of, first_of, look_at, LockNature, How, shall_init, flags_refused, Tolerance, asking, Call, Kind, Form}
 use Rattle.schedule_rules.proofs.Words.{Held, Told, Shown, Answer, CellPlan, Act, Want, Calls, Turns, cell_at, tolerance_at, form_of, is_accessible, runs_generator, asks, is_fast}
-use Rattle.schedule_rules.proofs.Words.{initializes, lock_wanted, Content, Event, accepts, latest_act, runs, replay, phase_at, registry, Wait, waits, wait_of, attempt_of_wait}
-use Rattle.schedule_rules.proofs.Words.{attempt_of_turn, act_for, write_holds, read_guards, is_barred, holding_with, readers, keeps, refusal, refusal_by, refusal_free}
-use Rattle.schedule_rules.proofs.Words.{refusal_waiting, answer_barred, answer_at, answer_admitted, answer_denied, answer_opened, call_answer_admitted, turn_answer_admitted}
-use Rattle.schedule_rules.proofs.Words.{answer_of_look, due_attempt, due_tried, IsExclusive}
+use Rattle.schedule_rules.proofs.Words.{lock_wanted, initializes, Content, Event, accepts, latest_act, runs, replay, phase_at, registry, Wait, waits, wait_of, attempt_of_turn}
+use Rattle.schedule_rules.proofs.Words.{attempt_of_wait, act_for, write_holds, read_guards, is_barred, holding_with, readers, keeps, refusal, refusal_by, refusal_free}
+use Rattle.schedule_rules.proofs.Words.{refusal_waiting, answer_barred, answer_at, answer_admitted, turn_answer_admitted, answer_denied, answer_opened, call_answer_admitted}
+use Rattle.schedule_rules.proofs.Words.{due_attempt, due_tried, answer_of_look, IsExclusive}
 use Rattle.schedule_rules.proofs.Found.{found_counts}
 use Rattle.schedule_rules.proofs.GoesOn.{Matches, wait-matches}
 use Rattle.schedule_rules.proofs.Answered.{barred}

@@ -1,13 +1,13 @@
 -- Which answer a legal line has, by its cause.
-use Rattle.schedule_rules.proofs.Words.{ℕ, List, ◌≡◌, refl, arith, Bool, true, false, Some, ◌∙◌, ap, sym, None, ◌&&◌, not, ◌≢◌, ◌||◌, if◌then◌else◌, is_none, is_some, Option}
+use Rattle.schedule_rules.proofs.Words.{ℕ, ◌≡◌, List, arith, Bool, refl, true, false, Some, ◌∙◌, ap, sym, None, ◌&&◌, ◌≢◌, not, ◌||◌, if◌then◌else◌, is_none, is_some, Option}
 use Rattle.schedule_rules.proofs.Words.{first_of, look_at, Given, How, Call, Answer, Line, Refusal, CellPlan, Place, Act, Step, Calls, cell_at, tolerance_at, is_owned, asks}
 use Rattle.schedule_rules.proofs.Words.{is_fast, lock_wanted, Event, accepts, is_exit, sections, innermost, Guard, guards, numbered, replay, phase_at, registry, Wait, waits}
-use Rattle.schedule_rules.proofs.Words.{wait_of, attempt, Attempt, attempt_of_wait, attempt_of_turn, is_barred, holding_with, refusal, refusal_by, answer_barred, answer_admitted}
-use Rattle.schedule_rules.proofs.Words.{drains_by, way_parked, due_answer, due_clone, answer_of_look, due_attempt, due_tried, keeps_own, is_nobody, IsLegalLine, answer_of, due_at}
-use Rattle.schedule_rules.proofs.Words.{Moment, may_give, waits_judged, is_attempted, is_waiting, is_cyclic, is_missed, is_admitted, is_finalizing, is_closing, is_skipped}
-use Rattle.schedule_rules.proofs.Words.{is_borrowed, is_access, is_running, is_denied_to_lend, is_cyclic_step, is_round, is_borrowing_step, is_access_step, looks, is_step_of}
-use Rattle.schedule_rules.proofs.Words.{is_closing_step, is_missing_step, is_of_own_run, is_turn_step, is_round_step, is_barred_step, is_running_step, is_barred_clone}
-use Rattle.schedule_rules.proofs.Words.{is_barred_attempt, is_initializing}
+use Rattle.schedule_rules.proofs.Words.{wait_of, attempt, Attempt, attempt_of_turn, attempt_of_wait, is_barred, holding_with, refusal, refusal_by, answer_barred, answer_admitted}
+use Rattle.schedule_rules.proofs.Words.{drains_by, way_parked, due_answer, due_attempt, due_tried, due_clone, answer_of_look, keeps_own, is_nobody, IsLegalLine, answer_of, due_at}
+use Rattle.schedule_rules.proofs.Words.{Moment, may_give, waits_judged, is_attempted, is_waiting, is_cyclic, is_borrowed, is_closing, is_running, is_admitted, is_cyclic_step}
+use Rattle.schedule_rules.proofs.Words.{is_access, is_round, is_skipped, is_denied_to_lend, is_missed, is_finalizing, is_access_step, is_of_own_run, is_missing_step, is_turn_step}
+use Rattle.schedule_rules.proofs.Words.{looks, is_step_of, is_barred_attempt, is_closing_step, is_borrowing_step, is_barred_step, is_round_step, is_running_step, is_barred_clone}
+use Rattle.schedule_rules.proofs.Words.{is_initializing}
 use Rattle.schedule_rules.proofs.Tests.{look_closes, look_rounds, barred_borrows, barred_misses, barred_waits, parts_of_borrowing, parts_of_look, not_admitted, only_own}
 use Rattle.schedule_rules.proofs.Tests.{only_admitted, only_barred, is_refused, IsBeyond, IsOfTries, of_running, of_access, of_cyclic, of_finalizing, of_skipped, of_round}
 use Rattle.schedule_rules.proofs.Tests.{of_closing, of_waiting, of_missed, of_borrowed, of_refused, no_more, same_both, nothing_else, neither, unless_first, is_unlent}

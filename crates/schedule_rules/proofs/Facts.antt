@@ -1,5 +1,5 @@
 -- Small facts of truth values and numbers.
-use Rattle.schedule_rules.proofs.Words.{ℕ, ◌≡◌, refl, arith, Bool, true, false, ◌⊎◌, ◌&&◌, ◌≢◌, ◌+◌, ◌≤◌, cond, ◌||◌, ◌==◌}
+use Rattle.schedule_rules.proofs.Words.{ℕ, ◌≡◌, arith, Bool, refl, true, false, ◌⊎◌, ◌&&◌, ◌≢◌, ◌+◌, ◌≤◌, cond, ◌||◌, ◌==◌}
 
 pub apart : true ≡ false → ⊥
 apart x = cc

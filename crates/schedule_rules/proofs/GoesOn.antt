@@ -1,7 +1,7 @@
 -- A waiting call goes on with what its party did last: its wait says the same call as the party's latest act.
-use Rattle.schedule_rules.proofs.Words.{ℕ, List, ◌≡◌, refl, arith, Bool, true, false, Some, ◌∷◌, ◌∙◌, [], ap, sym, None, subst, ◌≢◌, ◌==◌, if◌then◌else◌, map, Option, first_of}
+use Rattle.schedule_rules.proofs.Words.{ℕ, ◌≡◌, List, arith, Bool, refl, true, false, Some, ◌∷◌, ◌∙◌, [], ap, sym, None, subst, ◌≢◌, ◌==◌, if◌then◌else◌, map, Option, first_of}
 use Rattle.schedule_rules.proofs.Words.{Given, How, Answer, Refusal, CellPlan, Act, Step, Event, latest_act, latest_act_after, newer_act, registry, Wait, waits, wait_of, attempt}
-use Rattle.schedule_rules.proofs.Words.{Attempt, attempt_of_wait, attempt_of_turn, attempt_with, without_wait, waits_given_with, waits_answered, with_wait, wait_woken, act_for}
+use Rattle.schedule_rules.proofs.Words.{Attempt, attempt_of_turn, attempt_of_wait, attempt_with, without_wait, waits_given_with, waits_answered, with_wait, wait_woken, act_for}
 use Rattle.schedule_rules.proofs.Opened.{wait_removed, wait_kept}
 
 module _ (f : Wait → Wait) (same_party : (w : Wait) → (f w).party ≡ w.party) (same_attempt : (w : Wait) → attempt_of_wait (Some (f w)) ≡ attempt_of_wait (Some w)) where
@@ -94,17 +94,7 @@ module _ (cells : List CellPlan) where
           turned : (o : Option ℕ) → Matches (attempt_of_turn o) Act.Exit
           turned None = tt
           turned (Some c) = refl
-      by (Act.Made v) = tt
-      by Act.MadeFailed = tt
-      by (Act.Look g) = tt
-      by (Act.Set g v) = tt
-      by (Act.Release g) = tt
-      by (Act.Downgrade g) = tt
-      by (Act.Clone g) = tt
-      by (Act.Finished left) = tt
-      by (Act.FinishFailed left) = tt
-      by (Act.GetMut c made left) = tt
-      by (Act.TryGetMut c left) = tt
+      by _ = tt
 
   -- a party's wait and its latest act say the same call
   abbrev Says : List Event → ℕ → Attempt → Type 0

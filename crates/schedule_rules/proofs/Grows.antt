@@ -1,9 +1,9 @@
 -- What a legal step leaves: each section stands on the phase that it needs, each holder of a write guard sees a value, and
 -- INITIALIZED is never cleared.
-use Rattle.schedule_rules.proofs.Words.{ℕ, List, ◌≡◌, refl, arith, Bool, true, false, Some, ◌∷◌, ◌∙◌, [], ap, sym, ◌⊎◌, and_or_apart, and_or_self, bit_or, bit_and, AllByRecursion}
+use Rattle.schedule_rules.proofs.Words.{ℕ, ◌≡◌, List, arith, Bool, refl, true, false, Some, ◌∷◌, ◌∙◌, [], ap, sym, ◌⊎◌, and_or_apart, and_or_self, bit_and, bit_or, AllByRecursion}
 use Rattle.schedule_rules.proofs.Words.{◌==◌, Option, has, initialized, phase_of, shall_init, CellPlan, Want, Calls, Turns, cell_at, tolerance_of, flags_kept, Content, Change}
-use Rattle.schedule_rules.proofs.Words.{effect, Ran, Put, Asked, Ended, RanIfAsked, Deed, Visits, EndsToRead, Ends, Makes, DropsToRead, Finishes, Drops, EndsToWrite, Lends, Opens}
-use Rattle.schedule_rules.proofs.Words.{Holds, Event, deed_of, accepts, Section, sections, is_turn, Guard, guards, numbered, replay, phase_at, IsLegal, IsExclusive}
+use Rattle.schedule_rules.proofs.Words.{effect, Ran, Put, Deed, Visits, Makes, Ends, EndsToRead, Finishes, Drops, EndsToWrite, DropsToRead, Lends, Opens, Holds, Event, deed_of}
+use Rattle.schedule_rules.proofs.Words.{accepts, sections, Section, is_turn, Guard, guards, numbered, replay, phase_at, IsLegal, IsExclusive}
 use Rattle.schedule_rules.proofs.Found.{each_found}
 use Rattle.schedule_rules.proofs.Cases.{Asking, Resting, AsksToLend, Reach}
 use Rattle.schedule_rules.proofs.Finds.{Inside, Visit, Comes, Lending, accessed_there, Finds, finds}
@@ -32,10 +32,7 @@ needs-lacks k1 x p d n = grind arith
 abbrev pub HasRun : List Change → Type 0
 HasRun [] = ⊥
 HasRun (Ran o m ∷ chs) = Unit {0}
-HasRun (Asked o k ∷ chs) = HasRun chs
-HasRun (Put v ∷ chs) = HasRun chs
-HasRun (RanIfAsked o m ∷ chs) = HasRun chs
-HasRun (Ended fine left ∷ chs) = HasRun chs
+HasRun (ch ∷ chs) = HasRun chs
 
 -- on this content the holder of the guard sees a value, and where it was made in the guard's section none was there
 abbrev pub SeesValue : CellPlan → Guard → Content → Type 0

@@ -1,9 +1,9 @@
 -- A phase that is not 0 never is 0 again; and a cell that was touched stays so: its phase is not 0, or a section runs in it,
 -- or a guard writes it.
-use Rattle.schedule_rules.proofs.Words.{ℕ, List, ◌≡◌, arith, Bool, true, false, Some, ◌∷◌, ◌∙◌, [], sym, None, subst, ◌⊎◌, inl, ◌<◌, inr, ◌≢◌, cond, and_or_self, bit_or, bit_and}
-use Rattle.schedule_rules.proofs.Words.{AllByRecursion, ◌==◌, Option, has, initialized, CellPlan, cell_at, Content, Change, effect, Ran, Put, Asked, Ended, RanIfAsked}
-use Rattle.schedule_rules.proofs.Words.{content_after, Deed, Visits, EndsToRead, Ends, Makes, DropsToRead, Finishes, Drops, EndsToWrite, Lends, Holds, Event, deed_of, Section}
-use Rattle.schedule_rules.proofs.Words.{sections, Guard, guards, numbered, replay, phase_at, Back, back_of_step, content_after_back, write_holds, IsLegal, IsExclusive}
+use Rattle.schedule_rules.proofs.Words.{ℕ, ◌≡◌, List, arith, Bool, true, false, Some, ◌∷◌, ◌∙◌, [], sym, None, subst, ◌⊎◌, inl, inr, ◌<◌, ◌≢◌, cond, and_or_self, bit_and, bit_or}
+use Rattle.schedule_rules.proofs.Words.{AllByRecursion, ◌==◌, Option, has, initialized, CellPlan, cell_at, Content, Change, effect, Ran, Put, Asked, content_after, Ended}
+use Rattle.schedule_rules.proofs.Words.{RanIfAsked, Deed, Visits, Makes, Ends, EndsToRead, Finishes, Drops, EndsToWrite, DropsToRead, Lends, Holds, Event, deed_of, sections}
+use Rattle.schedule_rules.proofs.Words.{Section, Guard, guards, numbered, replay, phase_at, Back, content_after_back, back_of_step, write_holds, IsLegal, IsExclusive}
 use Rattle.schedule_rules.proofs.Exclusion.{alone}
 use Rattle.schedule_rules.proofs.Found.{each_of, each_found}
 use Rattle.schedule_rules.proofs.Finds.{Finds, accessed_there, finds}
@@ -19,17 +19,14 @@ abbrev pub HasEnded : List Change → Type 0
 HasEnded [] = ⊥
 HasEnded (Ran o m ∷ chs) = Unit {0}
 HasEnded (Ended fine left ∷ chs) = Unit {0}
-HasEnded (Asked o k ∷ chs) = HasEnded chs
-HasEnded (Put v ∷ chs) = HasEnded chs
-HasEnded (RanIfAsked o m ∷ chs) = HasEnded chs
+HasEnded (ch ∷ chs) = HasEnded chs
 
 module _ (x : CellPlan) where
   ran_touches : (o : Bool) (made : Option ℕ) (y : Content) → (content_after x (Ran o made) y).phase ≢ 0
   ran_touches o k1 y = grind (arith, with_flag)
 
   ended_touches : (fine : Bool) (left : Option ℕ) (y : Content) → (content_after x (Ended fine left) y).phase ≢ 0
-  ended_touches true left y = with_flag y.phase 64 (λ e. cc)
-  ended_touches false left y = with_flag y.phase 128 (λ e. cc)
+  ended_touches fine left y = grind (arith, with_flag y.phase 64, with_flag y.phase 128)
 
   asked_keeps : (o : Bool) (k : _) (y : Content) → y.phase ≢ 0 → (content_after x (Asked o k) y).phase ≢ 0
   asked_keeps o k y ne = grind arith

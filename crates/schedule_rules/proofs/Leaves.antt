@@ -1,10 +1,10 @@
 -- What a deed leaves: what is given back changes its own cell, what is published changes only where nothing holds the cell to
 -- write afterwards, and what stands open keeps what is said of it.
-use Rattle.schedule_rules.proofs.Words.{ℕ, List, ◌≡◌, refl, arith, Bool, true, false, Some, ◌∷◌, ◌∙◌, [], ap, sym, None, subst, ◌⊎◌, inl, ◌<◌, inr, length, ◌+◌, ◌≤◌, cond}
-use Rattle.schedule_rules.proofs.Words.{AllByRecursion, ◌==◌, if◌then◌else◌, Option, Call, CellPlan, cell_at, Content, Change, effect, Asked, Ended, content_after, Deed, Visits}
-use Rattle.schedule_rules.proofs.Words.{EndsToRead, Ends, Makes, DropsToRead, Finishes, Drops, EndsToWrite, Lends, Opens, Holds, Beside, Puts, Ending, Event, accepts, count}
-use Rattle.schedule_rules.proofs.Words.{Section, sections, innermost, runs_in, sections_by, without_innermost, Guard, guards, numbered, without_guard, guards_by, reader_beside}
-use Rattle.schedule_rules.proofs.Words.{reader_made, writer_made, reader, writer, carrier, replay, Back, content_after_back, back_by, back_of_section, back_of_guard, change_of}
+use Rattle.schedule_rules.proofs.Words.{ℕ, ◌≡◌, List, arith, Bool, refl, true, false, Some, ◌∷◌, ◌∙◌, [], ap, sym, None, subst, ◌⊎◌, inl, inr, ◌<◌, length, ◌+◌, ◌≤◌, cond}
+use Rattle.schedule_rules.proofs.Words.{AllByRecursion, ◌==◌, if◌then◌else◌, Option, Call, CellPlan, cell_at, Content, Change, effect, Asked, content_after, Ended, Deed, Visits}
+use Rattle.schedule_rules.proofs.Words.{Makes, Ends, EndsToRead, Finishes, Drops, EndsToWrite, DropsToRead, Lends, Opens, Holds, Beside, Puts, Ending, Event, accepts, count}
+use Rattle.schedule_rules.proofs.Words.{sections, Section, innermost, runs_in, sections_by, without_innermost, Guard, guards, numbered, without_guard, guards_by, writer_made}
+use Rattle.schedule_rules.proofs.Words.{reader_beside, reader_made, reader, writer, carrier, replay, Back, content_after_back, back_of_section, back_by, back_of_guard, change_of}
 use Rattle.schedule_rules.proofs.Words.{write_holds, writes_cell, IsExclusive}
 use Rattle.schedule_rules.proofs.Facts.{whether, apart, same_number, at_least}
 use Rattle.schedule_rules.proofs.Found.{each_counted, each_found, each_ended, each_removed, each_put}

@@ -1,10 +1,10 @@
 -- What holds of each open guard: what happened in its section, that it bears the number of an earlier step, and that no
 -- section of a cell is open while a guard reads it.
-use Rattle.schedule_rules.proofs.Words.{ℕ, List, ◌≡◌, refl, arith, Bool, true, false, Some, ◌∷◌, ◌∙◌, [], ap, sym, None, ◌<◌, length, ◌++◌, and_or_apart, and_assoc, bit_and}
+use Rattle.schedule_rules.proofs.Words.{ℕ, ◌≡◌, List, arith, Bool, refl, true, false, Some, ◌∷◌, ◌∙◌, [], ap, sym, None, ◌<◌, length, ◌++◌, and_or_apart, and_assoc, bit_and}
 use Rattle.schedule_rules.proofs.Words.{AllByRecursion, ◌==◌, is_some, ◌-◌, ◌^◌, Option, has, Given, final_outcome, CellPlan, Step, flags_kept, Content, Change, effect, Ran, Put}
-use Rattle.schedule_rules.proofs.Words.{Asked, Ended, RanIfAsked, Deed, Visits, EndsToRead, DropsToRead, Drops, EndsToWrite, Holds, Beside, Puts, Event, deed_of, Section, sections}
-use Rattle.schedule_rules.proofs.Words.{innermost, Guard, guards, numbered, without_guard, guards_by, reader_beside, reader_made, writer_made, reader, cell_concerned, write_holds}
-use Rattle.schedule_rules.proofs.Words.{read_guards, reads_cell, turns_to_read, IsLegal, read_at}
+use Rattle.schedule_rules.proofs.Words.{Asked, Deed, Visits, EndsToRead, Drops, EndsToWrite, DropsToRead, Holds, Beside, Puts, Event, deed_of, sections, innermost, Guard, guards}
+use Rattle.schedule_rules.proofs.Words.{numbered, without_guard, guards_by, writer_made, reader_beside, reader_made, reader, cell_concerned, write_holds, read_guards, reads_cell}
+use Rattle.schedule_rules.proofs.Words.{turns_to_read, IsLegal, read_at}
 use Rattle.schedule_rules.proofs.Opened.{put}
 use Rattle.schedule_rules.proofs.Found.{each_removed, each_put, each_mapped, each_found, found_counts, found_passes}
 use Rattle.schedule_rules.proofs.Facts.{same_number}
@@ -15,9 +15,7 @@ abbrev pub IsOfRun : List Change → Type 0
 IsOfRun [] = Unit {0}
 IsOfRun (Ran o m ∷ chs) = IsOfRun chs
 IsOfRun (Put v ∷ chs) = IsOfRun chs
-IsOfRun (Asked o k ∷ chs) = ⊥
-IsOfRun (RanIfAsked o m ∷ chs) = ⊥
-IsOfRun (Ended fine left ∷ chs) = ⊥
+IsOfRun (ch ∷ chs) = ⊥
 
 -- a guard that the step with this number opens
 pub record IsOpened (n : ℕ) (x : Guard) : Type 0 where
@@ -25,28 +23,18 @@ pub record IsOpened (n : ℕ) (x : Guard) : Type 0 where
   pub runs : IsOfRun x.changes
 
 module _ (Q : Guard → Type 0) (h : List Event) (opens : (x : Guard) → IsOpened (length h) x → Q x) (puts : (v : ℕ) (x : Guard) → Q x → Q (put v x)) where
-  each_made : (p : ℕ) (o : Option Section) (gs : List Guard) → AllByRecursion Q gs → AllByRecursion Q (reader_made (length h) p o gs)
-  each_made p None gs ks = ks
-  each_made p (Some s) gs ks = (opens _ (record { number = refl; runs = tt }), ks)
-
-  each_carried : (p v : ℕ) (o : Option Section) (gs : List Guard) → AllByRecursion Q gs → AllByRecursion Q (writer_made (length h) p v o gs)
-  each_carried p v None gs ks = ks
-  each_carried p v (Some s) gs ks = (opens _ (record { number = refl; runs = tt }), ks)
-
-  each_beside : (p : ℕ) (o : Option Guard) (gs : List Guard) → AllByRecursion Q gs → AllByRecursion Q (reader_beside (length h) p o gs)
-  each_beside p None gs ks = ks
-  each_beside p (Some x) gs ks = (opens _ (record { number = refl; runs = tt }), ks)
-
   each_by : (p : ℕ) (d : Deed) (gs : List Guard) → AllByRecursion Q gs → AllByRecursion Q (guards_by (length h) p d (sections h) gs)
   each_by p (Holds c false) gs ks = (opens _ (record { number = refl; runs = tt }), ks)
   each_by p (Holds c true) gs ks = (opens _ (record { number = refl; runs = tt }), ks)
   each_by p (Visits c chs true) gs ks = (opens _ (record { number = refl; runs = tt }), ks)
   each_by p (Visits c chs false) gs ks = ks
-  each_by p (EndsToRead v) gs ks = each_made p (innermost p (sections h)) gs ks
-  each_by p (EndsToWrite v) gs ks = each_carried p v (innermost p (sections h)) gs ks
+  each_by p (EndsToRead v) gs ks = elim (innermost p (sections h)) as (λ o. AllByRecursion Q (reader_made (length h) p o gs)) [ None ↦ ks | Some s ↦ (opens _ (record { number = refl; runs = tt }), ks) ]
+  each_by p (EndsToWrite v) gs ks = elim (innermost p (sections h)) as (λ o. AllByRecursion Q (writer_made (length h) p v o gs)) [ None ↦ ks | Some s ↦ (opens _ (record { number = refl; runs = tt }), ks) ]
   each_by p (Drops g) gs ks = each_removed Q g gs ks
-  each_by p (DropsToRead g) gs ks = each_beside p (numbered g gs) (without_guard g gs) (each_removed Q g gs ks)
-  each_by p (Beside g) gs ks = each_beside p (numbered g gs) gs ks
+  each_by p (DropsToRead g) gs ks =
+      elim (numbered g gs) as (λ o. AllByRecursion Q (reader_beside (length h) p o (without_guard g gs)))
+      [ None ↦ each_removed Q g gs ks | Some x ↦ (opens _ (record { number = refl; runs = tt }), each_removed Q g gs ks) ]
+  each_by p (Beside g) gs ks = elim (numbered g gs) as (λ o. AllByRecursion Q (reader_beside (length h) p o gs)) [ None ↦ ks | Some x ↦ (opens _ (record { number = refl; runs = tt }), ks) ]
   each_by p (Puts g v) gs ks = each_put Q g v gs (puts v) ks
   each_by p _ gs ks = ks
 
@@ -92,9 +80,7 @@ module _ (f : ℕ) (is : IsBeside f) where
       let p : ℕ = (effect x chs y).phase in
       run_before x chs y r (kept_before x o p (sym (ap (λ z. z == f) (and_or_apart f (flags_kept x.kind o p) 6 is.failed)) ∙ e))
   run_before x (Put v ∷ chs) y r e = run_before x chs y r e
-  run_before x (Asked o k ∷ chs) y r e = absurd r
-  run_before x (RanIfAsked o m ∷ chs) y r e = absurd r
-  run_before x (Ended fine left ∷ chs) y r e = absurd r
+  run_before x (ch ∷ chs) y r e = absurd r
 
   -- so it is with a call that leaves nothing open
   pub asked_before : (x : CellPlan) (o : Bool) (k : _) (y : Content) → has (effect x (Asked o k ∷ []) y).phase f ≡ true → has y.phase f ≡ true

@@ -1,8 +1,8 @@
 -- What is published changes only while no guard reads the cell, and its phase where a section of the cell is given back.
-use Rattle.schedule_rules.proofs.Words.{ℕ, List, ◌≡◌, refl, arith, Bool, true, false, Some, ◌∷◌, ◌∙◌, ap, subst, ◌⊎◌, inl, ◌<◌, inr, not, ◌≢◌, ◌==◌, if◌then◌else◌, Answer}
-use Rattle.schedule_rules.proofs.Words.{CellPlan, Step, Calls, cell_at, tolerance_at, Content, Change, effect, is_declined, Deed, Visits, EndsToRead, Ends, Makes, DropsToRead}
-use Rattle.schedule_rules.proofs.Words.{Finishes, Drops, Lends, Event, deed_of, accepts, count, Section, sections, innermost, runs_in, Guard, guards, numbered, replay, phase_at}
-use Rattle.schedule_rules.proofs.Words.{write_holds, read_guards, writes_cell, IsLegal, lends_at, GivesBack, LendsAt, DeclinesAt}
+use Rattle.schedule_rules.proofs.Words.{ℕ, ◌≡◌, List, arith, Bool, refl, true, false, Some, ◌∷◌, ◌∙◌, ap, subst, ◌⊎◌, inl, inr, ◌<◌, ◌≢◌, not, ◌==◌, if◌then◌else◌, Answer}
+use Rattle.schedule_rules.proofs.Words.{CellPlan, Step, Calls, cell_at, tolerance_at, Content, Change, effect, is_declined, Deed, Visits, Makes, Ends, EndsToRead, Finishes, Drops}
+use Rattle.schedule_rules.proofs.Words.{DropsToRead, Lends, Event, deed_of, accepts, count, sections, Section, innermost, runs_in, Guard, guards, numbered, replay, phase_at}
+use Rattle.schedule_rules.proofs.Words.{write_holds, writes_cell, read_guards, IsLegal, lends_at, DeclinesAt, LendsAt, GivesBack}
 use Rattle.schedule_rules.proofs.Facts.{whether, same_number, number_found}
 use Rattle.schedule_rules.proofs.Exclusion.{alone}
 use Rattle.schedule_rules.proofs.Found.{found_counts}

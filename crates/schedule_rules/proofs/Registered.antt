@@ -1,6 +1,6 @@
 -- A cell that the registry knows was touched, and is registered at most once.
-use Rattle.schedule_rules.proofs.Words.{ℕ, List, ◌≡◌, refl, arith, Bool, true, false, Some, ◌∷◌, ◌∙◌, [], sym, ◌⊎◌, inl, ◌<◌, inr, length, get_or-set_other, get_or_past}
-use Rattle.schedule_rules.proofs.Words.{length-replicate, get_or-replicate, AllByRecursion, ◌==◌, if◌then◌else◌, slice_set, slice_index_or, replicate, first_of, is_known, rest_of}
+use Rattle.schedule_rules.proofs.Words.{ℕ, ◌≡◌, List, arith, Bool, refl, true, false, Some, ◌∷◌, ◌∙◌, [], sym, ◌⊎◌, inl, inr, ◌<◌, length, get_or-set_other, get_or_past}
+use Rattle.schedule_rules.proofs.Words.{length-replicate, get_or-replicate, AllByRecursion, ◌==◌, if◌then◌else◌, slice_index_or, slice_set, replicate, first_of, is_known, rest_of}
 use Rattle.schedule_rules.proofs.Words.{after_register, Registry, is_finalizable, CellPlan, Calls, Turns, cell_at, tries_registration, Deed, Opens, Skips, Looks, Takes, Event}
 use Rattle.schedule_rules.proofs.Words.{deed_of, count, sections, runs_in, sections_by, phase_at, registry, registry_by, registry_taken, registry_of_run, write_holds, IsLegal}
 use Rattle.schedule_rules.proofs.Facts.{first}

@@ -1,6 +1,6 @@
 -- What is published of a cell stays while a section of it is open.
-use Rattle.schedule_rules.proofs.Words.{ℕ, List, ◌≡◌, refl, arith, true, Some, ◌∷◌, ◌∙◌, [], ap, sym, ◌<◌, length, ◌≤◌, AllByRecursion, ◌==◌, CellPlan, cell_at, Content, effect}
-use Rattle.schedule_rules.proofs.Words.{Deed, EndsToWrite, Opens, Holds, Event, deed_of, before, Section, sections, innermost, Guard, guards, numbered, replay, inside, IsLegal}
+use Rattle.schedule_rules.proofs.Words.{ℕ, ◌≡◌, List, arith, refl, true, Some, ◌∷◌, ◌∙◌, [], ap, sym, ◌<◌, length, ◌≤◌, AllByRecursion, ◌==◌, CellPlan, cell_at, Content, effect}
+use Rattle.schedule_rules.proofs.Words.{Deed, EndsToWrite, Opens, Holds, Event, deed_of, before, sections, Section, innermost, Guard, guards, numbered, replay, inside, IsLegal}
 use Rattle.schedule_rules.proofs.Words.{IsExclusive, IsAsAt}
 use Rattle.schedule_rules.proofs.Exclusion.{alone}
 use Rattle.schedule_rules.proofs.Found.{each_found}

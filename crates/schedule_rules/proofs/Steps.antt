@@ -1,12 +1,12 @@
 -- What holds in each case, holds of each legal step.
-use Rattle.schedule_rules.proofs.Words.{ℕ, List, ◌≡◌, refl, arith, Bool, true, false, Some, ◌∙◌, ap, sym, None, subst, ◌&&◌, not, ◌+◌, ◌==◌, if◌then◌else◌, is_none, Option}
+use Rattle.schedule_rules.proofs.Words.{ℕ, ◌≡◌, List, arith, Bool, refl, true, false, Some, ◌∙◌, ap, sym, None, subst, ◌&&◌, not, ◌+◌, ◌==◌, if◌then◌else◌, is_none, Option}
 use Rattle.schedule_rules.proofs.Words.{phase_of, first_of, LockNature, is_finalizable, is_primed, lends_value, Call, Kind, Form, Held, Told, Shown, Answer, Line, Refusal}
-use Rattle.schedule_rules.proofs.Words.{CellPlan, Act, Step, Calls, cell_at, tolerance_at, is_of_other, is_accessible, finishes_so, Success, phase_reached, asks_to_lend}
-use Rattle.schedule_rules.proofs.Words.{content_of_run, Event, accepts, count, Section, sections, innermost, is_turn, Guard, guards, numbered, own, replay, phase_at, registry}
-use Rattle.schedule_rules.proofs.Words.{finishing, Wait, waits, wait_of, waits_at, write_holds, read_guards, is_barred, holding_with, is_in_use, refusal, no_lending, no_call}
-use Rattle.schedule_rules.proofs.Words.{refusal_to_lend, no_writer, no_outcome, ends_run, no_reader, writes_of, ends_turn, no_guard, answer_of_value, answer_lent}
-use Rattle.schedule_rules.proofs.Words.{answer_made_to_lend, answer_at, answer_made, answer_of_made, due_answer, due_clone, due_finished, due_made, phase_made, IsLegalLine}
-use Rattle.schedule_rules.proofs.Words.{answer_of, due_at, waits_judged}
+use Rattle.schedule_rules.proofs.Words.{CellPlan, Act, Step, Calls, cell_at, tolerance_at, is_of_other, is_accessible, finishes_so, phase_reached, Success, asks_to_lend}
+use Rattle.schedule_rules.proofs.Words.{content_of_run, Event, accepts, count, sections, Section, innermost, is_turn, Guard, guards, numbered, own, replay, phase_at, registry}
+use Rattle.schedule_rules.proofs.Words.{finishing, Wait, waits, wait_of, waits_at, write_holds, read_guards, is_barred, holding_with, is_in_use, refusal, no_call, no_lending}
+use Rattle.schedule_rules.proofs.Words.{writes_of, ends_turn, no_reader, no_outcome, ends_run, no_writer, no_guard, refusal_to_lend, answer_of_value, answer_made_to_lend}
+use Rattle.schedule_rules.proofs.Words.{answer_lent, answer_at, answer_made, answer_of_made, due_answer, due_clone, due_made, phase_made, due_finished, IsLegalLine, answer_of}
+use Rattle.schedule_rules.proofs.Words.{due_at, waits_judged}
 use Rattle.schedule_rules.proofs.Cases.{step, Case, Generating, Lendable, AsksToLend, Reach, form_at, writes}
 use Rattle.schedule_rules.proofs.Attempts.{rests, mine_where_none, attempted, again, exits}
 use Rattle.schedule_rules.proofs.Answered.{due_at-judged}

@@ -1,9 +1,9 @@
 -- Tests of answers, and which answers of what is admitted pass them.
-use Rattle.schedule_rules.proofs.Words.{ℕ, List, ◌≡◌, refl, arith, Bool, true, false, None, ◌&&◌, length, not, ◌||◌, ◌==◌, if◌then◌else◌, Option, has, initialized, Phase, look_at}
+use Rattle.schedule_rules.proofs.Words.{ℕ, ◌≡◌, List, arith, Bool, refl, true, false, None, ◌&&◌, length, not, ◌||◌, ◌==◌, if◌then◌else◌, Option, has, initialized, Phase, look_at}
 use Rattle.schedule_rules.proofs.Words.{is_empty, LockNature, How, flags_refused, Tolerance, Call, Kind, Form, Answer, CellPlan, Place, Act, Want, Calls, Turns, cell_at}
 use Rattle.schedule_rules.proofs.Words.{tolerance_at, is_owned, form_of, denies, is_accessible, runs_generator, asks, lock_wanted, Content, Event, accepts, is_turn, replay}
-use Rattle.schedule_rules.proofs.Words.{refusal, answer_barred, answer_lent, answer_made_to_lend, answer_at, answer_admitted, turn_answer_admitted, answer_of_look, is_waiting}
-use Rattle.schedule_rules.proofs.Words.{is_cyclic, is_missed, is_finalizing, is_closing, is_skipped, is_borrowed, is_access, is_running, is_denied_to_lend, is_round, want_denies}
+use Rattle.schedule_rules.proofs.Words.{refusal, answer_barred, answer_made_to_lend, answer_lent, answer_at, answer_admitted, turn_answer_admitted, answer_of_look, is_waiting}
+use Rattle.schedule_rules.proofs.Words.{is_cyclic, is_borrowed, is_closing, is_running, is_access, is_round, is_skipped, is_denied_to_lend, is_missed, is_finalizing, want_denies}
 use Rattle.schedule_rules.proofs.Words.{is_initializing}
 use Rattle.schedule_rules.proofs.Answered.{IsShown, IsTold, admitted}
 

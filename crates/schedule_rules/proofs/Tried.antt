@@ -1,9 +1,9 @@
 -- A legal line shows that its step tried to register a cell exactly where it did.
-use Rattle.schedule_rules.proofs.Words.{ℕ, List, ◌≡◌, refl, arith, Bool, true, false, Some, ◌∷◌, ◌∙◌, [], ap, sym, None, subst, ◌⊎◌, ◌&&◌, inl, not, ◌+◌, ◌≤◌, ◌||◌, ◌==◌}
+use Rattle.schedule_rules.proofs.Words.{ℕ, ◌≡◌, List, arith, Bool, refl, true, false, Some, ◌∷◌, ◌∙◌, [], ap, sym, None, subst, ◌⊎◌, ◌&&◌, inl, not, ◌+◌, ◌≤◌, ◌||◌, ◌==◌}
 use Rattle.schedule_rules.proofs.Words.{if◌then◌else◌, is_none, Option, phase_of, Phase, first_of, is_known, How, flags_refused, Call, Answer, Line, Refusal, CellPlan, Place, Act}
 use Rattle.schedule_rules.proofs.Words.{Step, Calls, Turns, cell_at, tries_registration, deed_waiting, deed_by, Event, accepts, is_exit, replay, phase_at, registry, Wait, waits}
 use Rattle.schedule_rules.proofs.Words.{attempt, Attempt, attempt_of_turn, attempt_with, refusal, answer_of_value, answer_barred, due_answer, due_attempt, IsLegal, IsLegalLine}
-use Rattle.schedule_rules.proofs.Words.{answer_of, waits_judged, is_attempted, is_admitted, asks_registration, registrations, tells_declined, tries_to_register}
+use Rattle.schedule_rules.proofs.Words.{answer_of, waits_judged, is_attempted, is_admitted, asks_registration, tells_declined, tries_to_register, registrations}
 use Rattle.schedule_rules.proofs.Cases.{Visiting, step, Calling, Resting, Case}
 use Rattle.schedule_rules.proofs.Registrations.{asks_so, deed_registers, shows_registration, registrations_shown, tries-unknown, registered-once}
 use Rattle.schedule_rules.proofs.Answered.{due_at-judged, denied}

@@ -1,11 +1,11 @@
 -- Each registered cell has one turn: to come, waiting, going on or ended.
-use Rattle.schedule_rules.proofs.Words.{ℕ, List, ◌≡◌, refl, arith, Bool, true, false, Some, ◌∷◌, ◌∙◌, [], ap, sym, None, subst, ◌&&◌, ◌<◌, length, ◌+◌, cond, ◌++◌}
-use Rattle.schedule_rules.proofs.Words.{get_or-set_other, get_or-set_same, ◌==◌, if◌then◌else◌, slice_set, slice_index_or, Option, cells_of_turns, first_of, is_known, rest_of}
+use Rattle.schedule_rules.proofs.Words.{ℕ, ◌≡◌, List, arith, Bool, refl, true, false, Some, ◌∷◌, ◌∙◌, [], ap, sym, None, subst, ◌&&◌, ◌<◌, length, ◌+◌, cond, ◌++◌}
+use Rattle.schedule_rules.proofs.Words.{get_or-set_other, get_or-set_same, ◌==◌, if◌then◌else◌, slice_index_or, slice_set, Option, cells_of_turns, first_of, is_known, rest_of}
 use Rattle.schedule_rules.proofs.Words.{after_register, occurs, registered, due, Turn, Given, is_finalizable, Call, Answer, Refusal, CellPlan, Act, Want, Calls, Turns, cell_at}
-use Rattle.schedule_rules.proofs.Words.{is_owned, tries_registration, is_fast, Deed, EndsToRead, Ends, Makes, Finishes, EndsToWrite, Opens, Skips, deed_waiting, deed_by, Looks}
-use Rattle.schedule_rules.proofs.Words.{Takes, Event, deed_of, accepts, count, is_exit, Section, sections, innermost, is_turn, sections_by, without_innermost, replay, phase_at}
-use Rattle.schedule_rules.proofs.Words.{registry, registry_by, ended_turns, registry_taken, turn_of, turn_of_section, turns_by, Wait, waits, wait_of, attempt_with, without_wait}
-use Rattle.schedule_rules.proofs.Words.{waits_given_with, with_wait, refusal, refusal_waiting, answer_of_value, IsLegal, turns_of, waits_to_turn, finalizes_in}
+use Rattle.schedule_rules.proofs.Words.{is_owned, tries_registration, is_fast, Deed, Makes, Ends, EndsToRead, Finishes, EndsToWrite, Opens, Skips, deed_waiting, deed_by, Looks}
+use Rattle.schedule_rules.proofs.Words.{Takes, Event, deed_of, accepts, count, is_exit, sections, Section, innermost, is_turn, sections_by, without_innermost, replay, phase_at}
+use Rattle.schedule_rules.proofs.Words.{registry, registry_by, registry_taken, ended_turns, turn_of_section, turns_by, turn_of, Wait, waits, wait_of, attempt_with, without_wait}
+use Rattle.schedule_rules.proofs.Words.{waits_given_with, with_wait, refusal, refusal_waiting, answer_of_value, IsLegal, turns_of, finalizes_in, waits_to_turn}
 use Rattle.schedule_rules.proofs.Facts.{whether, first, second, apart}
 use Rattle.schedule_rules.proofs.Exclusion.{alone}
 use Rattle.schedule_rules.proofs.Opened.{count_ended}

@@ -1,12 +1,12 @@
 -- A value that is shown is there.
-use Rattle.schedule_rules.proofs.Words.{ℕ, List, ◌≡◌, refl, arith, Bool, true, false, Some, ◌∷◌, ◌∙◌, [], ap, sym, None, subst, ◌⊎◌, ◌&&◌, inl, ◌<◌, inr, length, not, ◌||◌}
+use Rattle.schedule_rules.proofs.Words.{ℕ, ◌≡◌, List, arith, Bool, refl, true, false, Some, ◌∷◌, ◌∙◌, [], ap, sym, None, subst, ◌⊎◌, ◌&&◌, inl, inr, ◌<◌, length, not, ◌||◌}
 use Rattle.schedule_rules.proofs.Words.{and_or_self, and_assoc, and_le_r, AllByRecursion, ◌==◌, if◌then◌else◌, is_some, Option, has, initialized, is_primed, is_plain, is_hard}
 use Rattle.schedule_rules.proofs.Words.{Call, Answer, Line, CellPlan, Act, Step, cell_at, tolerance_of, is_accessible, flags_kept, finishes_so, phase_finalized, value_finalized}
-use Rattle.schedule_rules.proofs.Words.{Content, Change, effect, Ran, Put, Asked, Ended, RanIfAsked, content_after, asks_to_lend, is_declined, content_of_run, Deed, Visits}
-use Rattle.schedule_rules.proofs.Words.{EndsToRead, Ends, Makes, DropsToRead, Finishes, Drops, EndsToWrite, Lends, Holds, Beside, Puts, Event, deed_of, Section, sections, Guard}
-use Rattle.schedule_rules.proofs.Words.{guards, numbered, without_guard, guards_by, reader_beside, reader_made, writer_made, replay, phase_at, Back, back_of_step}
-use Rattle.schedule_rules.proofs.Words.{content_after_back, back_by, back_of_section, inside, back_of_guard, change_of, read_guards, reads_cell, answer_of_value, IsLegal}
-use Rattle.schedule_rules.proofs.Words.{IsLegalLine, lends_at, runs_to_lend, ShowsValue}
+use Rattle.schedule_rules.proofs.Words.{Content, Change, effect, Ran, Put, Asked, content_after, Ended, is_declined, RanIfAsked, asks_to_lend, content_of_run, Deed, Visits, Makes}
+use Rattle.schedule_rules.proofs.Words.{Ends, EndsToRead, Finishes, Drops, EndsToWrite, DropsToRead, Lends, Holds, Beside, Puts, Event, deed_of, sections, Section, Guard, guards}
+use Rattle.schedule_rules.proofs.Words.{numbered, without_guard, guards_by, writer_made, reader_beside, reader_made, replay, phase_at, Back, content_after_back, back_of_step}
+use Rattle.schedule_rules.proofs.Words.{back_of_section, back_by, inside, back_of_guard, change_of, read_guards, reads_cell, answer_of_value, IsLegal, IsLegalLine, lends_at}
+use Rattle.schedule_rules.proofs.Words.{runs_to_lend, ShowsValue}
 use Rattle.std.specs.Option.{unwrap_or}
 use Rattle.schedule_rules.proofs.Cases.{step, Reach, Case}
 use Rattle.schedule_rules.proofs.Steps.{lent_unprimed, of_legal}

@@ -1,8 +1,8 @@
 -- What waits: a call for a lock or a turn, which is not fast, at a cell of no party's own, whose kind has the call.
-use Rattle.schedule_rules.proofs.Words.{ℕ, List, ◌≡◌, refl, arith, Bool, true, false, Some, ◌∙◌, ap, sym, None, subst, not, find, ◌==◌, is_none, is_some, Option, first_of, asking}
-use Rattle.schedule_rules.proofs.Words.{has_call, lends_value, Call, Answer, Line, Refusal, CellPlan, Act, Step, Calls, Turns, cell_at, tolerance_at, is_owned, is_of_other}
-use Rattle.schedule_rules.proofs.Words.{is_fast, seeks, lock_asked, Event, count, registry, Wait, waits, wait_of, attempt, Attempt, attempt_of_wait, attempt_of_turn, attempt_with}
-use Rattle.schedule_rules.proofs.Words.{is_barred, holding_with, is_in_use, refusal, refusal_by, no_lending, refusal_free, no_call, IsLegal, IsLegalLine, answer_of, due_at}
+use Rattle.schedule_rules.proofs.Words.{ℕ, ◌≡◌, List, arith, Bool, refl, true, false, Some, ◌∙◌, ap, sym, None, subst, not, find, ◌==◌, is_none, is_some, Option, first_of}
+use Rattle.schedule_rules.proofs.Words.{has_call, asking, lends_value, Call, Answer, Line, Refusal, CellPlan, Act, Step, Calls, Turns, cell_at, tolerance_at, is_owned, is_of_other}
+use Rattle.schedule_rules.proofs.Words.{is_fast, lock_asked, seeks, Event, count, registry, Wait, waits, wait_of, attempt, Attempt, attempt_of_turn, attempt_of_wait, attempt_with}
+use Rattle.schedule_rules.proofs.Words.{is_barred, holding_with, is_in_use, refusal, refusal_by, no_call, refusal_free, no_lending, IsLegal, IsLegalLine, answer_of, due_at}
 use Rattle.schedule_rules.proofs.Words.{lends_at, waits_judged, is_attempted, is_waiting, is_made_to_wait, phase_met, ChangesNothing}
 use Rattle.phase_seq.specs.declared.ask.Want.{Want as Sought}
 use Rattle.schedule_rules.proofs.Facts.{first, second, apart, same_number}
