@@ -1,13 +1,12 @@
 -- Where a generator runs, and where a value may not be accessed.
-use Rattle.schedule_rules.proofs.Words.{ℕ, ◌≡◌, List, arith, Bool, refl, true, false, Some, ◌∷◌, ◌∙◌, [], ap, sym, subst, ◌⊎◌, ◌&&◌, inl, inr, length, ◌≢◌, not, if◌then◌else◌, has}
-use Rattle.schedule_rules.proofs.Words.{initialized, phase_of, Phase, Given, shall_init, flags_refused, Tolerance, Call, Answer, Line, CellPlan, Act, Step, cell_at, tolerance_at}
-use Rattle.schedule_rules.proofs.Words.{runs_generator, Asked, is_declined, content_asked, deed_visited, Event, accepts, act_of, sections, sections_by, runs, guards, guards_by}
-use Rattle.schedule_rules.proofs.Words.{replay, phase_at, Back, content_after_back, back_of_step, back_by, cell_concerned, IsLegal, IsLegalLine, lends_at, runs_to_lend}
-use Rattle.schedule_rules.proofs.Words.{IsTurnedAway, KeepsValues}
+use Rattle.schedule_rules.proofs.Words.{ℕ, ◌≡◌, List, arith, Bool, true, refl, false, Some, ◌∷◌, ◌∙◌, [], sym, ap, subst, ◌&&◌, inl, inr, not, length, ◌≢◌, if◌then◌else◌, has}
+use Rattle.schedule_rules.proofs.Words.{initialized, phase_of, Phase, Given, shall_init, Tolerance, Call, Answer, Line, CellPlan, Act, Step, cell_at, tolerance_at, runs_generator}
+use Rattle.schedule_rules.proofs.Words.{Asked, is_declined, content_asked, deed_visited, Event, accepts, act_of, sections, sections_by, runs, guards, guards_by, replay, phase_at}
+use Rattle.schedule_rules.proofs.Words.{Back, back_of_step, content_after_back, back_by, cell_concerned, IsLegal, IsLegalLine, lends_at, runs_to_lend, KeepsValues, IsTurnedAway}
+use Rattle.schedule_rules.proofs.Means.{Began, Unlent, Means, means}
 use Rattle.schedule_rules.proofs.Found.{found_passes, each_found}
 use Rattle.schedule_rules.proofs.Leaves.{back_here, asked_value}
 use Rattle.schedule_rules.proofs.Cases.{Calling, Asking, Resting, Reach}
-use Rattle.schedule_rules.proofs.Means.{Began, Away, Unlent, Means, means}
 use Rattle.schedule_rules.proofs.Grows.{Needs, IsStanding, sound}
 use Rattle.schedule_rules.proofs.Facts.{same_number}
 
@@ -106,28 +105,24 @@ module _ (cells : List CellPlan) where
   -- a legal line that says that the value may not be accessed
   pub turned_away : (h : List Event) (s : Step) (l : Line) (c : ℕ) (q : Phase) → IsLegalLine cells h s l → l.answer ≡ Answer.Access q → cell_concerned cells h s ≡ Some c
       → IsTurnedAway cells h (record { step = s; line = l }) c q
-  turned_away h s l c q k e n = by (subst (Means cells h s.party s.act) e (means cells h s l k))
-    where
-      by : Away cells h s.party s.act q ⊎ Unlent cells h s.party s.act q → IsTurnedAway cells h (record { step = s; line = l }) c q
-      by (inr m) = subst (λ r. IsTurnedAway cells h (record { step = s; line = record { answer = r; given = l.given } }) c q) (sym e) (unlent h s.party l.given q s.act c m n)
-      by (inl m) =
-          subst (λ r. IsTurnedAway cells h (record { step = s; line = record { answer = r; given = l.given } }) c q) (sym e)
-          (subst (λ z. IsTurnedAway cells h (record { step = s; line = record { answer = Answer.Access q; given = l.given } }) z q) (called_at h s.party s.act m.cell c m.asked m.calls n) (reasoned m.reason))
-        where
-          reasoned : (Asking cells h s.party m.cell m.asked false × (q ≡ phase_of flags_refused)) ⊎ (Resting cells h s.party m.cell m.asked × (Reach cells h s.party m.cell false × (q ≡ phase_of (phase_at cells m.cell h))))
-              → IsTurnedAway cells h (record { step = s; line = record { answer = Answer.Access q; given = l.given } }) m.cell q
-          reasoned (inl r) = declines h s.party l.given s.act m.cell m.asked q m.calls r.0 r.1
-          reasoned (inr r) = denies h s.party l.given s.act m.cell m.asked q m.calls r.0 r.1.0 r.1.1
+  turned_away h s l c q k e n =
+      subst (λ r. IsTurnedAway cells h (record { step = s; line = record { answer = r; given = l.given } }) c q) (sym e) (elim (subst (Means cells h s.party s.act) e (means cells h s l k)) [
+        | inr m ↦ unlent h s.party l.given q s.act c m n
+        | inl m ↦
+            subst (λ z. IsTurnedAway cells h (record { step = s; line = record { answer = Answer.Access q; given = l.given } }) z q) (called_at h s.party s.act m.cell c m.asked m.calls n)
+            (elim (m.reason) [
+              | inl r ↦ declines h s.party l.given s.act m.cell m.asked q m.calls r.0 r.1
+              | inr r ↦ denies h s.party l.given s.act m.cell m.asked q m.calls r.0 r.1.0 r.1.1
+            ])
+      ])
 
   -- without retry a run begins on the empty phase
   pub begins_on_empty : (h : List Event) (s : Step) (l : Line) (c : ℕ) → IsLegalLine cells h s l → l.answer ≡ Answer.Running → cell_concerned cells h s ≡ Some c
       → (cell_at cells c).retry ≡ false → phase_at cells c h ≡ 0
-  begins_on_empty h s l c k r e once = by (subst (Means cells h s.party s.act) r (means cells h s l k))
-    where
-      by : Began cells h s.party s.act → phase_at cells c h ≡ 0
-      by m =
-          subst (λ z. (cell_at cells z).retry ≡ false → phase_at cells z h ≡ 0) (called_at h s.party s.act m.cell c m.asked m.calls e)
-          (empty-where-wanted (tolerance_at cells m.cell) (phase_at cells m.cell h) m.asks.wanted) once
+  begins_on_empty h s l c k r e once =
+      let m : Began cells h s.party s.act = subst (Means cells h s.party s.act) r (means cells h s l k) in
+      subst (λ z. (cell_at cells z).retry ≡ false → phase_at cells z h ≡ 0) (called_at h s.party s.act m.cell c m.asked m.calls e)
+      (empty-where-wanted (tolerance_at cells m.cell) (phase_at cells m.cell h) m.asks.wanted) once
 
   -- and it stays empty while the generator runs
   pub runs_on_empty : (h : List Event) (p c : ℕ) → IsLegal cells h → runs p c h ≡ true → (cell_at cells c).retry ≡ false → phase_at cells c h ≡ 0

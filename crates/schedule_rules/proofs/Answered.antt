@@ -1,9 +1,9 @@
 -- What holds of the answers that are due, by what holds of each that may be.
-use Rattle.schedule_rules.proofs.Words.{ℕ, ◌≡◌, List, arith, Bool, refl, true, false, Some, ◌∙◌, ap, None, ◌&&◌, if◌then◌else◌, is_none, Option, Phase, LockNature, Given, How}
-use Rattle.schedule_rules.proofs.Words.{Tolerance, Call, Kind, Form, Held, Told, Shown, Answer, Line, Refusal, CellPlan, Place, Step, Want, Calls, Turns, cell_at, is_owned}
-use Rattle.schedule_rules.proofs.Words.{form_of, is_accessible, Content, asks_to_lend, content_asked, content_to_lend, Event, Section, Guard, Wait, is_barred, holding_with}
-use Rattle.schedule_rules.proofs.Words.{refusal, answer_barred, answer_made_to_lend, answer_lent, answer_made, answer_denied, answer_of_made, answer_opened, call_answer_admitted}
-use Rattle.schedule_rules.proofs.Words.{begins_run, due_answer, due_clone, due_made, phase_made, due_finished, due_look, IsLegalLine, answer_of, due_at, Moment, waits_judged}
+use Rattle.schedule_rules.proofs.Words.{ℕ, ◌≡◌, List, arith, Bool, true, refl, false, Some, ◌∙◌, ap, None, ◌&&◌, if◌then◌else◌, is_none, Option, Phase, LockNature, Given, How}
+use Rattle.schedule_rules.proofs.Words.{Tolerance, Call, Kind, Form, Held, Told, Shown, Answer, Line, Refusal, CellPlan, Place, Step, Calls, Turns, cell_at, is_owned, form_of}
+use Rattle.schedule_rules.proofs.Words.{is_accessible, Content, asks_to_lend, content_asked, content_to_lend, Event, Section, Guard, Wait, is_barred, holding_with, refusal}
+use Rattle.schedule_rules.proofs.Words.{answer_barred, answer_made_to_lend, answer_lent, answer_made, answer_opened, call_answer_admitted, answer_denied, answer_of_made}
+use Rattle.schedule_rules.proofs.Words.{begins_run, due_answer, due_clone, due_made, due_finished, phase_made, due_look, IsLegalLine, answer_of, due_at, Moment, waits_judged}
 
 -- the answer that is due, where these calls of others wait
 pub due_at-judged : (cells : List CellPlan) (m : Moment) (h : List Event) (s : Step) (g : Given) (chosen : Bool)
@@ -77,11 +77,9 @@ module _ (P : Answer → Type 0) where
     -- that of a value made
     pub made : IsShown → (v : ℕ) (o : Option Section) → P Answer.Done → P Answer.Failed → P (due_made cells h v o)
     made k v None d f = d
-    made k v (Some s) d f = by s.want
-      where
-        by : (u : Want) → P (answer_of_made (cell_at cells s.cell).kind u v (phase_made cells h s))
-        by (Calls j) = made_so k (form_of (cell_at cells s.cell).kind j) v (phase_made cells h s)
-        by Turns = f
+    made k v (Some s) d f =
+        elim (s.want) as (λ u. P (answer_of_made (cell_at cells s.cell).kind u v (phase_made cells h s)))
+        [ Calls j ↦ made_so k (form_of (cell_at cells s.cell).kind j) v (phase_made cells h s) | Turns ↦ f ]
 
     -- that of a finalizer that ends
     pub finished : IsShown → (fine : Bool) (o : Option Section) → P Answer.Done → P (due_finished cells h fine o)

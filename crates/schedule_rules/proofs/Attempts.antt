@@ -1,11 +1,11 @@
 -- What an attempt at a cell is answered, case by case.
-use Rattle.schedule_rules.proofs.Words.{ℕ, ◌≡◌, List, arith, Bool, refl, true, false, Some, ◌∷◌, ◌∙◌, [], ap, sym, None, subst, ◌&&◌, inl, inr, ◌<◌, not, if◌then◌else◌, is_some}
+use Rattle.schedule_rules.proofs.Words.{ℕ, ◌≡◌, List, arith, Bool, true, refl, false, Some, ◌∷◌, ◌∙◌, [], sym, ap, None, subst, ◌&&◌, inl, ◌<◌, inr, not, if◌then◌else◌, is_some}
 use Rattle.schedule_rules.proofs.Words.{Option, has, initialized, phase_of, first_of, look_at, LockNature, How, shall_init, flags_refused, Tolerance, asking, Call, Kind, Form}
 use Rattle.schedule_rules.proofs.Words.{Held, Told, Shown, Answer, CellPlan, Act, Want, Calls, Turns, cell_at, tolerance_at, form_of, is_accessible, runs_generator, asks, is_fast}
-use Rattle.schedule_rules.proofs.Words.{lock_wanted, initializes, Content, Event, accepts, latest_act, runs, replay, phase_at, registry, Wait, waits, wait_of, attempt_of_turn}
-use Rattle.schedule_rules.proofs.Words.{attempt_of_wait, act_for, write_holds, read_guards, is_barred, holding_with, readers, keeps, refusal, refusal_by, refusal_free}
-use Rattle.schedule_rules.proofs.Words.{refusal_waiting, answer_barred, answer_at, answer_admitted, turn_answer_admitted, answer_denied, answer_opened, call_answer_admitted}
-use Rattle.schedule_rules.proofs.Words.{due_attempt, due_tried, answer_of_look, IsExclusive}
+use Rattle.schedule_rules.proofs.Words.{lock_wanted, initializes, Content, Event, accepts, latest_act, runs, replay, phase_at, registry, Wait, waits, wait_of, attempt_of_wait}
+use Rattle.schedule_rules.proofs.Words.{attempt_of_turn, act_for, write_holds, is_barred, read_guards, holding_with, readers, keeps, refusal, refusal_by, refusal_free}
+use Rattle.schedule_rules.proofs.Words.{refusal_waiting, answer_barred, answer_admitted, answer_at, answer_opened, turn_answer_admitted, call_answer_admitted, answer_denied}
+use Rattle.schedule_rules.proofs.Words.{due_attempt, answer_of_look, due_tried, IsExclusive}
 use Rattle.schedule_rules.proofs.Found.{found_counts}
 use Rattle.schedule_rules.proofs.GoesOn.{Matches, wait-matches}
 use Rattle.schedule_rules.proofs.Answered.{barred}
@@ -97,10 +97,7 @@ module _ (cells : List CellPlan) (h : List Event) (p : ℕ) where
   rests a waits_for f = grind arith
 
   pub mine_where_none : (c : ℕ) → wait_of p (waits cells h) ≡ None → IsMine c
-  mine_where_none c e w f = absurd (none (sym e ∙ f))
-    where
-      none : None ≡ Some w → ⊥
-      none x = cc
+  mine_where_none c e w f = absurd (cc)
 
   -- a call that runs nothing, where the value may be accessed
   opened_case : (a : Act) (c : ℕ) (j : Call) → Calling cells h p a c j → Resting cells h p c j → Reach cells h p c true → (f : Form) → form_at cells h p c j ≡ f
@@ -178,10 +175,7 @@ module _ (cells : List CellPlan) (h : List Event) (p : ℕ) where
       does = subst (λ o. Matches (attempt_of_wait o) (latest_act p h)) e (wait-matches cells p h)
 
       mine : IsMine w.cell
-      mine v g = cells_of (sym g ∙ e)
-        where
-          cells_of : Some v ≡ Some w → v.cell ≡ w.cell
-          cells_of x = cc
+      mine v g = let same : Some v ≡ Some w = sym g ∙ e in cc
 
       tries : (u : Want) → w.want ≡ u → Tries cells h p Act.Again w.cell u
       tries (Calls j) d = record {
@@ -198,9 +192,7 @@ module _ (cells : List CellPlan) (h : List Event) (p : ℕ) where
   -- a step of the exit
   pub exits : (o : Option ℕ) → first_of (registry cells h).left ≡ o → wait_of p (waits cells h) ≡ None → (ws : List Wait) (chosen : Bool)
       → Case cells h p Act.Exit (due_tried cells h p (attempt_of_turn o) ws chosen)
-  exits None e f ws chosen = by (registry cells h).pending refl
-    where
-      by : (cs : List ℕ) → (registry cells h).pending ≡ cs → Case cells h p Act.Exit (answer_of_look (look_at cs))
-      by [] g = Case.closed g (none_first (registry cells h).left e)
-      by (c ∷ cs) g = Case.round c cs g (none_first (registry cells h).left e)
+  exits None e f ws chosen =
+      (elim ((registry cells h).pending) as (λ cs. (registry cells h).pending ≡ cs → Case cells h p Act.Exit (answer_of_look (look_at cs)))
+      [ [] ↦ λ g. Case.closed g (none_first (registry cells h).left e) | c ∷ cs ↦ λ g. Case.round c cs g (none_first (registry cells h).left e) ]) refl
   exits (Some c) e f ws chosen = attempted Act.Exit c Turns ws chosen (record { tried = ap attempt_of_turn e; does = refl; acts = tt }) (mine_where_none c f)

@@ -1,18 +1,18 @@
 -- Which answer a legal line has, by its cause.
-use Rattle.schedule_rules.proofs.Words.{ℕ, ◌≡◌, List, arith, Bool, refl, true, false, Some, ◌∙◌, ap, sym, None, ◌&&◌, ◌≢◌, not, ◌||◌, if◌then◌else◌, is_none, is_some, Option}
-use Rattle.schedule_rules.proofs.Words.{first_of, look_at, Given, How, Call, Answer, Line, Refusal, CellPlan, Place, Act, Step, Calls, cell_at, tolerance_at, is_owned, asks}
+use Rattle.schedule_rules.proofs.Words.{ℕ, ◌≡◌, List, arith, Bool, true, refl, false, Some, ◌∙◌, sym, ap, None, ◌&&◌, not, ◌≢◌, ◌||◌, if◌then◌else◌, is_none, is_some, Option}
+use Rattle.schedule_rules.proofs.Words.{first_of, look_at, Given, How, Call, Answer, Line, Refusal, CellPlan, Place, Act, Step, Calls, Turns, cell_at, tolerance_at, is_owned, asks}
 use Rattle.schedule_rules.proofs.Words.{is_fast, lock_wanted, Event, accepts, is_exit, sections, innermost, Guard, guards, numbered, replay, phase_at, registry, Wait, waits}
-use Rattle.schedule_rules.proofs.Words.{wait_of, attempt, Attempt, attempt_of_turn, attempt_of_wait, is_barred, holding_with, refusal, refusal_by, answer_barred, answer_admitted}
-use Rattle.schedule_rules.proofs.Words.{drains_by, way_parked, due_answer, due_attempt, due_tried, due_clone, answer_of_look, keeps_own, is_nobody, IsLegalLine, answer_of, due_at}
-use Rattle.schedule_rules.proofs.Words.{Moment, may_give, waits_judged, is_attempted, is_waiting, is_cyclic, is_borrowed, is_closing, is_running, is_admitted, is_cyclic_step}
-use Rattle.schedule_rules.proofs.Words.{is_access, is_round, is_skipped, is_denied_to_lend, is_missed, is_finalizing, is_access_step, is_of_own_run, is_missing_step, is_turn_step}
-use Rattle.schedule_rules.proofs.Words.{looks, is_step_of, is_barred_attempt, is_closing_step, is_borrowing_step, is_barred_step, is_round_step, is_running_step, is_barred_clone}
+use Rattle.schedule_rules.proofs.Words.{wait_of, Attempt, attempt, attempt_of_wait, attempt_of_turn, is_barred, holding_with, refusal, refusal_by, answer_barred, answer_admitted}
+use Rattle.schedule_rules.proofs.Words.{way_parked, drains_by, due_answer, due_attempt, answer_of_look, due_clone, due_tried, keeps_own, is_nobody, IsLegalLine, answer_of, due_at}
+use Rattle.schedule_rules.proofs.Words.{Moment, may_give, waits_judged, is_attempted, is_waiting, is_cyclic, is_finalizing, is_missed, is_borrowed, is_admitted, is_cyclic_step}
+use Rattle.schedule_rules.proofs.Words.{is_access, is_skipped, is_round, is_running, is_denied_to_lend, is_closing, is_barred_clone, is_barred_step, is_turn_step, is_closing_step}
+use Rattle.schedule_rules.proofs.Words.{is_barred_attempt, looks, is_round_step, is_step_of, is_borrowing_step, is_access_step, is_running_step, is_missing_step, is_of_own_run}
 use Rattle.schedule_rules.proofs.Words.{is_initializing}
-use Rattle.schedule_rules.proofs.Tests.{look_closes, look_rounds, barred_borrows, barred_misses, barred_waits, parts_of_borrowing, parts_of_look, not_admitted, only_own}
-use Rattle.schedule_rules.proofs.Tests.{only_admitted, only_barred, is_refused, IsBeyond, IsOfTries, of_running, of_access, of_cyclic, of_finalizing, of_skipped, of_round}
-use Rattle.schedule_rules.proofs.Tests.{of_closing, of_waiting, of_missed, of_borrowed, of_refused, no_more, same_both, nothing_else, neither, unless_first, is_unlent}
-use Rattle.schedule_rules.proofs.Tests.{unlent_where_denied, shows, makes, admitted_runs, admitted_away, admitted_finalizes, admitted_skips, admitted_fails, fails_barred}
-use Rattle.schedule_rules.proofs.Tests.{calls_not}
+use Rattle.schedule_rules.proofs.Tests.{none_asked, none_kept, look_closes, look_rounds, barred_borrows, barred_misses, barred_waits, parts_of_borrowing, parts_of_look}
+use Rattle.schedule_rules.proofs.Tests.{not_admitted, only_own, only_admitted, only_barred, is_refused, IsBeyond, IsOfTries, of_running, of_access, of_cyclic, of_finalizing}
+use Rattle.schedule_rules.proofs.Tests.{of_skipped, of_round, of_closing, of_waiting, of_missed, of_borrowed, of_refused, no_more, same_both, nothing_else, neither, unless_first}
+use Rattle.schedule_rules.proofs.Tests.{is_unlent, unlent_where_denied, shows, makes, admitted_runs, admitted_away, admitted_finalizes, admitted_skips, admitted_fails}
+use Rattle.schedule_rules.proofs.Tests.{fails_barred, calls_not}
 use Rattle.exit_registry.specs.declared.registry.Look.{Look}
 use Rattle.schedule_rules.proofs.Answered.{due_at-judged, lent, made_to_lend, made, finished, looked, cloned, legal_by}
 use Rattle.schedule_rules.proofs.Facts.{apart}
@@ -210,10 +210,8 @@ pub kept_is_answered : (cells : List CellPlan) (h : List Event) (p : ℕ) (a : A
     → keeps_own cells h p a ≡ true → is_waiting (due_attempt cells h p a ws chosen) ≡ false
 kept_is_answered cells h p a ws chosen keeps =
     barred_alone is_waiting cells h p ws chosen of_waiting refl a _ (barred_waits _ _ _)
-    ∙ ap (λ b. (not (is_of_own_run cells h p a) && (not b && bars is_waiting cells h p ws chosen a)) && (not (is_fast a.want) && not (is_owned (cell_at cells a.cell).place))) keeps ∙ nothing (is_of_own_run cells h p a) (bars is_waiting cells h p ws chosen a) _
-  where
-    nothing : (x y z : Bool) → ((not x && (not true && y)) && z) ≡ false
-    nothing x y z = grind arith
+    ∙ ap (λ b. (not (is_of_own_run cells h p a) && (not b && bars is_waiting cells h p ws chosen a)) && (not (is_fast a.want) && not (is_owned (cell_at cells a.cell).place))) keeps
+    ∙ none_kept (is_of_own_run cells h p a) (bars is_waiting cells h p ws chosen a) _
 
 -- ---- looks
 
@@ -233,16 +231,12 @@ module _ (t : Answer → Bool) (is : IsBeyond t) (missed : t Answer.Missed ≡ f
   -- an Exit with no cell left is, and no other step
   looked_so : (a : Act) → (free a && t (due_answer cells h (record { party = p; act = a }) ws chosen)) ≡ (free a && (is_exit a && (is_none (first_of (registry cells h).left) && passes)))
   looked_so (Act.Call c k) = ap (λ b. free (Act.Call c k) && b) (each (record { cell = c; want = Calls k }))
-  looked_so Act.Again = by (wait_of p (waits cells h))
-    where
-      by : (o : Option Wait) → (is_none (refusal_by cells (is_some o) h p Act.Again) && t (due_tried cells h p (attempt_of_wait o) ws chosen))
-          ≡ (is_none (refusal_by cells (is_some o) h p Act.Again) && false)
-      by None = refl
-      by (Some w) = each (record { cell = w.cell; want = w.want })
-  looked_so Act.Exit = ap (λ b. free Act.Exit && b) (by (first_of (registry cells h).left))
-    where
-      by : (o : Option ℕ) → t (due_tried cells h p (attempt_of_turn o) ws chosen) ≡ (is_none o && passes)
-      by o = grind arith
+  looked_so Act.Again =
+      elim (wait_of p (waits cells h)) as (λ o. (is_none (refusal_by cells (is_some o) h p Act.Again) && t (due_tried cells h p (attempt_of_wait o) ws chosen)) ≡ (is_none (refusal_by cells (is_some o) h p Act.Again) && false))
+      [ None ↦ refl | Some w ↦ each (record { cell = w.cell; want = w.want }) ]
+  looked_so Act.Exit =
+      ap (λ b. free Act.Exit && b) (elim (first_of (registry cells h).left) as (λ o. t (due_tried cells h p (attempt_of_turn o) ws chosen) ≡ (is_none o && passes))
+      [ None ↦ refl | Some c ↦ each (record { cell = c; want = Turns }) ])
   looked_so (Act.Made v) = ap (λ b. free (Act.Made v) && b) (made (λ a. t a ≡ false) cells h is.tries.shown v (innermost p (sections h)) is.tries.done is.tries.failed)
   looked_so Act.MadeFailed = ap (λ b. free Act.MadeFailed && b) is.tries.failed
   looked_so (Act.Finished left) = ap (λ b. free (Act.Finished left) && b) (finished (λ a. t a ≡ false) cells h is.tries.shown true (innermost p (sections h)) is.tries.done)
@@ -277,8 +271,5 @@ module _ (cells : List CellPlan) (h : List Event) (s : Step) (l : Line) (k : IsL
   pub only_initializing_run : (c : ℕ) (j : Call) → attempt cells h s ≡ Some (record { cell = c; want = Calls j }) → is_initializing j ≡ false → l.answer ≢ Answer.Running
   only_initializing_run c j e n r = apart (sym (ap is_running r) ∙ runs_where_asked cells h s l k ∙ none)
     where
-      never : (x y a g : Bool) → a ≡ false → (x && (y && (a && g))) ≡ false
-      never x y a g f = grind arith
-
       none : is_running_step cells h s l.given k.moment ≡ false
-      none = rw e (never (is_none (refusal cells h s)) _ (asks (cell_at cells c).kind (tolerance_at cells c) (Calls j) (phase_at cells c h)) _ (calls_not (cell_at cells c).kind (tolerance_at cells c) j (phase_at cells c h) n))
+      none = rw e (none_asked (is_none (refusal cells h s)) _ (asks (cell_at cells c).kind (tolerance_at cells c) (Calls j) (phase_at cells c h)) _ (calls_not (cell_at cells c).kind (tolerance_at cells c) j (phase_at cells c h) n))

@@ -1,5 +1,5 @@
 -- Small facts of truth values and numbers.
-use Rattle.schedule_rules.proofs.Words.{ℕ, ◌≡◌, arith, Bool, refl, true, false, ◌⊎◌, ◌&&◌, ◌≢◌, ◌+◌, ◌≤◌, cond, ◌||◌, ◌==◌}
+use Rattle.schedule_rules.proofs.Words.{ℕ, ◌≡◌, arith, Bool, true, refl, false, ◌&&◌, ◌⊎◌, ◌≢◌, ◌+◌, cond, ◌≤◌, ◌||◌, ◌==◌}
 
 pub apart : true ≡ false → ⊥
 apart x = cc
@@ -37,3 +37,7 @@ at_least false n = omega arith
 pub whether : {P : Type 0} (b : Bool) → (b ≡ true → P) → (b ≡ false → P) → P
 whether true t f = t refl
 whether false t f = f refl
+
+-- numbers that are not found equal are not the same
+pub numbers_apart : (m n : ℕ) → (m == n) ≡ false → n ≢ m
+numbers_apart m n e = grind arith

@@ -1,12 +1,12 @@
 -- What a failed run leaves; and of a value that is lent, that nobody uses its cell, and what the step leaves.
-use Rattle.schedule_rules.proofs.Words.{ℕ, ◌≡◌, List, arith, Bool, refl, true, false, Some, ◌∷◌, ◌∙◌, [], ap, sym, None, subst, ◌⊎◌, ◌&&◌, inl, inr, length, ◌≢◌, list_any, ◌==◌}
+use Rattle.schedule_rules.proofs.Words.{ℕ, ◌≡◌, List, arith, Bool, true, refl, false, Some, ◌∷◌, ◌∙◌, [], sym, ap, None, subst, ◌&&◌, ◌⊎◌, inl, inr, length, ◌≢◌, list_any, ◌==◌}
 use Rattle.schedule_rules.proofs.Words.{if◌then◌else◌, is_none, is_some, Option, Given, Answer, Line, Refusal, CellPlan, Act, Step, cell_at, tolerance_at, is_parking}
 use Rattle.schedule_rules.proofs.Words.{is_accessible, Content, Change, effect, Ran, Put, RanIfAsked, Makes, Event, deed_of, accepts, count, sections, Section, innermost}
-use Rattle.schedule_rules.proofs.Words.{sections_by, guards, guards_by, replay, Back, content_after_back, back_of_step, back_of_section, Wait, waits, wait_of, attempt_with}
+use Rattle.schedule_rules.proofs.Words.{sections_by, guards, guards_by, replay, Back, back_of_step, content_after_back, back_of_section, Wait, waits, wait_of, attempt_with}
 use Rattle.schedule_rules.proofs.Words.{without_wait, waits_given_with, cell_concerned, waits_answered, waits_at, cell_of_section, other_waits, cell_concerned_with, refusal}
-use Rattle.schedule_rules.proofs.Words.{refusal_by, due_answer, may_give_last, may_give_on, may_give_first, reaches, IsLegalLine, answer_of, due_at, Moment, may_give, lends_at}
-use Rattle.schedule_rules.proofs.Words.{waits_judged, is_failed, is_step_in_use, is_failure, is_refused_in_use, lends_in_use, is_lent, Leaves, ChangesCellAlone, EndsRun}
-use Rattle.schedule_rules.proofs.Words.{IsFailedRun, IsUnused, RunsAtOnce}
+use Rattle.schedule_rules.proofs.Words.{refusal_by, due_answer, may_give_first, may_give_last, may_give_on, reaches, IsLegalLine, answer_of, due_at, Moment, may_give, lends_at}
+use Rattle.schedule_rules.proofs.Words.{waits_judged, is_failed, is_failure, is_refused_in_use, lends_in_use, is_step_in_use, is_lent, IsFailedRun, RunsAtOnce, ChangesCellAlone}
+use Rattle.schedule_rules.proofs.Words.{IsUnused, EndsRun, Leaves}
 use Rattle.schedule_rules.proofs.Cases.{step, IsTrying, trying, Lendable, Case, calling-tries, turning-tries}
 use Rattle.schedule_rules.proofs.Steps.{lendable, lendable_so, allowed}
 use Rattle.schedule_rules.proofs.Finds.{LendsSo, Both, finds, tells}
@@ -170,21 +170,15 @@ module _ (cells : List CellPlan) (h : List Event) (s : Step) (c : ℕ) (lends : 
     alone : (a : Act) → lends_at c a ≡ true → (ws : List Wait) (chosen : Bool) → Alone a (due_answer cells h (step cells h s.party a) ws chosen)
     alone (Act.GetMut z made left) e ws chosen =
         made_to_lend (Alone (Act.GetMut z made left))
-        (λ v. record { in_sections = refl; in_guards = refl; in_waits = refl; elsewhere = λ d ne. back_elsewhere cells d _ (record { cell = z; changes = Put left ∷ RanIfAsked (accepts h) made ∷ [] }) (replay cells d h) refl (other_cell ne) })
+        (λ v. record { in_sections = refl; in_guards = refl; in_waits = refl; elsewhere = λ d ne. back_elsewhere cells d _ (record { cell = z; changes = Put left ∷ RanIfAsked (accepts h) made ∷ [] }) (replay cells d h) refl (other_number z c d (number_found z c e) ne) })
         (λ q. record { in_sections = refl; in_guards = refl; in_waits = refl; elsewhere = λ d ne. refl })
-        (record { in_sections = refl; in_guards = refl; in_waits = refl; elsewhere = λ d ne. back_elsewhere cells d _ (record { cell = z; changes = Ran (accepts h) None ∷ [] }) (replay cells d h) refl (other_cell ne) })
+        (record { in_sections = refl; in_guards = refl; in_waits = refl; elsewhere = λ d ne. back_elsewhere cells d _ (record { cell = z; changes = Ran (accepts h) None ∷ [] }) (replay cells d h) refl (other_number z c d (number_found z c e) ne) })
         (cell_at cells z).kind (tolerance_at cells z) (accepts h) made (replay cells z h)
-      where
-        other_cell : {d : ℕ} → c ≢ d → (z == d) ≡ false
-        other_cell {d} ne = let at : z ≡ c = number_found z c e in other_number z c d at ne
     alone (Act.TryGetMut z left) e ws chosen =
         lent (Alone (Act.TryGetMut z left))
-        (λ v. record { in_sections = refl; in_guards = refl; in_waits = refl; elsewhere = λ d ne. back_elsewhere cells d _ (record { cell = z; changes = Put left ∷ [] }) (replay cells d h) refl (other_cell ne) })
+        (λ v. record { in_sections = refl; in_guards = refl; in_waits = refl; elsewhere = λ d ne. back_elsewhere cells d _ (record { cell = z; changes = Put left ∷ [] }) (replay cells d h) refl (other_number z c d (number_found z c e) ne) })
         (λ q. record { in_sections = refl; in_guards = refl; in_waits = refl; elsewhere = λ d ne. refl })
         (cell_at cells z).kind (replay cells z h)
-      where
-        other_cell : {d : ℕ} → c ≢ d → (z == d) ≡ false
-        other_cell {d} ne = let at : z ≡ c = number_found z c e in other_number z c d at ne
     alone _ e ws chosen = absurd (apart (sym e))
 
     -- it leaves what is open and who waits, and changes its cell alone

@@ -1,7 +1,8 @@
 -- A waiting call goes on with what its party did last: its wait says the same call as the party's latest act.
-use Rattle.schedule_rules.proofs.Words.{ℕ, ◌≡◌, List, arith, Bool, refl, true, false, Some, ◌∷◌, ◌∙◌, [], ap, sym, None, subst, ◌≢◌, ◌==◌, if◌then◌else◌, map, Option, first_of}
-use Rattle.schedule_rules.proofs.Words.{Given, How, Answer, Refusal, CellPlan, Act, Step, Event, latest_act, latest_act_after, newer_act, registry, Wait, waits, wait_of, attempt}
-use Rattle.schedule_rules.proofs.Words.{Attempt, attempt_of_turn, attempt_of_wait, attempt_with, without_wait, waits_given_with, waits_answered, with_wait, wait_woken, act_for}
+use Rattle.schedule_rules.proofs.Words.{ℕ, ◌≡◌, List, arith, Bool, true, refl, false, Some, ◌∷◌, ◌∙◌, [], sym, ap, None, subst, ◌==◌, if◌then◌else◌, map, Option, first_of, Given}
+use Rattle.schedule_rules.proofs.Words.{How, Answer, Refusal, CellPlan, Act, Step, Event, latest_act, latest_act_after, newer_act, registry, Wait, waits, wait_of, Attempt, attempt}
+use Rattle.schedule_rules.proofs.Words.{attempt_of_wait, attempt_with, attempt_of_turn, without_wait, waits_given_with, waits_answered, with_wait, act_for, wait_woken}
+use Rattle.schedule_rules.proofs.Facts.{same_number, numbers_apart, number_found}
 use Rattle.schedule_rules.proofs.Opened.{wait_removed, wait_kept}
 
 module _ (f : Wait → Wait) (same_party : (w : Wait) → (f w).party ≡ w.party) (same_attempt : (w : Wait) → attempt_of_wait (Some (f w)) ≡ attempt_of_wait (Some w)) where
@@ -54,16 +55,10 @@ module _ (cells : List CellPlan) where
         others = waits_given_with cells (waits cells h) h e.step e.line.given (without_wait e.step.party (waits cells h))
 
         left_over : (b : Bool) → (e.step.party == p) ≡ b → Of (T (e ∷ h) p) (attempt_of_wait (wait_of p others))
-        left_over true is = rw (attempt_given (waits cells h) h e.step e.line.given p (without_wait e.step.party (waits cells h))) (rw (own is) (rw (wait_removed p (waits cells h)) tt))
-          where
-            own : (e.step.party == p) ≡ true → e.step.party ≡ p
-            own e = grind arith
+        left_over true is = rw (attempt_given (waits cells h) h e.step e.line.given p (without_wait e.step.party (waits cells h))) (rw (number_found e.step.party p is) (rw (wait_removed p (waits cells h)) tt))
         left_over false is =
-            rw (attempt_given (waits cells h) h e.step e.line.given p (without_wait e.step.party (waits cells h))) (rw (wait_kept e.step.party p (waits cells h) (other is))
+            rw (attempt_given (waits cells h) h e.step e.line.given p (without_wait e.step.party (waits cells h))) (rw (wait_kept e.step.party p (waits cells h) (numbers_apart e.step.party p is))
             (each_of (T h p) (T (e ∷ h) p) (λ a t. k.other h e p a l is t) (waiting h p) (IH p)))
-          where
-            other : (e.step.party == p) ≡ false → p ≢ e.step.party
-            other e = grind arith
 
         again : (way : How) (b : Bool) → (e.step.party == p) ≡ b → (o : Option Attempt) → (b ≡ true → Of (T (e ∷ h) p) o) → Of (T (e ∷ h) p) (attempt_of_wait (wait_of p (with_wait e.step.party way o others)))
         again way b is None f = left_over b is
@@ -72,10 +67,7 @@ module _ (cells : List CellPlan) where
 
         after : (r : Answer) → e.line.answer ≡ r → Of (T (e ∷ h) p) (attempt_of_wait (wait_of p (waits_answered cells h e.step e.line.given r (waits cells h))))
         after (Answer.Refused q) is = each_of (T h p) (T (e ∷ h) p) (λ a t. k.refused h e p a q is t) (waiting h p) (IH p)
-        after (Answer.Waiting way) is = again way (e.step.party == p) refl (attempt cells h e.step) (λ own. subst (λ q. Of (T (e ∷ h) q) (attempt cells h e.step)) (same own) (k.now h e way l is (IH e.step.party)))
-          where
-            same : (e.step.party == p) ≡ true → e.step.party ≡ p
-            same own = grind arith
+        after (Answer.Waiting way) is = again way (e.step.party == p) refl (attempt cells h e.step) (λ own. subst (λ q. Of (T (e ∷ h) q) (attempt cells h e.step)) (number_found e.step.party p own) (k.now h e way l is (IH e.step.party)))
         after _ is = left_over (e.step.party == p) refl
 
       -- so it is said of all that waits
@@ -89,11 +81,7 @@ module _ (cells : List CellPlan) where
       by : (a : Act) → Matches (attempt_with cells ws h s.party a) (newer_act true a older)
       by (Act.Call c k) = refl
       by Act.Again = IH
-      by Act.Exit = turned (first_of (registry cells h).left)
-        where
-          turned : (o : Option ℕ) → Matches (attempt_of_turn o) Act.Exit
-          turned None = tt
-          turned (Some c) = refl
+      by Act.Exit = elim (first_of (registry cells h).left) as (λ o. Matches (attempt_of_turn o) Act.Exit) [ None ↦ tt | Some c ↦ refl ]
       by _ = tt
 
   -- a party's wait and its latest act say the same call
@@ -125,8 +113,5 @@ module _ (cells : List CellPlan) where
           of_matches (e ∷ h) e.step.party (attempt cells h e.step)
           (subst (Matches (attempt cells h e.step)) (sym latest) (matches_now (waits cells h) h e.step (latest_act e.step.party h) (matches_of h e.step.party (waiting h e.step.party) t)))
         where
-          same : (q : ℕ) → (q == q) ≡ true
-          same q = grind arith
-
           latest : latest_act e.step.party (e ∷ h) ≡ newer_act true e.step.act (latest_act e.step.party h)
-          latest = ap (λ r. latest_act_after r (e.step.party == e.step.party) e.step.act (latest_act e.step.party h)) is ∙ ap (λ b. newer_act b e.step.act (latest_act e.step.party h)) (same e.step.party)
+          latest = ap (λ r. latest_act_after r (e.step.party == e.step.party) e.step.act (latest_act e.step.party h)) is ∙ ap (λ b. newer_act b e.step.act (latest_act e.step.party h)) (same_number e.step.party e.step.party refl)

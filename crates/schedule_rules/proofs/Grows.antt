@@ -1,8 +1,8 @@
 -- What a legal step leaves: each section stands on the phase that it needs, each holder of a write guard sees a value, and
 -- INITIALIZED is never cleared.
-use Rattle.schedule_rules.proofs.Words.{ℕ, ◌≡◌, List, arith, Bool, refl, true, false, Some, ◌∷◌, ◌∙◌, [], ap, sym, ◌⊎◌, and_or_apart, and_or_self, bit_and, bit_or, AllByRecursion}
+use Rattle.schedule_rules.proofs.Words.{ℕ, ◌≡◌, List, arith, Bool, true, refl, false, Some, ◌∷◌, ◌∙◌, [], sym, ap, ◌⊎◌, and_or_apart, and_or_self, bit_or, bit_and, AllByRecursion}
 use Rattle.schedule_rules.proofs.Words.{◌==◌, Option, has, initialized, phase_of, shall_init, CellPlan, Want, Calls, Turns, cell_at, tolerance_of, flags_kept, Content, Change}
-use Rattle.schedule_rules.proofs.Words.{effect, Ran, Put, Deed, Visits, Makes, Ends, EndsToRead, Finishes, Drops, EndsToWrite, DropsToRead, Lends, Opens, Holds, Event, deed_of}
+use Rattle.schedule_rules.proofs.Words.{effect, Ran, Put, Deed, Visits, Makes, Finishes, EndsToRead, Ends, DropsToRead, Drops, EndsToWrite, Lends, Opens, Holds, Event, deed_of}
 use Rattle.schedule_rules.proofs.Words.{accepts, sections, Section, is_turn, Guard, guards, numbered, replay, phase_at, IsLegal, IsExclusive}
 use Rattle.schedule_rules.proofs.Found.{each_found}
 use Rattle.schedule_rules.proofs.Cases.{Asking, Resting, AsksToLend, Reach}

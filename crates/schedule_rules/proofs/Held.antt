@@ -1,9 +1,9 @@
 -- A phase that is not 0 never is 0 again; and a cell that was touched stays so: its phase is not 0, or a section runs in it,
 -- or a guard writes it.
-use Rattle.schedule_rules.proofs.Words.{ℕ, ◌≡◌, List, arith, Bool, true, false, Some, ◌∷◌, ◌∙◌, [], sym, None, subst, ◌⊎◌, inl, inr, ◌<◌, ◌≢◌, cond, and_or_self, bit_and, bit_or}
+use Rattle.schedule_rules.proofs.Words.{ℕ, ◌≡◌, List, arith, Bool, true, false, Some, ◌∷◌, ◌∙◌, [], sym, None, subst, ◌⊎◌, inl, ◌<◌, inr, ◌≢◌, cond, and_or_self, bit_or, bit_and}
 use Rattle.schedule_rules.proofs.Words.{AllByRecursion, ◌==◌, Option, has, initialized, CellPlan, cell_at, Content, Change, effect, Ran, Put, Asked, content_after, Ended}
-use Rattle.schedule_rules.proofs.Words.{RanIfAsked, Deed, Visits, Makes, Ends, EndsToRead, Finishes, Drops, EndsToWrite, DropsToRead, Lends, Holds, Event, deed_of, sections}
-use Rattle.schedule_rules.proofs.Words.{Section, Guard, guards, numbered, replay, phase_at, Back, content_after_back, back_of_step, write_holds, IsLegal, IsExclusive}
+use Rattle.schedule_rules.proofs.Words.{RanIfAsked, Deed, Visits, Makes, Finishes, EndsToRead, Ends, DropsToRead, Drops, EndsToWrite, Lends, Holds, Event, deed_of, sections}
+use Rattle.schedule_rules.proofs.Words.{Section, Guard, guards, numbered, replay, phase_at, Back, back_of_step, content_after_back, write_holds, IsLegal, IsExclusive}
 use Rattle.schedule_rules.proofs.Exclusion.{alone}
 use Rattle.schedule_rules.proofs.Found.{each_of, each_found}
 use Rattle.schedule_rules.proofs.Finds.{Finds, accessed_there, finds}

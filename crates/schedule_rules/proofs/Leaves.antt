@@ -1,10 +1,10 @@
 -- What a deed leaves: what is given back changes its own cell, what is published changes only where nothing holds the cell to
 -- write afterwards, and what stands open keeps what is said of it.
-use Rattle.schedule_rules.proofs.Words.{ℕ, ◌≡◌, List, arith, Bool, refl, true, false, Some, ◌∷◌, ◌∙◌, [], ap, sym, None, subst, ◌⊎◌, inl, inr, ◌<◌, length, ◌+◌, ◌≤◌, cond}
+use Rattle.schedule_rules.proofs.Words.{ℕ, ◌≡◌, List, arith, Bool, true, refl, false, Some, ◌∷◌, ◌∙◌, [], sym, ap, None, subst, ◌⊎◌, inl, ◌<◌, inr, length, ◌+◌, cond, ◌≤◌}
 use Rattle.schedule_rules.proofs.Words.{AllByRecursion, ◌==◌, if◌then◌else◌, Option, Call, CellPlan, cell_at, Content, Change, effect, Asked, content_after, Ended, Deed, Visits}
-use Rattle.schedule_rules.proofs.Words.{Makes, Ends, EndsToRead, Finishes, Drops, EndsToWrite, DropsToRead, Lends, Opens, Holds, Beside, Puts, Ending, Event, accepts, count}
-use Rattle.schedule_rules.proofs.Words.{sections, Section, innermost, runs_in, sections_by, without_innermost, Guard, guards, numbered, without_guard, guards_by, writer_made}
-use Rattle.schedule_rules.proofs.Words.{reader_beside, reader_made, reader, writer, carrier, replay, Back, content_after_back, back_of_section, back_by, back_of_guard, change_of}
+use Rattle.schedule_rules.proofs.Words.{Makes, Finishes, EndsToRead, Ends, DropsToRead, Drops, EndsToWrite, Lends, Opens, Holds, Puts, Beside, Ending, Event, accepts, count}
+use Rattle.schedule_rules.proofs.Words.{sections, Section, innermost, runs_in, without_innermost, sections_by, Guard, guards, numbered, without_guard, guards_by, writer_made}
+use Rattle.schedule_rules.proofs.Words.{reader_beside, reader_made, reader, carrier, writer, replay, Back, content_after_back, back_of_section, back_by, change_of, back_of_guard}
 use Rattle.schedule_rules.proofs.Words.{write_holds, writes_cell, IsExclusive}
 use Rattle.schedule_rules.proofs.Facts.{whether, apart, same_number, at_least}
 use Rattle.schedule_rules.proofs.Found.{each_counted, each_found, each_ended, each_removed, each_put}
@@ -199,10 +199,7 @@ module _ (cells : List CellPlan) (h : List Event) (p : ℕ) where
         stays c n e = subst (R c (replay cells c h)) (sym e) (same c n)
 
         nothing : (c : ℕ) → back_by p d (sections h) (guards h) ≡ None → R c (replay cells c h) (left_at d c)
-        nothing c e = stays c (λ g. none (sym e ∙ g.given)) (nowhere d c e)
-          where
-            none : {b : Back} → None ≡ Some b → ⊥
-            none x = cc
+        nothing c e = stays c (λ g. let n : _ = g.given in cc) (nowhere d c e)
 
         back : (b : Back) (c : ℕ) → back_by p d (sections h) (guards h) ≡ Some b → R b.cell (replay cells b.cell h) (effect (cell_at cells b.cell) b.changes (replay cells b.cell h)) → R c (replay cells c h) (left_at d c)
         back b c e r = by (b.cell == c) refl

@@ -1,7 +1,7 @@
 -- No turn of the exit that ended is Busy.
-use Rattle.schedule_rules.proofs.Words.{ℕ, List, arith, Bool, Some, ◌∷◌, [], None, ◌≢◌, ◌++◌, All-cons, All-nil, All-append, Option, Turn, Turned, Deed, Makes, Ends, Finishes}
-use Rattle.schedule_rules.proofs.Words.{Skips, Event, deed_of, sections, Section, innermost, ended_turns, turn_of_section, turns_by, turn_of, NoneBusy, Account, Schedule, told}
-use Rattle.schedule_rules.proofs.Words.{IsLegalTranscript}
+use Rattle.schedule_rules.proofs.Words.{ℕ, List, arith, Bool, Some, ◌∷◌, [], None, ◌≢◌, ◌++◌, All-cons, All-nil, All-append, Option, Turn, Turned, Deed, Makes, Finishes, Ends}
+use Rattle.schedule_rules.proofs.Words.{Skips, Event, deed_of, sections, Section, innermost, ended_turns, turn_of, turns_by, turn_of_section, NoneBusy, IsLegalTranscript, told}
+use Rattle.schedule_rules.proofs.Words.{Schedule, Account}
 
 -- behind turns of which none is Busy, one more that is not
 one_more : (ts : List Turned) (c : ℕ) (t : Turn) → t ≢ Turn.Busy → NoneBusy ts → NoneBusy (ts ++ record { cell = c; turn = t } ∷ [])

@@ -1,9 +1,9 @@
 -- A generator of a cell succeeds at most once.
-use Rattle.schedule_rules.proofs.Words.{ℕ, ◌≡◌, List, arith, Bool, refl, true, false, Some, ◌∷◌, ◌∙◌, [], ap, sym, None, subst, ◌⊎◌, ◌&&◌, inl, inr, ◌<◌, ◌+◌, ◌≤◌, cond, ◌||◌}
-use Rattle.schedule_rules.proofs.Words.{◌==◌, has, initialized, Answer, CellPlan, Act, cell_at, flags_kept, Content, Change, effect, Ran, Deed, Visits, Makes, Ends, EndsToRead}
-use Rattle.schedule_rules.proofs.Words.{Finishes, Drops, EndsToWrite, DropsToRead, Lends, Event, deed_of, count, sections, Section, innermost, is_turn, runs_in, Guard, guards}
-use Rattle.schedule_rules.proofs.Words.{numbered, replay, phase_at, back_of_section, back_by, writes_cell, IsLegal, lends_at, runs_to_lend, is_failed, successes, is_lent_at}
-use Rattle.schedule_rules.proofs.Words.{is_success}
+use Rattle.schedule_rules.proofs.Words.{ℕ, ◌≡◌, List, arith, Bool, true, refl, false, Some, ◌∷◌, ◌∙◌, [], sym, ap, None, subst, ◌&&◌, ◌⊎◌, inl, ◌<◌, inr, ◌+◌, cond, ◌≤◌, ◌||◌}
+use Rattle.schedule_rules.proofs.Words.{◌==◌, has, initialized, Answer, CellPlan, Act, cell_at, flags_kept, Content, Change, effect, Ran, Deed, Visits, Makes, Finishes, EndsToRead}
+use Rattle.schedule_rules.proofs.Words.{Ends, DropsToRead, Drops, EndsToWrite, Lends, Event, deed_of, count, sections, Section, innermost, is_turn, runs_in, Guard, guards}
+use Rattle.schedule_rules.proofs.Words.{numbered, replay, phase_at, back_of_section, back_by, writes_cell, IsLegal, lends_at, runs_to_lend, is_failed, is_success, successes}
+use Rattle.schedule_rules.proofs.Words.{is_lent_at}
 use Rattle.schedule_rules.proofs.Exclusion.{alone}
 use Rattle.schedule_rules.proofs.Found.{found_counts, each_found}
 use Rattle.schedule_rules.proofs.Leaves.{back_here, left_at, guards_left, GivenAt, Writing, writing, GivesOf, moves}

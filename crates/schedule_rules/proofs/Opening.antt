@@ -1,8 +1,8 @@
 -- What holds of each open guard: what happened in its section, that it bears the number of an earlier step, and that no
 -- section of a cell is open while a guard reads it.
-use Rattle.schedule_rules.proofs.Words.{ℕ, ◌≡◌, List, arith, Bool, refl, true, false, Some, ◌∷◌, ◌∙◌, [], ap, sym, None, ◌<◌, length, ◌++◌, and_or_apart, and_assoc, bit_and}
+use Rattle.schedule_rules.proofs.Words.{ℕ, ◌≡◌, List, arith, Bool, true, refl, false, Some, ◌∷◌, ◌∙◌, [], sym, ap, None, ◌<◌, length, ◌++◌, and_or_apart, and_assoc, bit_and}
 use Rattle.schedule_rules.proofs.Words.{AllByRecursion, ◌==◌, is_some, ◌-◌, ◌^◌, Option, has, Given, final_outcome, CellPlan, Step, flags_kept, Content, Change, effect, Ran, Put}
-use Rattle.schedule_rules.proofs.Words.{Asked, Deed, Visits, EndsToRead, Drops, EndsToWrite, DropsToRead, Holds, Beside, Puts, Event, deed_of, sections, innermost, Guard, guards}
+use Rattle.schedule_rules.proofs.Words.{Asked, Deed, Visits, EndsToRead, DropsToRead, Drops, EndsToWrite, Holds, Puts, Beside, Event, deed_of, sections, innermost, Guard, guards}
 use Rattle.schedule_rules.proofs.Words.{numbered, without_guard, guards_by, writer_made, reader_beside, reader_made, reader, cell_concerned, write_holds, read_guards, reads_cell}
 use Rattle.schedule_rules.proofs.Words.{turns_to_read, IsLegal, read_at}
 use Rattle.schedule_rules.proofs.Opened.{put}
@@ -104,11 +104,8 @@ Reads n c x = (x.number == n) ≡ true → (x.cell ≡ c) × (x.writes ≡ false
 stays_reading : (n c : ℕ) (k h : List Event) → n < length h → AllByRecursion (Reads n c) (guards h) → AllByRecursion (Reads n c) (guards (k ++ h)) × (n < length (k ++ h))
 stays_reading n c [] h le rs = (rs, le)
 stays_reading n c (e ∷ k) h le rs =
-    let before : _ = stays_reading n c k h le rs in
-    (each_after (Reads n c) (k ++ h) (λ x o same. absurd (other x.number (length (k ++ h)) o.number before.1 same)) (λ v x r. r) e before.0, omega (arith, before.1))
-  where
-    other : (m l : ℕ) → m ≡ l → n < l → (m == n) ≡ true → ⊥
-    other m l e le same = let at : m ≡ n = grind arith in omega (arith, at, e, le)
+    let before : _ = stays_reading n c k h le rs in let later : _ = before.1 in
+    (each_after (Reads n c) (k ++ h) (λ x o same. let m : _ = o.number in absurd (grind arith)) (λ v x r. r) e before.0, omega (arith, later))
 
 -- what reads the cell keeps every section of it out
 reading_keeps_out : (cells : List CellPlan) (h : List Event) (n c : ℕ) → IsLegal cells h → AllByRecursion (Reads n c) (guards h) → is_some (numbered n (guards h)) ≡ true → write_holds c h ≡ 0

@@ -1,8 +1,8 @@
 -- What is published changes only while no guard reads the cell, and its phase where a section of the cell is given back.
-use Rattle.schedule_rules.proofs.Words.{ℕ, ◌≡◌, List, arith, Bool, refl, true, false, Some, ◌∷◌, ◌∙◌, ap, subst, ◌⊎◌, inl, inr, ◌<◌, ◌≢◌, not, ◌==◌, if◌then◌else◌, Answer}
-use Rattle.schedule_rules.proofs.Words.{CellPlan, Step, Calls, cell_at, tolerance_at, Content, Change, effect, is_declined, Deed, Visits, Makes, Ends, EndsToRead, Finishes, Drops}
-use Rattle.schedule_rules.proofs.Words.{DropsToRead, Lends, Event, deed_of, accepts, count, sections, Section, innermost, runs_in, Guard, guards, numbered, replay, phase_at}
-use Rattle.schedule_rules.proofs.Words.{write_holds, writes_cell, read_guards, IsLegal, lends_at, DeclinesAt, LendsAt, GivesBack}
+use Rattle.schedule_rules.proofs.Words.{ℕ, ◌≡◌, List, arith, Bool, true, refl, false, Some, ◌∷◌, ◌∙◌, ap, subst, ◌⊎◌, inl, ◌<◌, inr, not, ◌≢◌, ◌==◌, if◌then◌else◌, Answer}
+use Rattle.schedule_rules.proofs.Words.{CellPlan, Step, Calls, cell_at, tolerance_at, Content, Change, effect, is_declined, Deed, Visits, Makes, Finishes, EndsToRead, Ends}
+use Rattle.schedule_rules.proofs.Words.{DropsToRead, Drops, Lends, Event, deed_of, accepts, count, sections, Section, innermost, runs_in, Guard, guards, numbered, replay, phase_at}
+use Rattle.schedule_rules.proofs.Words.{write_holds, writes_cell, read_guards, IsLegal, lends_at, LendsAt, DeclinesAt, GivesBack}
 use Rattle.schedule_rules.proofs.Facts.{whether, same_number, number_found}
 use Rattle.schedule_rules.proofs.Exclusion.{alone}
 use Rattle.schedule_rules.proofs.Found.{found_counts}
@@ -41,11 +41,7 @@ module _ (cells : List CellPlan) (h : List Event) (s : Step) (r : Answer) (legal
   untouches (EndsToRead v) f = inr (unread f.section.cell (ran f.section f.found))
   untouches (Drops g) f = λ w. inr (unread f.guard.cell (wrote g f.guard f.found w))
   untouches (DropsToRead g) f = inr (unread f.guard.cell (wrote g f.guard f.found f.way))
-  untouches (Visits c chs reads) f = by f.finds
-    where
-      by : Asking cells h s.party c f.asked false ⊎ Resting cells h s.party c f.asked → Stays c (replay cells c h) (effect (cell_at cells c) chs (replay cells c h))
-      by (inl q) = inr (q.unread (alone cells h legal c))
-      by (inr q) = inl (rests cells h s.party (alone cells h legal) c chs f.asked f.does q)
+  untouches (Visits c chs reads) f = elim (f.finds) [ inl q ↦ inr (q.unread (alone cells h legal c)) | inr q ↦ inl (rests cells h s.party (alone cells h legal) c chs f.asked f.does q) ]
   untouches (Lends c chs) f = inr f.free.unread
   untouches _ f = tt
 
@@ -114,11 +110,7 @@ module _ (cells : List CellPlan) (h : List Event) (s : Step) (r : Answer) (legal
     published : (d : Deed) → Finds cells h s.party d → Tells cells h s.party s.act r d → (left_at cells h s.party d c).phase ≢ phase_at cells c h → IsGiven d
     published (Visits z chs reads) f t ne = visits z chs reads t ne
     published (Lends z chs) f t ne = lends z chs f t ne
-    published d f t ne = by (held d f c ne)
-      where
-        by : (0 < write_holds c h) ⊎ ⊥ → IsGiven d
-        by (inl was) = one_less d f ne was
-        by (inr no_visit) = absurd no_visit
+    published d f t ne = elim (held d f c ne) [ inl was ↦ one_less d f ne was | inr no_visit ↦ absurd no_visit ]
 
 -- in a legal history
 pub published-given : (cells : List CellPlan) (h : List Event) (e : Event) (c : ℕ) → IsLegal cells (e ∷ h) → phase_at cells c (e ∷ h) ≢ phase_at cells c h

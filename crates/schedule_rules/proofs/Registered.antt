@@ -1,9 +1,9 @@
 -- A cell that the registry knows was touched, and is registered at most once.
-use Rattle.schedule_rules.proofs.Words.{ℕ, ◌≡◌, List, arith, Bool, refl, true, false, Some, ◌∷◌, ◌∙◌, [], sym, ◌⊎◌, inl, inr, ◌<◌, length, get_or-set_other, get_or_past}
+use Rattle.schedule_rules.proofs.Words.{ℕ, ◌≡◌, List, arith, Bool, true, refl, false, Some, ◌∷◌, ◌∙◌, [], sym, ◌⊎◌, inl, ◌<◌, inr, length, get_or-set_other, get_or_past}
 use Rattle.schedule_rules.proofs.Words.{length-replicate, get_or-replicate, AllByRecursion, ◌==◌, if◌then◌else◌, slice_index_or, slice_set, replicate, first_of, is_known, rest_of}
 use Rattle.schedule_rules.proofs.Words.{after_register, Registry, is_finalizable, CellPlan, Calls, Turns, cell_at, tries_registration, Deed, Opens, Skips, Looks, Takes, Event}
 use Rattle.schedule_rules.proofs.Words.{deed_of, count, sections, runs_in, sections_by, phase_at, registry, registry_by, registry_taken, registry_of_run, write_holds, IsLegal}
-use Rattle.schedule_rules.proofs.Facts.{first}
+use Rattle.schedule_rules.proofs.Facts.{apart, first}
 use Rattle.schedule_rules.proofs.Held.{IsHeld, held-stays}
 
 -- a turn that is taken leaves which are known
@@ -31,15 +31,8 @@ module _ (cells : List CellPlan) where
 
   -- what the registry knows is held
   known-held : (c : ℕ) (h : List Event) → IsLegal cells h → is_known (registry cells h) c ≡ true → IsHeld cells h c
-  known-held c [] k known = absurd (none (sym (none_known (length cells) c) ∙ known))
-    where
-      none : false ≡ true → ⊥
-      none x = cc
-  known-held c (e ∷ h) k known = by (known_before c e h known) (λ was. known-held c h k.2 was)
-    where
-      by : (is_known (registry cells h) c ≡ true) ⊎ IsHeld cells (e ∷ h) c → (is_known (registry cells h) c ≡ true → IsHeld cells h c) → IsHeld cells (e ∷ h) c
-      by (inl was) f = held-stays cells h e c k (f was)
-      by (inr is) f = is
+  known-held c [] k known = let none : _ = none_known (length cells) c in absurd (apart (sym known ∙ none))
+  known-held c (e ∷ h) k known = elim (known_before c e h known) [ inl was ↦ held-stays cells h e c k (known-held c h k.2 was) | inr is ↦ is ]
 
   -- so one whose phase is 0, and that nothing holds to write, is not known
   pub fresh-unknown : (h : List Event) (c : ℕ) → IsLegal cells h → phase_at cells c h ≡ 0 → write_holds c h ≡ 0 → is_known (registry cells h) c ≡ false
@@ -65,11 +58,7 @@ module _ (cells : List CellPlan) where
       by false o e = k
 
   takes : (b : Bool) (m : Registry) → AreRegistered m → AreRegistered (registry_taken b m)
-  takes true m k = record { pending = k.pending; left = rest m.left k.left }
-    where
-      rest : (cs : List ℕ) → AllByRecursion IsRegistered cs → AllByRecursion IsRegistered (rest_of cs)
-      rest [] r = tt
-      rest (c ∷ cs) r = r.1
+  takes true m k = record { pending = k.pending; left = (elim (m.left) as (λ cs. AllByRecursion IsRegistered cs → AllByRecursion IsRegistered (rest_of cs)) [ [] ↦ λ r. tt | c ∷ cs ↦ λ r. r.1 ]) k.left }
   takes false m k = k
 
   registered_by : (h : List Event) (d : Deed) (m : Registry) → AreRegistered m → AreRegistered (registry_by cells h d m)

@@ -1,5 +1,5 @@
 -- What a step registers.
-use Rattle.schedule_rules.proofs.Words.{ℕ, ◌≡◌, List, arith, Bool, refl, true, false, ◌∷◌, ◌∙◌, ap, sym, ◌&&◌, ◌||◌, get_or-set_other, get_or-set_same, ◌==◌, if◌then◌else◌}
+use Rattle.schedule_rules.proofs.Words.{ℕ, ◌≡◌, List, arith, Bool, true, refl, false, ◌∷◌, ◌∙◌, sym, ap, ◌&&◌, ◌||◌, get_or-set_other, get_or-set_same, ◌==◌, if◌then◌else◌}
 use Rattle.schedule_rules.proofs.Words.{is_known, registered, Call, CellPlan, Calls, Turns, cell_at, tries_registration, Change, Deed, Visits, Opens, Skips, Event, deed_of}
 use Rattle.schedule_rules.proofs.Words.{accepts, phase_at, registry, registry_by, registry_taken, registry_of_run, IsLegal}
 use Rattle.schedule_rules.proofs.Registrations.{visit_registers, deed_registers, shows_registration}

@@ -1,5 +1,5 @@
 -- Which lines show that their step tried to register a cell, and that it is tried at most once at a cell.
-use Rattle.schedule_rules.proofs.Words.{ℕ, ◌≡◌, List, arith, Bool, refl, true, false, Some, ◌∷◌, [], subst, ◌⊎◌, inl, inr, ◌<◌, ◌≢◌, ◌+◌, ◌≤◌, cond, ◌==◌, if◌then◌else◌, Option}
+use Rattle.schedule_rules.proofs.Words.{ℕ, ◌≡◌, List, arith, Bool, true, refl, false, Some, ◌∷◌, [], subst, ◌⊎◌, inl, ◌<◌, inr, ◌≢◌, ◌+◌, cond, ◌≤◌, ◌==◌, if◌then◌else◌, Option}
 use Rattle.schedule_rules.proofs.Words.{is_known, Call, Answer, Line, CellPlan, Step, Calls, cell_at, tolerance_at, asks, Change, Asked, Deed, Visits, Opens, Event, deed_of}
 use Rattle.schedule_rules.proofs.Words.{phase_at, registry, Attempt, write_holds, IsLegal, IsLegalLine, IsExclusive, is_attempted, asks_registration}
 use Rattle.schedule_rules.proofs.Exclusion.{alone}
@@ -58,10 +58,7 @@ module _ (cells : List CellPlan) (c : ℕ) where
     asked d j x unheld is (here, n, empty) = (subst (λ z. phase_at cells z h ≡ 0) here empty, subst (λ z. IsExclusive cells h z → write_holds z h ≡ 0) here unheld only, is here)
 
     running : (d : ℕ) (j : Call) (taken : Bool) → Asking cells h p d j true → IsFresh (Opens d (Calls j) taken)
-    running d j taken q e = asked d j (Opens d (Calls j) taken) q.unheld (λ here. inr (by here)) (tried d j e)
-      where
-        by : d ≡ c → 0 < holds_left cells h p (Opens d (Calls j) taken) c
-        by here = let same : (d == c) ≡ true = grind arith in rw same (omega arith)
+    running d j taken q e = asked d j (Opens d (Calls j) taken) q.unheld (λ here. inr (let same : (d == c) ≡ true = grind arith in rw same (omega arith))) (tried d j e)
 
     visits : (d : ℕ) (chs : List Change) (reads : Bool) → Visit cells h p d chs reads → IsFresh (Visits d chs reads)
     visits d chs reads v e = by v.finds (tried d v.asked (subst (λ l. visit_registers cells c h d l ≡ true) v.does e))

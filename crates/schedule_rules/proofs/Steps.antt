@@ -1,11 +1,11 @@
 -- What holds in each case, holds of each legal step.
-use Rattle.schedule_rules.proofs.Words.{ℕ, ◌≡◌, List, arith, Bool, refl, true, false, Some, ◌∙◌, ap, sym, None, subst, ◌&&◌, not, ◌+◌, ◌==◌, if◌then◌else◌, is_none, Option}
-use Rattle.schedule_rules.proofs.Words.{phase_of, first_of, LockNature, is_finalizable, is_primed, lends_value, Call, Kind, Form, Held, Told, Shown, Answer, Line, Refusal}
-use Rattle.schedule_rules.proofs.Words.{CellPlan, Act, Step, Calls, cell_at, tolerance_at, is_of_other, is_accessible, finishes_so, phase_reached, Success, asks_to_lend}
+use Rattle.schedule_rules.proofs.Words.{ℕ, ◌≡◌, List, arith, Bool, true, refl, false, Some, ◌∙◌, sym, ap, None, subst, ◌&&◌, not, ◌+◌, ◌==◌, if◌then◌else◌, is_none, Option}
+use Rattle.schedule_rules.proofs.Words.{phase_of, first_of, LockNature, is_finalizable, lends_value, is_primed, Call, Kind, Form, Held, Told, Shown, Answer, Line, Refusal}
+use Rattle.schedule_rules.proofs.Words.{CellPlan, Act, Step, Calls, cell_at, tolerance_at, is_of_other, is_accessible, finishes_so, Success, phase_reached, asks_to_lend}
 use Rattle.schedule_rules.proofs.Words.{content_of_run, Event, accepts, count, sections, Section, innermost, is_turn, Guard, guards, numbered, own, replay, phase_at, registry}
-use Rattle.schedule_rules.proofs.Words.{finishing, Wait, waits, wait_of, waits_at, write_holds, read_guards, is_barred, holding_with, is_in_use, refusal, no_call, no_lending}
-use Rattle.schedule_rules.proofs.Words.{writes_of, ends_turn, no_reader, no_outcome, ends_run, no_writer, no_guard, refusal_to_lend, answer_of_value, answer_made_to_lend}
-use Rattle.schedule_rules.proofs.Words.{answer_lent, answer_at, answer_made, answer_of_made, due_answer, due_clone, due_made, phase_made, due_finished, IsLegalLine, answer_of}
+use Rattle.schedule_rules.proofs.Words.{finishing, Wait, waits, wait_of, waits_at, write_holds, is_barred, read_guards, holding_with, is_in_use, refusal, no_lending, no_call}
+use Rattle.schedule_rules.proofs.Words.{no_writer, writes_of, ends_run, ends_turn, no_outcome, refusal_to_lend, no_reader, no_guard, answer_of_value, answer_made_to_lend}
+use Rattle.schedule_rules.proofs.Words.{answer_lent, answer_at, answer_made, answer_of_made, due_answer, due_clone, due_made, due_finished, phase_made, IsLegalLine, answer_of}
 use Rattle.schedule_rules.proofs.Words.{due_at, waits_judged}
 use Rattle.schedule_rules.proofs.Cases.{step, Case, Generating, Lendable, AsksToLend, Reach, form_at, writes}
 use Rattle.schedule_rules.proofs.Attempts.{rests, mine_where_none, attempted, again, exits}
@@ -28,6 +28,9 @@ is_writer b e = grind arith
 -- one that is needed to read, does not
 is_reader : (b : Bool) → no_reader (Some b) ≡ None → b ≡ false
 is_reader b e = grind arith
+
+none_used : (n : ℕ) → not (n == 0) ≡ false → n ≡ 0
+none_used n f = grind arith
 
 no_refusal : (r : Refusal) → Some r ≡ None → ⊥
 no_refusal r e = cc
@@ -53,11 +56,8 @@ module _ (cells : List CellPlan) (h : List Event) (p : ℕ) where
   free_to_lend : (c : ℕ) → refusal_to_lend cells h p c ≡ None → Lendable cells h p c
   free_to_lend c e =
       let is : _ = is_lendable (is_of_other (cell_at cells c).place p) (lends_value (cell_at cells c).kind) (is_in_use cells c h) e in
-      let none : _ = unused (read_guards c h + write_holds c h + count (waits_at c) (waits cells h)) is.1 in
+      let none : _ = none_used (read_guards c h + write_holds c h + count (waits_at c) (waits cells h)) is.1 in
       record { lends = is.0; unread = omega (arith, none); unheld = omega (arith, none); unwaited = omega (arith, none) }
-    where
-      unused : (n : ℕ) → not (n == 0) ≡ false → n ≡ 0
-      unused n f = grind arith
 
   -- so it is with an act that is to lend it, and is not refused
   pub lendable : (c : ℕ) (made : Option ℕ) (left : ℕ) → refusal cells h (step cells h p (Act.GetMut c made left)) ≡ None → Lendable cells h p c

@@ -1,9 +1,9 @@
 -- Tests of answers, and which answers of what is admitted pass them.
-use Rattle.schedule_rules.proofs.Words.{ℕ, ◌≡◌, List, arith, Bool, refl, true, false, None, ◌&&◌, length, not, ◌||◌, ◌==◌, if◌then◌else◌, Option, has, initialized, Phase, look_at}
-use Rattle.schedule_rules.proofs.Words.{is_empty, LockNature, How, flags_refused, Tolerance, Call, Kind, Form, Answer, CellPlan, Place, Act, Want, Calls, Turns, cell_at}
+use Rattle.schedule_rules.proofs.Words.{ℕ, ◌≡◌, List, arith, Bool, true, refl, false, sym, None, ◌&&◌, not, length, ◌||◌, ◌==◌, if◌then◌else◌, Option, has, initialized, Phase}
+use Rattle.schedule_rules.proofs.Words.{look_at, is_empty, LockNature, How, flags_refused, Tolerance, Call, Kind, Form, Answer, CellPlan, Place, Act, Want, Calls, Turns, cell_at}
 use Rattle.schedule_rules.proofs.Words.{tolerance_at, is_owned, form_of, denies, is_accessible, runs_generator, asks, lock_wanted, Content, Event, accepts, is_turn, replay}
-use Rattle.schedule_rules.proofs.Words.{refusal, answer_barred, answer_made_to_lend, answer_lent, answer_at, answer_admitted, turn_answer_admitted, answer_of_look, is_waiting}
-use Rattle.schedule_rules.proofs.Words.{is_cyclic, is_borrowed, is_closing, is_running, is_access, is_round, is_skipped, is_denied_to_lend, is_missed, is_finalizing, want_denies}
+use Rattle.schedule_rules.proofs.Words.{refusal, answer_barred, answer_made_to_lend, answer_admitted, answer_lent, answer_at, turn_answer_admitted, answer_of_look, is_waiting}
+use Rattle.schedule_rules.proofs.Words.{is_cyclic, is_finalizing, is_missed, is_borrowed, is_access, is_skipped, is_round, is_running, is_denied_to_lend, is_closing, want_denies}
 use Rattle.schedule_rules.proofs.Words.{is_initializing}
 use Rattle.schedule_rules.proofs.Answered.{IsShown, IsTold, admitted}
 
@@ -94,6 +94,12 @@ only_own own kept barred x = grind arith
 pub not_admitted : (own kept barred : Bool) → (if own then true else if not kept && barred then true else false) ≡ not (not own && not (not own && (not kept && barred)))
 not_admitted own kept barred = grind arith
 
+pub none_kept : (x y z : Bool) → ((not x && (not true && y)) && z) ≡ false
+none_kept x y z = grind arith
+
+pub none_asked : (x y a g : Bool) → a ≡ false → (x && (y && (a && g))) ≡ false
+none_asked x y a g f = grind arith
+
 pub parts_of_look : (a b c d : Bool) → (a && (b && (c && d))) ≡ ((a && (b && c)) && d)
 parts_of_look a b c d = grind arith
 
@@ -133,10 +139,7 @@ module _ (q : Kind) (t : Tolerance) (c : ℕ) (o : Bool) (y : Content) where
     where
       by : (b g : Bool) → is_running (if b && g then Answer.Running else answer_at (form_of q k) (is_accessible q (content b g).phase) (content b g)) ≡ (b && g)
       by b g = grind (arith, runs_at)
-  admitted_runs Turns = by (has y.phase initialized)
-    where
-      by : (b : Bool) → is_running (turn_answer_admitted (if b then LockNature.Write else LockNature.None) c) ≡ false
-      by b = grind arith
+  admitted_runs Turns = elim (has y.phase initialized) as (λ b. is_running (turn_answer_admitted (if b then LockNature.Write else LockNature.None) c) ≡ false) [ true ↦ refl | false ↦ refl ]
 
   -- it is turned away exactly where it runs nothing, is a call that is told where the value may not be accessed, and it may
   -- not be at the phase that it leaves
@@ -147,34 +150,22 @@ module _ (q : Kind) (t : Tolerance) (c : ℕ) (o : Bool) (y : Content) where
       by : (b g : Bool) → is_access (if b && g then Answer.Running else answer_at (form_of q k) (is_accessible q (content b g).phase) (content b g))
           ≡ (not (b && g) && (denies (form_of q k) && not (is_accessible q (if b then flags_refused else y.phase))))
       by b g = grind arith
-  admitted_away Turns = by (has y.phase initialized)
-    where
-      by : (b : Bool) → is_access (turn_answer_admitted (if b then LockNature.Write else LockNature.None) c) ≡ false
-      by b = grind arith
+  admitted_away Turns = elim (has y.phase initialized) as (λ b. is_access (turn_answer_admitted (if b then LockNature.Write else LockNature.None) c) ≡ false) [ true ↦ refl | false ↦ refl ]
 
   -- a turn finalizes exactly where the value is there
   pub admitted_finalizes : (d : ℕ) (w : Want) → is_finalizing d (answer_admitted q t c o w y) ≡ (is_turn w && ((c == d) && has y.phase initialized))
   admitted_finalizes d (Calls k) = admitted (λ a. is_finalizing d a ≡ false) (told_of (is_finalizing d) (of_finalizing d) refl) refl q t o k y
-  admitted_finalizes d Turns = by (has y.phase initialized)
-    where
-      by : (b : Bool) → is_finalizing d (turn_answer_admitted (if b then LockNature.Write else LockNature.None) c) ≡ ((c == d) && b)
-      by b = grind arith
+  admitted_finalizes d Turns = elim (has y.phase initialized) as (λ b. is_finalizing d (turn_answer_admitted (if b then LockNature.Write else LockNature.None) c) ≡ ((c == d) && b)) [ true ↦ same_both _ | false ↦ sym (no_more _) ]
 
   -- and is skipped exactly where it is not
   pub admitted_skips : (d : ℕ) (w : Want) → is_skipped d (answer_admitted q t c o w y) ≡ (is_turn w && ((c == d) && not (has y.phase initialized)))
   admitted_skips d (Calls k) = admitted (λ a. is_skipped d a ≡ false) (told_of (is_skipped d) (of_skipped d) refl) refl q t o k y
-  admitted_skips d Turns = by (has y.phase initialized)
-    where
-      by : (b : Bool) → is_skipped d (turn_answer_admitted (if b then LockNature.Write else LockNature.None) c) ≡ ((c == d) && not b)
-      by b = grind arith
+  admitted_skips d Turns = elim (has y.phase initialized) as (λ b. is_skipped d (turn_answer_admitted (if b then LockNature.Write else LockNature.None) c) ≡ ((c == d) && not b)) [ true ↦ sym (no_more _) | false ↦ same_both _ ]
 
   -- nothing that is admitted passes a test of what is not
   pub admitted_fails : (f : Answer → Bool) → IsBeyond f → (w : Want) → f (answer_admitted q t c o w y) ≡ false
   admitted_fails f is (Calls k) = admitted (λ a. f a ≡ false) (told_of f is.tries is.err_guard) is.running q t o k y
-  admitted_fails f is Turns = by (lock_wanted q t Turns y.phase)
-    where
-      by : (n : LockNature) → f (turn_answer_admitted n c) ≡ false
-      by n = grind arith
+  admitted_fails f is Turns = elim (lock_wanted q t Turns y.phase) as (λ n. f (turn_answer_admitted n c) ≡ false) [ LockNature.None ↦ is.skipped c | _ ↦ is.finalizing c ]
 
 -- a test fails on what is barred
 pub fails_barred : (t : Answer → Bool) → t Answer.Missed ≡ false → t Answer.Borrowed ≡ false → ((w : How) → t (Answer.Waiting w) ≡ false) → (fast : Bool) (x : Place) (w : How) → t (answer_barred fast x w) ≡ false

@@ -1,8 +1,8 @@
 -- A legal line shows that its step tried to register a cell exactly where it did.
-use Rattle.schedule_rules.proofs.Words.{ℕ, ◌≡◌, List, arith, Bool, refl, true, false, Some, ◌∷◌, ◌∙◌, [], ap, sym, None, subst, ◌⊎◌, ◌&&◌, inl, not, ◌+◌, ◌≤◌, ◌||◌, ◌==◌}
+use Rattle.schedule_rules.proofs.Words.{ℕ, ◌≡◌, List, arith, Bool, true, refl, false, Some, ◌∷◌, ◌∙◌, [], sym, ap, None, subst, ◌&&◌, ◌⊎◌, inl, not, ◌+◌, ◌≤◌, ◌||◌, ◌==◌}
 use Rattle.schedule_rules.proofs.Words.{if◌then◌else◌, is_none, Option, phase_of, Phase, first_of, is_known, How, flags_refused, Call, Answer, Line, Refusal, CellPlan, Place, Act}
 use Rattle.schedule_rules.proofs.Words.{Step, Calls, Turns, cell_at, tries_registration, deed_waiting, deed_by, Event, accepts, is_exit, replay, phase_at, registry, Wait, waits}
-use Rattle.schedule_rules.proofs.Words.{attempt, Attempt, attempt_of_turn, attempt_with, refusal, answer_of_value, answer_barred, due_answer, due_attempt, IsLegal, IsLegalLine}
+use Rattle.schedule_rules.proofs.Words.{Attempt, attempt, attempt_with, attempt_of_turn, refusal, answer_of_value, answer_barred, due_answer, due_attempt, IsLegal, IsLegalLine}
 use Rattle.schedule_rules.proofs.Words.{answer_of, waits_judged, is_attempted, is_admitted, asks_registration, tells_declined, tries_to_register, registrations}
 use Rattle.schedule_rules.proofs.Cases.{Visiting, step, Calling, Resting, Case}
 use Rattle.schedule_rules.proofs.Registrations.{asks_so, deed_registers, shows_registration, registrations_shown, tries-unknown, registered-once}
@@ -78,12 +78,9 @@ module _ (cells : List CellPlan) (c : ℕ) where
     -- one that gets what the cell holds
     shows_what_is : (a : Act) (d : ℕ) (j : Call) (r : Answer) → Calling cells h p a d j → Resting cells h p d j → deed_registers cells c h (deed_by (accepts h) (is_exit a) (Act.Call d j) r) ≡ false → Tried a r
     shows_what_is a d j r t q is = called a d j r t (record {
-      same = is ∙ and_no (not (is_back r)) ∙ ap (λ b. not (is_back r) && b) (sym (none d j q));
+      same = is ∙ no_more (not (is_back r)) ∙ ap (λ b. not (is_back r) && b) (sym (none d j q));
       answers = λ e. absurd (apart (sym e ∙ is));
     })
-      where
-        and_no : (b : Bool) → false ≡ (b && false)
-        and_no b = no_more b
 
     waited : (b : Bool) → deed_registers cells c h (deed_waiting b) ≡ false
     waited b = grind arith

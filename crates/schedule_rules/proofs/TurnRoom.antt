@@ -1,6 +1,6 @@
 -- The turns of a legal history are no more than its cells.
-use Rattle.schedule_rules.proofs.Words.{ℕ, ◌≡◌, List, arith, Bool, refl, true, false, Some, ◌∷◌, ◌∙◌, [], ap, ◌&&◌, ◌<◌, length, ◌+◌, ◌≤◌, ◌++◌, All, get_or_past, length-append}
-use Rattle.schedule_rules.proofs.Words.{length-map, All-cons, All-nil, ◌==◌, if◌then◌else◌, cells_of_turns, is_known, rest_of, occurs, due, CellPlan, Act, Step, Turns, Event}
+use Rattle.schedule_rules.proofs.Words.{ℕ, ◌≡◌, List, arith, Bool, true, refl, false, Some, ◌∷◌, ◌∙◌, [], ap, ◌&&◌, ◌<◌, length, ◌+◌, ◌≤◌, ◌++◌, All, get_or_past, length-map}
+use Rattle.schedule_rules.proofs.Words.{length-append, All-cons, All-nil, ◌==◌, if◌then◌else◌, cells_of_turns, is_known, rest_of, occurs, due, CellPlan, Act, Step, Turns, Event}
 use Rattle.schedule_rules.proofs.Words.{count, sections, Section, innermost, is_turn, registry, ended_turns, Wait, waits, wait_of, attempt, attempt_with, IsLegal, turns_of}
 use Rattle.schedule_rules.proofs.Words.{turns_at_hand}
 use Rattle.exit_registry.proofs.Exiting.{few_below}

@@ -1,10 +1,10 @@
 -- Each registered cell has one turn: to come, waiting, going on or ended.
-use Rattle.schedule_rules.proofs.Words.{ℕ, ◌≡◌, List, arith, Bool, refl, true, false, Some, ◌∷◌, ◌∙◌, [], ap, sym, None, subst, ◌&&◌, ◌<◌, length, ◌+◌, cond, ◌++◌}
+use Rattle.schedule_rules.proofs.Words.{ℕ, ◌≡◌, List, arith, Bool, true, refl, false, Some, ◌∷◌, ◌∙◌, [], sym, ap, None, subst, ◌&&◌, ◌<◌, length, ◌+◌, cond, ◌++◌}
 use Rattle.schedule_rules.proofs.Words.{get_or-set_other, get_or-set_same, ◌==◌, if◌then◌else◌, slice_index_or, slice_set, Option, cells_of_turns, first_of, is_known, rest_of}
 use Rattle.schedule_rules.proofs.Words.{after_register, occurs, registered, due, Turn, Given, is_finalizable, Call, Answer, Refusal, CellPlan, Act, Want, Calls, Turns, cell_at}
-use Rattle.schedule_rules.proofs.Words.{is_owned, tries_registration, is_fast, Deed, Makes, Ends, EndsToRead, Finishes, EndsToWrite, Opens, Skips, deed_waiting, deed_by, Looks}
-use Rattle.schedule_rules.proofs.Words.{Takes, Event, deed_of, accepts, count, is_exit, sections, Section, innermost, is_turn, sections_by, without_innermost, replay, phase_at}
-use Rattle.schedule_rules.proofs.Words.{registry, registry_by, registry_taken, ended_turns, turn_of_section, turns_by, turn_of, Wait, waits, wait_of, attempt_with, without_wait}
+use Rattle.schedule_rules.proofs.Words.{is_owned, tries_registration, is_fast, Deed, Makes, Finishes, EndsToRead, Ends, EndsToWrite, Opens, Skips, deed_waiting, deed_by, Looks}
+use Rattle.schedule_rules.proofs.Words.{Takes, Event, deed_of, accepts, count, is_exit, sections, Section, innermost, is_turn, without_innermost, sections_by, replay, phase_at}
+use Rattle.schedule_rules.proofs.Words.{registry, registry_by, registry_taken, ended_turns, turn_of, turns_by, turn_of_section, Wait, waits, wait_of, attempt_with, without_wait}
 use Rattle.schedule_rules.proofs.Words.{waits_given_with, with_wait, refusal, refusal_waiting, answer_of_value, IsLegal, turns_of, finalizes_in, waits_to_turn}
 use Rattle.schedule_rules.proofs.Facts.{whether, first, second, apart}
 use Rattle.schedule_rules.proofs.Exclusion.{alone}

@@ -1,11 +1,11 @@
 -- A value that is shown is there.
-use Rattle.schedule_rules.proofs.Words.{ℕ, ◌≡◌, List, arith, Bool, refl, true, false, Some, ◌∷◌, ◌∙◌, [], ap, sym, None, subst, ◌⊎◌, ◌&&◌, inl, inr, ◌<◌, length, not, ◌||◌}
-use Rattle.schedule_rules.proofs.Words.{and_or_self, and_assoc, and_le_r, AllByRecursion, ◌==◌, if◌then◌else◌, is_some, Option, has, initialized, is_primed, is_plain, is_hard}
+use Rattle.schedule_rules.proofs.Words.{ℕ, ◌≡◌, List, arith, Bool, true, refl, false, Some, ◌∷◌, ◌∙◌, [], sym, ap, None, subst, ◌&&◌, ◌⊎◌, inl, ◌<◌, inr, not, length, ◌||◌}
+use Rattle.schedule_rules.proofs.Words.{and_assoc, and_or_self, and_le_r, AllByRecursion, ◌==◌, if◌then◌else◌, is_some, Option, has, initialized, is_plain, is_primed, is_hard}
 use Rattle.schedule_rules.proofs.Words.{Call, Answer, Line, CellPlan, Act, Step, cell_at, tolerance_of, is_accessible, flags_kept, finishes_so, phase_finalized, value_finalized}
-use Rattle.schedule_rules.proofs.Words.{Content, Change, effect, Ran, Put, Asked, content_after, Ended, is_declined, RanIfAsked, asks_to_lend, content_of_run, Deed, Visits, Makes}
-use Rattle.schedule_rules.proofs.Words.{Ends, EndsToRead, Finishes, Drops, EndsToWrite, DropsToRead, Lends, Holds, Beside, Puts, Event, deed_of, sections, Section, Guard, guards}
-use Rattle.schedule_rules.proofs.Words.{numbered, without_guard, guards_by, writer_made, reader_beside, reader_made, replay, phase_at, Back, content_after_back, back_of_step}
-use Rattle.schedule_rules.proofs.Words.{back_of_section, back_by, inside, back_of_guard, change_of, read_guards, reads_cell, answer_of_value, IsLegal, IsLegalLine, lends_at}
+use Rattle.schedule_rules.proofs.Words.{Content, Change, effect, Ran, Put, Asked, content_after, Ended, asks_to_lend, is_declined, RanIfAsked, content_of_run, Deed, Visits, Makes}
+use Rattle.schedule_rules.proofs.Words.{Finishes, EndsToRead, Ends, DropsToRead, Drops, EndsToWrite, Lends, Holds, Puts, Beside, Event, deed_of, sections, Section, Guard, guards}
+use Rattle.schedule_rules.proofs.Words.{numbered, without_guard, guards_by, writer_made, reader_beside, reader_made, replay, phase_at, Back, back_of_step, content_after_back}
+use Rattle.schedule_rules.proofs.Words.{back_of_section, back_by, inside, change_of, back_of_guard, read_guards, reads_cell, answer_of_value, IsLegal, IsLegalLine, lends_at}
 use Rattle.schedule_rules.proofs.Words.{runs_to_lend, ShowsValue}
 use Rattle.std.specs.Option.{unwrap_or}
 use Rattle.schedule_rules.proofs.Cases.{step, Reach, Case}
@@ -98,11 +98,7 @@ module _ (x : CellPlan) where
 module _ (cells : List CellPlan) where
   back_true : (c : ℕ) (o : Option Back) (y : Content) → IsTrue (cell_at cells c) y → IsTrue (cell_at cells c) (content_after_back cells c o y)
   back_true c None y t = t
-  back_true c (Some b) y t = by (b.cell == c)
-    where
-      by : (d : Bool) → IsTrue (cell_at cells c) (if d then effect (cell_at cells c) b.changes y else y)
-      by true = effect_true (cell_at cells c) b.changes y t
-      by false = t
+  back_true c (Some b) y t = elim (b.cell == c) as (λ d. IsTrue (cell_at cells c) (if d then effect (cell_at cells c) b.changes y else y)) [ true ↦ effect_true (cell_at cells c) b.changes y t | false ↦ t ]
 
   -- so it is with what is published: where it may be accessed, it has a value
   pub accessed-value : (c : ℕ) (h : List Event) → IsTrue (cell_at cells c) (replay cells c h)

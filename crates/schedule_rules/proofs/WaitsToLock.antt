@@ -1,8 +1,8 @@
 -- What waits: a call for a lock or a turn, which is not fast, at a cell of no party's own, whose kind has the call.
-use Rattle.schedule_rules.proofs.Words.{ℕ, ◌≡◌, List, arith, Bool, refl, true, false, Some, ◌∙◌, ap, sym, None, subst, not, find, ◌==◌, is_none, is_some, Option, first_of}
+use Rattle.schedule_rules.proofs.Words.{ℕ, ◌≡◌, List, arith, Bool, true, refl, false, Some, ◌∙◌, sym, ap, None, subst, not, find, ◌==◌, is_none, is_some, Option, first_of}
 use Rattle.schedule_rules.proofs.Words.{has_call, asking, lends_value, Call, Answer, Line, Refusal, CellPlan, Act, Step, Calls, Turns, cell_at, tolerance_at, is_owned, is_of_other}
-use Rattle.schedule_rules.proofs.Words.{is_fast, lock_asked, seeks, Event, count, registry, Wait, waits, wait_of, attempt, Attempt, attempt_of_turn, attempt_of_wait, attempt_with}
-use Rattle.schedule_rules.proofs.Words.{is_barred, holding_with, is_in_use, refusal, refusal_by, no_call, refusal_free, no_lending, IsLegal, IsLegalLine, answer_of, due_at}
+use Rattle.schedule_rules.proofs.Words.{is_fast, lock_asked, seeks, Event, count, registry, Wait, waits, wait_of, Attempt, attempt, attempt_of_wait, attempt_with, attempt_of_turn}
+use Rattle.schedule_rules.proofs.Words.{is_barred, holding_with, is_in_use, refusal, refusal_by, no_lending, refusal_free, no_call, IsLegal, IsLegalLine, answer_of, due_at}
 use Rattle.schedule_rules.proofs.Words.{lends_at, waits_judged, is_attempted, is_waiting, is_made_to_wait, phase_met, ChangesNothing}
 use Rattle.phase_seq.specs.declared.ask.Want.{Want as Sought}
 use Rattle.schedule_rules.proofs.Facts.{first, second, apart, same_number}
@@ -80,10 +80,7 @@ module _ (cells : List CellPlan) where
       turned (Some c) = λ k e. absurd (turns_not k e)
 
       by : (a : Act) (o : Option Wait) → wait_of s.party (waits cells h) ≡ o → refusal_by cells (is_some o) h s.party a ≡ None → Of HasCall (attempt_with cells (waits cells h) h s.party a)
-      by (Act.Call c k) None e f = λ j d. same k j d (has (is_of_other (cell_at cells c).place s.party) (has_call (cell_at cells c).kind k) f)
-        where
-          same : (k j : Call) → Calls k ≡ Calls j → has_call (cell_at cells c).kind k ≡ true → has_call (cell_at cells c).kind j ≡ true
-          same k j d e = let is : k ≡ j = cc in subst (λ i. has_call (cell_at cells c).kind i ≡ true) is e
+      by (Act.Call c k) None e f = λ j d. let is : k ≡ j = cc in subst (λ i. has_call (cell_at cells c).kind i ≡ true) is (has (is_of_other (cell_at cells c).place s.party) (has_call (cell_at cells c).kind k) f)
       by (Act.Call c k) (Some w) e f = absurd (cc)
       by Act.Again o e f = IH
       by Act.Exit o e f = turned (first_of (registry cells h).left)
