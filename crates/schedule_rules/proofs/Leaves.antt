@@ -126,10 +126,9 @@ module _ (cells : List CellPlan) (h : List Event) (p : ℕ) where
         by : (b : Bool) → (t.cell == c) ≡ b → Holding d c
         by true here = inr (record { back = record { cell = t.cell; changes = change_of i t ∷ [] }; given = e ∙ ap (back_of_section i) f; here = here })
         by false other =
-            let one : _ = count_ended (runs_in c) p (sections h) t f in
             let none : one_if (t.cell == c) ≡ 0 = ap one_if other in
             let l : count (runs_in c) (sections_left d) ≡ count (runs_in c) (without_innermost p (sections h)) = ap (count (runs_in c)) left in
-            inl (omega (arith, one, none, l, same))
+            inl (omega (arith, count_ended (runs_in c) p (sections h) t f, none, l, same))
 
     -- and a guard to write
     abbrev pub Writing : Deed → ℕ → Type 0

@@ -91,8 +91,7 @@ module _ (cells : List CellPlan) (h : List Event) (legal : IsLegal cells h) wher
       from_left : (registry cells h).left ≡ c ∷ rest_of (registry cells h).left → length (ended_turns h) < length cells
       from_left is =
           let more : length (due (registry cells h)) ≡ length (registry cells h).left + length (registry cells h).pending = length-append (registry cells h).left (registry cells h).pending in
-          let one : _ = ap length is in
-          omega (arith, few-turns, more, one)
+          omega (arith, few-turns, more, ap length is)
 
       from_wait : (w : Wait) × (wait_of s.party (waits cells h) ≡ Some w) × (w.cell ≡ c) × (w.want ≡ Turns) → length (ended_turns h) < length cells
       from_wait w = grind (arith, found_counts, few-turns)

@@ -71,17 +71,13 @@ module _ (cells : List CellPlan) (c : ℕ) where
     called_count a d j t f = by a t.acts t.tried f
       where
         goes_on : (w : Wait) × (wait_of p (waits cells h) ≡ Some w) × (w.cell ≡ d) × (w.want ≡ Calls j) → count (waits_to_turn c) (others Act.Again) ≡ count (waits_to_turn c) (waits cells h)
-        goes_on w =
-            let not_a_turn : waits_to_turn c w.0 ≡ false = ap (λ u. is_turn u && (w.0.cell == c)) w.3 in
-            let less : _ = own_count w.0 w.1 ∙ ap (λ b. count (waits_to_turn c) (without_wait p (waits cells h)) + cond b 1 0) not_a_turn in
-            omega (arith, others_count Act.Again, less)
-
+        goes_on (w, e, at, is) = grind (arith, others_count Act.Again, own_count w e)
+    
         by : (a : Act) → IsCalling a → attempt_with cells (waits cells h) h p a ≡ Some (record { cell = d; want = Calls j }) → IsAllowed a → count (waits_to_turn c) (others a) ≡ count (waits_to_turn c) (waits cells h)
         by a t e f = grind (arith, rests_count, rests, goes_on, waits_so)
 
     one_or_none : (b : Bool) (n : ℕ) → cond b (n + 1) n ≡ n + one_if b
-    one_or_none true n = refl
-    one_or_none false n = omega arith
+    one_or_none b n = grind arith
 
     -- a call, by what it does
     called : (a : Act) (d : ℕ) (j : Call) (r : Answer) → Calling cells h p a d j → count (waits_to_turn c) (waits cells (event a r ∷ h)) ≡ waiting
@@ -104,11 +100,7 @@ module _ (cells : List CellPlan) (c : ℕ) where
     took a d t f = by a t.acts t.tried f
       where
         from_wait : (w : Wait) × (wait_of p (waits cells h) ≡ Some w) × (w.cell ≡ d) × (w.want ≡ Turns) → count (waits_to_turn c) (others Act.Again) + one_if (d == c) ≡ waiting
-        from_wait w =
-            let a_turn : waits_to_turn c w.0 ≡ (d == c) = ap (λ u. is_turn u && (w.0.cell == c)) w.3 ∙ ap (λ z. z == c) w.2 in
-            let less : _ = own_count w.0 w.1 ∙ ap (λ b. count (waits_to_turn c) (without_wait p (waits cells h)) + cond b 1 0) a_turn in
-            let same : _ = others_count Act.Again in
-            omega (arith, same, less)
+        from_wait (w, e, at, is) = grind (arith, others_count Act.Again, own_count w e)
 
         by : (a : Act) → IsTurning a → attempt_with cells (waits cells h) h p a ≡ Some (record { cell = d; want = Turns }) → IsAllowed a → Took d (is_exit a) (count (waits_to_turn c) (others a))
         by Act.Exit t e f = (first_so (first_of (registry cells h).left) d e, rests_count Act.Exit (rests cells h p Act.Exit (λ x. cc) f).0)
@@ -145,23 +137,14 @@ module _ (cells : List CellPlan) (c : ℕ) where
     abbrev Allowed : Act → Answer → Type 0
     Allowed a r = IsAllowed a → WaitsSo (deed_of h (step cells h p a) r) (count (waits_to_turn c) (waits cells (event a r ∷ h)))
 
-    waits_so_far : (a : Act) (d : ℕ) (w : Want) (way : _) → Tries cells h p a d w → Allowed a (Answer.Waiting way)
-    waits_so_far a d (Calls j) way t f = call_waits a d j way t f
-    waits_so_far a d Turns way t f = turn_waits a d way t f
-
-    misses : (a : Act) (d : ℕ) (w : Want) → is_fast w ≡ true → Tries cells h p a d w → Allowed a Answer.Missed
-    misses a d (Calls j) q t f = called_count a d j t f
-    misses a d Turns q t f = absurd (apart (sym q))
-
-    borrows : (a : Act) (d : ℕ) (w : Want) → is_owned (cell_at cells d).place ≡ true → Tries cells h p a d w → Allowed a Answer.Borrowed
-    borrows a d (Calls j) o t f = called_count a d j t f
-    borrows a d Turns o t f = borrowing a d o t f
-
     each : (a : Act) (r : Answer) → Case cells h p a r → Allowed a r
     each _ _ (Case.cyclic a d j t) f = called_count a d j t f
-    each _ _ (Case.waiting a d w way t) f = waits_so_far a d w way t f
-    each _ _ (Case.missed a d w q t) f = misses a d w q t f
-    each _ _ (Case.owned a d w o t) f = borrows a d w o t f
+    each _ _ (Case.waiting a d (Calls j) way t) f = call_waits a d j way t f
+    each _ _ (Case.waiting a d Turns way t) f = turn_waits a d way t f
+    each _ _ (Case.missed a d (Calls j) q t) f = called_count a d j t f
+    each _ _ (Case.missed a d Turns q t) f = absurd (apart (sym q))
+    each _ _ (Case.owned a d (Calls j) o t) f = called_count a d j t f
+    each _ _ (Case.owned a d Turns o t) f = borrowing a d o t f
     each _ _ (Case.told a d j q t v) f = plainly a d j (Answer.Phase q) t f refl (λ n e. e)
     each _ _ (Case.denied a d j q t v) f = plainly a d j (Answer.Access q) t f refl (λ n e. e)
     each _ _ (Case.erring a d j q t v e) f = plainly a d j Answer.ErrGuard t f refl (λ n e. e)
@@ -201,28 +184,22 @@ module _ (cells : List CellPlan) (c : ℕ) where
         let e : (registry cells h).left ≡ d ∷ rest_of (registry cells h).left = begins (registry cells h).left d t.0 in
         let whole : occurs c (due (registry cells h)) ≡ one_if (d == c) + occurs c (rest_of (registry cells h).left) + occurs c (registry cells h).pending =
         occurs_joined c (registry cells h).left (registry cells h).pending ∙ ap (λ cs. occurs c cs + occurs c (registry cells h).pending) e in
-        let rest : _ = occurs_joined c (rest_of (registry cells h).left) (registry cells h).pending in
         let n : _ = t.1 in
-        omega (arith, whole, rest, n)
+        omega (arith, whole, occurs_joined c (rest_of (registry cells h).left) (registry cells h).pending, n)
     taken_count d n false t = omega (arith, t)
 
     skips : (d n : ℕ) (b : Bool) → Took h p i shared d b n → HasTurnBy (Skips d b) n
     skips d n b t =
-        let taken : _ = taken_count d n b t in
-        let e : _ = occurs_ended c d Turn.Skipped (ended_turns h) in
-        keeps (Skips d b) n (known_taken b (registry cells h) c) (omega (arith, taken, e))
+        keeps (Skips d b) n (known_taken b (registry cells h) c) (omega (arith, taken_count d n b t, occurs_ended c d Turn.Skipped (ended_turns h)))
 
     finalizes : (d n : ℕ) (b : Bool) → Took h p i shared d b n → HasTurnBy (Opens d Turns b) n
     finalizes d n b t =
-        let taken : _ = taken_count d n b t in
-        let one : _ = one_or_none h p i shared (d == c) (count (finalizes_in c) (sections h)) in
-        keeps (Opens d Turns b) n (known_taken b (registry cells h) c) (omega (arith, taken, one))
+        keeps (Opens d Turns b) n (known_taken b (registry cells h) c) (omega (arith, taken_count d n b t, one_or_none h p i shared (d == c) (count (finalizes_in c) (sections h))))
 
     looks : (b : Bool) (n : ℕ) → (registry cells h).left ≡ [] → n ≡ waiting h p i shared → HasTurnBy (Looks b) n
     looks b n none w =
-        let all : _ = occurs_joined c (registry cells h).pending [] in
         let before : occurs c (due (registry cells h)) ≡ occurs c (registry cells h).pending = ap (λ cs. occurs c (cs ++ (registry cells h).pending)) none in
-        keeps (Looks b) n refl (omega (arith, all, before, w))
+        keeps (Looks b) n refl (omega (arith, occurs_joined c (registry cells h).pending [], before, w))
 
     -- a generator's section that ends
     run_ends : (d : Deed) (n : ℕ) (f : Inside cells h p false) → registry_by cells h d (registry cells h) ≡ registry cells h → sections_by h p d (sections h) ≡ without_innermost p (sections h)
@@ -262,16 +239,14 @@ module _ (cells : List CellPlan) (c : ℕ) where
             let unknown : turns_of cells c h ≡ 0 = k ∙ ap (λ (b : Bool). if b then 1 else 0) (subst (λ z. is_known (registry cells h) z ≡ false) at fresh) in
             let known : is_known (registry_by cells h (Opens d (Calls j) b) (registry cells h)) c ≡ true =
             ap (λ m. is_known m c) now ∙ subst (λ z. slice_index_or (slice_set (registry cells h).known d true) z false ≡ true) at (get_or-set_same (registry cells h).known d true false inside) in
-            let more : _ = to_come in
             let one : one_if (d == c) ≡ 1 = ap one_if same in
-            let goal : turns_left (Opens d (Calls j) b) n ≡ 1 = omega (arith, unknown, more, one, w) in
+            let goal : turns_left (Opens d (Calls j) b) n ≡ 1 = omega (arith, unknown, to_come, one, w) in
             goal ∙ sym (ap (λ (b : Bool). if b then 1 else 0) known)
 
         elsewhere : (d == c) ≡ false → HasTurnBy (Opens d (Calls j) b) n
         elsewhere other =
-            let more : _ = to_come in
             let none : one_if (d == c) ≡ 0 = ap one_if other in
-            keeps (Opens d (Calls j) b) n (ap (λ m. is_known m c) now ∙ get_or-set_other (registry cells h).known d c true false (grind arith)) (omega (arith, more, none, w))
+            keeps (Opens d (Calls j) b) n (ap (λ m. is_known m c) now ∙ get_or-set_other (registry cells h).known d c true false (grind arith)) (omega (arith, to_come, none, w))
 
         registers : HasTurnBy (Opens d (Calls j) b) n
         registers = whether (d == c) (λ same. here same) (λ other. elsewhere other)
@@ -287,8 +262,7 @@ module _ (cells : List CellPlan) (c : ℕ) where
               let empty : (phase_at cells d h == 0) ≡ true = second (is_finalizable (cell_at cells d).kind) _ e in
               let zero : phase_at cells d h ≡ 0 = grind arith in
               let inside : d < length cells = finalizable-inside cells d (first _ _ e) in
-              let long : _ = known-length cells h in
-              registers (fresh-unknown cells h d legal zero (q.unheld (alone cells h legal d))) (omega (arith, inside, long))
+              registers (fresh-unknown cells h d legal zero (q.unheld (alone cells h legal d))) (omega (arith, inside, known-length cells h))
               (ap (λ (x : Bool). if x then after_register d (registry cells h) else registry cells h) e ∙ ap (λ (x : Bool). if x then registered d (registry cells h) else registry cells h) f)
 
     has_turn : (d : Deed) (n : ℕ) → Finds cells h p d → WaitsSo h p i shared d n → HasTurnBy d n
