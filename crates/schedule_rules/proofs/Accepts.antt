@@ -1,106 +1,34 @@
 -- The registry is open as long as a cell may be registered, and knows of each cell whether it was registered.
-use Rattle.std.proofs.Common.{◌≡◌, ℕ, List, [], ◌∷◌, length, refl, sym, ◌∙◌, ap, subst, Bool, true, false, not}
-use Rattle.std.specs.Prelude.{if◌then◌else◌}
-use Rattle.std.proofs.lemmas.List.{length-set, length-replicate}
-use Rattle.exit_registry.specs.Registry.{Registry, after_register}
-use Rattle.exit_registry.specs.Exits.{closed}
-use Rattle.schedule_rules.specs.declared.plan.CellPlan.{CellPlan}
-use Rattle.schedule_rules.specs.declared.step.Want.TheVariants.{Calls, Turns}
-use Rattle.schedule_rules.specs.Kinds.{cell_at}
-use Rattle.schedule_rules.specs.Phases.{tries_registration}
-use Rattle.schedule_rules.specs.Deeds.{Deed, Opens, Skips, Looks}
-use Rattle.schedule_rules.specs.History.{Event, is_closed, closed_by, accepts, deed_of}
-use Rattle.schedule_rules.specs.Replay.{phase_at}
-use Rattle.schedule_rules.specs.Exits.{registry_taken, registry_of_run, registry_by, registry}
-use Rattle.schedule_rules.specs.Legal.{IsLegal}
+use Rattle.schedule_rules.proofs.Words.{ℕ, ◌≡◌, List, arith, Bool, true, refl, false, ◌∷◌, ◌∙◌, [], not, length, length-replicate, length-set, closed, after_register, Registry}
+use Rattle.schedule_rules.proofs.Words.{CellPlan, Deed, Event, deed_of, accepts, is_closed, closed_by, registry, registry_by, registry_taken, registry_of_run, IsLegal}
 use Rattle.schedule_rules.proofs.Finds.{Finds, finds}
 
 -- a registration changes neither whether the registry is open nor of how many cells it knows
 module _ (m : Registry) (c : ℕ) where
-  open_registered : (after_register c m).is_open ≡ m.is_open
-  open_registered = by m.is_open refl
-    where
-      by : (b : Bool) → m.is_open ≡ b → (after_register c m).is_open ≡ m.is_open
-      by true e = rw e refl
-      by false e = rw e refl
-
   length_registered : length (after_register c m).known ≡ length m.known
-  length_registered = by m.is_open refl
-    where
-      by : (b : Bool) → m.is_open ≡ b → length (after_register c m).known ≡ length m.known
-      by true e = rw e (length-set m.known c true)
-      by false e = rw e refl
-
--- nor does a turn that is taken
-open_taken : (b : Bool) (m : Registry) → (registry_taken b m).is_open ≡ m.is_open
-open_taken true m = refl
-open_taken false m = refl
+  length_registered = grind (arith, length-set)
 
 length_taken : (b : Bool) (m : Registry) → length (registry_taken b m).known ≡ length m.known
 length_taken true m = refl
 length_taken false m = refl
 
-closed_taken : (b : Bool) (m : Registry) → registry_taken b (closed m) ≡ closed m
-closed_taken true m = refl
-closed_taken false m = refl
-
 module _ (cells : List CellPlan) where
   -- nor does a run
   module _ (c p : ℕ) (m : Registry) where
-    open_run : (registry_of_run cells c p m).is_open ≡ m.is_open
-    open_run = by (tries_registration (cell_at cells c).kind p)
-      where
-        by : (b : Bool) → (if b then after_register c m else m).is_open ≡ m.is_open
-        by true = open_registered m c
-        by false = refl
-
     length_run : length (registry_of_run cells c p m).known ≡ length m.known
-    length_run = by (tries_registration (cell_at cells c).kind p)
-      where
-        by : (b : Bool) → length (if b then after_register c m else m).known ≡ length m.known
-        by true = length_registered m c
-        by false = refl
-
-    -- in a closed registry it changes nothing
-    closed_run : registry_of_run cells c p (closed m) ≡ closed m
-    closed_run = by (tries_registration (cell_at cells c).kind p)
-      where
-        by : (b : Bool) → (if b then after_register c (closed m) else closed m) ≡ closed m
-        by true = refl
-        by false = refl
+    length_run = grind (arith, length_registered)
 
   module _ (h : List Event) where
     length_by : (d : Deed) (m : Registry) → length (registry_by cells h d m).known ≡ length m.known
-    length_by (Opens c (Calls k) taken) m = length_run c (phase_at cells c h) m
-    length_by (Opens c Turns taken) m = length_taken taken m
-    length_by (Skips c taken) m = length_taken taken m
-    length_by _ m = refl
-
-    -- in a closed registry no deed changes anything
-    closed_after : (d : Deed) (m : Registry) → registry_by cells h d (closed m) ≡ closed m
-    closed_after (Opens c (Calls k) taken) m = closed_run c (phase_at cells c h) m
-    closed_after (Opens c Turns taken) m = closed_taken taken m
-    closed_after (Skips c taken) m = closed_taken taken m
-    closed_after _ m = refl
+    length_by k1 m = grind (arith, length_run, length_taken)
 
     module _ (p : ℕ) where
       opens : (d : Deed) → Finds cells h p d → (registry cells h).is_open ≡ accepts h → (registry_by cells h d (registry cells h)).is_open ≡ not (closed_by d (is_closed h))
-      opens (Opens c (Calls k) taken) f e = open_run c (phase_at cells c h) (registry cells h) ∙ e
-      opens (Opens c Turns taken) f e = open_taken taken (registry cells h) ∙ e
-      opens (Skips c taken) f e = open_taken taken (registry cells h) ∙ e
-      opens (Looks true) f e = let none : _ = f.1 in rw none refl
-      opens (Looks false) f e = let some : _ = f.1.2 in rw some e
-      opens _ f e = e
-
-      stays : (d : Deed) → registry cells h ≡ closed (registry cells h) → registry_by cells h d (registry cells h) ≡ closed (registry_by cells h d (registry cells h))
-      stays d e =
-          subst (λ m. registry_by cells h d m ≡ closed (registry_by cells h d m)) (sym e)
-          (closed_after d (registry cells h) ∙ sym (ap closed (closed_after d (registry cells h))))
+      opens d f e = grind arith
 
       closes : (d : Deed) → Finds cells h p d → (is_closed h ≡ true → registry cells h ≡ closed (registry cells h)) → closed_by d (is_closed h) ≡ true
           → registry_by cells h d (registry cells h) ≡ closed (registry_by cells h d (registry cells h))
-      closes (Looks true) f k e = let none : _ = f.1 in rw none refl
-      closes d f k e = stays d (k e)
+      closes d f k e = grind arith
 
   -- the registry knows of each cell of the plan whether it was registered
   pub known-length : (h : List Event) → length (registry cells h).known ≡ length cells
@@ -119,5 +47,4 @@ module _ (cells : List CellPlan) where
 
   -- and the registry stays as it is
   pub closed-stays : (h : List Event) (e : Event) → IsLegal cells h → is_closed h ≡ true → registry cells (e ∷ h) ≡ registry cells h
-  closed-stays h e k is =
-      subst (λ m. registry_by cells h (deed_of h e.step e.line.answer) m ≡ m) (sym (closed-registry h k is)) (closed_after h (deed_of h e.step e.line.answer) (registry cells h))
+  closed-stays h e k is = grind (arith, closed-registry)

@@ -1,95 +1,32 @@
 -- Where a generator runs, and where a value may not be accessed.
-use Rattle.std.proofs.Common.{◌≡◌, ◌≢◌, ◌⊎◌, ℕ, List, [], ◌∷◌, length, refl, sym, ◌∙◌, ap, subst, arith, Bool, true, false, not, ◌&&◌, None, Some, inl, inr}
-use Rattle.std.specs.Prelude.{◌==◌, if◌then◌else◌}
-use Rattle.std.specs.List.{find}
-use Rattle.std.specs.declared.option.Option.{Option}
-use Rattle.exit_registry.specs.Registry.{first_of}
-use Rattle.phase_bits.specs.declared.phase.Phase.{Phase}
-use Rattle.phase_bits.specs.Number.{phase_of}
-use Rattle.phase_seq.specs.Phases.{flags_refused}
-use Rattle.phase_bits.specs.Flags.{has, initialized}
-use Rattle.phase_locker.specs.declared.ways.Given.{Given}
-use Rattle.phase_seq.specs.Asks.{shall_init}
-use Rattle.phase_seq.specs.declared.tolerance.Tolerance.{Tolerance}
-use Rattle.lazy_cells.specs.declared.call.Call.{Call}
-use Rattle.lazy_cells.specs.declared.call.Call.TheVariants as call
-use Rattle.schedule_rules.specs.declared.plan.CellPlan.{CellPlan}
-use Rattle.schedule_rules.specs.declared.step.Act.{Act}
-use Rattle.schedule_rules.specs.declared.step.Act.TheVariants as act
-use Rattle.schedule_rules.specs.declared.step.Step.{Step}
-use Rattle.schedule_rules.specs.declared.step.Want.{Want}
-use Rattle.schedule_rules.specs.declared.step.Want.TheVariants.{Calls, Turns}
-use Rattle.schedule_rules.specs.declared.line.Line.{Line}
-use Rattle.schedule_rules.specs.declared.line.Answer.{Answer}
-use Rattle.schedule_rules.specs.declared.line.Answer.TheVariants as answer
-use Rattle.schedule_rules.specs.Kinds.{cell_at, tolerance_at}
-use Rattle.schedule_rules.specs.Phases.{runs_generator}
-use Rattle.schedule_rules.specs.Changes.{Asked, is_declined, content_asked, effect}
-use Rattle.schedule_rules.specs.Deeds.{deed_visited}
-use Rattle.schedule_rules.specs.History.{Event, act_of, accepts}
-use Rattle.schedule_rules.specs.Sections.{Section, runs_in, generates_for, runs, sections_by, sections}
-use Rattle.schedule_rules.specs.Guards.{guards_by, guards}
-use Rattle.schedule_rules.specs.Exits.{registry}
-use Rattle.schedule_rules.specs.Replay.{Back, back_by, back_of_step, replay, phase_at, content_after_back}
-use Rattle.schedule_rules.specs.Waits.{attempt, cell_of_attempt, attempt_of_turn, cell_concerned}
-use Rattle.schedule_rules.specs.Legal.{IsLegal, IsLegalLine}
-use Rattle.schedule_rules.specs.Causes.{lends_at, runs_to_lend}
-use Rattle.schedule_rules.specs.Laws.{IsTurnedAway, KeepsValues}
+use Rattle.schedule_rules.proofs.Words.{ℕ, ◌≡◌, List, arith, Bool, true, refl, false, Some, ◌∷◌, ◌∙◌, [], sym, ap, subst, ◌&&◌, inl, inr, not, length, ◌≢◌, if◌then◌else◌, has}
+use Rattle.schedule_rules.proofs.Words.{initialized, phase_of, Phase, Given, shall_init, Tolerance, Call, Answer, Line, CellPlan, Act, Step, cell_at, tolerance_at, runs_generator}
+use Rattle.schedule_rules.proofs.Words.{Asked, is_declined, content_asked, deed_visited, Event, accepts, act_of, sections, sections_by, runs, guards, guards_by, replay, phase_at}
+use Rattle.schedule_rules.proofs.Words.{Back, back_of_step, content_after_back, back_by, cell_concerned, IsLegal, IsLegalLine, lends_at, runs_to_lend, KeepsValues, IsTurnedAway}
+use Rattle.schedule_rules.proofs.Means.{Began, Unlent, Means, means}
 use Rattle.schedule_rules.proofs.Found.{found_passes, each_found}
-use Rattle.schedule_rules.proofs.Leaves.{back_here, back_elsewhere, asked_value}
-use Rattle.schedule_rules.proofs.Cases.{IsTrying, Calling, Asking, Resting, AsksToLend, Reach, calling-tries}
-use Rattle.schedule_rules.proofs.Attempts.{asks_due}
-use Rattle.schedule_rules.proofs.Means.{Began, Away, Unlent, Means, means}
+use Rattle.schedule_rules.proofs.Leaves.{back_here, asked_value}
+use Rattle.schedule_rules.proofs.Cases.{Calling, Asking, Resting, Reach}
 use Rattle.schedule_rules.proofs.Grows.{Needs, IsStanding, sound}
-use Rattle.schedule_rules.proofs.Facts.{apart, same_number, number_found}
+use Rattle.schedule_rules.proofs.Facts.{same_number}
 
 -- on the empty phase alone a run is wanted without retry
 empty-where-wanted : (t : Tolerance) (p : ℕ) → shall_init t (phase_of p) ≡ true → t.retry ≡ false → p ≡ 0
-empty-where-wanted t p e once = by t.retry once e
-  where
-    by : (b : Bool) → b ≡ false → (if b then not (has p initialized) else (p == 0)) ≡ true → p ≡ 0
-    by true f g = absurd (apart f)
-    by false f g = grind arith
+empty-where-wanted t p e once = grind arith
 
 -- where no run is wanted and there is no value, the cell has no retry
 once-where-unwanted : (t : Tolerance) (p : ℕ) → shall_init t (phase_of p) ≡ false → has p initialized ≡ false → t.retry ≡ false
-once-where-unwanted t p e lacks = by t.retry e
-  where
-    none : (b : Bool) → not b ≡ false → b ≡ false → ⊥
-    none true f g = apart g
-    none false f g = apart f
-
-    by : (b : Bool) → (if b then not (has p initialized) else (p == 0)) ≡ false → b ≡ false
-    by true f = absurd (none (has p initialized) f lacks)
-    by false f = refl
+once-where-unwanted t p e lacks = grind arith
 
 -- and where no run is wanted, the phase is not empty
 ended-where-unwanted : (t : Tolerance) (p : ℕ) → shall_init t (phase_of p) ≡ false → p ≢ 0
-ended-where-unwanted t p e z = by t.retry (subst (λ n. (if t.retry then not (has n initialized) else (n == 0)) ≡ false) z e)
-  where
-    by : (b : Bool) → (if b then not (has 0 initialized) else (0 == 0)) ≡ false → ⊥
-    by true f = cc
-    by false f = cc
+ended-where-unwanted t p e z = grind arith
 
 module _ (cells : List CellPlan) where
   module _ (h : List Event) (p : ℕ) where
-    -- an attempt concerns its cell
-    concerned : (a : Act) → IsTrying a → cell_concerned cells h (record { party = p; act = a }) ≡ cell_of_attempt (attempt cells h (record { party = p; act = a }))
-    concerned (act.Call c k) t = refl
-    concerned act.Again t = refl
-    concerned act.Exit t = by (first_of (registry cells h).left)
-      where
-        by : (o : Option ℕ) → o ≡ cell_of_attempt (attempt_of_turn o)
-        by None = refl
-        by (Some c) = refl
-    concerned _ t = absurd t
-
     -- so a call is at the cell that its step concerns
     called_at : (a : Act) (c d : ℕ) (k : Call) → Calling cells h p a c k → cell_concerned cells h (record { party = p; act = a }) ≡ Some d → c ≡ d
-    called_at a c d k t e = same (sym (concerned a (calling-tries a t.acts) ∙ ap cell_of_attempt t.tried) ∙ e)
-      where
-        same : Some c ≡ Some d → c ≡ d
-        same x = cc
+    called_at a c d k t e = grind arith
 
     module _ (i : Given) where
       -- the event of the party
@@ -102,24 +39,21 @@ module _ (cells : List CellPlan) where
 
       module _ (a : Act) (c : ℕ) (j : Call) (q : Phase) (t : Calling cells h p a c j) where
         -- it is given back at its cell alone
-        back : back_of_step h (record { party = p; act = a }) (answer.Access q) ≡ Some (asked c j)
+        back : back_of_step h (record { party = p; act = a }) (Answer.Access q) ≡ Some (asked c j)
         back = ap (λ b. back_by p (deed_visited (accepts h) false b) (sections h) (guards h)) t.does
 
-        others : (d : ℕ) → c ≢ d → replay cells d (event a (answer.Access q) ∷ h) ≡ replay cells d h
-        others d ne = back_elsewhere cells d (back_of_step h (record { party = p; act = a }) (answer.Access q)) (asked c j) (replay cells d h) back (other ne)
-          where
-            other : c ≢ d → (c == d) ≡ false
-            other n = grind arith
+        others : (d : ℕ) → c ≢ d → replay cells d (event a (Answer.Access q) ∷ h) ≡ replay cells d h
+        others d ne = grind arith
 
-        here : replay cells c (event a (answer.Access q) ∷ h) ≡ content_asked (cell_at cells c).kind (tolerance_at cells c) (accepts h) j (replay cells c h)
-        here = back_here cells c (back_of_step h (record { party = p; act = a }) (answer.Access q)) (asked c j) (replay cells c h) back (same_number c c refl)
+        here : replay cells c (event a (Answer.Access q) ∷ h) ≡ content_asked (cell_at cells c).kind (tolerance_at cells c) (accepts h) j (replay cells c h)
+        here = back_here cells c (back_of_step h (record { party = p; act = a }) (Answer.Access q)) (asked c j) (replay cells c h) back (same_number c c refl)
 
         -- by whether it was declined
         chosen : (b : Bool) → is_declined (cell_at cells c).kind (tolerance_at cells c) j (accepts h) (phase_at cells c h) ≡ b
-            → replay cells c (event a (answer.Access q) ∷ h) ≡ (if b then record { phase = 36; value = (replay cells c h).value } else replay cells c h)
+            → replay cells c (event a (Answer.Access q) ∷ h) ≡ (if b then record { phase = 36; value = (replay cells c h).value } else replay cells c h)
         chosen b e = here ∙ ap (λ (d : Bool). if d then record { phase = 36; value = (replay cells c h).value } else replay cells c h) e
 
-        pub denies : Resting cells h p c j → Reach cells h p c false → q ≡ record { bits = phase_at cells c h } → IsTurnedAway cells h (event a (answer.Access q)) c q
+        pub denies : Resting cells h p c j → Reach cells h p c false → q ≡ record { bits = phase_at cells c h } → IsTurnedAway cells h (event a (Answer.Access q)) c q
         denies r lacks e = record {
           shown = e ∙ ap (λ y. record { bits = y.phase }) (sym stays);
           others_stay = others;
@@ -136,10 +70,10 @@ module _ (cells : List CellPlan) where
           );
         }
           where
-            stays : replay cells c (event a (answer.Access q) ∷ h) ≡ replay cells c h
+            stays : replay cells c (event a (Answer.Access q) ∷ h) ≡ replay cells c h
             stays = chosen false (ap (λ (b : Bool). b && not (runs_generator (cell_at cells c).kind (tolerance_at cells c) (accepts h) (phase_at cells c h))) r.unasked)
 
-        pub declines : Asking cells h p c j false → q ≡ record { bits = 36 } → IsTurnedAway cells h (event a (answer.Access q)) c q
+        pub declines : Asking cells h p c j false → q ≡ record { bits = 36 } → IsTurnedAway cells h (event a (Answer.Access q)) c q
         declines r e = record {
           shown = e ∙ ap (λ y. record { bits = y.phase }) (sym left);
           others_stay = others;
@@ -149,103 +83,64 @@ module _ (cells : List CellPlan) where
             declined : is_declined (cell_at cells c).kind (tolerance_at cells c) j (accepts h) (phase_at cells c h) ≡ true
             declined = rw r.asked (ap not r.generates)
 
-            left : replay cells c (event a (answer.Access q) ∷ h) ≡ record { phase = 36; value = (replay cells c h).value }
+            left : replay cells c (event a (Answer.Access q) ∷ h) ≡ record { phase = 36; value = (replay cells c h).value }
             left = chosen true declined
 
   -- a value that is to be lent, and may not be accessed, stays
   module _ (h : List Event) (p : ℕ) (i : Given) (q : Phase) where
     lent_here : (a : Act) (c d : ℕ) → lends_at c a ≡ true → cell_concerned cells h (record { party = p; act = a }) ≡ Some d → c ≡ d
-    lent_here (act.GetMut b made left) c d e n = let at : b ≡ d = cc in let same : b ≡ c = grind arith in sym same ∙ at
-    lent_here (act.TryGetMut b left) c d e n = let at : b ≡ d = cc in let same : b ≡ c = grind arith in sym same ∙ at
-    lent_here _ c d e n = absurd (apart (sym e))
+    lent_here k1 c d e n = grind arith
 
-    unlent_stays : (a : Act) (c d : ℕ) → lends_at c a ≡ true → replay cells d (event h p i a (answer.Access q) ∷ h) ≡ replay cells d h
-    unlent_stays (act.GetMut b made left) c d e = refl
-    unlent_stays (act.TryGetMut b left) c d e = refl
-    unlent_stays _ c d e = absurd (apart (sym e))
+    unlent_stays : (a : Act) (c d : ℕ) → lends_at c a ≡ true → replay cells d (event h p i a (Answer.Access q) ∷ h) ≡ replay cells d h
+    unlent_stays k1 c d e = grind arith
 
-    unlent : (a : Act) (c : ℕ) → Unlent cells h p a q → cell_concerned cells h (record { party = p; act = a }) ≡ Some c → IsTurnedAway cells h (event h p i a (answer.Access q)) c q
+    unlent : (a : Act) (c : ℕ) → Unlent cells h p a q → cell_concerned cells h (record { party = p; act = a }) ≡ Some c → IsTurnedAway cells h (event h p i a (Answer.Access q)) c q
     unlent a c m n =
-        subst (λ z. IsTurnedAway cells h (event h p i a (answer.Access q)) z q) (lent_here a m.cell c m.lends n) (record {
+        subst (λ z. IsTurnedAway cells h (event h p i a (Answer.Access q)) z q) (lent_here a m.cell c m.lends n) (record {
           shown = m.shown ∙ ap (λ y. phase_of y.phase) (sym (unlent_stays a m.cell m.cell m.lends));
           others_stay = λ d ne. unlent_stays a m.cell d m.lends;
           reason = inl (unlent_stays a m.cell m.cell m.lends, inr (record { lends = m.lends; unasked = m.unasked; shown = m.shown; lacks = m.lacks }));
         })
 
   -- a legal line that says that the value may not be accessed
-  pub turned_away : (h : List Event) (s : Step) (l : Line) (c : ℕ) (q : Phase) → IsLegalLine cells h s l → l.answer ≡ answer.Access q → cell_concerned cells h s ≡ Some c
+  pub turned_away : (h : List Event) (s : Step) (l : Line) (c : ℕ) (q : Phase) → IsLegalLine cells h s l → l.answer ≡ Answer.Access q → cell_concerned cells h s ≡ Some c
       → IsTurnedAway cells h (record { step = s; line = l }) c q
-  turned_away h s l c q k e n = by (subst (Means cells h s.party s.act) e (means cells h s l k))
-    where
-      by : Away cells h s.party s.act q ⊎ Unlent cells h s.party s.act q → IsTurnedAway cells h (record { step = s; line = l }) c q
-      by (inr m) = subst (λ r. IsTurnedAway cells h (record { step = s; line = record { answer = r; given = l.given } }) c q) (sym e) (unlent h s.party l.given q s.act c m n)
-      by (inl m) =
-          subst (λ r. IsTurnedAway cells h (record { step = s; line = record { answer = r; given = l.given } }) c q) (sym e)
-          (subst (λ z. IsTurnedAway cells h (record { step = s; line = record { answer = answer.Access q; given = l.given } }) z q) (called_at h s.party s.act m.cell c m.asked m.calls n) (reasoned m.reason))
-        where
-          reasoned : (Asking cells h s.party m.cell m.asked false × (q ≡ phase_of flags_refused)) ⊎ (Resting cells h s.party m.cell m.asked × (Reach cells h s.party m.cell false × (q ≡ phase_of (phase_at cells m.cell h))))
-              → IsTurnedAway cells h (record { step = s; line = record { answer = answer.Access q; given = l.given } }) m.cell q
-          reasoned (inl r) = declines h s.party l.given s.act m.cell m.asked q m.calls r.0 r.1
-          reasoned (inr r) = denies h s.party l.given s.act m.cell m.asked q m.calls r.0 r.1.0 r.1.1
+  turned_away h s l c q k e n =
+      subst (λ r. IsTurnedAway cells h (record { step = s; line = record { answer = r; given = l.given } }) c q) (sym e) (elim (subst (Means cells h s.party s.act) e (means cells h s l k)) [
+        | inr m ↦ unlent h s.party l.given q s.act c m n
+        | inl m ↦
+            subst (λ z. IsTurnedAway cells h (record { step = s; line = record { answer = Answer.Access q; given = l.given } }) z q) (called_at h s.party s.act m.cell c m.asked m.calls n)
+            (elim (m.reason) [
+              | inl r ↦ declines h s.party l.given s.act m.cell m.asked q m.calls r.0 r.1
+              | inr r ↦ denies h s.party l.given s.act m.cell m.asked q m.calls r.0 r.1.0 r.1.1
+            ])
+      ])
 
   -- without retry a run begins on the empty phase
-  pub begins_on_empty : (h : List Event) (s : Step) (l : Line) (c : ℕ) → IsLegalLine cells h s l → l.answer ≡ answer.Running → cell_concerned cells h s ≡ Some c
+  pub begins_on_empty : (h : List Event) (s : Step) (l : Line) (c : ℕ) → IsLegalLine cells h s l → l.answer ≡ Answer.Running → cell_concerned cells h s ≡ Some c
       → (cell_at cells c).retry ≡ false → phase_at cells c h ≡ 0
-  begins_on_empty h s l c k r e once = by (subst (Means cells h s.party s.act) r (means cells h s l k))
-    where
-      by : Began cells h s.party s.act → phase_at cells c h ≡ 0
-      by m =
-          subst (λ z. (cell_at cells z).retry ≡ false → phase_at cells z h ≡ 0) (called_at h s.party s.act m.cell c m.asked m.calls e)
-          (empty-where-wanted (tolerance_at cells m.cell) (phase_at cells m.cell h) m.asks.wanted) once
+  begins_on_empty h s l c k r e once =
+      let m : Began cells h s.party s.act = subst (Means cells h s.party s.act) r (means cells h s l k) in
+      subst (λ z. (cell_at cells z).retry ≡ false → phase_at cells z h ≡ 0) (called_at h s.party s.act m.cell c m.asked m.calls e)
+      (empty-where-wanted (tolerance_at cells m.cell) (phase_at cells m.cell h) m.asks.wanted) once
 
   -- and it stays empty while the generator runs
   pub runs_on_empty : (h : List Event) (p c : ℕ) → IsLegal cells h → runs p c h ≡ true → (cell_at cells c).retry ≡ false → phase_at cells c h ≡ 0
-  runs_on_empty h p c k r once = by (find (runs_in c) (sections h)) refl r
-    where
-      needed : (s : Section) → find (runs_in c) (sections h) ≡ Some s → (w : Want) → s.want ≡ w → generates_for p (Some s) ≡ true → Needs w (cell_at cells s.cell) (phase_at cells s.cell h) → phase_at cells c h ≡ 0
-      needed s e (Calls j) d g u =
-          let same : (s.cell == c) ≡ true = found_passes (runs_in c) (sections h) s e in
-          let here : s.cell ≡ c = grind arith in
-          empty-where-wanted (tolerance_at cells c) (phase_at cells c h) (subst (λ z. shall_init (tolerance_at cells z) (phase_of (phase_at cells z h)) ≡ true) here u) once
-      needed s e Turns d g u = absurd (by d g)
-        where
-          by : s.want ≡ Turns → generates_for p (Some s) ≡ true → ⊥
-          by d g = turn (rw d at g)
-            where
-              turn : false ≡ true → ⊥
-              turn x = cc
-
-      by : (o : Option Section) → find (runs_in c) (sections h) ≡ o → generates_for p o ≡ true → phase_at cells c h ≡ 0
-      by None e g = absurd (cc)
-      by (Some s) e g = needed s e s.want refl g (each_found (runs_in c) (IsStanding cells h) (sections h) s e (sound cells h k).standing)
+  runs_on_empty h p c k r once = grind (arith, Needs, found_passes, empty-where-wanted, each_found, IsStanding, sound)
 
   -- nor is a value made on another phase, to be lent
   pub lends_on_empty : (h : List Event) (s : Step) (c : ℕ) → lends_at c s.act ≡ true → runs_to_lend cells h s.act ≡ true → (cell_at cells c).retry ≡ false → phase_at cells c h ≡ 0
-  lends_on_empty h s c e asked once = by s.act e asked
-    where
-      empty : AsksToLend cells h s.party c true → phase_at cells c h ≡ 0
-      empty a = empty-where-wanted (tolerance_at cells c) (phase_at cells c h) (asks_due (cell_at cells c).kind (tolerance_at cells c) call.Init (phase_at cells c h) a) once
-
-      by : (a : Act) → lends_at c a ≡ true → runs_to_lend cells h a ≡ true → phase_at cells c h ≡ 0
-      by (act.GetMut z made left) e r = empty (subst (λ y. AsksToLend cells h s.party y true) (number_found z c e) r)
-      by _ e r = absurd (apart (sym r))
+  lends_on_empty h s c e asked once = grind arith
 
 -- what may not access the value leaves every value, and what is open
-pub keeps_values : (cells : List CellPlan) (h : List Event) (s : Step) (p : Phase) (g : Given) → KeepsValues cells h (record { step = s; line = record { answer = answer.Access p; given = g } })
+pub keeps_values : (cells : List CellPlan) (h : List Event) (s : Step) (p : Phase) (g : Given) → KeepsValues cells h (record { step = s; line = record { answer = Answer.Access p; given = g } })
 keeps_values cells h s p g = record { sections_stay = same_sections (act_of h s); guards_stay = same_guards (act_of h s); values_stay = λ c. by c (act_of h s) }
   where
     same_sections : (a : Act) → sections_by h s.party (deed_visited (accepts h) false a) (sections h) ≡ sections h
-    same_sections (act.Call d j) = refl
-    same_sections _ = refl
+    same_sections a = grind arith
 
     same_guards : (a : Act) → guards_by (length h) s.party (deed_visited (accepts h) false a) (sections h) (guards h) ≡ guards h
-    same_guards (act.Call d j) = refl
-    same_guards _ = refl
+    same_guards a = grind arith
 
     by : (c : ℕ) (a : Act) → (content_after_back cells c (back_by s.party (deed_visited (accepts h) false a) (sections h) (guards h)) (replay cells c h)).value ≡ (replay cells c h).value
-    by c (act.Call d j) = here (d == c)
-      where
-        here : (b : Bool) → (if b then effect (cell_at cells c) (Asked (accepts h) j ∷ []) (replay cells c h) else replay cells c h).value ≡ (replay cells c h).value
-        here true = asked_value (cell_at cells c) (accepts h) j (replay cells c h)
-        here false = refl
-    by c _ = refl
+    by c k1 = grind (arith, asked_value)

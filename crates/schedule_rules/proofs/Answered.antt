@@ -1,47 +1,14 @@
 -- What holds of the answers that are due, by what holds of each that may be.
-use Rattle.std.proofs.Common.{◌≡◌, ℕ, List, Bool, true, false, ◌&&◌, Some, None, refl, ◌∙◌, ap}
-use Rattle.std.specs.Prelude.{if◌then◌else◌, is_none}
-use Rattle.std.specs.declared.option.Option.{Option}
-use Rattle.phase_bits.specs.declared.phase.Phase.{Phase}
-use Rattle.phase_locker.specs.declared.ways.Given.{Given}
-use Rattle.phase_locker.specs.declared.ways.How.{How}
-use Rattle.phase_locker.specs.declared.ways.How.TheVariants as how
-use Rattle.phase_locker.specs.declared.tickets.LockNature.TheVariants as nature
-use Rattle.phase_seq.specs.declared.tolerance.Tolerance.{Tolerance}
-use Rattle.lazy_cells.specs.declared.call.Call.{Call}
-use Rattle.lazy_cells.specs.declared.kind.Kind.{Kind}
-use Rattle.schedule_rules.specs.declared.form.Form.{Form}
-use Rattle.schedule_rules.specs.declared.form.Form.TheVariants.{Told, Shown, Held}
-use Rattle.schedule_rules.specs.declared.plan.CellPlan.{CellPlan}
-use Rattle.schedule_rules.specs.declared.plan.Place.{Place}
-use Rattle.schedule_rules.specs.declared.plan.Place.TheVariants as place
-use Rattle.schedule_rules.specs.declared.step.Step.{Step}
-use Rattle.schedule_rules.specs.declared.step.Want.TheVariants.{Calls, Turns}
-use Rattle.schedule_rules.specs.declared.step.Want.{Want}
-use Rattle.schedule_rules.specs.declared.line.Line.{Line}
-use Rattle.schedule_rules.specs.declared.line.Refusal.{Refusal}
-use Rattle.schedule_rules.specs.declared.line.Answer.{Answer}
-use Rattle.schedule_rules.specs.declared.line.Answer.TheVariants as answer
-use Rattle.schedule_rules.specs.Forms.{form_of}
-use Rattle.schedule_rules.specs.Phases.{is_accessible}
-use Rattle.schedule_rules.specs.Changes.{Content, content_asked, asks_to_lend, content_to_lend}
-use Rattle.schedule_rules.specs.History.{Event}
-use Rattle.schedule_rules.specs.Sections.{Section}
-use Rattle.schedule_rules.specs.Guards.{Guard}
-use Rattle.schedule_rules.specs.Waits.{Wait}
-use Rattle.schedule_rules.specs.Holds.{is_barred, holding_with}
-use Rattle.schedule_rules.specs.Refusals.{refusal}
-use Rattle.schedule_rules.specs.Answers.{answer_opened, answer_denied, answer_made, answer_of_made, answer_barred, begins_run, call_answer_admitted, answer_lent, answer_made_to_lend}
-use Rattle.schedule_rules.specs.Kinds.{cell_at, is_owned}
-use Rattle.schedule_rules.specs.Due.{phase_made, due_finished, due_made, due_look, due_clone, due_answer}
-use Rattle.schedule_rules.specs.Legal.{Moment, First, Last, IsLegalLine, answer_of, due_at}
-use Rattle.schedule_rules.specs.Causes.{waits_judged}
+use Rattle.schedule_rules.proofs.Words.{ℕ, ◌≡◌, List, arith, Bool, true, refl, false, Some, ◌∙◌, ap, None, ◌&&◌, if◌then◌else◌, is_none, Option, Phase, LockNature, Given, How}
+use Rattle.schedule_rules.proofs.Words.{Tolerance, Call, Kind, Form, Held, Told, Shown, Answer, Line, Refusal, CellPlan, Place, Step, Calls, Turns, cell_at, is_owned, form_of}
+use Rattle.schedule_rules.proofs.Words.{is_accessible, Content, asks_to_lend, content_asked, content_to_lend, Event, Section, Guard, Wait, is_barred, holding_with, refusal}
+use Rattle.schedule_rules.proofs.Words.{answer_barred, answer_made_to_lend, answer_lent, answer_made, answer_opened, call_answer_admitted, answer_denied, answer_of_made}
+use Rattle.schedule_rules.proofs.Words.{begins_run, due_answer, due_clone, due_made, due_finished, phase_made, due_look, IsLegalLine, answer_of, due_at, Moment, waits_judged}
 
 -- the answer that is due, where these calls of others wait
 pub due_at-judged : (cells : List CellPlan) (m : Moment) (h : List Event) (s : Step) (g : Given) (chosen : Bool)
     → due_at cells m h s g chosen ≡ due_answer cells h s (waits_judged cells m h s g) chosen
-due_at-judged cells First h s g chosen = refl
-due_at-judged cells Last h s g chosen = refl
+due_at-judged cells k1 h s g chosen = grind arith
 
 module _ (P : Answer → Type 0) where
   -- one of two answers
@@ -51,16 +18,16 @@ module _ (P : Answer → Type 0) where
 
   -- it holds of what shows a cell: a phase, a value or a guard
   pub record IsShown : Type 0 where
-    pub phase : (p : Phase) → P (answer.Phase p)
-    pub value : (v : ℕ) → P (answer.Value v)
-    pub read_guard : P answer.ReadGuard
-    pub write_guard : P answer.WriteGuard
+    pub phase : (p : Phase) → P (Answer.Phase p)
+    pub value : (v : ℕ) → P (Answer.Value v)
+    pub read_guard : P Answer.ReadGuard
+    pub write_guard : P Answer.WriteGuard
 
   -- and of what tells that the value may not be accessed
   pub record IsTold : Type 0 where
     pub shown : IsShown
-    pub access : (p : Phase) → P (answer.Access p)
-    pub err_guard : P answer.ErrGuard
+    pub access : (p : Phase) → P (Answer.Access p)
+    pub err_guard : P Answer.ErrGuard
 
   -- so of a call that may access the value
   pub opened : IsShown → (f : Form) (y : Content) → P (answer_opened f y)
@@ -78,26 +45,26 @@ module _ (P : Answer → Type 0) where
   denied k (Held writes false) p = k.access _
 
   -- of one that is admitted
-  pub admitted : IsTold → P answer.Running → (q : Kind) (t : Tolerance) (o : Bool) (k : Call) (y : Content) → P (call_answer_admitted q t o k y)
+  pub admitted : IsTold → P Answer.Running → (q : Kind) (t : Tolerance) (o : Bool) (k : Call) (y : Content) → P (call_answer_admitted q t o k y)
   admitted k r q t o c y =
-      either (begins_run q t o c y.phase) answer.Running _ r
+      either (begins_run q t o c y.phase) Answer.Running _ r
       (either (is_accessible q (content_asked q t o c y).phase) _ _ (opened k.shown (form_of q c) (content_asked q t o c y)) (denied k (form_of q c) (content_asked q t o c y).phase))
 
   -- of a value that is lent
-  pub lent : ((v : ℕ) → P (answer.Value v)) → ((p : Phase) → P (answer.Access p)) → (q : Kind) (y : Content) → P (answer_lent q y)
+  pub lent : ((v : ℕ) → P (Answer.Value v)) → ((p : Phase) → P (Answer.Access p)) → (q : Kind) (y : Content) → P (answer_lent q y)
   lent value access q y = either (is_accessible q y.phase) _ _ (value _) (access _)
 
   -- of one that a run makes first where it is asked
-  pub made_to_lend : ((v : ℕ) → P (answer.Value v)) → ((p : Phase) → P (answer.Access p)) → P answer.Failed → (q : Kind) (t : Tolerance) (o : Bool) (made : Option ℕ) (y : Content) → P (answer_made_to_lend q t o made y)
-  made_to_lend value access f q t o made y = either (asks_to_lend q t y.phase && is_none made) answer.Failed _ f (lent value access q (content_to_lend q t o made y))
+  pub made_to_lend : ((v : ℕ) → P (Answer.Value v)) → ((p : Phase) → P (Answer.Access p)) → P Answer.Failed → (q : Kind) (t : Tolerance) (o : Bool) (made : Option ℕ) (y : Content) → P (answer_made_to_lend q t o made y)
+  made_to_lend value access f q t o made y = either (asks_to_lend q t y.phase && is_none made) Answer.Failed _ f (lent value access q (content_to_lend q t o made y))
 
   -- of one that is barred
-  pub barred : (fast : Bool) (x : Place) (way : How) → (fast ≡ true → P answer.Missed) → ((w : How) → P (answer.Waiting w)) → (is_owned x ≡ true → P answer.Borrowed)
+  pub barred : (fast : Bool) (x : Place) (way : How) → (fast ≡ true → P Answer.Missed) → ((w : How) → P (Answer.Waiting w)) → (is_owned x ≡ true → P Answer.Borrowed)
       → P (answer_barred fast x way)
   barred true x way m w b = m refl
-  barred false place.Park way m w b = w way
-  barred false place.Spin way m w b = w how.Spin
-  barred false (place.Own p) way m w b = b refl
+  barred false Place.Park way m w b = w way
+  barred false Place.Spin way m w b = w How.Spin
+  barred false (Place.Own p) way m w b = b refl
 
   -- of a run that made a value
   pub made_so : IsShown → (f : Form) (v p : ℕ) → P (answer_made f v p)
@@ -108,35 +75,32 @@ module _ (P : Answer → Type 0) where
 
   module _ (cells : List CellPlan) (h : List Event) where
     -- that of a value made
-    pub made : IsShown → (v : ℕ) (o : Option Section) → P answer.Done → P answer.Failed → P (due_made cells h v o)
+    pub made : IsShown → (v : ℕ) (o : Option Section) → P Answer.Done → P Answer.Failed → P (due_made cells h v o)
     made k v None d f = d
-    made k v (Some s) d f = by s.want
-      where
-        by : (u : Want) → P (answer_of_made (cell_at cells s.cell).kind u v (phase_made cells h s))
-        by (Calls j) = made_so k (form_of (cell_at cells s.cell).kind j) v (phase_made cells h s)
-        by Turns = f
+    made k v (Some s) d f =
+        elim (s.want) as (λ u. P (answer_of_made (cell_at cells s.cell).kind u v (phase_made cells h s)))
+        [ Calls j ↦ made_so k (form_of (cell_at cells s.cell).kind j) v (phase_made cells h s) | Turns ↦ f ]
 
     -- that of a finalizer that ends
-    pub finished : IsShown → (fine : Bool) (o : Option Section) → P answer.Done → P (due_finished cells h fine o)
+    pub finished : IsShown → (fine : Bool) (o : Option Section) → P Answer.Done → P (due_finished cells h fine o)
     finished k fine None d = d
     finished k fine (Some s) d = k.phase _
 
     -- that of a look
-    pub looked : IsShown → (o : Option Guard) → P answer.Done → P (due_look cells h o)
+    pub looked : IsShown → (o : Option Guard) → P Answer.Done → P (due_look cells h o)
     looked k None d = d
     looked k (Some x) d = k.value _
 
     -- that of a clone
-    pub cloned : (ws : List Wait) (o : Option Guard) → P answer.Done → P answer.Borrowed → P answer.ReadGuard → P (due_clone cells h ws o)
+    pub cloned : (ws : List Wait) (o : Option Guard) → P Answer.Done → P Answer.Borrowed → P Answer.ReadGuard → P (due_clone cells h ws o)
     cloned ws None d b r = d
-    cloned ws (Some x) d b r = either (is_barred nature.Read (holding_with x.cell h ws)) answer.Borrowed answer.ReadGuard b r
+    cloned ws (Some x) d b r = either (is_barred LockNature.Read (holding_with x.cell h ws)) Answer.Borrowed Answer.ReadGuard b r
 
 -- a test that no refusal passes is passed exactly by the due answer of a step that is not refused
-pub legal_by : (t : Answer → Bool) → ((q : Refusal) → t (answer.Refused q) ≡ false) → (cells : List CellPlan) (h : List Event) (s : Step) (l : Line) (k : IsLegalLine cells h s l)
+pub legal_by : (t : Answer → Bool) → ((q : Refusal) → t (Answer.Refused q) ≡ false) → (cells : List CellPlan) (h : List Event) (s : Step) (l : Line) (k : IsLegalLine cells h s l)
     → t l.answer ≡ (is_none (refusal cells h s) && t (due_answer cells h s (waits_judged cells k.moment h s l.given) k.chosen))
 legal_by t fails cells h s l k =
     ap t (k.answered ∙ ap (answer_of (refusal cells h s)) (due_at-judged cells k.moment h s l.given k.chosen)) ∙ by (refusal cells h s) _
   where
     by : (o : Option Refusal) (a : Answer) → t (answer_of o a) ≡ (is_none o && t a)
-    by None a = refl
-    by (Some q) a = fails q
+    by k1 a = grind arith

@@ -1,49 +1,15 @@
 -- What an attempt at a cell is answered, case by case.
-use Rattle.std.proofs.Common.{◌≡◌, ◌<◌, ◌+◌, ℕ, List, [], ◌∷◌, refl, sym, ◌∙◌, ap, subst, arith, Bool, true, false, not, ◌&&◌, ◌||◌, None, Some}
-use Rattle.std.specs.Prelude.{◌==◌, nat_lt, is_some, if◌then◌else◌}
-use Rattle.std.specs.declared.option.Option.{Option}
-use Rattle.exit_registry.specs.Registry.{first_of, look_at}
-use Rattle.phase_bits.specs.Number.{phase_of}
-use Rattle.phase_bits.specs.Flags.{has, initialized}
-use Rattle.phase_locker.specs.declared.ways.How.{How}
-use Rattle.phase_locker.specs.declared.ways.How.TheVariants as how
-use Rattle.phase_locker.specs.declared.tickets.LockNature.{LockNature}
-use Rattle.phase_locker.specs.declared.tickets.LockNature.TheVariants as nature
-use Rattle.phase_seq.specs.Phases.{flags_refused}
-use Rattle.phase_seq.specs.Asks.{shall_init, nature_where, initializes as run_sought}
-use Rattle.phase_seq.specs.declared.ask.Want.{Want as Sought}
-use Rattle.phase_seq.specs.declared.ask.Want.TheVariants as sought
-use Rattle.phase_seq.specs.declared.tolerance.Tolerance.{Tolerance}
-use Rattle.lazy_cells.specs.Calls.{asking}
-use Rattle.lazy_cells.specs.declared.call.Call.{Call}
-use Rattle.lazy_cells.specs.declared.kind.Kind.{Kind}
-use Rattle.schedule_rules.specs.declared.plan.CellPlan.{CellPlan}
-use Rattle.schedule_rules.specs.declared.step.Act.{Act}
-use Rattle.schedule_rules.specs.declared.step.Act.TheVariants as act
-use Rattle.schedule_rules.specs.declared.step.Want.{Want}
-use Rattle.schedule_rules.specs.declared.step.Want.TheVariants.{Calls, Turns}
-use Rattle.schedule_rules.specs.declared.line.Answer.{Answer}
-use Rattle.schedule_rules.specs.declared.line.Answer.TheVariants as answer
-use Rattle.schedule_rules.specs.Kinds.{cell_at, tolerance_at}
-use Rattle.schedule_rules.specs.Forms.{form_of}
-use Rattle.schedule_rules.specs.Phases.{is_accessible, runs_generator}
-use Rattle.schedule_rules.specs.Calls.{lock_wanted, lock_asked, run_asked, seeks, seeks_run, asks, initializes, is_fast}
-use Rattle.schedule_rules.specs.Changes.{Content}
-use Rattle.schedule_rules.specs.History.{Event, accepts, latest_act, count}
-use Rattle.schedule_rules.specs.Sections.{runs}
-use Rattle.schedule_rules.specs.Replay.{replay, phase_at}
-use Rattle.schedule_rules.specs.Exits.{registry}
-use Rattle.schedule_rules.specs.Waits.{act_for, Wait, wait_of, waits, attempt_of_wait, attempt_of_turn, shares_write, drains_on}
-use Rattle.schedule_rules.specs.Holds.{is_barred, holding_with, keeps, read_guards, write_holds, readers, readers_with, writers_with, drains_with}
-use Rattle.schedule_rules.specs.Refusals.{refusal, refusal_by, refusal_free, refusal_waiting}
-use Rattle.schedule_rules.specs.Answers.{answer_opened, answer_denied, answer_at, answer_barred, call_answer_admitted, turn_answer_admitted, answer_admitted}
-use Rattle.schedule_rules.specs.Due.{answer_of_look, due_attempt, due_tried}
-use Rattle.schedule_rules.specs.Legal.{IsExclusive}
+use Rattle.schedule_rules.proofs.Words.{ℕ, ◌≡◌, List, arith, Bool, true, refl, false, Some, ◌∷◌, ◌∙◌, [], sym, ap, None, subst, ◌&&◌, inl, ◌<◌, inr, not, if◌then◌else◌, is_some}
+use Rattle.schedule_rules.proofs.Words.{Option, has, initialized, phase_of, first_of, look_at, LockNature, How, shall_init, flags_refused, Tolerance, asking, Call, Kind, Form}
+use Rattle.schedule_rules.proofs.Words.{Held, Told, Shown, Answer, CellPlan, Act, Want, Calls, Turns, cell_at, tolerance_at, form_of, is_accessible, runs_generator, asks, is_fast}
+use Rattle.schedule_rules.proofs.Words.{lock_wanted, initializes, Content, Event, accepts, latest_act, runs, replay, phase_at, registry, Wait, waits, wait_of, attempt_of_wait}
+use Rattle.schedule_rules.proofs.Words.{attempt_of_turn, act_for, write_holds, is_barred, read_guards, holding_with, readers, keeps, refusal, refusal_by, refusal_free}
+use Rattle.schedule_rules.proofs.Words.{refusal_waiting, answer_barred, answer_admitted, answer_at, answer_opened, turn_answer_admitted, call_answer_admitted, answer_denied}
+use Rattle.schedule_rules.proofs.Words.{due_attempt, answer_of_look, due_tried, IsExclusive}
 use Rattle.schedule_rules.proofs.Found.{found_counts}
 use Rattle.schedule_rules.proofs.GoesOn.{Matches, wait-matches}
 use Rattle.schedule_rules.proofs.Answered.{barred}
-use Rattle.schedule_rules.proofs.Cases.{step, Tries, Cases, Calling, Turning, Asking, Resting}
-use Rattle.schedule_rules.proofs.Facts.{apart, second, same_number}
+use Rattle.schedule_rules.proofs.Cases.{step, Tries, Case, Calling, Turning, Asking, Resting, Reach, Visiting, form_at, errs, writes}
 
 -- nothing is written where something drains
 no_writers : (w d : ℕ) → (0 < w → d ≡ 0) → 0 < d → w ≡ 0
@@ -51,12 +17,11 @@ no_writers w d alone e = grind arith
 
 -- where there is no first, there is none
 none_first : (cs : List ℕ) → first_of cs ≡ None → cs ≡ []
-none_first [] e = refl
-none_first (c ∷ cs) e = absurd (cc)
+none_first cs e = grind arith
 
 -- an attempt, by whether it is cyclic or barred
-in_turn : (Q : Answer → Type 0) (own barred : Bool) (w r : Answer) → Q answer.Cyclic → Q w → (barred ≡ false → Q r)
-    → Q (if own then answer.Cyclic else if barred then w else r)
+in_turn : (Q : Answer → Type 0) (own barred : Bool) (w r : Answer) → Q Answer.Cyclic → Q w → (barred ≡ false → Q r)
+    → Q (if own then Answer.Cyclic else if barred then w else r)
 in_turn Q true barred w r x y z = x
 in_turn Q false true w r x y z = y
 in_turn Q false false w r x y z = z refl
@@ -67,43 +32,20 @@ waits_or Q true w r y z = y
 waits_or Q false w r y z = z refl
 
 -- where a run is asked, the lock to write is wanted
-pub asks_writes : (q : Kind) (t : Tolerance) (k : Call) (p : ℕ) → asks q t (Calls k) p ≡ true → lock_wanted q t (Calls k) p ≡ nature.Write
-asks_writes q t k p e = by (seeks q (Calls k)) (shall_init t (phase_of p)) refl e
-  where
-    by : (o : Option Sought) (b : Bool) → shall_init t (phase_of p) ≡ b → run_asked (asking o (is_fast (Calls k)) t) p ≡ true → lock_asked (asking o (is_fast (Calls k)) t) p ≡ nature.Write
-    by None b d e = absurd (apart (sym e))
-    by (Some sought.Init) true d e = ap (λ x. nature_where sought.Init x (has p initialized)) d
-    by (Some sought.Init) false d e = absurd (apart (sym e ∙ d))
-    by (Some sought.Read) true d e = ap (λ x. nature_where sought.Read x (has p initialized)) d
-    by (Some sought.Read) false d e = absurd (apart (sym e ∙ d))
-    by (Some sought.Write) b d e = refl
-    by (Some sought.ReadOnly) b d e = absurd (apart (sym e))
-    by (Some sought.WriteOnly) b d e = refl
-    by (Some sought.Finalize) b d e = absurd (apart (sym e))
+pub asks_writes : (q : Kind) (t : Tolerance) (k : Call) (p : ℕ) → asks q t (Calls k) p ≡ true → lock_wanted q t (Calls k) p ≡ LockNature.Write
+asks_writes q t k p e = grind arith
 
 -- and a run is due
 pub asks_due : (q : Kind) (t : Tolerance) (k : Call) (p : ℕ) → asks q t (Calls k) p ≡ true → shall_init t (phase_of p) ≡ true
-asks_due q t k p e = by (seeks q (Calls k)) e
-  where
-    by : (o : Option Sought) → run_asked (asking o (is_fast (Calls k)) t) p ≡ true → shall_init t (phase_of p) ≡ true
-    by None e = absurd (apart (sym e))
-    by (Some s) e = second (run_sought s) _ e
+asks_due q t k p e = grind arith
 
 -- and where none is asked by a call for runs, none is
 pub asks_none : (q : Kind) (t : Tolerance) (k : Call) (p : ℕ) → asks q t (Calls k) p ≡ false → initializes q (Calls k) ≡ true → shall_init t (phase_of p) ≡ false
-asks_none q t k p e i = by (seeks q (Calls k)) e i
-  where
-    rest : (x y : Bool) → (x && y) ≡ false → x ≡ true → y ≡ false
-    rest true y e i = e
-    rest false y e i = absurd (apart (sym i))
-
-    by : (o : Option Sought) → run_asked (asking o (is_fast (Calls k)) t) p ≡ false → seeks_run o ≡ true → shall_init t (phase_of p) ≡ false
-    by None e i = absurd (apart (sym i))
-    by (Some s) e i = rest (run_sought s) _ e i
+asks_none q t k p e i = grind arith
 
 -- a call that is admitted: it runs the generator, is declined, or is answered by what the cell holds
 pub call_admitted : (Q : Answer → Type 0) (q : Kind) (t : Tolerance) (o : Bool) (k : Call) (y : Content)
-    → (asks q t (Calls k) y.phase ≡ true → runs_generator q t o y.phase ≡ true → Q answer.Running)
+    → (asks q t (Calls k) y.phase ≡ true → runs_generator q t o y.phase ≡ true → Q Answer.Running)
     → (asks q t (Calls k) y.phase ≡ true → runs_generator q t o y.phase ≡ false → Q (answer_denied (form_of q k) flags_refused))
     → (asks q t (Calls k) y.phase ≡ false → is_accessible q y.phase ≡ true → Q (answer_opened (form_of q k) y))
     → (asks q t (Calls k) y.phase ≡ false → is_accessible q y.phase ≡ false → Q (answer_denied (form_of q k) y.phase))
@@ -118,7 +60,7 @@ call_admitted Q q t o k y running declined opened denied = by (asks q t (Calls k
     rested e false f = denied e f
 
     by : (b g : Bool) → asks q t (Calls k) y.phase ≡ b → runs_generator q t o y.phase ≡ g
-        → Q (if b && g then answer.Running else answer_at (form_of q k) (is_accessible q (content b g).phase) (content b g))
+        → Q (if b && g then Answer.Running else answer_at (form_of q k) (is_accessible q (content b g).phase) (content b g))
     by true true e f = running e f
     by true false e f = declined e f
     by false g e f = rested e (is_accessible q y.phase) refl
@@ -126,73 +68,20 @@ call_admitted Q q t o k y running declined opened denied = by (asks q t (Calls k
 module _ (cells : List CellPlan) (h : List Event) (p : ℕ) where
   -- what gets the lock to write finds no hold to write
   module _ (c : ℕ) (alone : IsExclusive cells h c) where
-    unbarred : (ws : List Wait) → is_barred nature.Write (holding_with c h ws) ≡ false → write_holds c h ≡ 0
-    unbarred ws e = by (nat_lt 0 (writers_with c h ws)) refl e
-      where
-        by : (b : Bool) → nat_lt 0 (writers_with c h ws) ≡ b → (b || (nat_lt 0 (drains_with c ws) || nat_lt 0 (readers_with c h ws))) ≡ false → write_holds c h ≡ 0
-        by true f g = absurd (apart g)
-        by false f g = grind arith
+    unbarred : (ws : List Wait) → is_barred LockNature.Write (holding_with c h ws) ≡ false → write_holds c h ≡ 0
+    unbarred ws e = grind arith
 
     unheld : (n : ℕ) (ws : List Wait) → ((w : Wait) → wait_of p (waits cells h) ≡ Some w → w.cell ≡ c)
-        → (not (keeps (wait_of p (waits cells h)) nature.Write n) && is_barred nature.Write (holding_with c h ws)) ≡ false → write_holds c h ≡ 0
-    unheld n ws mine e = by (wait_of p (waits cells h)) refl e
-      where
-        by : (o : Option Wait) → wait_of p (waits cells h) ≡ o → (not (keeps o nature.Write n) && is_barred nature.Write (holding_with c h ws)) ≡ false → write_holds c h ≡ 0
-        by None f g = unbarred ws g
-        by (Some w) f g = kept w.way w.woken refl refl g
-          where
-            here : (w.cell == c) ≡ true
-            here = same_number w.cell c (mine w f)
-
-            kept : (y : How) (b : Bool) → w.way ≡ y → w.woken ≡ b → (not (keeps (Some (record { party = w.party; cell = w.cell; want = w.want; way = y; woken = b })) nature.Write n) && is_barred nature.Write (holding_with c h ws)) ≡ false → write_holds c h ≡ 0
-            kept how.ParkedWrite true u v g =
-                let one : 0 < count (shares_write c) (waits cells h) = found_counts (λ z. z.party == p) (shares_write c) (waits cells h) w f (rw (u, v, here) refl) in
-                omega (arith, alone.one_writer, one)
-            kept how.ParkedWrite false u v g = unbarred ws g
-            kept how.Drain b u v g =
-                let one : 0 < count (drains_on c) (waits cells h) = found_counts (λ z. z.party == p) (drains_on c) (waits cells h) w f (rw (u, here) refl) in
-                omega (arith, no_writers _ _ alone.no_drain one)
-            kept how.ParkedRead b u v g = unbarred ws g
-            kept how.Spin b u v g = unbarred ws g
+        → (not (keeps (wait_of p (waits cells h)) LockNature.Write n) && is_barred LockNature.Write (holding_with c h ws)) ≡ false → write_holds c h ≡ 0
+    unheld n ws mine e = grind (arith, unbarred, found_counts, no_writers)
 
     -- nor a guard to read
-    unbarred_read : (ws : List Wait) → is_barred nature.Write (holding_with c h ws) ≡ false → read_guards c h ≡ 0
-    unbarred_read ws e = by (nat_lt 0 (writers_with c h ws)) (nat_lt 0 (drains_with c ws)) (nat_lt 0 (readers_with c h ws)) refl e
-      where
-        by : (b d o : Bool) → nat_lt 0 (readers_with c h ws) ≡ o → (b || (d || o)) ≡ false → read_guards c h ≡ 0
-        by false false false f g = grind arith
-        by true d o f g = absurd (apart g)
-        by false true o f g = absurd (apart g)
-        by false false true f g = absurd (apart g)
+    unbarred_read : (ws : List Wait) → is_barred LockNature.Write (holding_with c h ws) ≡ false → read_guards c h ≡ 0
+    unbarred_read ws e = grind arith
 
     unread : (ws : List Wait) → ((w : Wait) → wait_of p (waits cells h) ≡ Some w → w.cell ≡ c)
-        → (not (keeps (wait_of p (waits cells h)) nature.Write (readers cells c h)) && is_barred nature.Write (holding_with c h ws)) ≡ false → read_guards c h ≡ 0
-    unread ws mine e = by (wait_of p (waits cells h)) refl e
-      where
-        none : (n : ℕ) → read_guards c h + n ≡ 0 → read_guards c h ≡ 0
-        none n f = omega (arith, f)
-
-        drained : (b : Bool) → (readers cells c h == 0) ≡ b → (not b && is_barred nature.Write (holding_with c h ws)) ≡ false → read_guards c h ≡ 0
-        drained true f g = let n : readers cells c h ≡ 0 = grind arith in none _ n
-        drained false f g = unbarred_read ws g
-
-        by : (o : Option Wait) → wait_of p (waits cells h) ≡ o → (not (keeps o nature.Write (readers cells c h)) && is_barred nature.Write (holding_with c h ws)) ≡ false → read_guards c h ≡ 0
-        by None f g = unbarred_read ws g
-        by (Some w) f g = kept w.way w.woken refl refl g
-          where
-            here : (w.cell == c) ≡ true
-            here = same_number w.cell c (mine w f)
-
-            kept : (y : How) (b : Bool) → w.way ≡ y → w.woken ≡ b
-                → (not (keeps (Some (record { party = w.party; cell = w.cell; want = w.want; way = y; woken = b })) nature.Write (readers cells c h)) && is_barred nature.Write (holding_with c h ws)) ≡ false
-                → read_guards c h ≡ 0
-            kept how.ParkedWrite true u v g =
-                let one : 0 < count (shares_write c) (waits cells h) = found_counts (λ z. z.party == p) (shares_write c) (waits cells h) w f (rw (u, v, here) refl) in
-                none _ (alone.no_reader (omega (arith, one)))
-            kept how.ParkedWrite false u v g = unbarred_read ws g
-            kept how.Drain b u v g = drained (readers cells c h == 0) refl g
-            kept how.ParkedRead b u v g = unbarred_read ws g
-            kept how.Spin b u v g = unbarred_read ws g
+        → (not (keeps (wait_of p (waits cells h)) LockNature.Write (readers cells c h)) && is_barred LockNature.Write (holding_with c h ws)) ≡ false → read_guards c h ≡ 0
+    unread ws mine e = grind (arith, unbarred_read, found_counts)
 
   -- whatever of the party waits, waits for the cell
   abbrev pub IsMine : ℕ → Type 0
@@ -205,101 +94,105 @@ module _ (cells : List CellPlan) (h : List Event) (p : ℕ) where
   -- a party whose act is not refused, and is no Again, does not wait
   pub rests : (a : Act) → (refusal_waiting a ≡ None → ⊥) → refusal cells h (step cells h p a) ≡ None
       → (wait_of p (waits cells h) ≡ None) × (refusal_free cells h p a ≡ None)
-  rests a waits_for f = by (wait_of p (waits cells h)) refl f
-    where
-      by : (o : Option Wait) → wait_of p (waits cells h) ≡ o → refusal_by cells (is_some o) h p a ≡ None
-          → (wait_of p (waits cells h) ≡ None) × (refusal_free cells h p a ≡ None)
-      by None e g = (e, g)
-      by (Some w) e g = absurd (waits_for g)
+  rests a waits_for f = grind arith
 
   pub mine_where_none : (c : ℕ) → wait_of p (waits cells h) ≡ None → IsMine c
-  mine_where_none c e w f = absurd (none (sym e ∙ f))
+  mine_where_none c e w f = absurd (cc)
+
+  -- a call that runs nothing, where the value may be accessed
+  opened_case : (a : Act) (c : ℕ) (j : Call) → Calling cells h p a c j → Resting cells h p c j → Reach cells h p c true → (f : Form) → form_at cells h p c j ≡ f
+      → Case cells h p a (answer_opened f (replay cells c h))
+  opened_case a c j t r e (Told tests) f = Case.told a c j _ t (inr (r, tt))
+  opened_case a c j t r e Shown f = Case.shown a c j t r e
+  opened_case a c j t r e (Held true falls_back) f = Case.writing a c j t r e (ap writes f)
+  opened_case a c j t r e (Held false falls_back) f = Case.reading a c j t r e
+
+  -- and where it may not
+  denied_case : (a : Act) (c : ℕ) (j : Call) (q : ℕ) → Calling cells h p a c j → Visiting cells h p c j (phase_of q) (Reach cells h p c false × (phase_of q ≡ phase_of (phase_at cells c h)))
+      → Visiting cells h p c j (phase_of q) (Unit {0}) → (f : Form) → form_at cells h p c j ≡ f → Case cells h p a (answer_denied f q)
+  denied_case a c j q t v u (Told false) e = Case.told a c j _ t u
+  denied_case a c j q t v u (Held w true) e = Case.erring a c j _ t u (ap errs e)
+  denied_case a c j q t v u (Told true) e = Case.denied a c j _ t v
+  denied_case a c j q t v u Shown e = Case.denied a c j _ t v
+  denied_case a c j q t v u (Held w false) e = Case.denied a c j _ t v
+
+  called : (a : Act) (c : ℕ) (j : Call) (ws : List Wait) → Calling cells h p a c j → IsMine c → IsFree c ws (lock_wanted (cell_at cells c).kind (tolerance_at cells c) (Calls j) (phase_at cells c h))
+      → Case cells h p a (answer_admitted (cell_at cells c).kind (tolerance_at cells c) c (accepts h) (Calls j) (replay cells c h))
+  called a c j ws t mine free =
+      call_admitted (Case cells h p a) q u (accepts h) j (replay cells c h)
+      (λ e g. Case.running a c j t (asking true e g)) (λ e g. denied_case a c j flags_refused t (inl (asking false e g, refl)) (inl (asking false e g, refl)) (form_at cells h p c j) refl)
+      (λ e f. opened_case a c j t (resting e) f (form_at cells h p c j) refl)
+      (λ e f. denied_case a c j (phase_at cells c h) t (inr (resting e, (f, refl))) (inr (resting e, tt)) (form_at cells h p c j) refl)
     where
-      none : None ≡ Some w → ⊥
-      none x = cc
+      q : Kind
+      q = (cell_at cells c).kind
 
-  module _ (P : Act → Answer → Type 0) (k : Cases cells h p P) where
-    called : (a : Act) (c : ℕ) (j : Call) (ws : List Wait) → Calling cells h p a c j → IsMine c → IsFree c ws (lock_wanted (cell_at cells c).kind (tolerance_at cells c) (Calls j) (phase_at cells c h))
-        → P a (answer_admitted (cell_at cells c).kind (tolerance_at cells c) c (accepts h) (Calls j) (replay cells c h))
-    called a c j ws t mine free =
-        call_admitted (P a) q u (accepts h) j (replay cells c h)
-        (λ e g. k.running a c j t (asking true e g)) (λ e g. k.declined a c j t (asking false e g))
-        (λ e f. k.opened a c j t (resting e) f) (λ e f. k.denied a c j t (resting e) f)
-      where
-        q : Kind
-        q = (cell_at cells c).kind
+      u : Tolerance
+      u = tolerance_at cells c
 
-        u : Tolerance
-        u = tolerance_at cells c
+      asking : (b : Bool) → asks q u (Calls j) (phase_at cells c h) ≡ true → runs_generator q u (accepts h) (phase_at cells c h) ≡ b → Asking cells h p c j b
+      asking b e g =
+          let written : IsFree c ws LockNature.Write = subst (IsFree c ws) (asks_writes q u j (phase_at cells c h) e) free in
+          record {
+            asked = e;
+            wanted = asks_due q u j (phase_at cells c h) e;
+            generates = g;
+            unheld = λ alone. unheld c alone (readers cells c h) ws mine written;
+            unread = λ alone. unread c alone ws mine written;
+          }
 
-        asking : (b : Bool) → asks q u (Calls j) (phase_at cells c h) ≡ true → runs_generator q u (accepts h) (phase_at cells c h) ≡ b → Asking cells h p c j b
-        asking b e g =
-            let written : IsFree c ws nature.Write = subst (IsFree c ws) (asks_writes q u j (phase_at cells c h) e) free in
-            record {
-              asked = e;
-              wanted = asks_due q u j (phase_at cells c h) e;
-              generates = g;
-              unheld = λ alone. unheld c alone (readers cells c h) ws mine written;
-              unread = λ alone. unread c alone ws mine written;
-            }
+      resting : asks q u (Calls j) (phase_at cells c h) ≡ false → Resting cells h p c j
+      resting e = record { unasked = e; unwanted = asks_none q u j (phase_at cells c h) e }
 
-        resting : asks q u (Calls j) (phase_at cells c h) ≡ false → Resting cells h p c j
-        resting e = record { unasked = e; unwanted = asks_none q u j (phase_at cells c h) e }
+  turned : (a : Act) (c : ℕ) (ws : List Wait) → Turning cells h p a c → IsMine c → IsFree c ws (lock_wanted (cell_at cells c).kind (tolerance_at cells c) Turns (phase_at cells c h))
+      → Case cells h p a (answer_admitted (cell_at cells c).kind (tolerance_at cells c) c (accepts h) Turns (replay cells c h))
+  turned a c ws t mine free = by (has (phase_at cells c h) initialized) refl free
+    where
+      by : (b : Bool) → has (phase_at cells c h) initialized ≡ b → IsFree c ws (if b then LockNature.Write else LockNature.None)
+          → Case cells h p a (turn_answer_admitted (if b then LockNature.Write else LockNature.None) c)
+      by true e f = Case.finalizing a c t e (λ alone. unheld c alone (readers cells c h) ws mine f)
+      by false e f = Case.skipped a c t e
 
-    turned : (a : Act) (c : ℕ) (ws : List Wait) → Turning cells h p a c → IsMine c → IsFree c ws (lock_wanted (cell_at cells c).kind (tolerance_at cells c) Turns (phase_at cells c h))
-        → P a (answer_admitted (cell_at cells c).kind (tolerance_at cells c) c (accepts h) Turns (replay cells c h))
-    turned a c ws t mine free = by (has (phase_at cells c h) initialized) refl free
-      where
-        by : (b : Bool) → has (phase_at cells c h) initialized ≡ b → IsFree c ws (if b then nature.Write else nature.None)
-            → P a (turn_answer_admitted (if b then nature.Write else nature.None) c)
-        by true e f = k.finalizing a c t e (λ alone. unheld c alone (readers cells c h) ws mine f)
-        by false e f = k.skipped a c t e
+  -- what is barred
+  barring : (a : Act) (c : ℕ) (w : Want) (way : How) → Tries cells h p a c w → Case cells h p a (answer_barred (is_fast w) (cell_at cells c).place way)
+  barring a c w way t = barred (Case cells h p a) (is_fast w) (cell_at cells c).place way (λ e. Case.missed a c w e t) (λ v. Case.waiting a c w v t) (λ o. Case.owned a c w o t)
 
-    -- what is barred
-    barring : (a : Act) (c : ℕ) (w : Want) (way : How) → Tries cells h p a c w → P a (answer_barred (is_fast w) (cell_at cells c).place way)
-    barring a c w way t = barred (P a) (is_fast w) (cell_at cells c).place way (λ e. k.missed a c w e t) (λ v. k.waiting a c w v t) (λ o. k.owned a c w o t)
+  pub attempted : (a : Act) (c : ℕ) (w : Want) (ws : List Wait) (chosen : Bool) → Tries cells h p a c w → IsMine c
+      → Case cells h p a (due_attempt cells h p (record { cell = c; want = w }) ws chosen)
+  attempted a c (Calls j) ws chosen t mine =
+      in_turn (Case cells h p a) (initializes (cell_at cells c).kind (Calls j) && runs p c h) _ _ _ (Case.cyclic a c j t) (barring a c (Calls j) _ t)
+      (λ free. called a c j ws t mine free)
+  attempted a c Turns ws chosen t mine =
+      waits_or (Case cells h p a) _ _ _ (barring a c Turns _ t) (λ free. turned a c ws t mine free)
 
-    pub attempted : (a : Act) (c : ℕ) (w : Want) (ws : List Wait) (chosen : Bool) → Tries cells h p a c w → IsMine c
-        → P a (due_attempt cells h p (record { cell = c; want = w }) ws chosen)
-    attempted a c (Calls j) ws chosen t mine =
-        in_turn (P a) (initializes (cell_at cells c).kind (Calls j) && runs p c h) _ _ _ (k.cyclic a c j t) (barring a c (Calls j) _ t)
-        (λ free. called a c j ws t mine free)
-    attempted a c Turns ws chosen t mine =
-        waits_or (P a) _ _ _ (barring a c Turns _ t) (λ free. turned a c ws t mine free)
+  -- the call or turn that waits
+  pub again : (o : Option Wait) → wait_of p (waits cells h) ≡ o → refusal_by cells (is_some o) h p Act.Again ≡ None → (ws : List Wait) (chosen : Bool)
+      → Case cells h p Act.Again (due_tried cells h p (attempt_of_wait o) ws chosen)
+  again None e f ws chosen = absurd (cc)
+  again (Some w) e f ws chosen = attempted Act.Again w.cell w.want ws chosen (tries w.want refl) mine
+    where
+      does : latest_act p h ≡ act_for w.cell w.want
+      does = subst (λ o. Matches (attempt_of_wait o) (latest_act p h)) e (wait-matches cells p h)
 
-    -- the call or turn that waits
-    pub again : (o : Option Wait) → wait_of p (waits cells h) ≡ o → refusal_by cells (is_some o) h p act.Again ≡ None → (ws : List Wait) (chosen : Bool)
-        → P act.Again (due_tried cells h p (attempt_of_wait o) ws chosen)
-    again None e f ws chosen = absurd (cc)
-    again (Some w) e f ws chosen = attempted act.Again w.cell w.want ws chosen (tries w.want refl) mine
-      where
-        does : latest_act p h ≡ act_for w.cell w.want
-        does = subst (λ o. Matches (attempt_of_wait o) (latest_act p h)) e (wait-matches cells p h)
+      mine : IsMine w.cell
+      mine v g = let same : Some v ≡ Some w = sym g ∙ e in cc
 
-        mine : IsMine w.cell
-        mine v g = cells_of (sym g ∙ e)
-          where
-            cells_of : Some v ≡ Some w → v.cell ≡ w.cell
-            cells_of x = cc
+      tries : (u : Want) → w.want ≡ u → Tries cells h p Act.Again w.cell u
+      tries (Calls j) d = record {
+        tried = ap attempt_of_wait e ∙ ap (λ u. Some (record { cell = w.cell; want = u })) d;
+        does = does ∙ ap (act_for w.cell) d;
+        acts = tt;
+      }
+      tries Turns d = record {
+        tried = ap attempt_of_wait e ∙ ap (λ u. Some (record { cell = w.cell; want = u })) d;
+        does = does ∙ ap (act_for w.cell) d;
+        acts = tt;
+      }
 
-        tries : (u : Want) → w.want ≡ u → Tries cells h p act.Again w.cell u
-        tries (Calls j) d = record {
-          tried = ap attempt_of_wait e ∙ ap (λ u. Some (record { cell = w.cell; want = u })) d;
-          does = does ∙ ap (act_for w.cell) d;
-          acts = tt;
-        }
-        tries Turns d = record {
-          tried = ap attempt_of_wait e ∙ ap (λ u. Some (record { cell = w.cell; want = u })) d;
-          does = does ∙ ap (act_for w.cell) d;
-          acts = tt;
-        }
-
-    -- a step of the exit
-    pub exits : (o : Option ℕ) → first_of (registry cells h).left ≡ o → wait_of p (waits cells h) ≡ None → (ws : List Wait) (chosen : Bool)
-        → P act.Exit (due_tried cells h p (attempt_of_turn o) ws chosen)
-    exits None e f ws chosen = by (registry cells h).pending refl
-      where
-        by : (cs : List ℕ) → (registry cells h).pending ≡ cs → P act.Exit (answer_of_look (look_at cs))
-        by [] g = k.closed g (none_first (registry cells h).left e)
-        by (c ∷ cs) g = k.round c cs g (none_first (registry cells h).left e)
-    exits (Some c) e f ws chosen = attempted act.Exit c Turns ws chosen (record { tried = ap attempt_of_turn e; does = refl; acts = tt }) (mine_where_none c f)
+  -- a step of the exit
+  pub exits : (o : Option ℕ) → first_of (registry cells h).left ≡ o → wait_of p (waits cells h) ≡ None → (ws : List Wait) (chosen : Bool)
+      → Case cells h p Act.Exit (due_tried cells h p (attempt_of_turn o) ws chosen)
+  exits None e f ws chosen =
+      (elim ((registry cells h).pending) as (λ cs. (registry cells h).pending ≡ cs → Case cells h p Act.Exit (answer_of_look (look_at cs)))
+      [ [] ↦ λ g. Case.closed g (none_first (registry cells h).left e) | c ∷ cs ↦ λ g. Case.round c cs g (none_first (registry cells h).left e) ]) refl
+  exits (Some c) e f ws chosen = attempted Act.Exit c Turns ws chosen (record { tried = ap attempt_of_turn e; does = refl; acts = tt }) (mine_where_none c f)

@@ -1,67 +1,48 @@
 -- What a legal step may be, case by case.
-use Rattle.std.proofs.Common.{◌≡◌, ℕ, List, [], ◌∷◌, Bool, true, false, Some, None}
-use Rattle.std.specs.Prelude.{length, if◌then◌else◌}
-use Rattle.std.specs.declared.option.Option.{Option}
-use Rattle.phase_bits.specs.Number.{phase_of}
-use Rattle.phase_bits.specs.Flags.{has, initialized}
-use Rattle.phase_locker.specs.declared.ways.How.{How}
-use Rattle.phase_seq.specs.Phases.{flags_refused}
-use Rattle.phase_seq.specs.Asks.{shall_init}
-use Rattle.lazy_cells.specs.Kinds.{lends_value}
-use Rattle.lazy_cells.specs.declared.call.Call.{Call}
-use Rattle.schedule_rules.specs.declared.form.Form.{Form}
-use Rattle.schedule_rules.specs.declared.plan.CellPlan.{CellPlan}
-use Rattle.schedule_rules.specs.declared.step.Act.{Act}
-use Rattle.schedule_rules.specs.declared.step.Act.TheVariants as act
-use Rattle.schedule_rules.specs.declared.step.Step.{Step}
-use Rattle.schedule_rules.specs.declared.step.Want.{Want}
-use Rattle.schedule_rules.specs.declared.step.Want.TheVariants.{Calls, Turns}
-use Rattle.schedule_rules.specs.declared.line.Answer.{Answer}
-use Rattle.schedule_rules.specs.declared.line.Answer.TheVariants as answer
-use Rattle.schedule_rules.specs.Kinds.{cell_at, tolerance_at, is_owned}
-use Rattle.schedule_rules.specs.Forms.{form_of}
-use Rattle.schedule_rules.specs.Phases.{is_accessible, runs_generator, phase_finalized, finishes_so}
-use Rattle.schedule_rules.specs.Calls.{asks, initializes, is_fast}
-use Rattle.schedule_rules.specs.Changes.{asks_to_lend}
-use Rattle.schedule_rules.specs.History.{Event, act_of, accepts, count}
-use Rattle.schedule_rules.specs.Sections.{Section, innermost, is_turn, sections}
-use Rattle.schedule_rules.specs.Guards.{Guard, numbered, guards}
-use Rattle.schedule_rules.specs.Replay.{replay, phase_at, inside}
-use Rattle.schedule_rules.specs.Exits.{registry, finishing}
-use Rattle.schedule_rules.specs.Waits.{waits_at, attempt, waits}
-use Rattle.schedule_rules.specs.Holds.{read_guards, write_holds}
-use Rattle.schedule_rules.specs.Answers.{answer_of_value, answer_opened, answer_denied, answer_made}
-use Rattle.schedule_rules.specs.Due.{phase_made}
-use Rattle.schedule_rules.specs.Legal.{IsExclusive}
+use Rattle.schedule_rules.proofs.Words.{ℕ, ◌≡◌, List, Bool, true, false, Some, ◌∷◌, [], None, ◌⊎◌, length, if◌then◌else◌, Option, has, initialized, phase_of, Phase, How}
+use Rattle.schedule_rules.proofs.Words.{shall_init, flags_refused, lends_value, Call, Form, Held, Answer, CellPlan, Act, Step, Want, Calls, Turns, cell_at, tolerance_at, is_owned}
+use Rattle.schedule_rules.proofs.Words.{form_of, is_accessible, runs_generator, finishes_so, phase_finalized, asks, is_fast, initializes, asks_to_lend, Event, accepts, count}
+use Rattle.schedule_rules.proofs.Words.{act_of, sections, Section, innermost, is_turn, Guard, guards, numbered, replay, phase_at, inside, registry, finishing, waits, attempt}
+use Rattle.schedule_rules.proofs.Words.{waits_at, write_holds, read_guards, answer_of_value, IsExclusive}
 
 -- the act is a call, or goes on with one
 abbrev pub IsCalling : Act → Type 0
-IsCalling (act.Call c j) = Unit {0}
-IsCalling act.Again = Unit {0}
+IsCalling (Act.Call c j) = Unit {0}
+IsCalling Act.Again = Unit {0}
 IsCalling _ = ⊥
 
 -- the act is an Exit, or goes on with one
 abbrev pub IsTurning : Act → Type 0
-IsTurning act.Exit = Unit {0}
-IsTurning act.Again = Unit {0}
+IsTurning Act.Exit = Unit {0}
+IsTurning Act.Again = Unit {0}
 IsTurning _ = ⊥
 
 -- the act attempts something
 abbrev pub IsTrying : Act → Type 0
-IsTrying (act.Call c j) = Unit {0}
-IsTrying act.Again = Unit {0}
-IsTrying act.Exit = Unit {0}
+IsTrying (Act.Call c j) = Unit {0}
+IsTrying Act.Again = Unit {0}
+IsTrying Act.Exit = Unit {0}
 IsTrying _ = ⊥
 
 pub calling-tries : (a : Act) → IsCalling a → IsTrying a
-calling-tries (act.Call c j) t = tt
-calling-tries act.Again t = tt
+calling-tries (Act.Call c j) t = tt
+calling-tries Act.Again t = tt
 calling-tries _ t = absurd t
 
 pub turning-tries : (a : Act) → IsTurning a → IsTrying a
-turning-tries act.Exit t = tt
-turning-tries act.Again t = tt
+turning-tries Act.Exit t = tt
+turning-tries Act.Again t = tt
 turning-tries _ t = absurd t
+
+-- a call of this form gets a guard to read where the value may not be accessed
+abbrev pub errs : Form → Bool
+errs (Held writes falls_back) = falls_back
+errs _ = false
+
+-- one of this form gets a guard to write
+abbrev pub writes : Form → Bool
+writes (Held w falls_back) = w
+writes _ = false
 
 module _ (cells : List CellPlan) (h : List Event) (p : ℕ) where
   -- the step of the party by this act
@@ -71,13 +52,13 @@ module _ (cells : List CellPlan) (h : List Event) (p : ℕ) where
   -- the act calls the cell so, or goes on with that call
   pub record Calling (a : Act) (c : ℕ) (k : Call) : Type 0 where
     pub tried : attempt cells h (step a) ≡ Some (record { cell = c; want = Calls k })
-    pub does : act_of h (step a) ≡ act.Call c k
+    pub does : act_of h (step a) ≡ Act.Call c k
     pub acts : IsCalling a
 
   -- the act takes the turn of the cell, or goes on with it
   pub record Turning (a : Act) (c : ℕ) : Type 0 where
     pub tried : attempt cells h (step a) ≡ Some (record { cell = c; want = Turns })
-    pub does : act_of h (step a) ≡ act.Exit
+    pub does : act_of h (step a) ≡ Act.Exit
     pub acts : IsTurning a
 
   -- the act attempts this at the cell
@@ -122,6 +103,10 @@ module _ (cells : List CellPlan) (h : List Event) (p : ℕ) where
   abbrev pub form_at : ℕ → Call → Form
   form_at c k = form_of (cell_at cells c).kind k
 
+  -- the call runs nothing: it is declined, and leaves this phase, or it asks for no run, and this holds
+  abbrev pub Visiting : ℕ → Call → Phase → Type 0 → Type 0
+  Visiting c k q T = (Asking c k false × (q ≡ phase_of flags_refused)) ⊎ (Resting c k × T)
+
   -- the party's innermost section is that of this call, or of a finalizer that may end so
   pub record Generating (t : Section) (k : Call) : Type 0 where
     pub found : innermost p (sections h) ≡ Some t
@@ -132,34 +117,38 @@ module _ (cells : List CellPlan) (h : List Event) (p : ℕ) where
     pub kind : is_turn t.want ≡ true
     pub so : finishes_so (cell_at cells t.cell).kind fine left ≡ true
 
-  -- what holds of the act and the answer of each legal step that is not refused
-  pub record Cases (P : Act → Answer → Type 0) : Type 0 where
-    pub cyclic : (a : Act) (c : ℕ) (k : Call) → Calling a c k → P a answer.Cyclic
-    pub waiting : (a : Act) (c : ℕ) (w : Want) (way : How) → Tries a c w → P a (answer.Waiting way)
-    pub missed : (a : Act) (c : ℕ) (w : Want) → is_fast w ≡ true → Tries a c w → P a answer.Missed
-    pub owned : (a : Act) (c : ℕ) (w : Want) → is_owned (cell_at cells c).place ≡ true → Tries a c w → P a answer.Borrowed
-    pub opened : (a : Act) (c : ℕ) (k : Call) → Calling a c k → Resting c k → Reach c true → P a (answer_opened (form_at c k) (replay cells c h))
-    pub denied : (a : Act) (c : ℕ) (k : Call) → Calling a c k → Resting c k → Reach c false → P a (answer_denied (form_at c k) (phase_at cells c h))
-    pub running : (a : Act) (c : ℕ) (k : Call) → Calling a c k → Asking c k true → P a answer.Running
-    pub declined : (a : Act) (c : ℕ) (k : Call) → Calling a c k → Asking c k false → P a (answer_denied (form_at c k) flags_refused)
-    pub skipped : (a : Act) (c : ℕ) → Turning a c → has (phase_at cells c h) initialized ≡ false → P a (answer.Skipped c)
-    pub finalizing : (a : Act) (c : ℕ) → Turning a c → has (phase_at cells c h) initialized ≡ true → (IsExclusive cells h c → write_holds c h ≡ 0)
-        → P a (answer.Finalizing c)
-    pub round : (c : ℕ) (cs : List ℕ) → (registry cells h).pending ≡ c ∷ cs → (registry cells h).left ≡ [] → P act.Exit (answer.Round (length (c ∷ cs)))
-    pub closed : (registry cells h).pending ≡ [] → (registry cells h).left ≡ [] → P act.Exit answer.Closed
-    pub made : (v : ℕ) (t : Section) (k : Call) → Generating t k → P (act.Made v) (answer_made (form_at t.cell k) v (phase_made cells h t))
-    pub failed : (t : Section) (k : Call) → Generating t k → P act.MadeFailed answer.Failed
-    pub finished : (fine : Bool) (left : Option ℕ) (t : Section) → Finalizing t fine left
-        → P (finishing fine left) (answer.Phase (phase_of (phase_finalized (phase_at cells t.cell h) fine)))
-    pub looked : (g : ℕ) (x : Guard) → numbered g (guards h) ≡ Some x → P (act.Look g) (answer_of_value (if x.writes then inside cells h x else replay cells x.cell h))
-    pub set : (g v : ℕ) (x : Guard) → numbered g (guards h) ≡ Some x → x.writes ≡ true → P (act.Set g v) answer.Done
-    pub released : (g : ℕ) (x : Guard) → numbered g (guards h) ≡ Some x → P (act.Release g) answer.Done
-    pub downgraded : (g : ℕ) (x : Guard) → numbered g (guards h) ≡ Some x → x.writes ≡ true → P (act.Downgrade g) answer.ReadGuard
-    pub borrowed : (g : ℕ) (x : Guard) → numbered g (guards h) ≡ Some x → x.writes ≡ false → P (act.Clone g) answer.Borrowed
-    pub cloned : (g : ℕ) (x : Guard) → numbered g (guards h) ≡ Some x → x.writes ≡ false → P (act.Clone g) answer.ReadGuard
-    pub lent_made : (c v left : ℕ) → Lendable c → AsksToLend c true → P (act.GetMut c (Some v) left) (answer.Value v)
-    pub lent_failed : (c left : ℕ) → Lendable c → AsksToLend c true → P (act.GetMut c None left) answer.Failed
-    pub lent_rested : (c : ℕ) (made : Option ℕ) (left : ℕ) → Lendable c → AsksToLend c false → Reach c true → P (act.GetMut c made left) (answer_of_value (replay cells c h))
-    pub lent_denied : (c : ℕ) (made : Option ℕ) (left : ℕ) → Lendable c → AsksToLend c false → Reach c false → P (act.GetMut c made left) (answer.Access (phase_of (phase_at cells c h)))
-    pub lent : (c left : ℕ) → Lendable c → Reach c true → P (act.TryGetMut c left) (answer_of_value (replay cells c h))
-    pub unlent : (c left : ℕ) → Lendable c → Reach c false → P (act.TryGetMut c left) (answer.Access (phase_of (phase_at cells c h)))
+  -- the act and the answer of each legal step that is not refused
+  pub data Case : Act → Answer → Type 0 where
+    cyclic : (a : Act) (c : ℕ) (k : Call) → Calling a c k → Case a Answer.Cyclic
+    waiting : (a : Act) (c : ℕ) (w : Want) (way : How) → Tries a c w → Case a (Answer.Waiting way)
+    missed : (a : Act) (c : ℕ) (w : Want) → is_fast w ≡ true → Tries a c w → Case a Answer.Missed
+    owned : (a : Act) (c : ℕ) (w : Want) → is_owned (cell_at cells c).place ≡ true → Tries a c w → Case a Answer.Borrowed
+    told : (a : Act) (c : ℕ) (k : Call) (q : Phase) → Calling a c k → Visiting c k q (Unit {0}) → Case a (Answer.Phase q)
+    shown : (a : Act) (c : ℕ) (k : Call) → Calling a c k → Resting c k → Reach c true → Case a (answer_of_value (replay cells c h))
+    reading : (a : Act) (c : ℕ) (k : Call) → Calling a c k → Resting c k → Reach c true → Case a Answer.ReadGuard
+    writing : (a : Act) (c : ℕ) (k : Call) → Calling a c k → Resting c k → Reach c true → writes (form_at c k) ≡ true → Case a Answer.WriteGuard
+    denied : (a : Act) (c : ℕ) (k : Call) (q : Phase) → Calling a c k → Visiting c k q (Reach c false × (q ≡ phase_of (phase_at cells c h))) → Case a (Answer.Access q)
+    erring : (a : Act) (c : ℕ) (k : Call) (q : Phase) → Calling a c k → Visiting c k q (Unit {0}) → errs (form_at c k) ≡ true → Case a Answer.ErrGuard
+    running : (a : Act) (c : ℕ) (k : Call) → Calling a c k → Asking c k true → Case a Answer.Running
+    skipped : (a : Act) (c : ℕ) → Turning a c → has (phase_at cells c h) initialized ≡ false → Case a (Answer.Skipped c)
+    finalizing : (a : Act) (c : ℕ) → Turning a c → has (phase_at cells c h) initialized ≡ true → (IsExclusive cells h c → write_holds c h ≡ 0) → Case a (Answer.Finalizing c)
+    round : (c : ℕ) (cs : List ℕ) → (registry cells h).pending ≡ c ∷ cs → (registry cells h).left ≡ [] → Case Act.Exit (Answer.Round (length (c ∷ cs)))
+    closed : (registry cells h).pending ≡ [] → (registry cells h).left ≡ [] → Case Act.Exit Answer.Closed
+    made_told : (v : ℕ) (t : Section) (k : Call) (q : Phase) → Generating t k → Case (Act.Made v) (Answer.Phase q)
+    made : (v : ℕ) (t : Section) (k : Call) → Generating t k → Case (Act.Made v) (Answer.Value v)
+    made_to_read : (v : ℕ) (t : Section) (k : Call) → Generating t k → Case (Act.Made v) Answer.ReadGuard
+    made_to_write : (v : ℕ) (t : Section) (k : Call) → Generating t k → writes (form_at t.cell k) ≡ true → Case (Act.Made v) Answer.WriteGuard
+    failed : (t : Section) (k : Call) → Generating t k → Case Act.MadeFailed Answer.Failed
+    finished : (fine : Bool) (left : Option ℕ) (t : Section) → Finalizing t fine left → Case (finishing fine left) (Answer.Phase (phase_of (phase_finalized (phase_at cells t.cell h) fine)))
+    looked : (g : ℕ) (x : Guard) → numbered g (guards h) ≡ Some x → Case (Act.Look g) (answer_of_value (if x.writes then inside cells h x else replay cells x.cell h))
+    set : (g v : ℕ) (x : Guard) → numbered g (guards h) ≡ Some x → x.writes ≡ true → Case (Act.Set g v) Answer.Done
+    released : (g : ℕ) (x : Guard) → numbered g (guards h) ≡ Some x → Case (Act.Release g) Answer.Done
+    downgraded : (g : ℕ) (x : Guard) → numbered g (guards h) ≡ Some x → x.writes ≡ true → Case (Act.Downgrade g) Answer.ReadGuard
+    borrowed : (g : ℕ) (x : Guard) → numbered g (guards h) ≡ Some x → x.writes ≡ false → Case (Act.Clone g) Answer.Borrowed
+    cloned : (g : ℕ) (x : Guard) → numbered g (guards h) ≡ Some x → x.writes ≡ false → Case (Act.Clone g) Answer.ReadGuard
+    lent_made : (c v left : ℕ) → Lendable c → AsksToLend c true → Case (Act.GetMut c (Some v) left) (Answer.Value v)
+    lent_failed : (c left : ℕ) → Lendable c → AsksToLend c true → Case (Act.GetMut c None left) Answer.Failed
+    lent_rested : (c : ℕ) (made : Option ℕ) (left : ℕ) → Lendable c → AsksToLend c false → Reach c true → Case (Act.GetMut c made left) (answer_of_value (replay cells c h))
+    lent_denied : (c : ℕ) (made : Option ℕ) (left : ℕ) → Lendable c → AsksToLend c false → Reach c false → Case (Act.GetMut c made left) (Answer.Access (phase_of (phase_at cells c h)))
+    lent : (c left : ℕ) → Lendable c → Reach c true → Case (Act.TryGetMut c left) (answer_of_value (replay cells c h))
+    unlent : (c left : ℕ) → Lendable c → Reach c false → Case (Act.TryGetMut c left) (Answer.Access (phase_of (phase_at cells c h)))

@@ -1,45 +1,21 @@
 -- Which answer a legal line has, by its cause.
-use Rattle.std.proofs.Common.{◌≡◌, ◌≢◌, ℕ, List, [], ◌∷◌, length, Bool, true, false, not, ◌&&◌, ◌||◌, None, Some, refl, sym, ◌∙◌, ap}
-use Rattle.std.specs.Prelude.{◌==◌, is_none, is_some, if◌then◌else◌}
-use Rattle.std.specs.declared.option.Option.{Option}
-use Rattle.exit_registry.specs.declared.registry.Look.TheVariants as look
-use Rattle.exit_registry.specs.Registry.{is_empty, first_of, look_at}
-use Rattle.phase_bits.specs.Flags.{has, initialized}
-use Rattle.phase_locker.specs.declared.ways.How.{How}
-use Rattle.phase_locker.specs.declared.ways.Given.{Given}
-use Rattle.phase_locker.specs.declared.ways.Given.TheVariants as given
-use Rattle.phase_locker.specs.declared.tickets.LockNature.TheVariants as nature
-use Rattle.lazy_cells.specs.declared.call.Call.{Call}
-use Rattle.schedule_rules.specs.declared.plan.CellPlan.{CellPlan}
-use Rattle.schedule_rules.specs.declared.plan.Place.{Place}
-use Rattle.schedule_rules.specs.declared.plan.Place.TheVariants as place
-use Rattle.schedule_rules.specs.declared.step.Act.{Act}
-use Rattle.schedule_rules.specs.declared.step.Act.TheVariants as act
-use Rattle.schedule_rules.specs.declared.step.Step.{Step}
-use Rattle.schedule_rules.specs.declared.step.Want.TheVariants.{Calls, Turns}
-use Rattle.schedule_rules.specs.declared.line.Line.{Line}
-use Rattle.schedule_rules.specs.declared.line.Answer.{Answer}
-use Rattle.schedule_rules.specs.declared.line.Answer.TheVariants as answer
-use Rattle.schedule_rules.specs.declared.line.Refusal.{Refusal}
-use Rattle.schedule_rules.specs.Kinds.{cell_at, tolerance_at, is_owned}
-use Rattle.schedule_rules.specs.Calls.{lock_wanted, asks, is_fast}
-use Rattle.schedule_rules.specs.History.{Event, is_exit, accepts}
-use Rattle.schedule_rules.specs.Sections.{innermost, is_turn, sections}
-use Rattle.schedule_rules.specs.Guards.{Guard, numbered, guards}
-use Rattle.schedule_rules.specs.Replay.{replay, phase_at}
-use Rattle.schedule_rules.specs.Exits.{registry}
-use Rattle.schedule_rules.specs.Waits.{Attempt, attempt, Wait, wait_of, waits, attempt_of_wait, attempt_of_turn}
-use Rattle.schedule_rules.specs.Holds.{is_barred, holding_with}
-use Rattle.schedule_rules.specs.Gifts.{is_nobody}
-use Rattle.schedule_rules.specs.Refusals.{refusal, refusal_by}
-use Rattle.schedule_rules.specs.Answers.{way_parked, drains_by, answer_barred, answer_admitted}
-use Rattle.schedule_rules.specs.Due.{answer_of_look, keeps_own, due_attempt, due_tried, due_clone, due_answer}
-use Rattle.schedule_rules.specs.Legal.{Moment, IsLegalLine, answer_of, due_at, may_give}
-use Rattle.schedule_rules.specs.Causes.{is_waiting, is_borrowed, is_missed, is_running, is_access, is_cyclic, is_finalizing, is_skipped, is_round, is_closing, is_attempted, waits_judged, is_step_of, is_of_own_run, asks_run, generates, phase_met, is_kept_out, is_barred_attempt, is_admitted, is_barred_clone, is_denied_to_lend, is_barred_step, is_missing_step, is_borrowing_step, is_running_step, is_access_step, is_turn_step, is_cyclic_step, looks, is_round_step, is_closing_step}
-use Rattle.schedule_rules.specs.Laws.{is_initializing}
+use Rattle.schedule_rules.proofs.Words.{ℕ, ◌≡◌, List, arith, Bool, true, refl, false, Some, ◌∙◌, sym, ap, None, ◌&&◌, not, ◌≢◌, ◌||◌, if◌then◌else◌, is_none, is_some, Option}
+use Rattle.schedule_rules.proofs.Words.{first_of, look_at, Given, How, Call, Answer, Line, Refusal, CellPlan, Place, Act, Step, Calls, Turns, cell_at, tolerance_at, is_owned, asks}
+use Rattle.schedule_rules.proofs.Words.{is_fast, lock_wanted, Event, accepts, is_exit, sections, innermost, Guard, guards, numbered, replay, phase_at, registry, Wait, waits}
+use Rattle.schedule_rules.proofs.Words.{wait_of, Attempt, attempt, attempt_of_wait, attempt_of_turn, is_barred, holding_with, refusal, refusal_by, answer_barred, answer_admitted}
+use Rattle.schedule_rules.proofs.Words.{way_parked, drains_by, due_answer, due_attempt, answer_of_look, due_clone, due_tried, keeps_own, is_nobody, IsLegalLine, answer_of, due_at}
+use Rattle.schedule_rules.proofs.Words.{Moment, may_give, waits_judged, is_attempted, is_waiting, is_cyclic, is_finalizing, is_missed, is_borrowed, is_admitted, is_cyclic_step}
+use Rattle.schedule_rules.proofs.Words.{is_access, is_skipped, is_round, is_running, is_denied_to_lend, is_closing, is_barred_clone, is_barred_step, is_turn_step, is_closing_step}
+use Rattle.schedule_rules.proofs.Words.{is_barred_attempt, looks, is_round_step, is_step_of, is_borrowing_step, is_access_step, is_running_step, is_missing_step, is_of_own_run}
+use Rattle.schedule_rules.proofs.Words.{is_initializing}
+use Rattle.schedule_rules.proofs.Tests.{none_asked, none_kept, look_closes, look_rounds, barred_borrows, barred_misses, barred_waits, parts_of_borrowing, parts_of_look}
+use Rattle.schedule_rules.proofs.Tests.{not_admitted, only_own, only_admitted, only_barred, is_refused, IsBeyond, IsOfTries, of_running, of_access, of_cyclic, of_finalizing}
+use Rattle.schedule_rules.proofs.Tests.{of_skipped, of_round, of_closing, of_waiting, of_missed, of_borrowed, of_refused, no_more, same_both, nothing_else, neither, unless_first}
+use Rattle.schedule_rules.proofs.Tests.{is_unlent, unlent_where_denied, shows, makes, admitted_runs, admitted_away, admitted_finalizes, admitted_skips, admitted_fails}
+use Rattle.schedule_rules.proofs.Tests.{fails_barred, calls_not}
+use Rattle.exit_registry.specs.declared.registry.Look.{Look}
 use Rattle.schedule_rules.proofs.Answered.{due_at-judged, lent, made_to_lend, made, finished, looked, cloned, legal_by}
 use Rattle.schedule_rules.proofs.Facts.{apart}
-use Rattle.schedule_rules.proofs.Tests.{is_refused, IsBeyond, IsOfTries, of_running, of_access, of_cyclic, of_finalizing, of_skipped, of_round, of_closing, of_waiting, of_missed, of_borrowed, of_refused, beyond_waiting, beyond_missed, beyond_borrowed, beyond_refused, beyond_cyclic, beyond_round, beyond_closing, no_more, same_both, nothing_else, neither, unless_first, is_unlent, unlent_where_denied, shows, makes, admitted_runs, admitted_away, admitted_finalizes, admitted_skips, admitted_fails, FailsBarred, fails_barred, calls_not}
 
 -- ---- attempts, by whether they are cyclic, barred or admitted
 
@@ -60,115 +36,82 @@ module _ (t : Answer → Bool) (cells : List CellPlan) (h : List Event) (p : ℕ
   abbrev where_admitted : Attempt → Answer
   where_admitted a = answer_admitted (cell_at cells a.cell).kind (tolerance_at cells a.cell) a.cell (accepts h) a.want (replay cells a.cell h)
 
-  -- of a test that no answer passes of a call that is cyclic
-  module _ (cyclic : t answer.Cyclic ≡ false) where
-    -- it is passed by what is barred alone
-    barred_alone : IsBeyond t → (b : Bool → Bool → Bool) → ((fast : Bool) (x : Place) (w : How) → t (answer_barred fast x w) ≡ b fast (is_owned x)) → (a : Attempt)
-        → t (due_attempt cells h p a ws chosen) ≡ (is_barred_attempt cells h p ws a && b (is_fast a.want) (is_owned (cell_at cells a.cell).place))
-    barred_alone is b passes a =
-        by (is_of_own_run cells h p a) (keeps_own cells h p a) (bars a) (where_barred a) (where_admitted a) (passes (is_fast a.want) (cell_at cells a.cell).place (parks a))
-        (admitted_fails (cell_at cells a.cell).kind (tolerance_at cells a.cell) a.cell (accepts h) (replay cells a.cell h) t is a.want)
-      where
-        by : (own kept barred : Bool) (w r : Answer) → t w ≡ b (is_fast a.want) (is_owned (cell_at cells a.cell).place) → t r ≡ false
-            → t (if own then answer.Cyclic else if not kept && barred then w else r) ≡ ((not own && (not kept && barred)) && b (is_fast a.want) (is_owned (cell_at cells a.cell).place))
-        by true kept barred w r e f = cyclic
-        by false true barred w r e f = f
-        by false false true w r e f = e
-        by false false false w r e f = f
-
-    -- or by what is admitted alone
-    admitted_alone : ((fast : Bool) (x : Place) (w : How) → t (answer_barred fast x w) ≡ false) → (cause : Attempt → Bool) (a : Attempt)
-        → t (answer_admitted (cell_at cells a.cell).kind (tolerance_at cells a.cell) a.cell (accepts h) a.want (replay cells a.cell h)) ≡ cause a
-        → t (due_attempt cells h p a ws chosen) ≡ (is_admitted cells h p ws a && cause a)
-    admitted_alone fails cause a e =
-        by (is_of_own_run cells h p a) (keeps_own cells h p a) (bars a) (where_barred a) (where_admitted a) (fails (is_fast a.want) (cell_at cells a.cell).place (parks a)) ∙ ap (λ b. is_admitted cells h p ws a && b) e
-      where
-        by : (own kept barred : Bool) (w r : Answer) → t w ≡ false
-            → t (if own then answer.Cyclic else if not kept && barred then w else r) ≡ ((not own && not (not own && (not kept && barred))) && t r)
-        by true kept barred w r f = cyclic
-        by false true barred w r f = refl
-        by false false true w r f = f
-        by false false false w r f = refl
-
-  -- or by what is cyclic alone
-  cyclic_alone : (b : Bool) → t answer.Cyclic ≡ b → ((fast : Bool) (x : Place) (w : How) → t (answer_barred fast x w) ≡ false) → IsBeyond t → (a : Attempt)
-      → t (due_attempt cells h p a ws chosen) ≡ (is_of_own_run cells h p a && b)
-  cyclic_alone b c fails is a =
-      by (is_of_own_run cells h p a) (keeps_own cells h p a) (bars a) (where_barred a) (where_admitted a) (fails (is_fast a.want) (cell_at cells a.cell).place (parks a))
-      (admitted_fails (cell_at cells a.cell).kind (tolerance_at cells a.cell) a.cell (accepts h) (replay cells a.cell h) t is a.want)
+  -- how the test is passed, by how it is in the three cases
+  pub attempt_passes : (a : Attempt) (u x y : Bool) → t Answer.Cyclic ≡ u → t (where_barred a) ≡ x → t (where_admitted a) ≡ y
+      → t (due_attempt cells h p a ws chosen) ≡ (if is_of_own_run cells h p a then u else if not (keeps_own cells h p a) && bars a then x else y)
+  attempt_passes a u x y e f g = by (is_of_own_run cells h p a) (keeps_own cells h p a) (bars a)
     where
-      by : (own kept barred : Bool) (w r : Answer) → t w ≡ false → t r ≡ false → t (if own then answer.Cyclic else if not kept && barred then w else r) ≡ (own && b)
-      by true kept barred w r e f = c
-      by false true barred w r e f = f
-      by false false true w r e f = e
-      by false false false w r e f = f
+      by : (own kept barred : Bool) → t (if own then Answer.Cyclic else if not kept && barred then where_barred a else where_admitted a) ≡ (if own then u else if not kept && barred then x else y)
+      by true kept barred = e
+      by false true barred = g
+      by false false true = f
+      by false false false = g
+
+  -- it fails on what is admitted, and is passed by what is barred alone, or by what is cyclic alone
+  admits_none : IsBeyond t → (a : Attempt) → t (where_admitted a) ≡ false
+  admits_none is a = admitted_fails (cell_at cells a.cell).kind (tolerance_at cells a.cell) a.cell (accepts h) (replay cells a.cell h) t is a.want
+
+  barred_alone : IsBeyond t → t Answer.Cyclic ≡ false → (a : Attempt) (x : Bool) → t (where_barred a) ≡ x → t (due_attempt cells h p a ws chosen) ≡ (is_barred_attempt cells h p ws a && x)
+  barred_alone is c a x e = attempt_passes a false x false c e (admits_none is a) ∙ only_barred (is_of_own_run cells h p a) (keeps_own cells h p a) (bars a) x
+
+  admitted_alone : t Answer.Cyclic ≡ false → ((fast : Bool) (x : Place) (w : How) → t (answer_barred fast x w) ≡ false) → (a : Attempt) (x : Bool) → t (where_admitted a) ≡ x
+      → t (due_attempt cells h p a ws chosen) ≡ (is_admitted cells h p ws a && x)
+  admitted_alone c fails a x e = attempt_passes a false false x c (fails _ _ _) e ∙ only_admitted (is_of_own_run cells h p a) (keeps_own cells h p a) (bars a) x
+
+  cyclic_alone : (b : Bool) → t Answer.Cyclic ≡ b → ((fast : Bool) (x : Place) (w : How) → t (answer_barred fast x w) ≡ false) → IsBeyond t → (a : Attempt)
+      → t (due_attempt cells h p a ws chosen) ≡ (is_of_own_run cells h p a && b)
+  cyclic_alone b c fails is a = attempt_passes a b false false c (fails _ _ _) (admits_none is a) ∙ only_own (is_of_own_run cells h p a) (keeps_own cells h p a) (bars a) b
 
   -- or by all that is not admitted
-  pub unless_admitted : t answer.Cyclic ≡ true → ((fast : Bool) (x : Place) (w : How) → t (answer_barred fast x w) ≡ true) → IsBeyond t → (a : Attempt)
+  pub unless_admitted : t Answer.Cyclic ≡ true → ((fast : Bool) (x : Place) (w : How) → t (answer_barred fast x w) ≡ true) → IsBeyond t → (a : Attempt)
       → t (due_attempt cells h p a ws chosen) ≡ not (is_admitted cells h p ws a)
-  unless_admitted c passes is a =
-      by (is_of_own_run cells h p a) (keeps_own cells h p a) (bars a) (where_barred a) (where_admitted a) (passes (is_fast a.want) (cell_at cells a.cell).place (parks a))
-      (admitted_fails (cell_at cells a.cell).kind (tolerance_at cells a.cell) a.cell (accepts h) (replay cells a.cell h) t is a.want)
-    where
-      by : (own kept barred : Bool) (w r : Answer) → t w ≡ true → t r ≡ false
-          → t (if own then answer.Cyclic else if not kept && barred then w else r) ≡ not (not own && not (not own && (not kept && barred)))
-      by true kept barred w r e f = c
-      by false true barred w r e f = f
-      by false false true w r e f = e
-      by false false false w r e f = f
+  unless_admitted c passes is a = attempt_passes a true true false c (passes _ _ _) (admits_none is a) ∙ not_admitted (is_of_own_run cells h p a) (keeps_own cells h p a) (bars a)
 
 -- ---- legal lines
 
 module _ (t : Answer → Bool) {denies : Bool} (is : IsOfTries t denies) (cells : List CellPlan) (cause : Attempt → Bool) (h : List Event) (ws : List Wait) (chosen : Bool) where
   -- a clone is answered so where it is barred, and Borrowed is
-  clones : (g : ℕ) (o : Option Guard) → numbered g (guards h) ≡ o → t (due_clone cells h ws o) ≡ (is_barred_clone cells h (act.Clone g) ws && t answer.Borrowed)
-  clones g None e = rw e is.done
-  clones g (Some x) e = rw e (by (is_barred nature.Read (holding_with x.cell h ws)))
-    where
-      by : (b : Bool) → t (if b then answer.Borrowed else answer.ReadGuard) ≡ (b && t answer.Borrowed)
-      by true = refl
-      by false = is.shown.read_guard
+  clones : (g : ℕ) (o : Option Guard) → numbered g (guards h) ≡ o → t (due_clone cells h ws o) ≡ (is_barred_clone cells h (Act.Clone g) ws && t Answer.Borrowed)
+  clones g k1 e = grind arith
 
   -- each act, where what is attempted is answered so exactly by this cause
   due : (p : ℕ) → ((o : Option Attempt) → t (due_tried cells h p o ws chosen) ≡ is_attempted cause o) → (a : Act)
       → t (due_answer cells h (record { party = p; act = a }) ws chosen)
-      ≡ (is_attempted cause (attempt cells h (record { party = p; act = a })) || ((is_barred_clone cells h a ws && t answer.Borrowed) || (is_unlent cells h a && denies)))
-  due p f (act.Call c k) = f (Some (record { cell = c; want = Calls k })) ∙ sym (nothing_else _)
-  due p f act.Again = f (attempt_of_wait (wait_of p (waits cells h))) ∙ sym (nothing_else _)
-  due p f act.Exit = f (attempt_of_turn (first_of (registry cells h).left)) ∙ sym (nothing_else _)
-  due p f (act.Made v) = made (λ a. t a ≡ false) cells h is.shown v (innermost p (sections h)) is.done is.failed
-  due p f act.MadeFailed = is.failed
-  due p f (act.Finished left) = finished (λ a. t a ≡ false) cells h is.shown true (innermost p (sections h)) is.done
-  due p f (act.FinishFailed left) = finished (λ a. t a ≡ false) cells h is.shown false (innermost p (sections h)) is.done
-  due p f (act.Look g) = looked (λ a. t a ≡ false) cells h is.shown (numbered g (guards h)) is.done
-  due p f (act.Set g v) = is.done
-  due p f (act.Release g) = is.done
-  due p f (act.Downgrade g) = is.shown.read_guard
-  due p f (act.Clone g) = clones g (numbered g (guards h)) refl ∙ sym (nothing_else _)
-  due p f (act.GetMut c made left) = makes t is (cell_at cells c).kind (tolerance_at cells c) (accepts h) made (replay cells c h)
-  due p f (act.TryGetMut c left) = shows t is (cell_at cells c).kind (replay cells c h)
+      ≡ (is_attempted cause (attempt cells h (record { party = p; act = a })) || ((is_barred_clone cells h a ws && t Answer.Borrowed) || (is_unlent cells h a && denies)))
+  due p f (Act.Call c k) = f (Some (record { cell = c; want = Calls k })) ∙ sym (nothing_else _)
+  due p f Act.Again = f (attempt_of_wait (wait_of p (waits cells h))) ∙ sym (nothing_else _)
+  due p f Act.Exit = f (attempt_of_turn (first_of (registry cells h).left)) ∙ sym (nothing_else _)
+  due p f (Act.Made v) = made (λ a. t a ≡ false) cells h is.shown v (innermost p (sections h)) is.done is.failed
+  due p f Act.MadeFailed = is.failed
+  due p f (Act.Finished left) = finished (λ a. t a ≡ false) cells h is.shown true (innermost p (sections h)) is.done
+  due p f (Act.FinishFailed left) = finished (λ a. t a ≡ false) cells h is.shown false (innermost p (sections h)) is.done
+  due p f (Act.Look g) = looked (λ a. t a ≡ false) cells h is.shown (numbered g (guards h)) is.done
+  due p f (Act.Set g v) = is.done
+  due p f (Act.Release g) = is.done
+  due p f (Act.Downgrade g) = is.shown.read_guard
+  due p f (Act.Clone g) = clones g (numbered g (guards h)) refl ∙ sym (nothing_else _)
+  due p f (Act.GetMut c made left) = makes t is (cell_at cells c).kind (tolerance_at cells c) (accepts h) made (replay cells c h)
+  due p f (Act.TryGetMut c left) = shows t is (cell_at cells c).kind (replay cells c h)
 
-module _ (t : Answer → Bool) {denies : Bool} (is : IsOfTries t denies) (refused : (q : Refusal) → t (answer.Refused q) ≡ false) (cells : List CellPlan) (h : List Event) (s : Step) (l : Line) (k : IsLegalLine cells h s l) where
+module _ (t : Answer → Bool) {denies : Bool} (is : IsOfTries t denies) (refused : (q : Refusal) → t (Answer.Refused q) ≡ false) (cells : List CellPlan) (h : List Event) (s : Step) (l : Line) (k : IsLegalLine cells h s l) where
   abbrev judged : List Wait
   judged = waits_judged cells k.moment h s l.given
 
   -- so it is of a legal line
   legal : (cause : Attempt → Bool) → ((o : Option Attempt) → t (due_tried cells h s.party o judged k.chosen) ≡ is_attempted cause o)
-      → t l.answer ≡ (is_none (refusal cells h s) && (is_attempted cause (attempt cells h s) || ((is_barred_clone cells h s.act judged && t answer.Borrowed) || (is_unlent cells h s.act && denies))))
+      → t l.answer ≡ (is_none (refusal cells h s) && (is_attempted cause (attempt cells h s) || ((is_barred_clone cells h s.act judged && t Answer.Borrowed) || (is_unlent cells h s.act && denies))))
   legal cause f = legal_by t refused cells h s l k ∙ ap (λ b. is_none (refusal cells h s) && b) (due t is cells cause h judged k.chosen s.party f s.act)
 
   -- where no look is answered so
-  module _ (round : (n : ℕ) → t (answer.Round n) ≡ false) (closed : t answer.Closed ≡ false) (cause : Attempt → Bool) (each : (a : Attempt) → t (due_attempt cells h s.party a judged k.chosen) ≡ cause a) where
+  module _ (round : (n : ℕ) → t (Answer.Round n) ≡ false) (closed : t Answer.Closed ≡ false) (cause : Attempt → Bool) (each : (a : Attempt) → t (due_attempt cells h s.party a judged k.chosen) ≡ cause a) where
     told : (l : _) → t (answer_of_look l) ≡ false
-    told (look.Round n) = round n
-    told look.Closed = closed
+    told l = grind arith
 
     tried : (o : Option Attempt) → t (due_tried cells h s.party o judged k.chosen) ≡ is_attempted cause o
-    tried None = told (look_at (registry cells h).pending)
-    tried (Some a) = each a
+    tried o = grind arith
 
     -- nor a clone, nor a value that is to be lent
-    legal_alone : t answer.Borrowed ≡ false → denies ≡ false → t l.answer ≡ is_step_of cells cause h s
+    legal_alone : t Answer.Borrowed ≡ false → denies ≡ false → t l.answer ≡ is_step_of cells cause h s
     legal_alone e f =
         legal cause tried
         ∙ ap (λ b. is_none (refusal cells h s) && (is_attempted cause (attempt cells h s) || b)) (neither (is_barred_clone cells h s.act judged) (is_unlent cells h s.act) _ _ e f)
@@ -180,49 +123,26 @@ module _ (cells : List CellPlan) (h : List Event) (s : Step) (l : Line) (k : IsL
 
   -- a legal line waits exactly where the step is barred, and neither fast nor at a cell of the party's own
   pub waits_where_barred : is_waiting l.answer ≡ is_barred_step cells h s l.given k.moment
-  waits_where_barred = legal_alone is_waiting of_waiting (λ q. refl) cells h s l k (λ n. refl) refl _ (λ a. barred_alone is_waiting cells h s.party ws k.chosen refl beyond_waiting (λ f o. not f && not o) by a) refl refl
-    where
-      by : (fast : Bool) (x : Place) (w : How) → is_waiting (answer_barred fast x w) ≡ (not fast && not (is_owned x))
-      by true x w = refl
-      by false place.Park w = refl
-      by false place.Spin w = refl
-      by false (place.Own p) w = refl
+  waits_where_barred =
+      legal_alone is_waiting of_waiting.tries (λ q. refl) cells h s l k (λ n. refl) refl _ (λ a. barred_alone is_waiting cells h s.party ws k.chosen of_waiting refl a _ (barred_waits _ _ _)) refl refl
 
   -- misses exactly where it is barred and fast
   pub misses_where_barred : is_missed l.answer ≡ is_missing_step cells h s l.given k.moment
-  misses_where_barred = legal_alone is_missed of_missed (λ q. refl) cells h s l k (λ n. refl) refl _ (λ a. barred_alone is_missed cells h s.party ws k.chosen refl beyond_missed (λ f o. f) by a) refl refl
-    where
-      by : (fast : Bool) (x : Place) (w : How) → is_missed (answer_barred fast x w) ≡ fast
-      by true x w = refl
-      by false place.Park w = refl
-      by false place.Spin w = refl
-      by false (place.Own p) w = refl
+  misses_where_barred =
+      legal_alone is_missed of_missed.tries (λ q. refl) cells h s l k (λ n. refl) refl _ (λ a. barred_alone is_missed cells h s.party ws k.chosen of_missed refl a _ (barred_misses _ _ _)) refl refl
 
   -- and borrows exactly where it is a clone that is barred, or is barred and not fast at a cell of the party's own
   pub borrows_where_barred : is_borrowed l.answer ≡ is_borrowing_step cells h s l.given k.moment
   borrows_where_barred =
-      legal is_borrowed of_borrowed (λ q. refl) cells h s l k _
-      (tried is_borrowed of_borrowed (λ q. refl) cells h s l k (λ n. refl) refl _ (λ a. barred_alone is_borrowed cells h s.party ws k.chosen refl beyond_borrowed (λ f o. not f && o) by a))
-      ∙ parts (is_none (refusal cells h s)) _ _ (is_unlent cells h s.act)
-    where
-      by : (fast : Bool) (x : Place) (w : How) → is_borrowed (answer_barred fast x w) ≡ (not fast && is_owned x)
-      by true x w = refl
-      by false place.Park w = refl
-      by false place.Spin w = refl
-      by false (place.Own p) w = refl
-
-      parts : (n x y u : Bool) → (n && (x || ((y && true) || (u && false)))) ≡ ((n && y) || (n && x))
-      parts false x y u = refl
-      parts true true true u = refl
-      parts true true false u = refl
-      parts true false true u = refl
-      parts true false false u = no_more u
+      legal is_borrowed of_borrowed.tries (λ q. refl) cells h s l k _
+      (tried is_borrowed of_borrowed.tries (λ q. refl) cells h s l k (λ n. refl) refl _ (λ a. barred_alone is_borrowed cells h s.party ws k.chosen of_borrowed refl a _ (barred_borrows _ _ _)))
+      ∙ parts_of_borrowing (is_none (refusal cells h s)) _ _ (is_unlent cells h s.act)
 
   -- a run begins
   pub runs_where_asked : is_running l.answer ≡ is_running_step cells h s l.given k.moment
   runs_where_asked =
       legal_alone is_running of_running (λ q. refl) cells h s l k (λ n. refl) refl _
-      (λ a. admitted_alone is_running cells h s.party ws k.chosen refl (fails_barred is_running (record { missed = refl; borrowed = refl; waiting = λ w. refl })) (λ a. asks_run cells h s.party a && generates cells h s.party a) a
+      (λ a. admitted_alone is_running cells h s.party ws k.chosen refl (fails_barred is_running refl refl (λ w. refl)) a _
       (admitted_runs (cell_at cells a.cell).kind (tolerance_at cells a.cell) a.cell (accepts h) (replay cells a.cell h) a.want)) refl refl
 
   -- the value may not be accessed
@@ -230,63 +150,58 @@ module _ (cells : List CellPlan) (h : List Event) (s : Step) (l : Line) (k : IsL
   accesses_where_turned_away =
       legal is_access of_access (λ q. refl) cells h s l k _
       (tried is_access of_access (λ q. refl) cells h s l k (λ n. refl) refl _
-      (λ a. admitted_alone is_access cells h s.party ws k.chosen refl (fails_barred is_access (record { missed = refl; borrowed = refl; waiting = λ w. refl })) (λ a. not (asks_run cells h s.party a && generates cells h s.party a) && is_kept_out cells h s.party a) a
+      (λ a. admitted_alone is_access cells h s.party ws k.chosen refl (fails_barred is_access refl refl (λ w. refl)) a _
       (admitted_away (cell_at cells a.cell).kind (tolerance_at cells a.cell) a.cell (accepts h) (replay cells a.cell h) a.want)))
       ∙ parts (refusal cells h s) refl _ (is_barred_clone cells h s.act ws)
     where
       parts : (o : Option Refusal) → refusal cells h s ≡ o → (x y : Bool)
           → (is_none o && (x || ((y && false) || (is_unlent cells h s.act && true)))) ≡ ((is_none o && x) || (is_none o && is_denied_to_lend cells h s.act))
-      parts None n x y = unless_first x y (is_unlent cells h s.act) (is_denied_to_lend cells h s.act) (unlent_where_denied cells h s.party s.act n)
-      parts (Some r) n x y = refl
+      parts o n x y = grind (arith, unless_first, is_unlent, unlent_where_denied)
 
   -- a finalizer begins
   pub finalizes_where_ready : (c : ℕ) → is_finalizing c l.answer ≡ is_turn_step cells c true h s l.given k.moment
   finalizes_where_ready c =
       legal_alone (is_finalizing c) (of_finalizing c) (λ q. refl) cells h s l k (λ n. refl) refl _
-      (λ a. admitted_alone (is_finalizing c) cells h s.party ws k.chosen refl (fails_barred (is_finalizing c) (record { missed = refl; borrowed = refl; waiting = λ w. refl })) (λ a. is_turn a.want && ((a.cell == c) && has (phase_met cells h s.party a) initialized)) a
+      (λ a. admitted_alone (is_finalizing c) cells h s.party ws k.chosen refl (fails_barred (is_finalizing c) refl refl (λ w. refl)) a _
       (admitted_finalizes (cell_at cells a.cell).kind (tolerance_at cells a.cell) a.cell (accepts h) (replay cells a.cell h) c a.want)) refl refl
 
   -- a turn is skipped
   pub skips_where_unready : (c : ℕ) → is_skipped c l.answer ≡ is_turn_step cells c false h s l.given k.moment
   skips_where_unready c =
       legal_alone (is_skipped c) (of_skipped c) (λ q. refl) cells h s l k (λ n. refl) refl _
-      (λ a. admitted_alone (is_skipped c) cells h s.party ws k.chosen refl (fails_barred (is_skipped c) (record { missed = refl; borrowed = refl; waiting = λ w. refl })) (λ a. is_turn a.want && ((a.cell == c) && not (has (phase_met cells h s.party a) initialized))) a
+      (λ a. admitted_alone (is_skipped c) cells h s.party ws k.chosen refl (fails_barred (is_skipped c) refl refl (λ w. refl)) a _
       (admitted_skips (cell_at cells a.cell).kind (tolerance_at cells a.cell) a.cell (accepts h) (replay cells a.cell h) c a.want)) refl refl
 
   -- a call is cyclic
   pub cyclic_where_own : is_cyclic l.answer ≡ is_cyclic_step cells h s
   cyclic_where_own =
-      legal_alone is_cyclic of_cyclic (λ q. refl) cells h s l k (λ n. refl) refl _
-      (λ a. cyclic_alone is_cyclic cells h s.party ws k.chosen true refl (fails_barred is_cyclic (record { missed = refl; borrowed = refl; waiting = λ w. refl })) beyond_cyclic a ∙ sym (same_both _)) refl refl
+      legal_alone is_cyclic of_cyclic.tries (λ q. refl) cells h s l k (λ n. refl) refl _
+      (λ a. cyclic_alone is_cyclic cells h s.party ws k.chosen true refl (fails_barred is_cyclic refl refl (λ w. refl)) of_cyclic a ∙ sym (same_both _)) refl refl
 
   -- no answer that is due is a refusal
   pub due_is_answered : (m : Moment) (g : Given) (chosen : Bool) → is_refused (due_at cells m h s g chosen) ≡ false
   due_is_answered m g chosen =
-      ap is_refused (due_at-judged cells m h s g chosen) ∙ due is_refused of_refused cells (λ a. false) h (waits_judged cells m h s g) chosen s.party tried s.act ∙ none (attempt cells h s) _ _
+      ap is_refused (due_at-judged cells m h s g chosen) ∙ due is_refused of_refused.tries cells (λ a. false) h (waits_judged cells m h s g) chosen s.party tried s.act ∙ none (attempt cells h s) _ _
     where
       told : (l : _) → is_refused (answer_of_look l) ≡ false
-      told (look.Round n) = refl
-      told look.Closed = refl
+      told l = grind arith
 
       tried : (o : Option Attempt) → is_refused (due_tried cells h s.party o (waits_judged cells m h s g) chosen) ≡ is_attempted (λ a. false) o
       tried None = told (look_at (registry cells h).pending)
       tried (Some a) =
-          cyclic_alone is_refused cells h s.party (waits_judged cells m h s g) chosen false refl (fails_barred is_refused (record { missed = refl; borrowed = refl; waiting = λ w. refl })) beyond_refused a ∙ no_more _
+          cyclic_alone is_refused cells h s.party (waits_judged cells m h s g) chosen false refl (fails_barred is_refused refl refl (λ w. refl)) of_refused a ∙ no_more _
 
       none : (o : Option Attempt) (b d : Bool) → (is_attempted (λ a. false) o || ((b && false) || (d && false))) ≡ false
-      none None b d = neither b d false false refl refl
-      none (Some a) b d = neither b d false false refl refl
+      none k1 b d = grind arith
 
   -- a line that is refused gives nothing
-  pub refused_gives_nothing : (r : Refusal) → l.answer ≡ answer.Refused r → l.given ≡ given.Nobody
+  pub refused_gives_nothing : (r : Refusal) → l.answer ≡ Answer.Refused r → l.given ≡ Given.Nobody
   refused_gives_nothing r is = by (refusal cells h s) k.answered k.gave
     where
-      nobody : (g : Given) → is_nobody g ≡ true → g ≡ given.Nobody
-      nobody given.Nobody d = refl
-      nobody given.Readers d = absurd (cc)
-      nobody (given.Writer q) d = absurd (cc)
+      nobody : (g : Given) → is_nobody g ≡ true → g ≡ Given.Nobody
+      nobody g d = grind arith
 
-      by : (o : Option Refusal) → l.answer ≡ answer_of o (due_at cells k.moment h s l.given k.chosen) → may_give cells o k.moment h s l ≡ true → l.given ≡ given.Nobody
+      by : (o : Option Refusal) → l.answer ≡ answer_of o (due_at cells k.moment h s l.given k.chosen) → may_give cells o k.moment h s l ≡ true → l.given ≡ Given.Nobody
       by (Some q) e d = nobody l.given d
       by None e d = absurd (apart (ap is_refused (sym is ∙ e) ∙ due_is_answered k.moment l.given k.chosen))
 
@@ -294,21 +209,13 @@ module _ (cells : List CellPlan) (h : List Event) (s : Step) (l : Line) (k : IsL
 pub kept_is_answered : (cells : List CellPlan) (h : List Event) (p : ℕ) (a : Attempt) (ws : List Wait) (chosen : Bool)
     → keeps_own cells h p a ≡ true → is_waiting (due_attempt cells h p a ws chosen) ≡ false
 kept_is_answered cells h p a ws chosen keeps =
-    barred_alone is_waiting cells h p ws chosen refl beyond_waiting (λ f o. not f && not o) by a ∙ ap (λ b. (not (is_of_own_run cells h p a) && (not b && bars is_waiting cells h p ws chosen a)) && (not (is_fast a.want) && not (is_owned (cell_at cells a.cell).place))) keeps ∙ nothing (is_of_own_run cells h p a) (bars is_waiting cells h p ws chosen a) _
-  where
-    by : (fast : Bool) (x : Place) (w : How) → is_waiting (answer_barred fast x w) ≡ (not fast && not (is_owned x))
-    by true x w = refl
-    by false place.Park w = refl
-    by false place.Spin w = refl
-    by false (place.Own p) w = refl
-
-    nothing : (x y z : Bool) → ((not x && (not true && y)) && z) ≡ false
-    nothing true y z = refl
-    nothing false y z = refl
+    barred_alone is_waiting cells h p ws chosen of_waiting refl a _ (barred_waits _ _ _)
+    ∙ ap (λ b. (not (is_of_own_run cells h p a) && (not b && bars is_waiting cells h p ws chosen a)) && (not (is_fast a.want) && not (is_owned (cell_at cells a.cell).place))) keeps
+    ∙ none_kept (is_of_own_run cells h p a) (bars is_waiting cells h p ws chosen a) _
 
 -- ---- looks
 
-module _ (t : Answer → Bool) {denies : Bool} (is : IsOfTries t denies) (beyond : IsBeyond t) (fails : FailsBarred t) (cyclic : t answer.Cyclic ≡ false) (cells : List CellPlan) (h : List Event) (ws : List Wait) (chosen : Bool) (p : ℕ) where
+module _ (t : Answer → Bool) (is : IsBeyond t) (missed : t Answer.Missed ≡ false) (borrowed : t Answer.Borrowed ≡ false) (waiting : (w : How) → t (Answer.Waiting w) ≡ false) (cyclic : t Answer.Cyclic ≡ false) (cells : List CellPlan) (h : List Event) (ws : List Wait) (chosen : Bool) (p : ℕ) where
   -- the answer of a look
   abbrev passes : Bool
   passes = t (answer_of_look (look_at (registry cells h).pending))
@@ -319,76 +226,50 @@ module _ (t : Answer → Bool) {denies : Bool} (is : IsOfTries t denies) (beyond
 
   -- no attempt is answered so
   each : (a : Attempt) → t (due_attempt cells h p a ws chosen) ≡ false
-  each a = cyclic_alone t cells h p ws chosen false cyclic (fails_barred t fails) beyond a ∙ no_more _
+  each a = cyclic_alone t cells h p ws chosen false cyclic (fails_barred t missed borrowed waiting) is a ∙ no_more _
 
   -- an Exit with no cell left is, and no other step
   looked_so : (a : Act) → (free a && t (due_answer cells h (record { party = p; act = a }) ws chosen)) ≡ (free a && (is_exit a && (is_none (first_of (registry cells h).left) && passes)))
-  looked_so (act.Call c k) = ap (λ b. free (act.Call c k) && b) (each (record { cell = c; want = Calls k }))
-  looked_so act.Again = by (wait_of p (waits cells h))
-    where
-      by : (o : Option Wait) → (is_none (refusal_by cells (is_some o) h p act.Again) && t (due_tried cells h p (attempt_of_wait o) ws chosen))
-          ≡ (is_none (refusal_by cells (is_some o) h p act.Again) && false)
-      by None = refl
-      by (Some w) = each (record { cell = w.cell; want = w.want })
-  looked_so act.Exit = ap (λ b. free act.Exit && b) (by (first_of (registry cells h).left))
-    where
-      by : (o : Option ℕ) → t (due_tried cells h p (attempt_of_turn o) ws chosen) ≡ (is_none o && passes)
-      by None = refl
-      by (Some c) = each (record { cell = c; want = Turns })
-  looked_so (act.Made v) = ap (λ b. free (act.Made v) && b) (made (λ a. t a ≡ false) cells h is.shown v (innermost p (sections h)) is.done is.failed)
-  looked_so act.MadeFailed = ap (λ b. free act.MadeFailed && b) is.failed
-  looked_so (act.Finished left) = ap (λ b. free (act.Finished left) && b) (finished (λ a. t a ≡ false) cells h is.shown true (innermost p (sections h)) is.done)
-  looked_so (act.FinishFailed left) = ap (λ b. free (act.FinishFailed left) && b) (finished (λ a. t a ≡ false) cells h is.shown false (innermost p (sections h)) is.done)
-  looked_so (act.Look g) = ap (λ b. free (act.Look g) && b) (looked (λ a. t a ≡ false) cells h is.shown (numbered g (guards h)) is.done)
-  looked_so (act.Set g v) = ap (λ b. free (act.Set g v) && b) is.done
-  looked_so (act.Release g) = ap (λ b. free (act.Release g) && b) is.done
-  looked_so (act.Downgrade g) = ap (λ b. free (act.Downgrade g) && b) is.shown.read_guard
-  looked_so (act.GetMut c made left) =
-      ap (λ b. free (act.GetMut c made left) && b) (made_to_lend (λ a. t a ≡ false) is.shown.value beyond.told.access is.failed (cell_at cells c).kind (tolerance_at cells c) (accepts h) made (replay cells c h))
-  looked_so (act.TryGetMut c left) = ap (λ b. free (act.TryGetMut c left) && b) (lent (λ a. t a ≡ false) is.shown.value beyond.told.access (cell_at cells c).kind (replay cells c h))
-  looked_so (act.Clone g) = ap (λ b. free (act.Clone g) && b) (cloned (λ a. t a ≡ false) cells h ws (numbered g (guards h)) is.done fails.borrowed is.shown.read_guard)
+  looked_so (Act.Call c k) = ap (λ b. free (Act.Call c k) && b) (each (record { cell = c; want = Calls k }))
+  looked_so Act.Again =
+      elim (wait_of p (waits cells h)) as (λ o. (is_none (refusal_by cells (is_some o) h p Act.Again) && t (due_tried cells h p (attempt_of_wait o) ws chosen)) ≡ (is_none (refusal_by cells (is_some o) h p Act.Again) && false))
+      [ None ↦ refl | Some w ↦ each (record { cell = w.cell; want = w.want }) ]
+  looked_so Act.Exit =
+      ap (λ b. free Act.Exit && b) (elim (first_of (registry cells h).left) as (λ o. t (due_tried cells h p (attempt_of_turn o) ws chosen) ≡ (is_none o && passes))
+      [ None ↦ refl | Some c ↦ each (record { cell = c; want = Turns }) ])
+  looked_so (Act.Made v) = ap (λ b. free (Act.Made v) && b) (made (λ a. t a ≡ false) cells h is.tries.shown v (innermost p (sections h)) is.tries.done is.tries.failed)
+  looked_so Act.MadeFailed = ap (λ b. free Act.MadeFailed && b) is.tries.failed
+  looked_so (Act.Finished left) = ap (λ b. free (Act.Finished left) && b) (finished (λ a. t a ≡ false) cells h is.tries.shown true (innermost p (sections h)) is.tries.done)
+  looked_so (Act.FinishFailed left) = ap (λ b. free (Act.FinishFailed left) && b) (finished (λ a. t a ≡ false) cells h is.tries.shown false (innermost p (sections h)) is.tries.done)
+  looked_so (Act.Look g) = ap (λ b. free (Act.Look g) && b) (looked (λ a. t a ≡ false) cells h is.tries.shown (numbered g (guards h)) is.tries.done)
+  looked_so (Act.Set g v) = ap (λ b. free (Act.Set g v) && b) is.tries.done
+  looked_so (Act.Release g) = ap (λ b. free (Act.Release g) && b) is.tries.done
+  looked_so (Act.Downgrade g) = ap (λ b. free (Act.Downgrade g) && b) is.tries.shown.read_guard
+  looked_so (Act.GetMut c made left) =
+      ap (λ b. free (Act.GetMut c made left) && b) (made_to_lend (λ a. t a ≡ false) is.tries.shown.value is.tries.access is.tries.failed (cell_at cells c).kind (tolerance_at cells c) (accepts h) made (replay cells c h))
+  looked_so (Act.TryGetMut c left) = ap (λ b. free (Act.TryGetMut c left) && b) (lent (λ a. t a ≡ false) is.tries.shown.value is.tries.access (cell_at cells c).kind (replay cells c h))
+  looked_so (Act.Clone g) = ap (λ b. free (Act.Clone g) && b) (cloned (λ a. t a ≡ false) cells h ws (numbered g (guards h)) is.tries.done borrowed is.tries.shown.read_guard)
 
 module _ (cells : List CellPlan) (h : List Event) (s : Step) (l : Line) (k : IsLegalLine cells h s l) where
   -- it is passed exactly where the step looks, and the look passes it
-  looked_where : (t : Answer → Bool) {denies : Bool} → IsOfTries t denies → IsBeyond t → FailsBarred t → t answer.Cyclic ≡ false → ((q : Refusal) → t (answer.Refused q) ≡ false)
-      → t l.answer ≡ (looks cells h s && t (answer_of_look (look_at (registry cells h).pending)))
-  looked_where t {denies} is beyond fails cyclic refused =
-      legal_by t refused cells h s l k ∙ looked_so t is beyond fails cyclic cells h (waits_judged cells k.moment h s l.given) k.chosen s.party s.act
-      ∙ three (is_none (refusal cells h s)) (is_exit s.act) _ _
-    where
-      three : (a b c d : Bool) → (a && (b && (c && d))) ≡ ((a && (b && c)) && d)
-      three true true c d = refl
-      three true false c d = refl
-      three false b c d = refl
+  looked_where : (t : Answer → Bool) → IsBeyond t → t Answer.Missed ≡ false → t Answer.Borrowed ≡ false → ((w : How) → t (Answer.Waiting w) ≡ false) → t Answer.Cyclic ≡ false
+      → ((q : Refusal) → t (Answer.Refused q) ≡ false) → t l.answer ≡ (looks cells h s && t (answer_of_look (look_at (registry cells h).pending)))
+  looked_where t is missed borrowed waiting cyclic refused =
+      legal_by t refused cells h s l k ∙ looked_so t is missed borrowed waiting cyclic cells h (waits_judged cells k.moment h s l.given) k.chosen s.party s.act
+      ∙ parts_of_look (is_none (refusal cells h s)) (is_exit s.act) _ _
 
   -- a look took so many cells
   pub rounds_where_registered : (n : ℕ) → is_round n l.answer ≡ is_round_step cells n h s
-  rounds_where_registered n =
-      looked_where (is_round n) (of_round n) (beyond_round n) (record { missed = refl; borrowed = refl; waiting = λ w. refl }) refl (λ q. refl) ∙ ap (λ b. looks cells h s && b) (by (registry cells h).pending)
-    where
-      by : (cs : List ℕ) → is_round n (answer_of_look (look_at cs)) ≡ (not (is_empty cs) && (length cs == n))
-      by [] = refl
-      by (c ∷ cs) = refl
+  rounds_where_registered n = looked_where (is_round n) (of_round n) refl refl (λ w. refl) refl (λ q. refl) ∙ ap (λ b. looks cells h s && b) (look_rounds n (registry cells h).pending)
 
   -- a look found none
   pub closes_where_none : is_closing l.answer ≡ is_closing_step cells h s
-  closes_where_none =
-      looked_where is_closing of_closing beyond_closing (record { missed = refl; borrowed = refl; waiting = λ w. refl }) refl (λ q. refl) ∙ ap (λ b. looks cells h s && b) (by (registry cells h).pending)
-    where
-      by : (cs : List ℕ) → is_closing (answer_of_look (look_at cs)) ≡ is_empty cs
-      by [] = refl
-      by (c ∷ cs) = refl
+  closes_where_none = looked_where is_closing of_closing refl refl (λ w. refl) refl (λ q. refl) ∙ ap (λ b. looks cells h s && b) (look_closes (registry cells h).pending)
 
 module _ (cells : List CellPlan) (h : List Event) (s : Step) (l : Line) (k : IsLegalLine cells h s l) where
   -- so it begins none
-  pub only_initializing_run : (c : ℕ) (j : Call) → attempt cells h s ≡ Some (record { cell = c; want = Calls j }) → is_initializing j ≡ false → l.answer ≢ answer.Running
+  pub only_initializing_run : (c : ℕ) (j : Call) → attempt cells h s ≡ Some (record { cell = c; want = Calls j }) → is_initializing j ≡ false → l.answer ≢ Answer.Running
   only_initializing_run c j e n r = apart (sym (ap is_running r) ∙ runs_where_asked cells h s l k ∙ none)
     where
-      never : (x y a g : Bool) → a ≡ false → (x && (y && (a && g))) ≡ false
-      never x y true g f = absurd (apart f)
-      never true true false g f = refl
-      never true false false g f = refl
-      never false y false g f = refl
-
       none : is_running_step cells h s l.given k.moment ≡ false
-      none = rw e (never (is_none (refusal cells h s)) _ (asks (cell_at cells c).kind (tolerance_at cells c) (Calls j) (phase_at cells c h)) _ (calls_not (cell_at cells c).kind (tolerance_at cells c) j (phase_at cells c h) n))
+      none = rw e (none_asked (is_none (refusal cells h s)) _ (asks (cell_at cells c).kind (tolerance_at cells c) (Calls j) (phase_at cells c h)) _ (calls_not (cell_at cells c).kind (tolerance_at cells c) j (phase_at cells c h) n))

@@ -1,21 +1,7 @@
 -- How many calls wait and how many turns there are, after one is taken off or added.
-use Rattle.std.proofs.Common.{◌≡◌, ◌≤◌, ◌+◌, ◌++◌, ℕ, List, [], ◌∷◌, refl, sym, ap, subst, arith, Bool, true, false, not, cond, None, Some}
-use Rattle.std.specs.Prelude.{◌==◌, map, if◌then◌else◌}
-use Rattle.std.specs.declared.option.Option.{Option}
-use Rattle.exit_registry.specs.Registry.{occurs, first_of, rest_of}
-use Rattle.exit_registry.specs.Exits.{cells_of_turns}
-use Rattle.exit_registry.specs.declared.turns.Turn.{Turn}
-use Rattle.exit_registry.specs.declared.turns.Turned.{Turned}
-use Rattle.phase_locker.specs.declared.ways.Given.{Given}
-use Rattle.phase_locker.specs.declared.ways.Given.TheVariants as given
-use Rattle.schedule_rules.specs.declared.plan.CellPlan.{CellPlan}
-use Rattle.schedule_rules.specs.declared.step.Step.{Step}
-use Rattle.schedule_rules.specs.declared.line.Answer.{Answer}
-use Rattle.schedule_rules.specs.declared.line.Answer.TheVariants as answer
-use Rattle.schedule_rules.specs.History.{Event, count}
-use Rattle.schedule_rules.specs.Waits.{Attempt, Wait, wait_of, without_wait, wait_woken, wake_writer, wake_reader, wake_readers, with_wait, attempt_with, cell_concerned_with, waits_given_with, waits_answered, waits, attempt_of_wait, attempt_of_turn}
-use Rattle.schedule_rules.specs.declared.step.Want.{Want}
-use Rattle.schedule_rules.specs.declared.step.Want.TheVariants.{Turns}
+use Rattle.schedule_rules.proofs.Words.{ℕ, ◌≡◌, List, arith, Bool, refl, Some, ◌∷◌, [], None, ◌+◌, cond, ◌≤◌, ◌++◌, ◌==◌, if◌then◌else◌, map, Option, cells_of_turns, first_of}
+use Rattle.schedule_rules.proofs.Words.{rest_of, occurs, Turn, Turned, Given, Answer, CellPlan, Step, Want, Turns, Event, count, Wait, waits, wait_of, Attempt, attempt_of_wait}
+use Rattle.schedule_rules.proofs.Words.{attempt_of_turn, without_wait, waits_given_with, waits_answered, with_wait, wait_woken}
 
 -- 1 where the test holds
 abbrev pub one_if : Bool → ℕ
@@ -36,37 +22,19 @@ occurs_ended c d t (x ∷ ts) = let e : _ = occurs_ended c d t ts in omega (arit
 -- what a gift leaves alone counts as before
 pub count_mapped : (t : Wait → Bool) (f : Wait → Wait) → ((w : Wait) → t (f w) ≡ t w) → (ws : List Wait) → count t (map f ws) ≡ count t ws
 count_mapped t f same [] = refl
-count_mapped t f same (w ∷ ws) = by (t (f w)) (t w) (same w) (count_mapped t f same ws)
-  where
-    by : (a b : Bool) → a ≡ b → count t (map f ws) ≡ count t ws → cond a (count t (map f ws) + 1) (count t (map f ws)) ≡ cond b (count t ws + 1) (count t ws)
-    by true true e n = omega (arith, n)
-    by false false e n = n
-    by true false e n = absurd (cc)
-    by false true e n = absurd (cc)
+count_mapped t f same (w ∷ ws) = grind (arith, count_mapped t f same ws, same w)
 
 module _ (t : Wait → Bool) (keeps : (w : Wait) → t (wait_woken w) ≡ t w) where
   woken : (b : Bool) (w : Wait) → t (if b then wait_woken w else w) ≡ t w
-  woken true w = keeps w
-  woken false w = refl
+  woken b w = grind (arith, keeps)
 
   pub count_given : (cells : List CellPlan) (all : List Wait) (h : List Event) (s : Step) (g : Given) (ws : List Wait) → count t (waits_given_with cells all h s g ws) ≡ count t ws
-  count_given cells all h s given.Nobody ws = refl
-  count_given cells all h s (given.Writer q) ws = count_mapped t (wake_writer q) (λ w. woken _ w) ws
-  count_given cells all h s given.Readers ws = by (cell_concerned_with cells all h s.party s.act)
-    where
-      by : (o : Option ℕ) → count t (wake_readers o ws) ≡ count t ws
-      by None = refl
-      by (Some c) = count_mapped t (wake_reader c) (λ w. woken _ w) ws
+  count_given cells all h s k1 ws = grind (arith, count_mapped, woken)
 
 -- where the party does not wait, all are others
 pub without_none : (p : ℕ) (ws : List Wait) → wait_of p ws ≡ None → without_wait p ws ≡ ws
 without_none p [] e = refl
-without_none p (w ∷ ws) e = by (w.party == p) e (λ f. without_none p ws f)
-  where
-    by : (b : Bool) → cond b (Some w) (wait_of p ws) ≡ None → (wait_of p ws ≡ None → without_wait p ws ≡ ws)
-        → cond (not b) (w ∷ without_wait p ws) (without_wait p ws) ≡ w ∷ ws
-    by true f rest = absurd (cc)
-    by false f rest = ap (λ vs. w ∷ vs) (rest f)
+without_none p (w ∷ ws) e = grind (arith, without_none p ws)
 
 none_waits : (p : ℕ) (ws : List Wait) → count (λ w. w.party == p) ws ≡ 0 → wait_of p ws ≡ None
 none_waits p [] e = refl
@@ -76,54 +44,17 @@ none_waits p (w ∷ ws) e = grind (arith, none_waits p ws)
 pub count_without : (t : Wait → Bool) (p : ℕ) (ws : List Wait) (w : Wait) → wait_of p ws ≡ Some w → count (λ v. v.party == p) ws ≤ 1
     → count t ws ≡ count t (without_wait p ws) + cond (t w) 1 0
 count_without t p [] w e n = absurd (cc)
-count_without t p (v ∷ ws) w e n = by (v.party == p) e n (λ f m. count_without t p ws w f m)
-  where
-    more : (a : Bool) (x y : ℕ) (b : Bool) → x ≡ y + cond b 1 0 → cond a (x + 1) x ≡ cond a (y + 1) y + cond b 1 0
-    more true x y b e = omega (arith, e)
-    more false x y b e = e
-
-    own : v ≡ w → count (λ u. u.party == p) ws ≡ 0 → cond (t v) (count t ws + 1) (count t ws) ≡ count t (without_wait p ws) + cond (t w) 1 0
-    own same none = rw (without_none p ws (none_waits p ws none)) (subst (λ u. cond (t v) (count t ws + 1) (count t ws) ≡ count t ws + cond (t u) 1 0) same (one (t v)))
-      where
-        one : (b : Bool) → cond b (count t ws + 1) (count t ws) ≡ count t ws + cond b 1 0
-        one true = refl
-        one false = omega arith
-
-    by : (b : Bool) → cond b (Some v) (wait_of p ws) ≡ Some w → cond b (count (λ u. u.party == p) ws + 1) (count (λ u. u.party == p) ws) ≤ 1
-        → (wait_of p ws ≡ Some w → count (λ u. u.party == p) ws ≤ 1 → count t ws ≡ count t (without_wait p ws) + cond (t w) 1 0)
-        → cond (t v) (count t ws + 1) (count t ws) ≡ count t (cond (not b) (v ∷ without_wait p ws) (without_wait p ws)) + cond (t w) 1 0
-    by true f m rest = own (same f) (omega (arith, m))
-      where
-        same : Some v ≡ Some w → v ≡ w
-        same x = cc
-    by false f m rest = more (t v) (count t ws) (count t (without_wait p ws)) (t w) (rest f m)
+count_without t p (v ∷ ws) w e n = grind (arith, count_without t p ws w, without_none p ws, none_waits p ws)
 
 -- without the waits of a party no more wait
 without_fewer : (t : Wait → Bool) (p : ℕ) (ws : List Wait) → count t (without_wait p ws) ≤ count t ws
 without_fewer t p [] = omega arith
-without_fewer t p (w ∷ ws) = by (w.party == p) (without_fewer t p ws)
-  where
-    more : (d : Bool) (x y : ℕ) → x ≤ y → cond d (x + 1) x ≤ cond d (y + 1) y
-    more true x y n = omega (arith, n)
-    more false x y n = n
-
-    most : (d : Bool) (x y : ℕ) → x ≤ y → x ≤ cond d (y + 1) y
-    most true x y n = omega (arith, n)
-    most false x y n = n
-
-    by : (b : Bool) → count t (without_wait p ws) ≤ count t ws → count t (cond (not b) (w ∷ without_wait p ws) (without_wait p ws)) ≤ cond (t w) (count t ws + 1) (count t ws)
-    by true n = most (t w) (count t (without_wait p ws)) (count t ws) n
-    by false n = more (t w) (count t (without_wait p ws)) (count t ws) n
+without_fewer t p (w ∷ ws) = grind (arith, without_fewer t p ws)
 
 -- and none of its own
 none_own : (p : ℕ) (ws : List Wait) → count (λ w. w.party == p) (without_wait p ws) ≡ 0
 none_own p [] = refl
-none_own p (w ∷ ws) = by (w.party == p) refl (none_own p ws)
-  where
-    by : (b : Bool) → (w.party == p) ≡ b → count (λ v. v.party == p) (without_wait p ws) ≡ 0
-        → count (λ v. v.party == p) (cond (not b) (w ∷ without_wait p ws) (without_wait p ws)) ≡ 0
-    by true e n = n
-    by false e n = rw e n
+none_own p (w ∷ ws) = grind (arith, none_own p ws)
 
 module _ (cells : List CellPlan) (p : ℕ) where
   -- the party waits with no more calls than before, besides one that waits by this step
@@ -138,20 +69,10 @@ module _ (cells : List CellPlan) (p : ℕ) where
     few = let m : _ = without_fewer (λ w. w.party == p) s.party ws in omega (arith, given_others, m, n)
 
     one_more : (way : _) (o : Option Attempt) → count (λ w. w.party == p) (with_wait s.party way o others) ≤ 1
-    one_more way None = few
-    one_more way (Some a) = by (s.party == p) refl
-      where
-        by : (b : Bool) → (s.party == p) ≡ b → cond b (count (λ w. w.party == p) others + 1) (count (λ w. w.party == p) others) ≤ 1
-        by true e =
-            let same : s.party ≡ p = grind arith in
-            let none : count (λ w. w.party == p) (without_wait s.party ws) ≡ 0 = subst (λ q. count (λ w. w.party == p) (without_wait q ws) ≡ 0) (sym same) (none_own p ws) in
-            omega (arith, given_others, none)
-        by false e = few
+    one_more way k1 = grind (arith, few, none_own, given_others)
 
     one_answered : (r : Answer) → count (λ w. w.party == p) (waits_answered cells h s g r ws) ≤ 1
-    one_answered (answer.Refused q) = n
-    one_answered (answer.Waiting way) = one_more way (attempt_with cells ws h s.party s.act)
-    one_answered _ = few
+    one_answered r = grind (arith, one_more, few)
 
   -- a party waits with one call at most
   pub one-wait : (h : List Event) → count (λ w. w.party == p) (waits cells h) ≤ 1
@@ -160,24 +81,11 @@ module _ (cells : List CellPlan) (p : ℕ) where
 
 -- what has a first begins with it
 pub begins : (cs : List ℕ) (d : ℕ) → first_of cs ≡ Some d → cs ≡ d ∷ rest_of cs
-begins [] d e = absurd (cc)
-begins (b ∷ cs) d e = ap (λ x. x ∷ cs) (same e)
-  where
-    same : Some b ≡ Some d → b ≡ d
-    same x = cc
-
--- a call or turn that is attempted again, waits
-same_attempt : (a b : Attempt) → Some a ≡ Some b → a ≡ b
-same_attempt a b e = cc
+begins k1 d e = grind arith
 
 pub waits_so : (o : Option Wait) (d : ℕ) (v : Want) → attempt_of_wait o ≡ Some (record { cell = d; want = v }) → (w : Wait) × (o ≡ Some w) × (w.cell ≡ d) × (w.want ≡ v)
-waits_so None d v e = absurd (cc)
-waits_so (Some w) d v e =
-    let same : _ = same_attempt (record { cell = w.cell; want = w.want }) (record { cell = d; want = v }) e in
-    (w, refl, ap (λ a. a.cell) same, ap (λ a. a.want) same)
+waits_so k1 d v e = grind arith
 
 -- a turn that is attempted is the first left
 pub first_so : (o : Option ℕ) (d : ℕ) → attempt_of_turn o ≡ Some (record { cell = d; want = Turns }) → o ≡ Some d
-first_so None d e = absurd (cc)
-first_so (Some b) d e =
-    let same : _ = same_attempt (record { cell = b; want = Turns }) (record { cell = d; want = Turns }) e in ap (λ (a : Attempt). Some a.cell) same
+first_so k1 d e = grind arith

@@ -1,12 +1,6 @@
 -- The holds of a cell exclude each other: what holds it to write, is all that does.
-use Rattle.std.proofs.Common.{ℕ, List, [], ◌∷◌, refl, arith, ◌≡◌, ◌<◌, ◌+◌, ◌∙◌, ap, true, cond, Some}
-use Rattle.schedule_rules.specs.declared.plan.CellPlan.{CellPlan}
-use Rattle.schedule_rules.specs.History.{Event, count}
-use Rattle.schedule_rules.specs.Legal.{IsLegal, IsExclusive}
-use Rattle.std.specs.Prelude.{◌==◌}
-use Rattle.schedule_rules.specs.Sections.{Section, innermost, without_innermost, runs_in, sections}
-use Rattle.schedule_rules.specs.Guards.{Guard, numbered, without_guard, guards}
-use Rattle.schedule_rules.specs.Holds.{writes_cell}
+use Rattle.schedule_rules.proofs.Words.{ℕ, ◌≡◌, List, arith, true, refl, Some, ◌∷◌, ◌∙◌, [], ap, ◌+◌, cond, CellPlan, Event, count, sections, Section, innermost, runs_in}
+use Rattle.schedule_rules.proofs.Words.{without_innermost, Guard, guards, numbered, without_guard, writes_cell, IsLegal, IsExclusive}
 use Rattle.schedule_rules.proofs.Found.{found_counts}
 use Rattle.schedule_rules.proofs.Opened.{count_ended, count_removed}
 use Rattle.schedule_rules.proofs.Facts.{same_number}
@@ -24,9 +18,7 @@ module _ (cells : List CellPlan) where
 module _ (cells : List CellPlan) (h : List Event) (alone : (c : ℕ) → IsExclusive cells h c) where
   -- where a section of the cell runs, no guard writes it
   pub no_writer_beside : (p : ℕ) (t : Section) → innermost p (sections h) ≡ Some t → count (writes_cell t.cell) (guards h) ≡ 0
-  no_writer_beside p t f =
-      let runs : 0 < count (runs_in t.cell) (sections h) = found_counts (λ s. s.party == p) (runs_in t.cell) (sections h) t f (same_number t.cell t.cell refl) in
-      omega (arith, (alone t.cell).one_writer, runs)
+  no_writer_beside p t f = grind (arith, found_counts, alone)
 
   -- and where it ends, no other of its cell is left
   pub no_run_left : (p : ℕ) (t : Section) → innermost p (sections h) ≡ Some t → count (runs_in t.cell) (without_innermost p (sections h)) ≡ 0
@@ -40,9 +32,7 @@ module _ (cells : List CellPlan) (h : List Event) (alone : (c : ℕ) → IsExclu
 
   -- where a guard writes the cell, no section of it runs
   pub no_run_beside : (g : ℕ) (x : Guard) → numbered g (guards h) ≡ Some x → x.writes ≡ true → count (runs_in x.cell) (sections h) ≡ 0
-  no_run_beside g x f w =
-      let one : 0 < count (writes_cell x.cell) (guards h) = found_counts (λ y. y.number == g) (writes_cell x.cell) (guards h) x f (writes x w) in
-      omega (arith, (alone x.cell).one_writer, one)
+  no_run_beside g x f w = grind (arith, found_counts, writes, alone)
 
   -- nor another guard
   pub no_writer_left : (g : ℕ) (x : Guard) → numbered g (guards h) ≡ Some x → x.writes ≡ true → count (writes_cell x.cell) (without_guard g (guards h)) ≡ 0

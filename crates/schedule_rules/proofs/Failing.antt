@@ -1,46 +1,18 @@
 -- What a failed run leaves; and of a value that is lent, that nobody uses its cell, and what the step leaves.
-use Rattle.std.proofs.Common.{ap, subst, arith, Bool, ◌≡◌, ◌≢◌, ◌+◌, ◌⊎◌, inl, inr, ℕ, List, [], ◌∷◌, length, true, false, not, ◌&&◌, ◌||◌, cond, refl, sym, ◌∙◌}
-use Rattle.std.specs.Prelude.{◌==◌, is_none, is_some, if◌then◌else◌}
-use Rattle.std.specs.List.{list_any}
-use Rattle.std.specs.declared.option.Option.{Option}
-use Rattle.std.specs.declared.option.Option.TheVariants.{None, Some}
-use Rattle.phase_locker.specs.declared.ways.Given.{Given}
-use Rattle.phase_locker.specs.declared.ways.Given.TheVariants as given
-use Rattle.phase_seq.specs.Phases.{flags_refused}
-use Rattle.lazy_cells.specs.Kinds.{lends_value}
-use Rattle.schedule_rules.specs.declared.plan.CellPlan.{CellPlan}
-use Rattle.schedule_rules.specs.declared.step.Act.{Act}
-use Rattle.schedule_rules.specs.declared.step.Act.TheVariants as act
-use Rattle.schedule_rules.specs.declared.step.Step.{Step}
-use Rattle.schedule_rules.specs.declared.line.Line.{Line}
-use Rattle.schedule_rules.specs.declared.line.Answer.{Answer}
-use Rattle.schedule_rules.specs.declared.line.Answer.TheVariants as answer
-use Rattle.schedule_rules.specs.declared.line.Refusal.{Refusal}
-use Rattle.schedule_rules.specs.declared.line.Refusal.TheVariants as refused
-use Rattle.schedule_rules.specs.Kinds.{cell_at, tolerance_at, is_parking, is_of_other}
-use Rattle.schedule_rules.specs.Phases.{is_accessible}
-use Rattle.schedule_rules.specs.Changes.{Content, Change, Ran, Put, RanIfAsked, effect}
-use Rattle.schedule_rules.specs.Deeds.{Makes}
-use Rattle.schedule_rules.specs.History.{Event, accepts, deed_of, count}
-use Rattle.schedule_rules.specs.Sections.{Section, innermost, sections_by, sections}
-use Rattle.schedule_rules.specs.Guards.{guards_by, guards}
-use Rattle.schedule_rules.specs.Replay.{Back, back_of_section, back_of_step, replay, phase_at, content_after_back}
-use Rattle.schedule_rules.specs.Exits.{finishing}
-use Rattle.schedule_rules.specs.Waits.{Wait, wait_of, without_wait, waits_at, waits, waits_given_with, waits_answered, other_waits, parks_to_read, parks_to_write, attempt_with, cell_of_section, cell_concerned_with, cell_concerned}
-use Rattle.schedule_rules.specs.Holds.{is_in_use}
-use Rattle.schedule_rules.specs.Refusals.{refusal, refusal_by, refusal_free, refusal_waiting, no_call, no_lending, no_outcome, no_guard, no_writer, no_reader, no_exit}
-use Rattle.schedule_rules.specs.Due.{phase_made, due_answer}
-use Rattle.schedule_rules.specs.Gifts.{reaches, may_give_first, may_give_on, may_give_last}
-use Rattle.schedule_rules.specs.Legal.{Moment, First, Last, IsLegalLine, answer_of, due_at, may_give}
-use Rattle.schedule_rules.specs.Causes.{is_failed, is_refused_in_use, lends_at, is_failure, lends_in_use, is_step_in_use, waits_judged}
-use Rattle.schedule_rules.specs.Laws.{is_lent, EndsRun, RunsAtOnce, IsFailedRun, IsUnused, ChangesCellAlone, Leaves}
-use Rattle.schedule_rules.proofs.Cases.{step, IsTrying, trying, form_at, Lendable, Cases, calling-tries, turning-tries}
-use Rattle.schedule_rules.proofs.Attempts.{rests}
+use Rattle.schedule_rules.proofs.Words.{ℕ, ◌≡◌, List, arith, Bool, true, refl, false, Some, ◌∷◌, ◌∙◌, [], sym, ap, None, subst, ◌&&◌, ◌⊎◌, inl, inr, length, ◌≢◌, list_any, ◌==◌}
+use Rattle.schedule_rules.proofs.Words.{if◌then◌else◌, is_none, is_some, Option, Given, Answer, Line, Refusal, CellPlan, Act, Step, cell_at, tolerance_at, is_parking}
+use Rattle.schedule_rules.proofs.Words.{is_accessible, Content, Change, effect, Ran, Put, RanIfAsked, Makes, Event, deed_of, accepts, count, sections, Section, innermost}
+use Rattle.schedule_rules.proofs.Words.{sections_by, guards, guards_by, replay, Back, back_of_step, content_after_back, back_of_section, Wait, waits, wait_of, attempt_with}
+use Rattle.schedule_rules.proofs.Words.{without_wait, waits_given_with, cell_concerned, waits_answered, waits_at, cell_of_section, other_waits, cell_concerned_with, refusal}
+use Rattle.schedule_rules.proofs.Words.{refusal_by, due_answer, may_give_first, may_give_last, may_give_on, reaches, IsLegalLine, answer_of, due_at, Moment, may_give, lends_at}
+use Rattle.schedule_rules.proofs.Words.{waits_judged, is_failed, is_failure, is_refused_in_use, lends_in_use, is_step_in_use, is_lent, IsFailedRun, RunsAtOnce, ChangesCellAlone}
+use Rattle.schedule_rules.proofs.Words.{IsUnused, EndsRun, Leaves}
+use Rattle.schedule_rules.proofs.Cases.{step, IsTrying, trying, Lendable, Case, calling-tries, turning-tries}
 use Rattle.schedule_rules.proofs.Steps.{lendable, lendable_so, allowed}
 use Rattle.schedule_rules.proofs.Finds.{LendsSo, Both, finds, tells}
 use Rattle.schedule_rules.proofs.Leaves.{back_here, back_elsewhere}
 use Rattle.schedule_rules.proofs.Counts.{without_none}
-use Rattle.schedule_rules.proofs.Answered.{due_at-judged, IsShown, IsTold, opened, denied, lent, made_to_lend, made_so, legal_by}
+use Rattle.schedule_rules.proofs.Answered.{due_at-judged, denied, lent, made_to_lend, legal_by}
 use Rattle.schedule_rules.proofs.Tests.{is_refused, no_more}
 use Rattle.schedule_rules.proofs.Causes.{due_is_answered}
 use Rattle.schedule_rules.proofs.Facts.{apart, first, second, same_number, number_found, other_number}
@@ -48,52 +20,30 @@ use Rattle.schedule_rules.proofs.Facts.{apart, first, second, same_number, numbe
 module _ (cells : List CellPlan) (h : List Event) where
   -- what attempts something ends no generator
   no_failure : (a : Act) → IsTrying a → false ≡ is_failure cells h a
-  no_failure (act.Call c k) t = refl
-  no_failure act.Again t = refl
-  no_failure act.Exit t = refl
-  no_failure _ t = absurd t
+  no_failure a t = grind arith
 
   -- of the steps that are not refused a failure fails, and no other
-  fails : (p : ℕ) → Cases cells h p (λ a r. is_failed r ≡ is_failure cells h a)
-  fails p = record {
-    cyclic = λ a c j t. no_failure a (calling-tries a t.acts);
-    waiting = λ a c w way t. no_failure a (trying cells h p a c w t);
-    missed = λ a c w f t. no_failure a (trying cells h p a c w t);
-    owned = λ a c w o t. no_failure a (trying cells h p a c w t);
-    opened = λ a c j t q e. opened _ shown (form_at cells h p c j) (replay cells c h) ∙ no_failure a (calling-tries a t.acts);
-    denied = λ a c j t q e. denied _ told (form_at cells h p c j) (phase_at cells c h) ∙ no_failure a (calling-tries a t.acts);
-    running = λ a c j t q. no_failure a (calling-tries a t.acts);
-    declined = λ a c j t q. denied _ told (form_at cells h p c j) flags_refused ∙ no_failure a (calling-tries a t.acts);
-    skipped = λ a c t q. no_failure a (turning-tries a t.acts);
-    finalizing = λ a c t q u. no_failure a (turning-tries a t.acts);
-    round = λ c cs e n. refl;
-    closed = λ e n. refl;
-    made = λ v t j g. made_so _ shown (form_at cells h p t.cell j) v (phase_made cells h t);
-    failed = λ t j g. refl;
-    finished = λ fine left t g. finished fine left;
-    looked = λ g x f. refl;
-    set = λ g v x f w. refl;
-    released = λ g x f. refl;
-    downgraded = λ g x f w. refl;
-    borrowed = λ g x f w. refl;
-    cloned = λ g x f w. refl;
-    lent_made = λ c v left u e. sym (ap (λ b. b && false) e);
-    lent_failed = λ c left u e. sym (ap (λ b. b && true) e);
-    lent_rested = λ c made left u e f. sym (ap (λ b. b && is_none made) e);
-    lent_denied = λ c made left u e f. sym (ap (λ b. b && is_none made) e);
-    lent = λ c left u f. refl;
-    unlent = λ c left u f. refl;
-  }
-    where
-      shown : IsShown (λ r. is_failed r ≡ false)
-      shown = record { phase = λ q. refl; value = λ v. refl; read_guard = refl; write_guard = refl }
-
-      told : IsTold (λ r. is_failed r ≡ false)
-      told = record { shown = shown; access = λ q. refl; err_guard = refl }
-
-      finished : (fine : Bool) (left : Option ℕ) → false ≡ is_failure cells h (finishing fine left)
-      finished true left = refl
-      finished false left = refl
+  fails : (p : ℕ) (a : Act) (r : Answer) → Case cells h p a r → is_failed r ≡ is_failure cells h a
+  fails p _ _ (Case.cyclic a c j t) = no_failure a (calling-tries a t.acts)
+  fails p _ _ (Case.waiting a c w way t) = no_failure a (trying cells h p a c w t)
+  fails p _ _ (Case.missed a c w f t) = no_failure a (trying cells h p a c w t)
+  fails p _ _ (Case.owned a c w o t) = no_failure a (trying cells h p a c w t)
+  fails p _ _ (Case.told a c j q t v) = no_failure a (calling-tries a t.acts)
+  fails p _ _ (Case.denied a c j q t v) = no_failure a (calling-tries a t.acts)
+  fails p _ _ (Case.erring a c j q t v e) = no_failure a (calling-tries a t.acts)
+  fails p _ _ (Case.shown a c j t q e) = no_failure a (calling-tries a t.acts)
+  fails p _ _ (Case.reading a c j t q e) = no_failure a (calling-tries a t.acts)
+  fails p _ _ (Case.writing a c j t q e w) = no_failure a (calling-tries a t.acts)
+  fails p _ _ (Case.running a c j t q) = no_failure a (calling-tries a t.acts)
+  fails p _ _ (Case.skipped a c t q) = no_failure a (turning-tries a t.acts)
+  fails p _ _ (Case.finalizing a c t q u) = no_failure a (turning-tries a t.acts)
+  fails p _ _ (Case.finished true left t g) = refl
+  fails p _ _ (Case.finished false left t g) = refl
+  fails p _ _ (Case.lent_made c v left u e) = sym (ap (λ b. b && false) e)
+  fails p _ _ (Case.lent_failed c left u e) = sym (ap (λ b. b && true) e)
+  fails p _ _ (Case.lent_rested c made left u e f) = sym (ap (λ b. b && is_none made) e)
+  fails p _ _ (Case.lent_denied c made left u e f) = sym (ap (λ b. b && is_none made) e)
+  fails p _ _ _ = refl
 
   -- a legal line says Failed exactly where a failure is not refused
   pub fails_where_ended : (s : Step) (l : Line) → IsLegalLine cells h s l → is_failed l.answer ≡ (is_none (refusal cells h s) && is_failure cells h s.act)
@@ -104,75 +54,66 @@ module _ (cells : List CellPlan) (h : List Event) where
       ws = waits_judged cells k.moment h s l.given
 
       by : (o : Option Refusal) → refusal cells h s ≡ o → (is_none o && is_failed (due_answer cells h s ws k.chosen)) ≡ (is_none o && is_failure cells h s.act)
-      by None e = allowed cells h s.party (λ a r. is_failed r ≡ is_failure cells h a) (fails s.party) s.act ws k.chosen e
+      by None e = fails s.party s.act _ (allowed cells h s.party s.act ws k.chosen e)
       by (Some r) e = refl
 
   -- a legal line that says Failed ends a run of the cell that its step concerns
-  module _ (s : Step) (g : Given) (c : ℕ) (k : IsLegalLine cells h s (record { answer = answer.Failed; given = g })) (e : cell_concerned cells h s ≡ Some c) where
+  module _ (s : Step) (g : Given) (c : ℕ) (k : IsLegalLine cells h s (record { answer = Answer.Failed; given = g })) (e : cell_concerned cells h s ≡ Some c) where
     -- its step is a failure
     ends : is_failure cells h s.act ≡ true
-    ends = second (is_none (refusal cells h s)) (is_failure cells h s.act) (sym (fails_where_ended s (record { answer = answer.Failed; given = g }) k))
+    ends = second (is_none (refusal cells h s)) (is_failure cells h s.act) (sym (fails_where_ended s (record { answer = Answer.Failed; given = g }) k))
 
     -- a run of this cell that fails is given back, of which this is told
     abbrev Gives : Step → Type 0
-    Gives s = (o : Bool) × (d : ℕ) × (d ≡ c) × (EndsRun h s c o ⊎ RunsAtOnce cells h s c o) × (back_of_step h s answer.Failed ≡ Some (record { cell = d; changes = Ran o None ∷ [] }))
+    Gives s = (o : Bool) × (d : ℕ) × (d ≡ c) × (EndsRun h s c o ⊎ RunsAtOnce cells h s c o) × (back_of_step h s Answer.Failed ≡ Some (record { cell = d; changes = Ran o None ∷ [] }))
 
     ended : Gives s
     ended = by s.act ends e
       where
-        found : (o : Option Section) → innermost s.party (sections h) ≡ o → cell_of_section o ≡ Some c → Gives (record { party = s.party; act = act.MadeFailed })
+        found : (o : Option Section) → innermost s.party (sections h) ≡ o → cell_of_section o ≡ Some c → Gives (record { party = s.party; act = Act.MadeFailed })
         found None f d = absurd (cc)
         found (Some t) f d = let here : t.cell ≡ c = cc in (t.is_open, t.cell, here, inl (record { section = t; found = f; here = here; noted = refl }), ap (back_of_section (Makes None)) f)
 
         by : (a : Act) → is_failure cells h a ≡ true → cell_concerned cells h (record { party = s.party; act = a }) ≡ Some c → Gives (record { party = s.party; act = a })
-        by act.MadeFailed f d = found (innermost s.party (sections h)) refl d
-        by (act.GetMut z made left) f d =
+        by Act.MadeFailed f d = found (innermost s.party (sections h)) refl d
+        by (Act.GetMut z made left) f d =
             let here : z ≡ c = cc in (accepts h, z, here, inr (record { lends = same_number z c here; asked = first _ _ f; now = refl }), refl)
         by _ f d = absurd (cc)
 
     -- it leaves the value there and reaches the phase of a failed run, and changes no other cell
-    pub fails_in : IsFailedRun cells h (record { step = s; line = record { answer = answer.Failed; given = g } }) c
+    pub fails_in : IsFailedRun cells h (record { step = s; line = record { answer = Answer.Failed; given = g } }) c
     fails_in = by ended
       where
-        by : Gives s → IsFailedRun cells h (record { step = s; line = record { answer = answer.Failed; given = g } }) c
+        by : Gives s → IsFailedRun cells h (record { step = s; line = record { answer = Answer.Failed; given = g } }) c
         by (o, d, here, run, back) =
             let b : Back = record { cell = d; changes = Ran o None ∷ [] } in
-            let changed : content_after_back cells c (back_of_step h s answer.Failed) (replay cells c h) ≡ effect (cell_at cells c) b.changes (replay cells c h) =
-            back_here cells c (back_of_step h s answer.Failed) b (replay cells c h) back (same_number d c here) in
+            let changed : content_after_back cells c (back_of_step h s Answer.Failed) (replay cells c h) ≡ effect (cell_at cells c) b.changes (replay cells c h) =
+            back_here cells c (back_of_step h s Answer.Failed) b (replay cells c h) back (same_number d c here) in
             record {
               is_open = o;
               run = run;
               value_stays = ap (λ y. y.value) changed;
               fails = ap (λ y. y.phase) changed;
-              others_stay = λ z apart. back_elsewhere cells z (back_of_step h s answer.Failed) b (replay cells z h) back (other_number d c z here apart);
+              others_stay = λ z apart. back_elsewhere cells z (back_of_step h s Answer.Failed) b (replay cells z h) back (other_number d c z here apart);
             }
 
 -- ---- a value that is lent
 
 -- what is not refused has no reason to be
 none_where : (o : Option Refusal) → is_none o ≡ true → o ≡ None
-none_where None e = refl
-none_where (Some r) e = absurd (apart (sym e))
+none_where o e = grind arith
 
 -- where no call waits at the cell, none is reached by a gift
 module _ (c : ℕ) where
   none_any : (t : Wait → Bool) → ((w : Wait) → (w.cell == c) ≡ false → t w ≡ false) → (ws : List Wait) → count (waits_at c) ws ≡ 0 → list_any t ws ≡ false
   none_any t f [] n = refl
-  none_any t f (w ∷ ws) n = by (w.cell == c) refl n (none_any t f ws)
-    where
-      by : (b : Bool) → (w.cell == c) ≡ b → cond b (count (waits_at c) ws + 1) (count (waits_at c) ws) ≡ 0 → (count (waits_at c) ws ≡ 0 → list_any t ws ≡ false) → (t w || list_any t ws) ≡ false
-      by true e n rest = absurd (omega (arith, n))
-      by false e n rest = rw (f w e) (rest n)
+  none_any t f (w ∷ ws) n = grind (arith, none_any t f ws, f w)
 
   elsewhere : (b d : Bool) → d ≡ false → (if b then d else false) ≡ false
-  elsewhere true d e = e
-  elsewhere false d e = refl
+  elsewhere b d e = grind arith
 
-  pub none_reached : (g : Given) (ws : List Wait) → count (waits_at c) ws ≡ 0 → reaches c g ws ≡ true → g ≡ given.Nobody
-  none_reached given.Nobody ws n e = refl
-  none_reached given.Readers ws n e = absurd (apart (sym e ∙ none_any (parks_to_read c) (λ w f. elsewhere _ _ f) ws n))
-  none_reached (given.Writer q) ws n e =
-      absurd (apart (sym e ∙ none_any (λ w. (w.party == q) && parks_to_write c w) (λ w f. ap (λ b. (w.party == q) && b) (elsewhere _ _ f) ∙ no_more (w.party == q)) ws n))
+  pub none_reached : (g : Given) (ws : List Wait) → count (waits_at c) ws ≡ 0 → reaches c g ws ≡ true → g ≡ Given.Nobody
+  none_reached k1 ws n e = grind (arith, none_any, elsewhere, no_more)
 
 module _ (cells : List CellPlan) (h : List Event) (s : Step) (c : ℕ) (lends : lends_at c s.act ≡ true) (free : is_none (refusal cells h s) ≡ true) where
   -- its cell is of a kind that lends, and nobody uses it
@@ -180,8 +121,8 @@ module _ (cells : List CellPlan) (h : List Event) (s : Step) (c : ℕ) (lends : 
   lends_free = by s.act lends (none_where (refusal cells h s) free)
     where
       by : (a : Act) → lends_at c a ≡ true → refusal cells h (record { party = s.party; act = a }) ≡ None → Lendable cells h s.party c
-      by (act.GetMut z made left) e n = let at : z ≡ c = number_found z c e in subst (Lendable cells h s.party) at (lendable cells h s.party z made left n)
-      by (act.TryGetMut z left) e n = let at : z ≡ c = number_found z c e in subst (Lendable cells h s.party) at (lendable_so cells h s.party z left n)
+      by (Act.GetMut z made left) e n = let at : z ≡ c = number_found z c e in subst (Lendable cells h s.party) at (lendable cells h s.party z made left n)
+      by (Act.TryGetMut z left) e n = let at : z ≡ c = number_found z c e in subst (Lendable cells h s.party) at (lendable_so cells h s.party z left n)
       by _ e n = absurd (apart (sym e))
 
   pub lent-unused : IsUnused cells h c
@@ -189,15 +130,7 @@ module _ (cells : List CellPlan) (h : List Event) (s : Step) (c : ℕ) (lends : 
 
   -- the party does not wait
   rested : wait_of s.party (waits cells h) ≡ None
-  rested = by s.act lends (none_where (refusal cells h s) free)
-    where
-      waits_for : (r : Refusal) → Some r ≡ None → ⊥
-      waits_for r e = cc
-
-      by : (a : Act) → lends_at c a ≡ true → refusal cells h (record { party = s.party; act = a }) ≡ None → wait_of s.party (waits cells h) ≡ None
-      by (act.GetMut z made left) e n = (rests cells h s.party (act.GetMut z made left) (waits_for _) n).0
-      by (act.TryGetMut z left) e n = (rests cells h s.party (act.TryGetMut z left) (waits_for _) n).0
-      by _ e n = absurd (apart (sym e))
+  rested = grind arith
 
   others_wait : other_waits cells h s ≡ waits cells h
   others_wait = without_none s.party (waits cells h) rested
@@ -207,32 +140,25 @@ module _ (cells : List CellPlan) (h : List Event) (s : Step) (c : ℕ) (lends : 
     answered = k.answered ∙ ap (λ o. answer_of o (due_at cells k.moment h s l.given k.chosen)) (none_where (refusal cells h s) free) ∙ due_at-judged cells k.moment h s l.given k.chosen
 
     -- it gives nothing
-    nobody : l.given ≡ given.Nobody
+    nobody : l.given ≡ Given.Nobody
     nobody = by k.moment (subst (λ o. may_give cells o k.moment h s l ≡ true) (none_where (refusal cells h s) free) k.gave)
       where
         first_never : (a : Act) → lends_at c a ≡ true → may_give_first cells h s (attempt_with cells (waits cells h) h s.party a) l.given ≡ false
-        first_never (act.GetMut z made left) e = refl
-        first_never (act.TryGetMut z left) e = refl
-        first_never _ e = absurd (apart (sym e))
+        first_never a e = grind arith
 
         concerned : (a : Act) → lends_at c a ≡ true → cell_concerned_with cells (waits cells h) h s.party a ≡ Some c
-        concerned (act.GetMut z made left) e = let at : z ≡ c = number_found z c e in ap (λ y. Some y) at
-        concerned (act.TryGetMut z left) e = let at : z ≡ c = number_found z c e in ap (λ y. Some y) at
-        concerned _ e = absurd (apart (sym e))
+        concerned a e = grind (arith, number_found)
 
-        reached : (g : Given) → may_give_on cells h s (cell_concerned cells h s) l.answer g ≡ true → g ≡ given.Nobody
+        reached : (g : Given) → may_give_on cells h s (cell_concerned cells h s) l.answer g ≡ true → g ≡ Given.Nobody
         reached g e =
             none_reached c g (waits cells h) lends_free.unwaited
             (subst (λ ws. reaches c g ws ≡ true) others_wait (first (reaches c g (other_waits cells h s)) _ (second (is_parking (cell_at cells c).place) _ (subst (λ o. may_give_on cells h s o l.answer g ≡ true) (concerned s.act lends) e))))
 
-        last : (g : Given) → may_give_last cells h s l.answer g ≡ true → g ≡ given.Nobody
-        last given.Nobody e = refl
-        last given.Readers e = reached given.Readers e
-        last (given.Writer q) e = reached (given.Writer q) e
+        last : (g : Given) → may_give_last cells h s l.answer g ≡ true → g ≡ Given.Nobody
+        last g e = grind (arith, reached)
 
-        by : (m : Moment) → may_give cells None m h s l ≡ true → l.given ≡ given.Nobody
-        by First e = absurd (apart (sym e ∙ first_never s.act lends))
-        by Last e = last l.given e
+        by : (m : Moment) → may_give cells None m h s l ≡ true → l.given ≡ Given.Nobody
+        by m e = grind (arith, first_never, last)
 
     -- what an answer leaves, where the act is to lend the value of the cell
     record Alone (a : Act) (r : Answer) : Type 0 where
@@ -242,23 +168,17 @@ module _ (cells : List CellPlan) (h : List Event) (s : Step) (c : ℕ) (lends : 
       pub elsewhere : (d : ℕ) → c ≢ d → content_after_back cells d (back_of_step h (step cells h s.party a) r) (replay cells d h) ≡ replay cells d h
 
     alone : (a : Act) → lends_at c a ≡ true → (ws : List Wait) (chosen : Bool) → Alone a (due_answer cells h (step cells h s.party a) ws chosen)
-    alone (act.GetMut z made left) e ws chosen =
-        made_to_lend (Alone (act.GetMut z made left))
-        (λ v. record { in_sections = refl; in_guards = refl; in_waits = refl; elsewhere = λ d ne. back_elsewhere cells d _ (record { cell = z; changes = Put left ∷ RanIfAsked (accepts h) made ∷ [] }) (replay cells d h) refl (other_cell ne) })
+    alone (Act.GetMut z made left) e ws chosen =
+        made_to_lend (Alone (Act.GetMut z made left))
+        (λ v. record { in_sections = refl; in_guards = refl; in_waits = refl; elsewhere = λ d ne. back_elsewhere cells d _ (record { cell = z; changes = Put left ∷ RanIfAsked (accepts h) made ∷ [] }) (replay cells d h) refl (other_number z c d (number_found z c e) ne) })
         (λ q. record { in_sections = refl; in_guards = refl; in_waits = refl; elsewhere = λ d ne. refl })
-        (record { in_sections = refl; in_guards = refl; in_waits = refl; elsewhere = λ d ne. back_elsewhere cells d _ (record { cell = z; changes = Ran (accepts h) None ∷ [] }) (replay cells d h) refl (other_cell ne) })
+        (record { in_sections = refl; in_guards = refl; in_waits = refl; elsewhere = λ d ne. back_elsewhere cells d _ (record { cell = z; changes = Ran (accepts h) None ∷ [] }) (replay cells d h) refl (other_number z c d (number_found z c e) ne) })
         (cell_at cells z).kind (tolerance_at cells z) (accepts h) made (replay cells z h)
-      where
-        other_cell : {d : ℕ} → c ≢ d → (z == d) ≡ false
-        other_cell {d} ne = let at : z ≡ c = number_found z c e in other_number z c d at ne
-    alone (act.TryGetMut z left) e ws chosen =
-        lent (Alone (act.TryGetMut z left))
-        (λ v. record { in_sections = refl; in_guards = refl; in_waits = refl; elsewhere = λ d ne. back_elsewhere cells d _ (record { cell = z; changes = Put left ∷ [] }) (replay cells d h) refl (other_cell ne) })
+    alone (Act.TryGetMut z left) e ws chosen =
+        lent (Alone (Act.TryGetMut z left))
+        (λ v. record { in_sections = refl; in_guards = refl; in_waits = refl; elsewhere = λ d ne. back_elsewhere cells d _ (record { cell = z; changes = Put left ∷ [] }) (replay cells d h) refl (other_number z c d (number_found z c e) ne) })
         (λ q. record { in_sections = refl; in_guards = refl; in_waits = refl; elsewhere = λ d ne. refl })
         (cell_at cells z).kind (replay cells z h)
-      where
-        other_cell : {d : ℕ} → c ≢ d → (z == d) ≡ false
-        other_cell {d} ne = let at : z ≡ c = number_found z c e in other_number z c d at ne
     alone _ e ws chosen = absurd (apart (sym e))
 
     -- it leaves what is open and who waits, and changes its cell alone
@@ -272,28 +192,25 @@ module _ (cells : List CellPlan) (h : List Event) (s : Step) (c : ℕ) (lends : 
         same = ap (λ g. waits_given_with cells (waits cells h) h s g (without_wait s.party (waits cells h))) nobody ∙ others_wait
 
     -- where a value is lent, that which is left is published afterwards, and may be accessed
-    leaves-so : (v : ℕ) → l.answer ≡ answer.Value v → Leaves cells (record { step = s; line = l } ∷ h) c s.act
+    leaves-so : (v : ℕ) → l.answer ≡ Answer.Value v → Leaves cells (record { step = s; line = l } ∷ h) c s.act
     leaves-so v e = subst (λ r. Leaves cells (record { step = s; line = record { answer = r; given = l.given } } ∷ h) c s.act) (sym e) (by s.act lends (subst (λ r. Both cells h s.party s.act r (deed_of h s r)) e (finds cells h s l k, tells cells h s l k)))
       where
         leaves : (z : ℕ) (chs : List Change) (left : ℕ) (a : Act) (r : Answer) → z ≡ c → (effect (cell_at cells z) chs (replay cells z h)).value ≡ Some left → is_failed r ≡ false → LendsSo cells h s.party a r z chs
             → (content : Content) → content ≡ effect (cell_at cells c) chs (replay cells c h) → (content.value ≡ Some left) × (is_accessible (cell_at cells c).kind content.phase ≡ true)
-        leaves z chs left a r at is fine t content e = (
-          ap (λ y. y.value) e ∙ subst (λ y. (effect (cell_at cells y) chs (replay cells y h)).value ≡ Some left) at is,
-          ap (λ y. is_accessible (cell_at cells c).kind y.phase) e ∙ subst (λ y. is_accessible (cell_at cells y).kind (effect (cell_at cells y) chs (replay cells y h)).phase ≡ true) at (t.leaves fine),
-        )
+        leaves z chs left a r content is fine t k1 e = grind arith
 
-        by : (a : Act) → lends_at c a ≡ true → Both cells h s.party a (answer.Value v) (deed_of h (step cells h s.party a) (answer.Value v))
-            → Leaves cells (record { step = step cells h s.party a; line = record { answer = answer.Value v; given = l.given } } ∷ h) c a
-        by (act.GetMut z made left) is b =
+        by : (a : Act) → lends_at c a ≡ true → Both cells h s.party a (Answer.Value v) (deed_of h (step cells h s.party a) (Answer.Value v))
+            → Leaves cells (record { step = step cells h s.party a; line = record { answer = Answer.Value v; given = l.given } } ∷ h) c a
+        by (Act.GetMut z made left) is b =
             let at : z ≡ c = number_found z c is in
-            leaves z _ left (act.GetMut z made left) (answer.Value v) at refl refl b.1 _ (back_here cells c _ (record { cell = z; changes = Put left ∷ RanIfAsked (accepts h) made ∷ [] }) (replay cells c h) refl is)
-        by (act.TryGetMut z left) is b =
+            leaves z _ left (Act.GetMut z made left) (Answer.Value v) at refl refl b.1 _ (back_here cells c _ (record { cell = z; changes = Put left ∷ RanIfAsked (accepts h) made ∷ [] }) (replay cells c h) refl is)
+        by (Act.TryGetMut z left) is b =
             let at : z ≡ c = number_found z c is in
-            leaves z _ left (act.TryGetMut z left) (answer.Value v) at refl refl b.1 _ (back_here cells c _ (record { cell = z; changes = Put left ∷ [] }) (replay cells c h) refl is)
+            leaves z _ left (Act.TryGetMut z left) (Answer.Value v) at refl refl b.1 _ (back_here cells c _ (record { cell = z; changes = Put left ∷ [] }) (replay cells c h) refl is)
         by _ is b = absurd (apart (sym is))
 
 -- a value that is shown was not refused
-pub lent-leaves : (cells : List CellPlan) (h : List Event) (s : Step) (l : Line) (c v : ℕ) → IsLegalLine cells h s l → lends_at c s.act ≡ true → l.answer ≡ answer.Value v
+pub lent-leaves : (cells : List CellPlan) (h : List Event) (s : Step) (l : Line) (c v : ℕ) → IsLegalLine cells h s l → lends_at c s.act ≡ true → l.answer ≡ Answer.Value v
     → Leaves cells (record { step = s; line = l } ∷ h) c s.act
 lent-leaves cells h s l c v k lends e = leaves-so cells h s c lends (first _ _ (sym (legal_by is_lent (λ q. refl) cells h s l k) ∙ ap is_lent e)) l k v e
 
@@ -301,79 +218,21 @@ lent-leaves cells h s l c v k lends e = leaves-so cells h s c lends (first _ _ (
 
 -- the reason is that the cell is in use
 abbrev is_in_use_reason : Option Refusal → Bool
-is_in_use_reason (Some refused.InUse) = true
+is_in_use_reason (Some Refusal.InUse) = true
 is_in_use_reason _ = false
 
 module _ (cells : List CellPlan) (h : List Event) where
-  lends_used : (other has used : Bool) → is_in_use_reason (no_lending (no_call other has) used) ≡ (not other && (has && used))
-  lends_used true has used = refl
-  lends_used false false used = refl
-  lends_used false true true = refl
-  lends_used false true false = refl
-
-  outcome : (o : Option Bool) → is_in_use_reason (no_outcome o) ≡ false
-  outcome None = refl
-  outcome (Some true) = refl
-  outcome (Some false) = refl
-
-  guard : (o : Option Bool) → is_in_use_reason (no_guard o) ≡ false
-  guard None = refl
-  guard (Some w) = refl
-
-  writer : (o : Option Bool) → is_in_use_reason (no_writer o) ≡ false
-  writer None = refl
-  writer (Some true) = refl
-  writer (Some false) = refl
-
-  reader : (o : Option Bool) → is_in_use_reason (no_reader o) ≡ false
-  reader None = refl
-  reader (Some true) = refl
-  reader (Some false) = refl
-
-  called : (other has : Bool) → is_in_use_reason (no_call other has) ≡ false
-  called true has = refl
-  called false true = refl
-  called false false = refl
-
-  exits : (other inside : Bool) → is_in_use_reason (no_exit other inside) ≡ false
-  exits true inside = refl
-  exits false true = refl
-  exits false false = refl
-
-  used_free : (p : ℕ) (a : Act) → is_in_use_reason (refusal_free cells h p a) ≡ lends_in_use cells h p a
-  used_free p (act.GetMut c made left) = lends_used (is_of_other (cell_at cells c).place p) (lends_value (cell_at cells c).kind) (is_in_use cells c h)
-  used_free p (act.TryGetMut c left) = lends_used (is_of_other (cell_at cells c).place p) (lends_value (cell_at cells c).kind) (is_in_use cells c h)
-  used_free p (act.Call c k) = called _ _
-  used_free p act.Again = refl
-  used_free p (act.Made v) = outcome _
-  used_free p act.MadeFailed = outcome _
-  used_free p (act.Finished left) = outcome _
-  used_free p (act.FinishFailed left) = outcome _
-  used_free p (act.Look g) = guard _
-  used_free p (act.Set g v) = writer _
-  used_free p (act.Release g) = guard _
-  used_free p (act.Downgrade g) = writer _
-  used_free p (act.Clone g) = reader _
-  used_free p act.Exit = exits _ _
-
-  waits_first : (a : Act) → is_in_use_reason (refusal_waiting a) ≡ false
-  waits_first act.Again = refl
-  waits_first _ = refl
-
   used_by : (p : ℕ) (a : Act) (o : Option Wait) → is_in_use_reason (refusal_by cells (is_some o) h p a) ≡ (is_none o && lends_in_use cells h p a)
-  used_by p a None = used_free p a
-  used_by p a (Some w) = waits_first a
+  used_by p a k1 = grind arith
 
   unrefused : (r : Answer) → is_refused r ≡ false → is_refused_in_use r ≡ false
-  unrefused (answer.Refused q) e = absurd (apart e)
-  unrefused _ e = refl
+  unrefused r e = grind arith
 
   pub refused-in-use : (s : Step) (l : Line) → IsLegalLine cells h s l → is_refused_in_use l.answer ≡ is_step_in_use cells h s
   refused-in-use s l k = ap is_refused_in_use k.answered ∙ by (refusal cells h s) ∙ used_by s.party s.act (wait_of s.party (waits cells h))
     where
-      reason : (q : Refusal) → is_refused_in_use (answer.Refused q) ≡ is_in_use_reason (Some q)
-      reason refused.InUse = refl
-      reason _ = refl
+      reason : (q : Refusal) → is_refused_in_use (Answer.Refused q) ≡ is_in_use_reason (Some q)
+      reason q = grind arith
 
       by : (o : Option Refusal) → is_refused_in_use (answer_of o (due_at cells k.moment h s l.given k.chosen)) ≡ is_in_use_reason o
       by (Some q) = reason q

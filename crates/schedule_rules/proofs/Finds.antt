@@ -1,45 +1,13 @@
 -- What a legal step finds, deed by deed.
-use Rattle.std.proofs.Common.{◌≡◌, ℕ, List, [], ◌∷◌, Bool, true, false, Some, None, refl, sym, ◌∙◌, ap, subst, ◌⊎◌, inl, inr}
-use Rattle.std.specs.Prelude.{if◌then◌else◌}
-use Rattle.std.specs.declared.option.Option.{Option}
-use Rattle.phase_bits.specs.declared.phase.Phase.{Phase}
-use Rattle.phase_bits.specs.Flags.{has, initialized}
-use Rattle.phase_seq.specs.Phases.{flags_refused}
-use Rattle.lazy_cells.specs.declared.call.Call.{Call}
-use Rattle.schedule_rules.specs.declared.form.Form.{Form}
-use Rattle.schedule_rules.specs.declared.form.Form.TheVariants.{Told, Shown, Held}
-use Rattle.schedule_rules.specs.declared.plan.CellPlan.{CellPlan}
-use Rattle.schedule_rules.specs.declared.step.Act.{Act}
-use Rattle.schedule_rules.specs.declared.step.Act.TheVariants as act
-use Rattle.schedule_rules.specs.declared.step.Step.{Step}
-use Rattle.schedule_rules.specs.declared.step.Want.TheVariants.{Calls, Turns}
-use Rattle.schedule_rules.specs.declared.line.Line.{Line}
-use Rattle.schedule_rules.specs.declared.line.Answer.{Answer}
-use Rattle.schedule_rules.specs.declared.line.Answer.TheVariants as answer
-use Rattle.schedule_rules.specs.Kinds.{cell_at}
-use Rattle.schedule_rules.specs.Phases.{is_accessible, finishes_so}
-use Rattle.schedule_rules.specs.Changes.{Change, Ran, Asked, Put, RanIfAsked, content_of_run, content_after, effect}
-use Rattle.schedule_rules.specs.Deeds.{Makes, Finishes, Deed, Quiet, Opens, Holds, Ends, EndsToRead, EndsToWrite, Drops, DropsToRead, Beside, Puts, Visits, Lends, Skips, Takes, Looks, deed_waiting, deed_by}
-use Rattle.schedule_rules.specs.History.{Event, act_of, accepts, is_exit, deed_of}
-use Rattle.schedule_rules.specs.Sections.{Section, innermost, is_turn, sections}
-use Rattle.schedule_rules.specs.Guards.{Guard, numbered, guards}
-use Rattle.schedule_rules.specs.Replay.{replay, phase_at}
-use Rattle.schedule_rules.specs.Exits.{finishing, registry}
-use Rattle.schedule_rules.specs.Holds.{write_holds}
-use Rattle.schedule_rules.specs.Answers.{answer_opened, answer_denied, answer_made}
-use Rattle.schedule_rules.specs.Due.{phase_made}
-use Rattle.schedule_rules.specs.Legal.{IsLegalLine, IsExclusive}
-use Rattle.schedule_rules.specs.Causes.{is_failed, lends_at}
-use Rattle.schedule_rules.specs.Laws.{is_lent}
-use Rattle.schedule_rules.proofs.Cases.{Calling, step, Asking, Resting, Lendable, AsksToLend, Reach, form_at, Generating, Finalizing, Cases}
+use Rattle.schedule_rules.proofs.Words.{ℕ, ◌≡◌, List, arith, Bool, true, refl, false, Some, ◌∷◌, ◌∙◌, [], sym, ap, None, subst, ◌⊎◌, inl, inr, if◌then◌else◌, Option, has}
+use Rattle.schedule_rules.proofs.Words.{initialized, Phase, Call, Answer, Line, CellPlan, Act, Step, Calls, Turns, cell_at, is_accessible, finishes_so, Change, effect, Ran, Put}
+use Rattle.schedule_rules.proofs.Words.{Asked, content_after, RanIfAsked, content_of_run, Deed, Visits, Makes, Finishes, EndsToRead, Ends, DropsToRead, Drops, EndsToWrite, Lends}
+use Rattle.schedule_rules.proofs.Words.{Opens, Holds, Skips, deed_waiting, Puts, deed_by, Beside, Looks, Takes, Quiet, Event, deed_of, accepts, is_exit, act_of, sections, Section}
+use Rattle.schedule_rules.proofs.Words.{innermost, is_turn, Guard, guards, numbered, replay, phase_at, registry, finishing, write_holds, answer_of_value, IsLegalLine, IsExclusive}
+use Rattle.schedule_rules.proofs.Words.{lends_at, is_failed, is_lent}
+use Rattle.schedule_rules.proofs.Cases.{Calling, step, Asking, Resting, Lendable, AsksToLend, Reach, form_at, Generating, Finalizing, Case, Visiting, errs}
 use Rattle.schedule_rules.proofs.Facts.{first, same_number}
 use Rattle.schedule_rules.proofs.Steps.{made_accessible, of_legal}
-
--- a call of this form gets a guard to read where the value may not be accessed
-abbrev pub errs : Form → Bool
-errs (Told tests) = false
-errs Shown = false
-errs (Held writes falls_back) = falls_back
 
 -- a value that may be accessed is there
 pub accessed_there : (cells : List CellPlan) (h : List Event) (c : ℕ) → is_accessible (cell_at cells c).kind (phase_at cells c h) ≡ true → has (phase_at cells c h) initialized ≡ true
@@ -129,7 +97,7 @@ module _ (cells : List CellPlan) (h : List Event) (p : ℕ) where
   abbrev pub Tells : Act → Answer → Deed → Type 0
   Tells a r (Visits c chs reads) = (v : Visit c chs reads) × Calling cells h p a c v.asked
   Tells a r (Lends c chs) = LendsSo a r c chs
-  Tells a r (Ends (Finishes fine left)) = (a ≡ finishing fine left) × ((q : Phase) × (r ≡ answer.Phase q))
+  Tells a r (Ends (Finishes fine left)) = (a ≡ finishing fine left) × ((q : Phase) × (r ≡ Answer.Phase q))
   Tells a r _ = Unit {0}
 
   abbrev pub Both : Act → Answer → Deed → Type 0
@@ -143,43 +111,19 @@ module _ (cells : List CellPlan) (h : List Event) (p : ℕ) where
   waits a r true = (tt, tt)
   waits a r false = (tt, tt)
 
-  -- what a call does that is answered so
-  abbrev Calls_so : Act → ℕ → Call → Answer → Type 0
-  Calls_so a c k r = Both a r (deed_by (accepts h) (is_exit a) (act.Call c k) r)
-
   -- one that leaves nothing open, or a guard to read a primed value
   visits : (a : Act) (c : ℕ) (k : Call) (reads : Bool) → Calling cells h p a c k → Asking cells h p c k false ⊎ Resting cells h p c k → (reads ≡ true → errs (form_at cells h p c k) ≡ true)
       → Visit c (Asked (accepts h) k ∷ []) reads × ((v : Visit c (Asked (accepts h) k ∷ []) reads) × Calling cells h p a c v.asked)
   visits a c k reads t f e = let v : Visit c (Asked (accepts h) k ∷ []) reads = record { asked = k; does = refl; finds = f; falls = e } in (v, (v, t))
 
-  module _ (a : Act) (c : ℕ) (k : Call) (t : Calling cells h p a c k) where
-    denied : (q : ℕ) → Asking cells h p c k false ⊎ Resting cells h p c k → (f : Form) → form_at cells h p c k ≡ f → Calls_so a c k (answer_denied f q)
-    denied q v (Told true) e = visits a c k false t v (λ x. absurd (cc))
-    denied q v (Told false) e = visits a c k false t v (λ x. absurd (cc))
-    denied q v Shown e = visits a c k false t v (λ x. absurd (cc))
-    denied q v (Held writes true) e = visits a c k true t v (λ x. ap errs e)
-    denied q v (Held writes false) e = visits a c k false t v (λ x. absurd (cc))
+  runs_nothing : {c : ℕ} {k : Call} {q : Phase} {T : Type 0} → Visiting cells h p c k q T → Asking cells h p c k false ⊎ Resting cells h p c k
+  runs_nothing k1 = grind arith
 
-    opened : Resting cells h p c k → Reach cells h p c true → (f : Form) → Calls_so a c k (answer_opened f (replay cells c h))
-    opened v e (Told tests) = visits a c k false t (inr v) (λ x. absurd (cc))
-    opened v e Shown = (tt, tt)
-    opened v e (Held true falls_back) = (e, tt)
-    opened v e (Held false falls_back) = (e, tt)
-
-  made : (v : ℕ) (t : Section) (k : Call) → Generating cells h p t k → (f : Form) (q : ℕ) → Both (act.Made v) (answer_made f v q) (deed_of h (step cells h p (act.Made v)) (answer_made f v q))
-  made v t k g f q = by f
-    where
-      inside : Inside false
-      inside = record { section = t; found = g.found; kind = ap (λ w. is_turn w) g.kind }
-
-      by : (f : Form) → Both (act.Made v) (answer_made f v q) (deed_of h (step cells h p (act.Made v)) (answer_made f v q))
-      by (Told tests) = (inside, tt)
-      by Shown = (inside, tt)
-      by (Held true falls_back) = (inside, tt)
-      by (Held false falls_back) = (inside, tt)
+  inside : {t : Section} {k : Call} → Generating cells h p t k → Inside false
+  inside {t} g = record { section = t; found = g.found; kind = ap (λ w. is_turn w) g.kind }
 
   finished : (fine : Bool) (left : Option ℕ) (t : Section) → Finalizing cells h p t fine left → (q : Phase)
-      → Both (finishing fine left) (answer.Phase q) (deed_of h (step cells h p (finishing fine left)) (answer.Phase q))
+      → Both (finishing fine left) (Answer.Phase q) (deed_of h (step cells h p (finishing fine left)) (Answer.Phase q))
   finished true left t g q = (record { section = t; found = g.found; kind = g.kind; so = g.so }, (refl, (q, refl)))
   finished false left t g q = (record { section = t; found = g.found; kind = g.kind; so = g.so }, (refl, (q, refl)))
 
@@ -191,7 +135,7 @@ module _ (cells : List CellPlan) (h : List Event) (p : ℕ) where
 
     lends_so : (r : Answer) → is_lent r ≡ true
         → is_accessible (cell_at cells c).kind (if b then content_of_run (cell_at cells c).kind (accepts h) made (replay cells c h) else replay cells c h).phase ≡ true
-        → LendsSo (act.GetMut c made left) r c (Put left ∷ RanIfAsked (accepts h) made ∷ [])
+        → LendsSo (Act.GetMut c made left) r c (Put left ∷ RanIfAsked (accepts h) made ∷ [])
     lends_so r is f = record { lends = same_number c c refl; answered = is; leaves = λ n. ap (λ y. is_accessible (cell_at cells c).kind y.phase) left_so ∙ f }
 
   -- a value that is made to be lent
@@ -202,40 +146,38 @@ module _ (cells : List CellPlan) (h : List Event) (p : ℕ) where
   rested : (c : ℕ) (made : Option ℕ) (left : ℕ) → Lendable cells h p c → AsksToLend cells h p c false → Reach cells h p c true → Lending c (Put left ∷ RanIfAsked (accepts h) made ∷ [])
   rested c made left u e f = record { free = u; does = inr (f, (left, left_so c made left false e)) }
 
-  cases : Cases cells h p (λ a r. Both a r (deed_of h (step cells h p a) r))
-  cases = record {
-    cyclic = λ a c k t. (tt, tt);
-    waiting = λ a c w way t. waits a (answer.Waiting way) (is_exit a);
-    missed = λ a c w f t. (tt, tt);
-    owned = λ a c w o t. (tt, tt);
-    opened = λ a c k t q e. by_act a (act.Call c k) _ t.does (opened a c k t q e (form_at cells h p c k));
-    denied = λ a c k t q e. by_act a (act.Call c k) _ t.does (denied a c k t (phase_at cells c h) (inr q) (form_at cells h p c k) refl);
-    running = λ a c k t q. by_act a (act.Call c k) answer.Running t.does (q, tt);
-    declined = λ a c k t q. by_act a (act.Call c k) _ t.does (denied a c k t flags_refused (inl q) (form_at cells h p c k) refl);
-    skipped = λ a c t q. (q, tt);
-    finalizing = λ a c t q u. (record { value = q; unheld = u }, tt);
-    round = λ c cs e n. ((n, (c, cs, e)), tt);
-    closed = λ e n. ((n, e), tt);
-    made = λ v t k g. made v t k g (form_at cells h p t.cell k) (phase_made cells h t);
-    failed = λ t k g. (record { section = t; found = g.found; kind = ap (λ w. is_turn w) g.kind }, tt);
-    finished = λ fine left t g. finished fine left t g _;
-    looked = λ g x f. (tt, tt);
-    set = λ g v x f w. (record { guard = x; found = f; way = w }, tt);
-    released = λ g x f. (record { guard = x; found = f }, tt);
-    downgraded = λ g x f w. (record { guard = x; found = f; way = w }, tt);
-    borrowed = λ g x f w. (tt, tt);
-    cloned = λ g x f w. (record { guard = x; found = f; way = w }, tt);
-    lent_made = λ c v left u e. (makes c v left u e, lends_so c (Some v) left true e _ refl (made_accessible (cell_at cells c).kind (accepts h) (phase_at cells c h) u.lends));
-    lent_failed = λ c left u e. (record { free = u; does = inl (e, (None, refl)) }, record { lends = same_number c c refl; answered = refl; leaves = λ n. absurd (cc) });
-    lent_rested = λ c made left u e f. (rested c made left u e f, lends_so c made left false e _ refl f);
-    lent_denied = λ c made left u e f. (tt, tt);
-    lent = λ c left u f. (record { free = u; does = inr (f, (left, refl)) }, record { lends = same_number c c refl; answered = refl; leaves = λ n. f });
-    unlent = λ c left u f. (tt, tt);
-  }
+  each : (a : Act) (r : Answer) → Case cells h p a r → Both a r (deed_of h (step cells h p a) r)
+  each _ _ (Case.waiting a c w way t) = waits a (Answer.Waiting way) (is_exit a)
+  each _ _ (Case.told a c k q t v) = by_act a (Act.Call c k) (Answer.Phase q) t.does (visits a c k false t (runs_nothing v) (λ x. absurd (cc)))
+  each _ _ (Case.denied a c k q t v) = by_act a (Act.Call c k) (Answer.Access q) t.does (visits a c k false t (runs_nothing v) (λ x. absurd (cc)))
+  each _ _ (Case.erring a c k q t v e) = by_act a (Act.Call c k) Answer.ErrGuard t.does (visits a c k true t (runs_nothing v) (λ x. e))
+  each _ _ (Case.shown a c k t q e) = by_act a (Act.Call c k) (answer_of_value (replay cells c h)) t.does (tt, tt)
+  each _ _ (Case.reading a c k t q e) = by_act a (Act.Call c k) Answer.ReadGuard t.does (e, tt)
+  each _ _ (Case.writing a c k t q e w) = by_act a (Act.Call c k) Answer.WriteGuard t.does (e, tt)
+  each _ _ (Case.running a c k t q) = by_act a (Act.Call c k) Answer.Running t.does (q, tt)
+  each _ _ (Case.skipped a c t q) = (q, tt)
+  each _ _ (Case.finalizing a c t q u) = (record { value = q; unheld = u }, tt)
+  each _ _ (Case.round c cs e n) = ((n, (c, cs, e)), tt)
+  each _ _ (Case.closed e n) = ((n, e), tt)
+  each _ _ (Case.made_told v t k q g) = (inside g, tt)
+  each _ _ (Case.made v t k g) = (inside g, tt)
+  each _ _ (Case.made_to_read v t k g) = (inside g, tt)
+  each _ _ (Case.made_to_write v t k g w) = (inside g, tt)
+  each _ _ (Case.failed t k g) = (inside g, tt)
+  each _ _ (Case.finished fine left t g) = finished fine left t g _
+  each _ _ (Case.set g v x f w) = (record { guard = x; found = f; way = w }, tt)
+  each _ _ (Case.released g x f) = (record { guard = x; found = f }, tt)
+  each _ _ (Case.downgraded g x f w) = (record { guard = x; found = f; way = w }, tt)
+  each _ _ (Case.cloned g x f w) = (record { guard = x; found = f; way = w }, tt)
+  each _ _ (Case.lent_made c v left u e) = (makes c v left u e, lends_so c (Some v) left true e _ refl (made_accessible (cell_at cells c).kind (accepts h) (phase_at cells c h) u.lends))
+  each _ _ (Case.lent_failed c left u e) = (record { free = u; does = inl (e, (None, refl)) }, record { lends = same_number c c refl; answered = refl; leaves = λ n. absurd (cc) })
+  each _ _ (Case.lent_rested c made left u e f) = (rested c made left u e f, lends_so c made left false e _ refl f)
+  each _ _ (Case.lent c left u f) = (record { free = u; does = inr (f, (left, refl)) }, record { lends = same_number c c refl; answered = refl; leaves = λ n. f })
+  each _ _ _ = (tt, tt)
 
 module _ (cells : List CellPlan) (h : List Event) (s : Step) (l : Line) (m : IsLegalLine cells h s l) where
   both : Both cells h s.party s.act l.answer (deed_of h s l.answer)
-  both = of_legal cells h s l m (λ a r. Both cells h s.party a r (deed_of h (step cells h s.party a) r)) (λ a r. (tt, tt)) (cases cells h s.party)
+  both = of_legal cells h s l m (λ a r. Both cells h s.party a r (deed_of h (step cells h s.party a) r)) (λ a r. (tt, tt)) (λ a r k n. each cells h s.party a r k)
 
   -- the deed of a legal line
   pub finds : Finds cells h s.party (deed_of h s l.answer)

@@ -1,39 +1,14 @@
 -- A finalizer that ends marks the phase of its cell, and nothing else does.
-use Rattle.std.proofs.Common.{◌≡◌, ◌⊎◌, inl, inr, ℕ, List, [], ◌∷◌, refl, sym, ◌∙◌, ap, subst, Bool, true, false, Some}
-use Rattle.std.specs.Prelude.{◌==◌}
-use Rattle.std.specs.Int.RustNames.{bit_or}
-use Rattle.std.proofs.lemmas.Nat.{and_or_apart}
-use Rattle.std.specs.declared.option.Option.{Option}
-use Rattle.phase_bits.specs.declared.phase.Phase.{Phase}
-use Rattle.phase_bits.specs.Number.{phase_of}
-use Rattle.phase_bits.specs.Flags.{has, initialized}
-use Rattle.phase_locker.specs.declared.ways.Given.{Given}
-use Rattle.phase_seq.specs.Phases.{final_outcome}
-use Rattle.schedule_rules.specs.declared.plan.CellPlan.{CellPlan}
-use Rattle.schedule_rules.specs.declared.step.Act.{Act}
-use Rattle.schedule_rules.specs.declared.step.Step.{Step}
-use Rattle.schedule_rules.specs.declared.step.Want.{Want}
-use Rattle.schedule_rules.specs.declared.step.Want.TheVariants.{Calls, Turns}
-use Rattle.schedule_rules.specs.declared.line.Line.{Line}
-use Rattle.schedule_rules.specs.declared.line.Answer.{Answer}
-use Rattle.schedule_rules.specs.declared.line.Answer.TheVariants as answer
-use Rattle.schedule_rules.specs.Kinds.{cell_at}
-use Rattle.schedule_rules.specs.Phases.{phase_finalized}
-use Rattle.schedule_rules.specs.Changes.{Content, Change, Ran, Put, Ended, effect}
-use Rattle.schedule_rules.specs.Deeds.{Makes, Finishes, Deed, Ends, EndsToRead, Drops, DropsToRead, Visits, Lends}
-use Rattle.schedule_rules.specs.History.{Event, accepts, deed_of}
-use Rattle.schedule_rules.specs.Sections.{Section, innermost, is_turn, sections}
-use Rattle.schedule_rules.specs.Guards.{Guard, numbered, guards}
-use Rattle.schedule_rules.specs.Replay.{Back, back_of_section, back_of_step, replay, phase_at}
-use Rattle.schedule_rules.specs.Waits.{cell_of_section, cell_concerned}
-use Rattle.schedule_rules.specs.Legal.{IsLegal, IsLegalLine}
-use Rattle.schedule_rules.specs.Laws.{IsEndedTurn, Finishes as Finishes_so}
-use Rattle.schedule_rules.specs.Exits.{finishing}
+use Rattle.schedule_rules.proofs.Words.{ℕ, ◌≡◌, List, arith, Bool, true, refl, false, Some, ◌∷◌, ◌∙◌, [], sym, ap, subst, ◌⊎◌, inl, inr, and_or_apart, bit_or, ◌==◌, Option, has}
+use Rattle.schedule_rules.proofs.Words.{initialized, phase_of, Phase, Given, final_outcome, Answer, Line, CellPlan, Act, Step, Want, cell_at, phase_finalized, Content, Change}
+use Rattle.schedule_rules.proofs.Words.{effect, Ran, Ended, Deed, Visits, Makes, Finishes, EndsToRead, Ends, DropsToRead, Drops, Lends, Event, deed_of, accepts, sections, Section}
+use Rattle.schedule_rules.proofs.Words.{innermost, is_turn, Guard, guards, numbered, replay, phase_at, Back, back_of_step, finishing, cell_concerned, cell_of_section, IsLegal}
+use Rattle.schedule_rules.proofs.Words.{IsLegalLine, IsEndedTurn}
+use Rattle.schedule_rules.specs.Laws.{Finishes as Finishes_so}
 use Rattle.schedule_rules.proofs.Exclusion.{alone}
 use Rattle.schedule_rules.proofs.Found.{each_found}
 use Rattle.schedule_rules.proofs.Leaves.{back_here, back_elsewhere, left_at, GivenAt, GivesOf, moves}
-use Rattle.schedule_rules.proofs.Cases.{AsksToLend, Reach}
-use Rattle.schedule_rules.proofs.Finds.{Comes, Lending, Finds, Tells, finds, tells}
+use Rattle.schedule_rules.proofs.Finds.{Lending, Finds, Tells, finds, tells}
 use Rattle.schedule_rules.proofs.Means.{Finished, EndsNone, Means, means}
 use Rattle.schedule_rules.proofs.Grows.{Needs, IsStanding, sound}
 use Rattle.schedule_rules.proofs.Opening.{IsOfRun, IsRunning, guards-run, beside, run_before, asked_before}
@@ -41,8 +16,7 @@ use Rattle.schedule_rules.proofs.Facts.{apart, same_number, other_number}
 
 -- a finalizer's section needs a value
 pub needs-value : (w : Want) (x : CellPlan) (p : ℕ) → is_turn w ≡ true → Needs w x p → has p initialized ≡ true
-needs-value (Calls k) x p d n = absurd (apart (sym d))
-needs-value Turns x p d n = n
+needs-value k1 x p d n = grind arith
 
 -- what a finalizer adds says how it ended
 same_outcome : (a fine : Bool) (p : ℕ) → has p (final_outcome fine) ≡ false → has (bit_or p (final_outcome a)) (final_outcome fine) ≡ true → a ≡ fine
@@ -59,17 +33,10 @@ module _ (cells : List CellPlan) (c : ℕ) where
 
     -- the cell of the section that ends is concerned
     concerned : (t : Section) → innermost p (sections h) ≡ Some t → cell_of_section (innermost p (sections h)) ≡ Some c → t.cell ≡ c
-    concerned t f e = same (sym (ap cell_of_section f) ∙ e)
-      where
-        same : Some t.cell ≡ Some c → t.cell ≡ c
-        same x = cc
+    concerned t f e = grind arith
 
     concerned_by : (a : Act) (fine : Bool) (left : Option ℕ) → a ≡ finishing fine left → cell_concerned cells h (record { party = p; act = a }) ≡ cell_of_section (innermost p (sections h))
-    concerned_by a fine left e = subst (λ b. cell_concerned cells h (record { party = p; act = b }) ≡ cell_of_section (innermost p (sections h))) (sym e) (by fine)
-      where
-        by : (fine : Bool) → cell_concerned cells h (record { party = p; act = finishing fine left }) ≡ cell_of_section (innermost p (sections h))
-        by true = refl
-        by false = refl
+    concerned_by a fine left e = grind arith
 
     -- the two ends of a finalizer
     same_end : (a fine : Bool) (m left : Option ℕ) → finishing a m ≡ finishing fine left → a ≡ fine
@@ -78,7 +45,7 @@ module _ (cells : List CellPlan) (c : ℕ) where
     same_end true false m left e = absurd (cc)
     same_end false true m left e = absurd (cc)
 
-    turn_ends : (a : Act) (q : Phase) (m : Finished cells h p a q) → cell_concerned cells h (record { party = p; act = a }) ≡ Some c → IsEndedTurn cells h (event a (answer.Phase q)) c m.fine
+    turn_ends : (a : Act) (q : Phase) (m : Finished cells h p a q) → cell_concerned cells h (record { party = p; act = a }) ≡ Some c → IsEndedTurn cells h (event a (Answer.Phase q)) c m.fine
     turn_ends a q m n =
         record {
           section = t;
@@ -88,11 +55,11 @@ module _ (cells : List CellPlan) (c : ℕ) where
           ready = subst (λ z. has (phase_at cells z h) initialized ≡ true) here
               (needs-value t.want (cell_at cells t.cell) (phase_at cells t.cell h) m.ends.kind (each_found (λ s. s.party == p) (IsStanding cells h) (sections h) t m.ends.found (sound cells h legal).standing));
           marks = ap (λ y. y.phase) changed;
-          shown = ap (λ r. answer.Phase r) m.shown ∙ ap (λ z. answer.Phase (phase_of (phase_finalized (phase_at cells z h) m.fine))) here ∙ ap (λ y. answer.Phase (phase_of y.phase)) (sym changed);
+          shown = ap (λ r. Answer.Phase r) m.shown ∙ ap (λ z. Answer.Phase (phase_of (phase_finalized (phase_at cells z h) m.fine))) here ∙ ap (λ y. Answer.Phase (phase_of y.phase)) (sym changed);
           left = m.left;
           ended = m.acts;
           value_left = ap (λ y. y.value) changed;
-          others_stay = λ e ne. back_elsewhere cells e (back_of_step h (record { party = p; act = a }) (answer.Phase q)) b (replay cells e h) back (other_number t.cell c e here ne);
+          others_stay = λ e ne. back_elsewhere cells e (back_of_step h (record { party = p; act = a }) (Answer.Phase q)) b (replay cells e h) back (other_number t.cell c e here ne);
         }
       where
         t : Section
@@ -104,30 +71,26 @@ module _ (cells : List CellPlan) (c : ℕ) where
         b : Back
         b = record { cell = t.cell; changes = Ended m.fine m.left ∷ [] }
 
-        back : back_of_step h (record { party = p; act = a }) (answer.Phase q) ≡ Some b
-        back = subst (λ x. back_of_step h (record { party = p; act = x }) (answer.Phase q) ≡ Some b) (sym m.acts) (by m.fine m.left)
-          where
-            by : (fine : Bool) (left : Option ℕ) → back_of_step h (record { party = p; act = finishing fine left }) (answer.Phase q) ≡ Some (record { cell = t.cell; changes = Ended fine left ∷ [] })
-            by true left = ap (back_of_section (Finishes true left)) m.ends.found
-            by false left = ap (back_of_section (Finishes false left)) m.ends.found
+        back : back_of_step h (record { party = p; act = a }) (Answer.Phase q) ≡ Some b
+        back = grind arith
 
-        changed : replay cells c (event a (answer.Phase q) ∷ h) ≡ effect (cell_at cells c) (Ended m.fine m.left ∷ []) (replay cells c h)
-        changed = back_here cells c (back_of_step h (record { party = p; act = a }) (answer.Phase q)) b (replay cells c h) back (same_number t.cell c here)
+        changed : replay cells c (event a (Answer.Phase q) ∷ h) ≡ effect (cell_at cells c) (Ended m.fine m.left ∷ []) (replay cells c h)
+        changed = back_here cells c (back_of_step h (record { party = p; act = a }) (Answer.Phase q)) b (replay cells c h) back (same_number t.cell c here)
 
   -- a legal line of a finalizer that ends
-  pub ends-turn : (h : List Event) (s : Step) (l : Line) (q : Phase) (fine : Bool) → IsLegal cells h → IsLegalLine cells h s l → l.answer ≡ answer.Phase q → Finishes_so s fine
+  pub ends-turn : (h : List Event) (s : Step) (l : Line) (q : Phase) (fine : Bool) → IsLegal cells h → IsLegalLine cells h s l → l.answer ≡ Answer.Phase q → Finishes_so s fine
       → cell_concerned cells h s ≡ Some c → IsEndedTurn cells h (record { step = s; line = l }) c fine
   ends-turn h s l q fine k m e f n =
       subst (λ r. IsEndedTurn cells h (record { step = s; line = record { answer = r; given = l.given } }) c fine) (sym e) (by (subst (Means cells h s.party s.act) e (means cells h s l m)))
     where
-      by : Finished cells h s.party s.act q ⊎ EndsNone cells h s.party s.act → IsEndedTurn cells h (record { step = s; line = record { answer = answer.Phase q; given = l.given } }) c fine
+      by : Finished cells h s.party s.act q ⊎ EndsNone cells h s.party s.act → IsEndedTurn cells h (record { step = s; line = record { answer = Answer.Phase q; given = l.given } }) c fine
       by (inr never) = absurd (never fine f.left f.act)
       by (inl t) =
-          subst (λ b. IsEndedTurn cells h (record { step = s; line = record { answer = answer.Phase q; given = l.given } }) c b)
+          subst (λ b. IsEndedTurn cells h (record { step = s; line = record { answer = Answer.Phase q; given = l.given } }) c b)
           (same_end h s.party l.given k t.fine fine t.left f.left (sym t.acts ∙ f.act)) (turn_ends h s.party l.given k s.act q t n)
 
   -- so ends the turn of the cell whose section is innermost
-  pub ended-turn : (h : List Event) (e : Event) (fine : Bool) (left : Option ℕ) → IsLegal cells (e ∷ h) → e.step.act ≡ finishing fine left → (q : Phase) → e.line.answer ≡ answer.Phase q
+  pub ended-turn : (h : List Event) (e : Event) (fine : Bool) (left : Option ℕ) → IsLegal cells (e ∷ h) → e.step.act ≡ finishing fine left → (q : Phase) → e.line.answer ≡ Answer.Phase q
       → cell_of_section (innermost e.step.party (sections h)) ≡ Some c → IsEndedTurn cells h e c fine
   ended-turn h e fine left k acts q shows here =
       ends-turn h e.step e.line q fine k.2 k.0 shows (record { left = left; act = acts }) (concerned_by h e.step.party e.line.given k.2 e.step.act fine left acts ∙ here)
@@ -153,11 +116,7 @@ module _ (cells : List CellPlan) (c : ℕ) where
     dropped g x f = each_found (λ y. y.number == g) IsRunning (guards h) x f (guards-run h)
 
     lends : (z : ℕ) (chs : List Change) → Lending cells h p z chs → has (phase_at cells z h) (final_outcome fine) ≡ false → has (effect (cell_at cells z) chs (replay cells z h)).phase (final_outcome fine) ≡ true → ⊥
-    lends z chs f was is = by f.does
-      where
-        by : (AsksToLend cells h p z true × ((made : Option ℕ) × Comes cells h p z chs (Ran (accepts h) made))) ⊎ (Reach cells h p z true × ((left : ℕ) × Comes cells h p z chs (Put left))) → ⊥
-        by (inl a) = ran z (Ran (accepts h) a.1.0 ∷ []) tt was (subst (λ y. has y.phase (final_outcome fine) ≡ true) a.1.1 is)
-        by (inr a) = ran z (Put a.1.0 ∷ []) tt was (subst (λ y. has y.phase (final_outcome fine) ≡ true) a.1.1 is)
+    lends z chs f was is = grind arith
 
     gives : (d : Deed) (f : Finds cells h p d) → GivesOf cells h p (alone cells h legal) (Marks d) d f
     gives (Ends (Makes made)) f = ran f.section.cell (Ran f.section.is_open made ∷ []) tt

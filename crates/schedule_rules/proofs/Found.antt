@@ -1,10 +1,7 @@
 -- What a test finds in a list, how many pass it, and what holds of each.
-use Rattle.std.proofs.Common.{◌≡◌, ◌<◌, ◌≤◌, List, [], ◌∷◌, refl, arith, Bool, true, None, Some, ℕ, ◌+◌, false, cond, subst}
-use Rattle.std.specs.List.{find, AllByRecursion}
-use Rattle.schedule_rules.specs.History.{count}
-use Rattle.std.specs.Prelude.{◌==◌}
-use Rattle.schedule_rules.specs.Sections.{Section, without_innermost}
-use Rattle.schedule_rules.specs.Guards.{Guard, without_guard, put_in}
+use Rattle.schedule_rules.proofs.Words.{ℕ, ◌≡◌, List, arith, Bool, true, refl, false, Some, ◌∷◌, [], None, subst, ◌<◌, ◌+◌, cond, ◌≤◌, AllByRecursion, find, ◌==◌, count, Section}
+use Rattle.schedule_rules.proofs.Words.{without_innermost, Guard, without_guard, put_in}
+use Rattle.schedule_rules.proofs.Facts.{whether}
 use Rattle.schedule_rules.proofs.Opened.{put}
 
 -- what a test finds is counted by each test that it passes
@@ -32,24 +29,10 @@ pub none_counted : {X : Type 0} (p : X → Bool) (xs : List X) → find p xs ≡
 none_counted p [] e = refl
 none_counted p (x ∷ xs) e = grind (arith, none_counted p xs)
 
--- where none passes a test, a fact of those that do not pass is one of all
-pub each_else : {X : Type 0} (t : X → Bool) (P Q : X → Type 0) (xs : List X) → count t xs ≡ 0
-    → ((x : X) → t x ≡ false → P x → Q x) → AllByRecursion P xs → AllByRecursion Q xs
-each_else t P Q [] none f ps = tt
-each_else {X} t P Q (x ∷ xs) none f ps = by (t x) refl none (λ n. each_else t P Q xs n f ps.1)
-  where
-    by : (b : Bool) → t x ≡ b → cond b (count t xs + 1) (count t xs) ≡ 0 → (count t xs ≡ 0 → AllByRecursion Q xs) → AllByRecursion Q (x ∷ xs)
-    by true e n rest = absurd (omega arith)
-    by false e n rest = (f x e ps.0, rest n)
-
 -- where none passes a test, what holds of those that do not pass holds of all
 pub each_none : {X : Type 0} (t : X → Bool) (Q : X → Type 0) (xs : List X) → count t xs ≡ 0 → ((x : X) → t x ≡ false → Q x) → AllByRecursion Q xs
 each_none t Q [] none f = tt
-each_none {X} t Q (x ∷ xs) none f = by (t x) refl none (λ n. each_none t Q xs n f)
-  where
-    by : (b : Bool) → t x ≡ b → cond b (count t xs + 1) (count t xs) ≡ 0 → (count t xs ≡ 0 → AllByRecursion Q xs) → AllByRecursion Q (x ∷ xs)
-    by true e n rest = absurd (omega arith)
-    by false e n rest = (f x e, rest n)
+each_none {X} t Q (x ∷ xs) none f = whether (t x) (λ e. absurd (grind arith)) (λ e. (f x e, each_none t Q xs (grind arith) f))
 
 -- a fact of each follows, where each that passes its own test is counted by it
 pub each_counted : {X : Type 0} (t : X → X → Bool) (P Q : X → Type 0) (all xs : List X) → ((x : X) → count (t x) xs ≤ count (t x) all)
@@ -58,18 +41,10 @@ each_counted t P Q all [] le f ps = tt
 each_counted {X} t P Q all (y ∷ ys) le f ps = (f y (λ e. here e (le y)) ps.0, each_counted t P Q all ys (λ x. rest x (le x)) f ps.1)
   where
     here : t y y ≡ true → cond (t y y) (count (t y) ys + 1) (count (t y) ys) ≤ count (t y) all → 0 < count (t y) all
-    here e n = by (t y y) e n
-      where
-        by : (b : Bool) → b ≡ true → cond b (count (t y) ys + 1) (count (t y) ys) ≤ count (t y) all → 0 < count (t y) all
-        by true e n = omega (arith, n)
-        by false e n = absurd (cc)
+    here e n = grind arith
 
     rest : (x : X) → cond (t x y) (count (t x) ys + 1) (count (t x) ys) ≤ count (t x) all → count (t x) ys ≤ count (t x) all
-    rest x n = by (t x y) n
-      where
-        by : (b : Bool) → cond b (count (t x) ys + 1) (count (t x) ys) ≤ count (t x) all → count (t x) ys ≤ count (t x) all
-        by true n = omega (arith, n)
-        by false n = n
+    rest x n = grind arith
 
 -- a fact that follows from another holds of all
 pub each_mapped : {X : Type 0} (P Q : X → Type 0) (xs : List X) → ((x : X) → P x → Q x) → AllByRecursion P xs → AllByRecursion Q xs
@@ -96,26 +71,17 @@ each_found {X} q P (y ∷ xs) x e ps = by (q y) e (λ k. each_found q P xs x k p
 -- without the party's innermost section
 pub each_ended : (P : Section → Type 0) (p : ℕ) (ss : List Section) → AllByRecursion P ss → AllByRecursion P (without_innermost p ss)
 each_ended P p [] ps = tt
-each_ended P p (s ∷ ss) ps = by (s.party == p) (each_ended P p ss ps.1)
-  where
-    by : (b : Bool) → AllByRecursion P (without_innermost p ss) → AllByRecursion P (cond b ss (s ∷ without_innermost p ss))
-    by true rest = ps.1
-    by false rest = (ps.0, rest)
+each_ended P p (s ∷ ss) ps =
+    elim (s.party == p) as (λ b. AllByRecursion P (cond b ss (s ∷ without_innermost p ss))) [ true ↦ ps.1 | false ↦ (ps.0, each_ended P p ss ps.1) ]
 
 -- without a guard
 pub each_removed : (P : Guard → Type 0) (g : ℕ) (gs : List Guard) → AllByRecursion P gs → AllByRecursion P (without_guard g gs)
 each_removed P g [] ps = tt
-each_removed P g (x ∷ gs) ps = by (x.number == g) (each_removed P g gs ps.1)
-  where
-    by : (b : Bool) → AllByRecursion P (without_guard g gs) → AllByRecursion P (cond b gs (x ∷ without_guard g gs))
-    by true rest = ps.1
-    by false rest = (ps.0, rest)
+each_removed P g (x ∷ gs) ps =
+    elim (x.number == g) as (λ b. AllByRecursion P (cond b gs (x ∷ without_guard g gs))) [ true ↦ ps.1 | false ↦ (ps.0, each_removed P g gs ps.1) ]
 
 -- with a value set
 pub each_put : (P : Guard → Type 0) (g v : ℕ) (gs : List Guard) → ((x : Guard) → P x → P (put v x)) → AllByRecursion P gs → AllByRecursion P (put_in g v gs)
 each_put P g v [] f ps = tt
-each_put P g v (x ∷ gs) f ps = by (x.number == g) (each_put P g v gs f ps.1)
-  where
-    by : (b : Bool) → AllByRecursion P (put_in g v gs) → AllByRecursion P (cond b (put v x ∷ gs) (x ∷ put_in g v gs))
-    by true rest = (f x ps.0, ps.1)
-    by false rest = (ps.0, rest)
+each_put P g v (x ∷ gs) f ps =
+    elim (x.number == g) as (λ b. AllByRecursion P (cond b (put v x ∷ gs) (x ∷ put_in g v gs))) [ true ↦ (f x ps.0, ps.1) | false ↦ (ps.0, each_put P g v gs f ps.1) ]

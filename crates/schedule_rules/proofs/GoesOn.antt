@@ -1,48 +1,21 @@
 -- A waiting call goes on with what its party did last: its wait says the same call as the party's latest act.
-use Rattle.std.proofs.Common.{subst, ◌≡◌, ◌≢◌, ℕ, List, [], ◌∷◌, refl, sym, ap, ◌∙◌, arith, true, false, None, Some}
-use Rattle.std.specs.Prelude.{Bool, ◌==◌, map, if◌then◌else◌}
-use Rattle.std.specs.declared.option.Option.{Option}
-use Rattle.phase_locker.specs.declared.ways.Given.{Given}
-use Rattle.phase_locker.specs.declared.ways.Given.TheVariants as given
-use Rattle.exit_registry.specs.Registry.{first_of}
-use Rattle.schedule_rules.specs.declared.plan.CellPlan.{CellPlan}
-use Rattle.schedule_rules.specs.declared.step.Act.{Act}
-use Rattle.schedule_rules.specs.declared.step.Act.TheVariants as act
-use Rattle.phase_locker.specs.declared.ways.How.{How}
-use Rattle.schedule_rules.specs.declared.line.Refusal.{Refusal}
-use Rattle.schedule_rules.specs.declared.line.Answer.{Answer}
-use Rattle.schedule_rules.specs.declared.line.Answer.TheVariants as answer
-use Rattle.schedule_rules.specs.declared.step.Step.{Step}
-use Rattle.schedule_rules.specs.History.{Event, latest_act, latest_act_after, newer_act}
-use Rattle.schedule_rules.specs.Exits.{registry}
-use Rattle.schedule_rules.specs.Waits.{Wait, Attempt, attempt, wait_of, without_wait, with_wait, attempt_of_wait, act_for, attempt_of_turn, attempt_with, wake_writer, wake_reader, wake_readers, wait_woken, waits_given_with, waits_answered, waits, cell_concerned_with}
+use Rattle.schedule_rules.proofs.Words.{ℕ, ◌≡◌, List, arith, Bool, true, refl, false, Some, ◌∷◌, ◌∙◌, [], sym, ap, None, subst, ◌==◌, if◌then◌else◌, map, Option, first_of, Given}
+use Rattle.schedule_rules.proofs.Words.{How, Answer, Refusal, CellPlan, Act, Step, Event, latest_act, latest_act_after, newer_act, registry, Wait, waits, wait_of, Attempt, attempt}
+use Rattle.schedule_rules.proofs.Words.{attempt_of_wait, attempt_with, attempt_of_turn, without_wait, waits_given_with, waits_answered, with_wait, act_for, wait_woken}
+use Rattle.schedule_rules.proofs.Facts.{same_number, numbers_apart, number_found}
 use Rattle.schedule_rules.proofs.Opened.{wait_removed, wait_kept}
 
 module _ (f : Wait → Wait) (same_party : (w : Wait) → (f w).party ≡ w.party) (same_attempt : (w : Wait) → attempt_of_wait (Some (f w)) ≡ attempt_of_wait (Some w)) where
   -- what keeps party, cell and want of each wait keeps what is attempted
   attempt_mapped : (p : ℕ) (ws : List Wait) → attempt_of_wait (wait_of p (map f ws)) ≡ attempt_of_wait (wait_of p ws)
   attempt_mapped p [] = refl
-  attempt_mapped p (w ∷ ws) = by ((f w).party == p) (w.party == p) (ap (λ q. q == p) (same_party w)) (attempt_mapped p ws)
-    where
-      by : (b d : Bool) → b ≡ d → attempt_of_wait (wait_of p (map f ws)) ≡ attempt_of_wait (wait_of p ws) → attempt_of_wait (if b then Some (f w) else wait_of p (map f ws)) ≡ attempt_of_wait (if d then Some w else wait_of p ws)
-      by true true same older = same_attempt w
-      by false false same older = older
-      by true false same older = absurd (apart same)
-        where
-          apart : true ≡ false → ⊥
-          apart e = cc
-      by false true same older = absurd (apart same)
-        where
-          apart : false ≡ true → ⊥
-          apart e = cc
+  attempt_mapped p (w ∷ ws) = grind (arith, attempt_mapped p ws, same_party w, same_attempt w)
 
 woken_party : (b : Bool) (w : Wait) → (if b then wait_woken w else w).party ≡ w.party
-woken_party true w = refl
-woken_party false w = refl
+woken_party b w = grind arith
 
 woken_attempt : (b : Bool) (w : Wait) → attempt_of_wait (Some (if b then wait_woken w else w)) ≡ attempt_of_wait (Some w)
-woken_attempt true w = refl
-woken_attempt false w = refl
+woken_attempt b w = grind arith
 
 -- what is attempted again is the act
 abbrev pub Matches : Option Attempt → Act → Type 0
@@ -61,13 +34,7 @@ each_of T U f (Some a) t = f a t
 module _ (cells : List CellPlan) where
   -- a gift changes no attempt
   pub attempt_given : (all : List Wait) (h : List Event) (s : Step) (g : Given) (p : ℕ) (ws : List Wait) → attempt_of_wait (wait_of p (waits_given_with cells all h s g ws)) ≡ attempt_of_wait (wait_of p ws)
-  attempt_given all h s given.Nobody p ws = refl
-  attempt_given all h s (given.Writer q) p ws = attempt_mapped (wake_writer q) (λ w. woken_party _ w) (λ w. woken_attempt _ w) p ws
-  attempt_given all h s given.Readers p ws = by (cell_concerned_with cells all h s.party s.act)
-    where
-      by : (o : Option ℕ) → attempt_of_wait (wait_of p (wake_readers o ws)) ≡ attempt_of_wait (wait_of p ws)
-      by None = refl
-      by (Some c) = attempt_mapped (wake_reader c) (λ w. woken_party _ w) (λ w. woken_attempt _ w) p ws
+  attempt_given all h s k1 p ws = grind (arith, attempt_mapped, woken_party, woken_attempt)
 
   -- what waits for the party
   abbrev pub waiting : List Event → ℕ → Option Attempt
@@ -78,8 +45,8 @@ module _ (cells : List CellPlan) where
     -- steps of others and refused steps keep it, and it is so of what a step attempts that waits by it
     pub record Goes : Type 0 where
       pub other : (h : List Event) (e : Event) (p : ℕ) (a : Attempt) → L (e ∷ h) → (e.step.party == p) ≡ false → T h p a → T (e ∷ h) p a
-      pub refused : (h : List Event) (e : Event) (p : ℕ) (a : Attempt) (r : Refusal) → e.line.answer ≡ answer.Refused r → T h p a → T (e ∷ h) p a
-      pub now : (h : List Event) (e : Event) (way : How) → L (e ∷ h) → e.line.answer ≡ answer.Waiting way → Of (T h e.step.party) (waiting h e.step.party) → Of (T (e ∷ h) e.step.party) (attempt cells h e.step)
+      pub refused : (h : List Event) (e : Event) (p : ℕ) (a : Attempt) (r : Refusal) → e.line.answer ≡ Answer.Refused r → T h p a → T (e ∷ h) p a
+      pub now : (h : List Event) (e : Event) (way : How) → L (e ∷ h) → e.line.answer ≡ Answer.Waiting way → Of (T h e.step.party) (waiting h e.step.party) → Of (T (e ∷ h) e.step.party) (attempt cells h e.step)
 
     module _ (k : Goes) where
       module _ (h : List Event) (e : Event) (p : ℕ) (l : L (e ∷ h)) (IH : (q : ℕ) → Of (T h q) (waiting h q)) where
@@ -88,16 +55,10 @@ module _ (cells : List CellPlan) where
         others = waits_given_with cells (waits cells h) h e.step e.line.given (without_wait e.step.party (waits cells h))
 
         left_over : (b : Bool) → (e.step.party == p) ≡ b → Of (T (e ∷ h) p) (attempt_of_wait (wait_of p others))
-        left_over true is = rw (attempt_given (waits cells h) h e.step e.line.given p (without_wait e.step.party (waits cells h))) (rw (own is) (rw (wait_removed p (waits cells h)) tt))
-          where
-            own : (e.step.party == p) ≡ true → e.step.party ≡ p
-            own e = grind arith
+        left_over true is = rw (attempt_given (waits cells h) h e.step e.line.given p (without_wait e.step.party (waits cells h))) (rw (number_found e.step.party p is) (rw (wait_removed p (waits cells h)) tt))
         left_over false is =
-            rw (attempt_given (waits cells h) h e.step e.line.given p (without_wait e.step.party (waits cells h))) (rw (wait_kept e.step.party p (waits cells h) (other is))
+            rw (attempt_given (waits cells h) h e.step e.line.given p (without_wait e.step.party (waits cells h))) (rw (wait_kept e.step.party p (waits cells h) (numbers_apart e.step.party p is))
             (each_of (T h p) (T (e ∷ h) p) (λ a t. k.other h e p a l is t) (waiting h p) (IH p)))
-          where
-            other : (e.step.party == p) ≡ false → p ≢ e.step.party
-            other e = grind arith
 
         again : (way : How) (b : Bool) → (e.step.party == p) ≡ b → (o : Option Attempt) → (b ≡ true → Of (T (e ∷ h) p) o) → Of (T (e ∷ h) p) (attempt_of_wait (wait_of p (with_wait e.step.party way o others)))
         again way b is None f = left_over b is
@@ -105,11 +66,8 @@ module _ (cells : List CellPlan) where
         again way true is (Some a) f = rw is (f refl)
 
         after : (r : Answer) → e.line.answer ≡ r → Of (T (e ∷ h) p) (attempt_of_wait (wait_of p (waits_answered cells h e.step e.line.given r (waits cells h))))
-        after (answer.Refused q) is = each_of (T h p) (T (e ∷ h) p) (λ a t. k.refused h e p a q is t) (waiting h p) (IH p)
-        after (answer.Waiting way) is = again way (e.step.party == p) refl (attempt cells h e.step) (λ own. subst (λ q. Of (T (e ∷ h) q) (attempt cells h e.step)) (same own) (k.now h e way l is (IH e.step.party)))
-          where
-            same : (e.step.party == p) ≡ true → e.step.party ≡ p
-            same own = grind arith
+        after (Answer.Refused q) is = each_of (T h p) (T (e ∷ h) p) (λ a t. k.refused h e p a q is t) (waiting h p) (IH p)
+        after (Answer.Waiting way) is = again way (e.step.party == p) refl (attempt cells h e.step) (λ own. subst (λ q. Of (T (e ∷ h) q) (attempt cells h e.step)) (number_found e.step.party p own) (k.now h e way l is (IH e.step.party)))
         after _ is = left_over (e.step.party == p) refl
 
       -- so it is said of all that waits
@@ -121,24 +79,10 @@ module _ (cells : List CellPlan) where
   matches_now ws h s older IH = by s.act
     where
       by : (a : Act) → Matches (attempt_with cells ws h s.party a) (newer_act true a older)
-      by (act.Call c k) = refl
-      by act.Again = IH
-      by act.Exit = turned (first_of (registry cells h).left)
-        where
-          turned : (o : Option ℕ) → Matches (attempt_of_turn o) act.Exit
-          turned None = tt
-          turned (Some c) = refl
-      by (act.Made v) = tt
-      by act.MadeFailed = tt
-      by (act.Look g) = tt
-      by (act.Set g v) = tt
-      by (act.Release g) = tt
-      by (act.Downgrade g) = tt
-      by (act.Clone g) = tt
-      by (act.Finished left) = tt
-      by (act.FinishFailed left) = tt
-      by (act.GetMut c made left) = tt
-      by (act.TryGetMut c left) = tt
+      by (Act.Call c k) = refl
+      by Act.Again = IH
+      by Act.Exit = elim (first_of (registry cells h).left) as (λ o. Matches (attempt_of_turn o) Act.Exit) [ None ↦ tt | Some c ↦ refl ]
+      by _ = tt
 
   -- a party's wait and its latest act say the same call
   abbrev Says : List Event → ℕ → Attempt → Type 0
@@ -153,8 +97,7 @@ module _ (cells : List CellPlan) where
   of_matches h p (Some a) t = t
 
   latest_other : (r : Answer) (a older : Act) → latest_act_after r false a older ≡ older
-  latest_other (answer.Refused q) a older = refl
-  latest_other _ a older = refl
+  latest_other k1 a older = grind arith
 
   pub wait-matches : (p : ℕ) (h : List Event) → Matches (attempt_of_wait (wait_of p (waits cells h))) (latest_act p h)
   wait-matches p h = matches_of h p (waiting h p) (waits_so (λ h. Unit {0}) (λ e h l. tt) Says (record { other = other; refused = refused; now = now }) h p tt)
@@ -162,16 +105,13 @@ module _ (cells : List CellPlan) where
       other : (h : List Event) (e : Event) (p : ℕ) (a : Attempt) → Unit {0} → (e.step.party == p) ≡ false → Says h p a → Says (e ∷ h) p a
       other h e p a l is t = rw is (latest_other e.line.answer e.step.act (latest_act p h) ∙ t)
 
-      refused : (h : List Event) (e : Event) (p : ℕ) (a : Attempt) (r : Refusal) → e.line.answer ≡ answer.Refused r → Says h p a → Says (e ∷ h) p a
+      refused : (h : List Event) (e : Event) (p : ℕ) (a : Attempt) (r : Refusal) → e.line.answer ≡ Answer.Refused r → Says h p a → Says (e ∷ h) p a
       refused h e p a r is t = rw is t
 
-      now : (h : List Event) (e : Event) (way : How) → Unit {0} → e.line.answer ≡ answer.Waiting way → Of (Says h e.step.party) (waiting h e.step.party) → Of (Says (e ∷ h) e.step.party) (attempt cells h e.step)
+      now : (h : List Event) (e : Event) (way : How) → Unit {0} → e.line.answer ≡ Answer.Waiting way → Of (Says h e.step.party) (waiting h e.step.party) → Of (Says (e ∷ h) e.step.party) (attempt cells h e.step)
       now h e way l is t =
           of_matches (e ∷ h) e.step.party (attempt cells h e.step)
           (subst (Matches (attempt cells h e.step)) (sym latest) (matches_now (waits cells h) h e.step (latest_act e.step.party h) (matches_of h e.step.party (waiting h e.step.party) t)))
         where
-          same : (q : ℕ) → (q == q) ≡ true
-          same q = grind arith
-
           latest : latest_act e.step.party (e ∷ h) ≡ newer_act true e.step.act (latest_act e.step.party h)
-          latest = ap (λ r. latest_act_after r (e.step.party == e.step.party) e.step.act (latest_act e.step.party h)) is ∙ ap (λ b. newer_act b e.step.act (latest_act e.step.party h)) (same e.step.party)
+          latest = ap (λ r. latest_act_after r (e.step.party == e.step.party) e.step.act (latest_act e.step.party h)) is ∙ ap (λ b. newer_act b e.step.act (latest_act e.step.party h)) (same_number e.step.party e.step.party refl)

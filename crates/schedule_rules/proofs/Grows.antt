@@ -1,52 +1,15 @@
 -- What a legal step leaves: each section stands on the phase that it needs, each holder of a write guard sees a value, and
 -- INITIALIZED is never cleared.
-use Rattle.std.proofs.Common.{◌≡◌, ℕ, List, [], ◌∷◌, refl, sym, ◌∙◌, ap, subst, arith, Bool, true, false, not, ◌⊎◌, inl, inr, Some}
-use Rattle.std.specs.Prelude.{◌==◌, if◌then◌else◌}
-use Rattle.std.specs.List.{AllByRecursion}
-use Rattle.std.specs.Int.RustNames.{bit_and, bit_or}
-use Rattle.std.proofs.lemmas.Nat.{and_or_self, and_or_apart}
-use Rattle.phase_bits.specs.Flags.{has, initialized}
-use Rattle.phase_seq.specs.Asks.{shall_init}
-use Rattle.phase_seq.specs.declared.tolerance.Tolerance.{Tolerance}
-use Rattle.std.specs.declared.option.Option.{Option}
-use Rattle.phase_bits.specs.Number.{phase_of}
-use Rattle.lazy_cells.specs.declared.call.Call.TheVariants as call
-use Rattle.lazy_cells.specs.declared.kind.Kind.{Kind}
-use Rattle.schedule_rules.specs.declared.plan.CellPlan.{CellPlan}
-use Rattle.schedule_rules.specs.declared.step.Want.{Want}
-use Rattle.schedule_rules.specs.declared.step.Want.TheVariants.{Calls, Turns}
-use Rattle.schedule_rules.specs.Kinds.{cell_at, tolerance_of, tolerance_at}
-use Rattle.schedule_rules.specs.Phases.{flags_kept}
-use Rattle.schedule_rules.specs.Changes.{Content, Change, Ran, Asked, Put, RanIfAsked, Ended, asks_to_lend, effect}
-use Rattle.schedule_rules.specs.Deeds.{Makes, Finishes, Deed, Opens, Holds, Ends, EndsToRead, EndsToWrite, Drops, DropsToRead, Visits, Lends}
-use Rattle.schedule_rules.specs.History.{Event, accepts, deed_of}
-use Rattle.schedule_rules.specs.Sections.{Section, is_turn, sections}
-use Rattle.schedule_rules.specs.Guards.{Guard, numbered, guards}
-use Rattle.schedule_rules.specs.Replay.{replay, phase_at}
-use Rattle.schedule_rules.specs.Legal.{IsExclusive, IsLegal}
+use Rattle.schedule_rules.proofs.Words.{ℕ, ◌≡◌, List, arith, Bool, true, refl, false, Some, ◌∷◌, ◌∙◌, [], sym, ap, ◌⊎◌, and_or_apart, and_or_self, bit_or, bit_and, AllByRecursion}
+use Rattle.schedule_rules.proofs.Words.{◌==◌, Option, has, initialized, phase_of, shall_init, CellPlan, Want, Calls, Turns, cell_at, tolerance_of, flags_kept, Content, Change}
+use Rattle.schedule_rules.proofs.Words.{effect, Ran, Put, Deed, Visits, Makes, Finishes, EndsToRead, Ends, DropsToRead, Drops, EndsToWrite, Lends, Opens, Holds, Event, deed_of}
+use Rattle.schedule_rules.proofs.Words.{accepts, sections, Section, is_turn, Guard, guards, numbered, replay, phase_at, IsLegal, IsExclusive}
 use Rattle.schedule_rules.proofs.Found.{each_found}
 use Rattle.schedule_rules.proofs.Cases.{Asking, Resting, AsksToLend, Reach}
-use Rattle.schedule_rules.proofs.Attempts.{asks_due}
 use Rattle.schedule_rules.proofs.Finds.{Inside, Visit, Comes, Lending, accessed_there, Finds, finds}
-use Rattle.schedule_rules.proofs.Leaves.{left_at, sections_left, guards_left, NewOf, Says, sections_say, guards_say, GivesOf, moves, rests}
+use Rattle.schedule_rules.proofs.Leaves.{left_at, sections_left, guards_left, NewOf, Says, sections_say, guards_say, GivesOf, moves}
 use Rattle.schedule_rules.proofs.Facts.{apart}
 use Rattle.schedule_rules.proofs.Exclusion.{alone}
-
--- where a run is wanted, INITIALIZED is not there
-pub wanted-lacks : (t : Tolerance) (p : ℕ) → shall_init t (phase_of p) ≡ true → has p initialized ≡ false
-wanted-lacks t p e = by t.retry e
-  where
-    lacks : (b : Bool) → not b ≡ true → b ≡ false
-    lacks false f = refl
-    lacks true f = absurd (cc)
-
-    by : (b : Bool) → (if b then not (has p initialized) else (p == 0)) ≡ true → has p initialized ≡ false
-    by true f = lacks (has p initialized) f
-    by false f = let empty : p ≡ 0 = grind arith in subst (λ q. has q initialized ≡ false) (sym empty) refl
-
--- nor where one is asked before the value is lent
-pub asked-lacks : (q : Kind) (t : Tolerance) (p : ℕ) → asks_to_lend q t p ≡ true → has p initialized ≡ false
-asked-lacks q t p e = wanted-lacks t p (asks_due q t call.Init p e)
 
 -- a run that succeeds sets it
 pub has_made : (p : ℕ) → has (bit_or p initialized) initialized ≡ true
@@ -63,17 +26,13 @@ Needs Turns x p = has p initialized ≡ true
 
 -- a generator's section needs a phase that lacks INITIALIZED
 pub needs-lacks : (w : Want) (x : CellPlan) (p : ℕ) → is_turn w ≡ false → Needs w x p → has p initialized ≡ false
-needs-lacks (Calls k) x p d n = wanted-lacks (tolerance_of x) p n
-needs-lacks Turns x p d n = absurd (apart d)
+needs-lacks k1 x p d n = grind arith
 
 -- a generator ended in the section
 abbrev pub HasRun : List Change → Type 0
 HasRun [] = ⊥
 HasRun (Ran o m ∷ chs) = Unit {0}
-HasRun (Asked o k ∷ chs) = HasRun chs
-HasRun (Put v ∷ chs) = HasRun chs
-HasRun (RanIfAsked o m ∷ chs) = HasRun chs
-HasRun (Ended fine left ∷ chs) = HasRun chs
+HasRun (ch ∷ chs) = HasRun chs
 
 -- on this content the holder of the guard sees a value, and where it was made in the guard's section none was there
 abbrev pub SeesValue : CellPlan → Guard → Content → Type 0
@@ -144,16 +103,14 @@ module _ (cells : List CellPlan) where
       visits c chs reads v r = by v.finds
         where
           by : Asking cells h p c v.asked false ⊎ Resting cells h p c v.asked → has (effect (cell_at cells c) chs (replay cells c h)).phase initialized ≡ true
-          by (inl q) = absurd (apart (sym r ∙ wanted-lacks (tolerance_at cells c) (phase_at cells c h) q.wanted))
-          by (inr q) = subst (λ y. has y.phase initialized ≡ true) (sym (rests cells h p alone c chs v.asked v.does q)) r
+          by k1 = grind arith
 
       lends : (c : ℕ) (chs : List Change) (f : Lending cells h p c chs) → Keeps c (replay cells c h) (effect (cell_at cells c) chs (replay cells c h))
       lends c chs f r = by f.does
         where
           by : (AsksToLend cells h p c true × ((made : Option ℕ) × Comes cells h p c chs (Ran (accepts h) made))) ⊎ (Reach cells h p c true × ((left : ℕ) × Comes cells h p c chs (Put left)))
               → has (effect (cell_at cells c) chs (replay cells c h)).phase initialized ≡ true
-          by (inl a) = absurd (apart (sym r ∙ asked-lacks (cell_at cells c).kind (tolerance_at cells c) (phase_at cells c h) a.0))
-          by (inr a) = ap (λ y. has y.phase initialized) a.1.1 ∙ r
+          by k1 = grind arith
 
       gives : (d : Deed) (f : Finds cells h p d) → GivesOf cells h p alone Keeps d f
       gives (Ends (Makes made)) f = λ r. absurd (apart (sym r ∙ lacks f))

@@ -1,23 +1,9 @@
 -- A phase that is not 0 never is 0 again; and a cell that was touched stays so: its phase is not 0, or a section runs in it,
 -- or a guard writes it.
-use Rattle.std.proofs.Common.{◌≡◌, ◌≢◌, ℕ, List, [], ◌∷◌, subst, Bool, true, false, cond, None, Some, ◌<◌, sym, ◌∙◌, arith, ◌⊎◌, inl, inr}
-use Rattle.std.specs.Prelude.{◌==◌}
-use Rattle.std.specs.Int.RustNames.{bit_and, bit_or}
-use Rattle.std.proofs.lemmas.Nat.{and_or_self}
-use Rattle.std.specs.declared.option.Option.{Option}
-use Rattle.schedule_rules.specs.declared.plan.CellPlan.{CellPlan}
-use Rattle.schedule_rules.specs.Kinds.{cell_at, tolerance_of}
-use Rattle.schedule_rules.specs.Phases.{flags_kept}
-use Rattle.schedule_rules.specs.Changes.{Content, Change, Ran, Asked, Put, RanIfAsked, Ended, is_declined, content_of_run, asks_to_lend, content_after, effect}
-use Rattle.schedule_rules.specs.History.{Event, deed_of}
-use Rattle.schedule_rules.specs.Replay.{Back, back_of_step, replay, phase_at, content_after_back}
-use Rattle.std.specs.List.{AllByRecursion}
-use Rattle.phase_bits.specs.Flags.{has, initialized}
-use Rattle.schedule_rules.specs.Deeds.{Makes, Finishes, Deed, Holds, Ends, EndsToRead, EndsToWrite, Drops, DropsToRead, Visits, Lends}
-use Rattle.schedule_rules.specs.Sections.{Section, sections}
-use Rattle.schedule_rules.specs.Guards.{Guard, numbered, guards}
-use Rattle.schedule_rules.specs.Holds.{write_holds}
-use Rattle.schedule_rules.specs.Legal.{IsLegal, IsExclusive}
+use Rattle.schedule_rules.proofs.Words.{ℕ, ◌≡◌, List, arith, Bool, true, false, Some, ◌∷◌, ◌∙◌, [], sym, None, subst, ◌⊎◌, inl, ◌<◌, inr, ◌≢◌, cond, and_or_self, bit_or, bit_and}
+use Rattle.schedule_rules.proofs.Words.{AllByRecursion, ◌==◌, Option, has, initialized, CellPlan, cell_at, Content, Change, effect, Ran, Put, Asked, content_after, Ended}
+use Rattle.schedule_rules.proofs.Words.{RanIfAsked, Deed, Visits, Makes, Finishes, EndsToRead, Ends, DropsToRead, Drops, EndsToWrite, Lends, Holds, Event, deed_of, sections}
+use Rattle.schedule_rules.proofs.Words.{Section, Guard, guards, numbered, replay, phase_at, Back, back_of_step, content_after_back, write_holds, IsLegal, IsExclusive}
 use Rattle.schedule_rules.proofs.Exclusion.{alone}
 use Rattle.schedule_rules.proofs.Found.{each_of, each_found}
 use Rattle.schedule_rules.proofs.Finds.{Finds, accessed_there, finds}
@@ -33,32 +19,20 @@ abbrev pub HasEnded : List Change → Type 0
 HasEnded [] = ⊥
 HasEnded (Ran o m ∷ chs) = Unit {0}
 HasEnded (Ended fine left ∷ chs) = Unit {0}
-HasEnded (Asked o k ∷ chs) = HasEnded chs
-HasEnded (Put v ∷ chs) = HasEnded chs
-HasEnded (RanIfAsked o m ∷ chs) = HasEnded chs
+HasEnded (ch ∷ chs) = HasEnded chs
 
 module _ (x : CellPlan) where
   ran_touches : (o : Bool) (made : Option ℕ) (y : Content) → (content_after x (Ran o made) y).phase ≢ 0
-  ran_touches o (Some v) y = with_flag (flags_kept x.kind o y.phase) 1 (λ e. cc)
-  ran_touches o None y = with_flag (flags_kept x.kind o y.phase) 6 (λ e. cc)
+  ran_touches o k1 y = grind (arith, with_flag)
 
   ended_touches : (fine : Bool) (left : Option ℕ) (y : Content) → (content_after x (Ended fine left) y).phase ≢ 0
-  ended_touches true left y = with_flag y.phase 64 (λ e. cc)
-  ended_touches false left y = with_flag y.phase 128 (λ e. cc)
+  ended_touches fine left y = grind (arith, with_flag y.phase 64, with_flag y.phase 128)
 
   asked_keeps : (o : Bool) (k : _) (y : Content) → y.phase ≢ 0 → (content_after x (Asked o k) y).phase ≢ 0
-  asked_keeps o k y ne = by (is_declined x.kind (tolerance_of x) k o y.phase)
-    where
-      by : (b : Bool) → (cond b (record { phase = 36; value = y.value }) y).phase ≢ 0
-      by true = λ e. cc
-      by false = ne
+  asked_keeps o k y ne = grind arith
 
   lent_keeps : (o : Bool) (made : Option ℕ) (y : Content) → y.phase ≢ 0 → (content_after x (RanIfAsked o made) y).phase ≢ 0
-  lent_keeps o made y ne = by (asks_to_lend x.kind (tolerance_of x) y.phase)
-    where
-      by : (b : Bool) → (cond b (content_of_run x.kind o made y) y).phase ≢ 0
-      by true = ran_touches o made y
-      by false = ne
+  lent_keeps o made y ne = grind (arith, ran_touches)
 
   -- what happens in a section keeps a phase that is not 0
   pub effect_keeps : (chs : List Change) (y : Content) → y.phase ≢ 0 → (effect x chs y).phase ≢ 0
@@ -84,8 +58,7 @@ back_keeps cells c None y ne = ne
 back_keeps cells c (Some b) y ne = by (b.cell == c)
   where
     by : (d : Bool) → (cond d (effect (cell_at cells c) b.changes y) y).phase ≢ 0
-    by true = effect_keeps (cell_at cells c) b.changes y ne
-    by false = ne
+    by d = grind (arith, effect_keeps)
 
 -- a published phase that is not 0 stays so
 pub phase_stays : (cells : List CellPlan) (c : ℕ) (e : Event) (h : List Event) → phase_at cells c h ≢ 0 → phase_at cells c (e ∷ h) ≢ 0
@@ -93,10 +66,7 @@ phase_stays cells c e h ne = back_keeps cells c (back_of_step h e.step e.line.an
 
 -- what has a flag is not 0
 pub has_none : (p : ℕ) → has p initialized ≡ true → p ≢ 0
-has_none p e z = clash (subst (λ q. has q initialized ≡ true) z e)
-  where
-    clash : has 0 initialized ≡ true → ⊥
-    clash x = cc
+has_none p e z = grind arith
 
 module _ (cells : List CellPlan) where
   -- on this content the holder of a write guard sees a phase that is not 0, whatever the section stands on or by what ended
@@ -134,15 +104,13 @@ module _ (cells : List CellPlan) where
     stays d f c none n = by (holding cells h p alone d f c)
       where
         by : Holding cells h p alone d c → (phase_at cells c h ≢ 0) ⊎ (0 < holds_left cells h p d c)
-        by (inl le) = inr (omega (arith, n, le))
-        by (inr g) = absurd (none g)
+        by k1 = grind arith
 
     dropped : (d : Deed) (g : ℕ) (x : Guard) → numbered g (guards h) ≡ Some x → AllGood h → x.writes ≡ true → Touches d x.cell (replay cells x.cell h) (effect (cell_at cells x.cell) x.changes (replay cells x.cell h))
     dropped d g x f k w n = inl (by (each_found (λ y. y.number == g) (λ x. IsGood (replay cells x.cell h) x) (guards h) x f k w))
       where
         by : (phase_at cells x.cell h ≢ 0) ⊎ HasEnded x.changes → (effect (cell_at cells x.cell) x.changes (replay cells x.cell h)).phase ≢ 0
-        by (inl ne) = effect_keeps (cell_at cells x.cell) x.changes (replay cells x.cell h) ne
-        by (inr r) = effect_touches (cell_at cells x.cell) x.changes (replay cells x.cell h) r
+        by k1 = grind (arith, effect_keeps, effect_touches)
 
     gives : (d : Deed) (f : Finds cells h p d) → AllGood h → GivesOf cells h p alone (Touches d) d f
     gives (Ends (Makes made)) f k = λ n. inl (effect_touches (cell_at cells f.section.cell) (Ran f.section.is_open made ∷ []) (replay cells f.section.cell h) tt)

@@ -1,80 +1,23 @@
 -- The sections and the guards of a legal history are of calls that the kinds of their cells have.
-use Rattle.std.proofs.Common.{◌≡◌, ℕ, List, [], ◌∷◌, length, refl, sym, ◌∙◌, ap, subst, Bool, true, false, not, None, Some}
-use Rattle.std.specs.Prelude.{◌==◌}
-use Rattle.std.specs.List.{AllByRecursion}
-use Rattle.std.specs.declared.option.Option.{Option}
-use Rattle.phase_bits.specs.Number.{phase_of}
-use Rattle.phase_seq.specs.Phases.{flags_refused}
-use Rattle.lazy_cells.specs.Calls.{has_call}
-use Rattle.lazy_cells.specs.Kinds.{is_plain, is_primed}
-use Rattle.lazy_cells.specs.declared.call.Call.{Call}
-use Rattle.lazy_cells.specs.declared.call.Call.TheVariants as call
-use Rattle.lazy_cells.specs.declared.kind.Kind.{Kind}
-use Rattle.lazy_cells.specs.declared.kind.Kind.TheVariants as kind
-use Rattle.schedule_rules.specs.declared.form.Form.{Form}
-use Rattle.schedule_rules.specs.declared.form.Form.TheVariants.{Told, Shown, Held}
-use Rattle.schedule_rules.specs.declared.plan.CellPlan.{CellPlan}
-use Rattle.schedule_rules.specs.declared.step.Act.{Act}
-use Rattle.schedule_rules.specs.declared.step.Act.TheVariants as act
-use Rattle.schedule_rules.specs.declared.step.Want.TheVariants.{Calls, Turns}
-use Rattle.schedule_rules.specs.declared.line.Answer.{Answer}
-use Rattle.schedule_rules.specs.declared.line.Answer.TheVariants as answer
-use Rattle.schedule_rules.specs.Kinds.{cell_at}
-use Rattle.schedule_rules.specs.Forms.{form_of}
-use Rattle.schedule_rules.specs.Phases.{phase_finalized}
-use Rattle.schedule_rules.specs.Changes.{Content}
-use Rattle.schedule_rules.specs.Deeds.{Deed, Opens, Holds, Ends, EndsToRead, EndsToWrite, Drops, DropsToRead, Beside, Puts, Visits, deed_waiting, deed_by}
-use Rattle.schedule_rules.specs.History.{Event, accepts, is_exit, deed_of}
-use Rattle.schedule_rules.specs.Sections.{Section, innermost, sections_by, sections}
-use Rattle.schedule_rules.specs.Guards.{Guard, numbered, without_guard, reader_made, writer_made, reader_beside, guards_by, guards}
-use Rattle.schedule_rules.specs.Replay.{replay, phase_at}
-use Rattle.schedule_rules.specs.Exits.{finishing}
-use Rattle.schedule_rules.specs.Refusals.{refusal}
-use Rattle.schedule_rules.specs.Answers.{answer_opened, answer_denied, answer_made}
-use Rattle.schedule_rules.specs.Due.{phase_made}
-use Rattle.schedule_rules.specs.Legal.{IsLegal}
-use Rattle.schedule_rules.proofs.Found.{each_found, each_ended, each_removed, each_put}
-use Rattle.schedule_rules.proofs.Cases.{step, Calling, Generating, form_at, Cases}
-use Rattle.schedule_rules.proofs.Finds.{errs}
-use Rattle.schedule_rules.proofs.Steps.{of_free}
+use Rattle.schedule_rules.proofs.Words.{ℕ, ◌≡◌, List, arith, Bool, true, false, Some, ◌∷◌, ◌∙◌, [], sym, None, subst, AllByRecursion, has_call, is_plain, is_primed, Call, Kind}
+use Rattle.schedule_rules.proofs.Words.{Answer, CellPlan, Act, Calls, Turns, cell_at, form_of, Content, Deed, Visits, EndsToWrite, Opens, Holds, deed_waiting, deed_by, Event}
+use Rattle.schedule_rules.proofs.Words.{deed_of, accepts, is_exit, sections, Section, innermost, Guard, guards, replay, refusal, answer_of_value, IsLegal}
+use Rattle.schedule_rules.proofs.Finds.{Finds, finds}
+use Rattle.schedule_rules.proofs.Exclusion.{alone}
+use Rattle.schedule_rules.proofs.Leaves.{guards_left, sections_left, guards_say, sections_say, Says, NewOf}
+use Rattle.schedule_rules.proofs.Cases.{errs, writes, step, Calling, Generating, form_at, Case}
+use Rattle.schedule_rules.proofs.Steps.{of_legal}
 use Rattle.schedule_rules.proofs.WaitsToLock.{attempted-has}
-use Rattle.schedule_rules.proofs.Facts.{apart}
 
 -- ---- of calls that a kind has
 
-not_so : (b : Bool) → not b ≡ true → b ≡ false
-not_so false e = refl
-not_so true e = absurd (apart (sym e))
-
--- a primed kind is not plain
-primed_not_plain : (q : Kind) → is_primed q ≡ true → is_plain q ≡ false
-primed_not_plain kind.PrimedLockedLazy e = refl
-primed_not_plain kind.PrimedLockedLazyDroped e = refl
-primed_not_plain _ e = absurd (apart (sym e))
-
--- a call of this form gets a guard to write
-abbrev writes : Form → Bool
-writes (Told tests) = false
-writes Shown = false
-writes (Held w falls_back) = w
-
 -- no plain kind has one that does
 written_not_plain : (q : Kind) (k : Call) → has_call q k ≡ true → writes (form_of q k) ≡ true → is_plain q ≡ false
-written_not_plain q call.Write e f = not_so (is_plain q) e
-written_not_plain q call.FastWrite e f = not_so (is_plain q) e
-written_not_plain q call.TryWrite e f = not_so (is_plain q) e
-written_not_plain q call.FastTryWrite e f = not_so (is_plain q) e
-written_not_plain q call.PrimedWrite e f = primed_not_plain q e
-written_not_plain q call.PrimedWriteNonInitializing e f = primed_not_plain q e
-written_not_plain q _ e f = absurd (apart (sym f))
+written_not_plain q k1 e f = grind arith
 
 -- a primed kind alone has one that falls back
 falls_primed : (q : Kind) (k : Call) → has_call q k ≡ true → errs (form_of q k) ≡ true → is_primed q ≡ true
-falls_primed q call.PrimedRead e f = e
-falls_primed q call.PrimedWrite e f = e
-falls_primed q call.PrimedReadNonInitializing e f = e
-falls_primed q call.PrimedWriteNonInitializing e f = e
-falls_primed q _ e f = absurd (apart (sym f))
+falls_primed q k1 e f = grind arith
 
 module _ (cells : List CellPlan) where
   -- the kind of the cell has the call
@@ -102,126 +45,65 @@ module _ (cells : List CellPlan) where
     Kinded a r = refusal cells h (step cells h p a) ≡ None → Kinds (deed_of h (step cells h p a) r)
 
     -- of a call
-    called : (a : Act) (c : ℕ) (k : Call) (r : Answer) → Calling cells h p a c k → (HasCall c k → Kinds (deed_by (accepts h) (is_exit a) (act.Call c k) r)) → Kinded a r
+    called : (a : Act) (c : ℕ) (k : Call) (r : Answer) → Calling cells h p a c k → (HasCall c k → Kinds (deed_by (accepts h) (is_exit a) (Act.Call c k) r)) → Kinded a r
     called a c k r t f n = subst (λ b. Kinds (deed_by (accepts h) (is_exit a) b r)) (sym t.does) (f (attempted-has cells h (step cells h p a) c k legal n t.tried))
 
-    opened : (c : ℕ) (k : Call) (e : Bool) (f : Form) (y : Content) → form_at cells h p c k ≡ f → HasCall c k → Kinds (deed_by (accepts h) e (act.Call c k) (answer_opened f y))
-    opened c k e (Told tests) y is has = tt
-    opened c k e Shown y is has = tt
-    opened c k e (Held true falls_back) y is has = written_not_plain (cell_at cells c).kind k has (ap writes is)
-    opened c k e (Held false falls_back) y is has = tt
-
-    denied : (c : ℕ) (k : Call) (e : Bool) (f : Form) (q : ℕ) → form_at cells h p c k ≡ f → HasCall c k → Kinds (deed_by (accepts h) e (act.Call c k) (answer_denied f q))
-    denied c k e (Told true) q is has = tt
-    denied c k e (Told false) q is has = tt
-    denied c k e Shown q is has = tt
-    denied c k e (Held w true) q is has = falls_primed (cell_at cells c).kind k has (ap errs is)
-    denied c k e (Held w false) q is has = tt
-
-    made : (v : ℕ) (t : Section) (k : Call) → Generating cells h p t k → (f : Form) (q : ℕ) → form_at cells h p t.cell k ≡ f → Kinded (act.Made v) (answer_made f v q)
-    made v t k g (Told tests) q is n = tt
-    made v t k g Shown q is n = tt
-    made v t k g (Held true falls_back) q is n = λ s f. let same : t ≡ s = one s (sym g.found ∙ f) in subst (λ u. (j : Call) × (u.want ≡ Calls j) × (writes (form_of (cell_at cells u.cell).kind j) ≡ true)) same (k, g.kind, ap writes is)
-      where
-        one : (s : Section) → Some t ≡ Some s → t ≡ s
-        one s e = cc
-    made v t k g (Held false falls_back) q is n = tt
-
-    finished : (fine : Bool) (left : Option ℕ) (q : _) → Kinded (finishing fine left) (answer.Phase q)
-    finished true left q n = tt
-    finished false left q n = tt
+    made : (v : ℕ) (t : Section) (k : Call) → Generating cells h p t k → writes (form_at cells h p t.cell k) ≡ true → Kinds (EndsToWrite v)
+    made v t k g w s f =
+        let e : Some t ≡ Some s = sym g.found ∙ f in
+        let same : t ≡ s = cc in subst (λ u. (j : Call) × (u.want ≡ Calls j) × (writes (form_of (cell_at cells u.cell).kind j) ≡ true)) same (k, g.kind, w)
 
     waited : (b : Bool) → Kinds (deed_waiting b)
-    waited true = tt
-    waited false = tt
+    waited b = elim b as (λ b. Kinds (deed_waiting b)) [ true ↦ tt | false ↦ tt ]
 
-    kinds : Cases cells h p Kinded
-    kinds = record {
-      cyclic = λ a c k t n. tt;
-      waiting = λ a c w way t n. waited (is_exit a);
-      missed = λ a c w f t n. tt;
-      owned = λ a c w o t n. tt;
-      opened = λ a c k t q e. called a c k _ t (opened c k (is_exit a) (form_at cells h p c k) (replay cells c h) refl);
-      denied = λ a c k t q e. called a c k _ t (denied c k (is_exit a) (form_at cells h p c k) (phase_at cells c h) refl);
-      running = λ a c k t q. called a c k answer.Running t (λ has. has);
-      declined = λ a c k t q. called a c k _ t (denied c k (is_exit a) (form_at cells h p c k) flags_refused refl);
-      skipped = λ a c t q n. tt;
-      finalizing = λ a c t q u n. tt;
-      round = λ c cs e n f. tt;
-      closed = λ e n f. tt;
-      made = λ v t k g. made v t k g (form_at cells h p t.cell k) (phase_made cells h t) refl;
-      failed = λ t k g n. tt;
-      finished = λ fine left t g. finished fine left (phase_of (phase_finalized (phase_at cells t.cell h) fine));
-      looked = λ g x f n. tt;
-      set = λ g v x f w n. tt;
-      released = λ g x f n. tt;
-      downgraded = λ g x f w n. tt;
-      borrowed = λ g x f w n. tt;
-      cloned = λ g x f w n. tt;
-      lent_made = λ c v left u e n. tt;
-      lent_failed = λ c left u e n. tt;
-      lent_rested = λ c made left u e f n. tt;
-      lent_denied = λ c made left u e f n. tt;
-      lent = λ c left u f n. tt;
-      unlent = λ c left u f n. tt;
-    }
+    each : (a : Act) (r : Answer) → Case cells h p a r → Kinded a r
+    each _ _ (Case.waiting a c w way t) n = waited (is_exit a)
+    each _ _ (Case.told a c k q t v) n = called a c k (Answer.Phase q) t (λ has. tt) n
+    each _ _ (Case.denied a c k q t v) n = called a c k (Answer.Access q) t (λ has. tt) n
+    each _ _ (Case.erring a c k q t v e) n = called a c k Answer.ErrGuard t (λ has. falls_primed (cell_at cells c).kind k has e) n
+    each _ _ (Case.shown a c k t q e) n = called a c k (answer_of_value (replay cells c h)) t (λ has. tt) n
+    each _ _ (Case.reading a c k t q e) n = called a c k Answer.ReadGuard t (λ has. tt) n
+    each _ _ (Case.writing a c k t q e w) n = called a c k Answer.WriteGuard t (λ has. written_not_plain (cell_at cells c).kind k has w) n
+    each _ _ (Case.running a c k t q) n = called a c k Answer.Running t (λ has. has) n
+    each _ _ (Case.made_to_write v t k g w) n = made v t k g w
+    each _ _ (Case.finished true left t g) n = tt
+    each _ _ (Case.finished false left t g) n = tt
+    each _ _ _ n = tt
 
     -- ---- what is open after the deed
+    abbrev Had : Content → Section → Type 0
+    Had y s = IsKinded s
 
-    sections_kinded : (d : Deed) → Kinds d → AllByRecursion IsKinded (sections h) → AllByRecursion IsKinded (sections_by h p d (sections h))
-    sections_kinded (Opens c (Calls j) taken) f ks = (λ k e. same k e, ks)
-      where
-        same : (k : Call) → Calls j ≡ Calls k → HasCall c k
-        same k e = let is : j ≡ k = cc in subst (HasCall c) is f
-    sections_kinded (Opens c Turns taken) f ks = (λ k e. absurd (turns k e), ks)
-      where
-        turns : (k : Call) → Turns ≡ Calls k → ⊥
-        turns k e = cc
-    sections_kinded (Ends e) f ks = each_ended IsKinded p (sections h) ks
-    sections_kinded (EndsToRead v) f ks = each_ended IsKinded p (sections h) ks
-    sections_kinded (EndsToWrite v) f ks = each_ended IsKinded p (sections h) ks
-    sections_kinded d f ks = ks
+    abbrev Unplain : Content → Guard → Type 0
+    Unplain y x = IsUnplain x
 
-    module _ (ks : AllByRecursion IsKinded (sections h)) where
-      made_unplain : (o : Option Section) → innermost p (sections h) ≡ o → (gs : List Guard) → AllByRecursion IsUnplain gs → AllByRecursion IsUnplain (reader_made (length h) p o gs)
-      made_unplain None e gs us = us
-      made_unplain (Some t) e gs us = (λ w. absurd (cc), us)
+    new : (d : Deed) (f : Finds cells h p d) → Kinds d → NewOf cells h p (alone cells h legal) Had Had Unplain Unplain d f
+    new (Opens c (Calls j) taken) f k = λ i e. let is : j ≡ i = cc in subst (HasCall c) is k
+    new (Opens c Turns taken) f k = λ i e. absurd (cc)
+    new (Holds c true) f k = λ w. k
+    new (EndsToWrite v) f k = λ u w. let i : _ = k f.section f.found in written_not_plain (cell_at cells f.section.cell).kind i.0 (u i.0 i.1) i.2
+    new _ f k = tt
 
-      carried_unplain : (v : ℕ) → Kinds (EndsToWrite v) → (o : Option Section) → innermost p (sections h) ≡ o → (gs : List Guard) → AllByRecursion IsUnplain gs → AllByRecursion IsUnplain (writer_made (length h) p v o gs)
-      carried_unplain v f None e gs us = us
-      carried_unplain v f (Some t) e gs us =
-          let k : _ = f t e in
-          (λ w. written_not_plain (cell_at cells t.cell).kind k.0 (each_found (λ s. s.party == p) IsKinded (sections h) t e ks k.0 k.1) k.2, us)
-
-      beside_unplain : (o : Option Guard) (gs : List Guard) → AllByRecursion IsUnplain gs → AllByRecursion IsUnplain (reader_beside (length h) p o gs)
-      beside_unplain None gs us = us
-      beside_unplain (Some x) gs us = (λ w. absurd (cc), us)
-
-      guards_unplain : (d : Deed) → Kinds d → AllByRecursion IsUnplain (guards h) → AllByRecursion IsUnplain (guards_by (length h) p d (sections h) (guards h))
-      guards_unplain (Holds c true) f us = (λ w. f, us)
-      guards_unplain (Holds c false) f us = (λ w. absurd (cc), us)
-      guards_unplain (Visits c chs true) f us = (λ w. absurd (cc), us)
-      guards_unplain (Visits c chs false) f us = us
-      guards_unplain (EndsToRead v) f us = made_unplain (innermost p (sections h)) refl (guards h) us
-      guards_unplain (EndsToWrite v) f us = carried_unplain v f (innermost p (sections h)) refl (guards h) us
-      guards_unplain (Drops g) f us = each_removed IsUnplain g (guards h) us
-      guards_unplain (DropsToRead g) f us = beside_unplain (numbered g (guards h)) (without_guard g (guards h)) (each_removed IsUnplain g (guards h) us)
-      guards_unplain (Beside g) f us = beside_unplain (numbered g (guards h)) (guards h) us
-      guards_unplain (Puts g v) f us = each_put IsUnplain g v (guards h) (λ x u. u) us
-      guards_unplain d f us = us
+    after : (d : Deed) (f : Finds cells h p d) → Kinds d → AllByRecursion IsKinded (sections h) → AllByRecursion IsUnplain (guards h)
+        → AllByRecursion IsKinded (sections_left cells h p d) × AllByRecursion IsUnplain (guards_left cells h p d)
+    after d f k ss gs =
+        let says : Says cells h p (alone cells h legal) Had Had Unplain Unplain d f =
+        record { section = λ s u. u; guard = λ x u. u; beside = λ y x e u. u; reads = λ y c w. absurd (cc); sets = λ v y x u. u; new = new d f k } in
+        (sections_say cells h p (alone cells h legal) Had Had Unplain Unplain d f says ss, guards_say cells h p (alone cells h legal) Had Had Unplain Unplain d f says ss gs)
 
   -- what is known of the kinds where a legal step did its deed
   deed_kinds : (h : List Event) (e : Event) (k : IsLegal cells (e ∷ h)) → Kinds h e.step.party k.2 (deed_of h e.step e.line.answer)
-  deed_kinds h e k = of_free cells h e.step e.line k.0 (λ a r. Kinds h e.step.party k.2 (deed_of h (step cells h e.step.party a) r)) (λ a r. tt) (kinds h e.step.party k.2)
+  deed_kinds h e k = of_legal cells h e.step e.line k.0 (λ a r. Kinds h e.step.party k.2 (deed_of h (step cells h e.step.party a) r)) (λ a r. tt) (each h e.step.party k.2)
 
-  kinded : (h : List Event) → IsLegal cells h → AllByRecursion IsKinded (sections h)
-  kinded [] k = tt
-  kinded (e ∷ h) k = sections_kinded h e.step.party k.2 (deed_of h e.step e.line.answer) (deed_kinds h e k) (kinded h k.2)
+  kinded : (h : List Event) → IsLegal cells h → AllByRecursion IsKinded (sections h) × AllByRecursion IsUnplain (guards h)
+  kinded [] k = (tt, tt)
+  kinded (e ∷ h) k =
+      let before : _ = kinded h k.2 in
+      after h e.step.party k.2 (deed_of h e.step e.line.answer) (finds cells h e.step e.line k.0) (deed_kinds h e k) before.0 before.1
 
   -- no guard writes a plain cell
   pub unplain : (h : List Event) → IsLegal cells h → AllByRecursion IsUnplain (guards h)
-  unplain [] k = tt
-  unplain (e ∷ h) k = guards_unplain h e.step.party k.2 (kinded h k.2) (deed_of h e.step e.line.answer) (deed_kinds h e k) (unplain h k.2)
+  unplain h k = (kinded h k).1
 
   -- a guard that reads where the value may not be accessed, reads a primed one
   pub errs-primed : (h : List Event) (e : Event) (c : ℕ) (chs : _) → IsLegal cells (e ∷ h) → deed_of h e.step e.line.answer ≡ Visits c chs true → is_primed (cell_at cells c).kind ≡ true

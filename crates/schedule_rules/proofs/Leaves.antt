@@ -1,26 +1,16 @@
 -- What a deed leaves: what is given back changes its own cell, what is published changes only where nothing holds the cell to
 -- write afterwards, and what stands open keeps what is said of it.
-use Rattle.std.proofs.Common.{◌≡◌, ℕ, List, refl, Bool, true, false, Some, ◌<◌, ◌≤◌, ◌+◌, ◌⊎◌, inl, inr, [], ◌∷◌, length, sym, ◌∙◌, ap, subst, arith, not, ◌&&◌, cond, None}
-use Rattle.std.specs.Prelude.{◌==◌, if◌then◌else◌}
-use Rattle.std.specs.declared.option.Option.{Option}
-use Rattle.lazy_cells.specs.declared.call.Call.{Call}
-use Rattle.schedule_rules.specs.declared.plan.CellPlan.{CellPlan}
-use Rattle.schedule_rules.specs.Kinds.{cell_at, tolerance_of, tolerance_at}
-use Rattle.schedule_rules.specs.Changes.{Content, Asked, is_declined, content_after, effect, Change, Ended}
-use Rattle.schedule_rules.specs.Replay.{Back, content_after_back, change_of, back_of_section, back_of_guard, back_by, replay}
-use Rattle.std.specs.List.{AllByRecursion}
-use Rattle.schedule_rules.specs.Phases.{runs_generator}
-use Rattle.schedule_rules.specs.Deeds.{Ending, Makes, Finishes, Deed, Opens, Holds, Ends, EndsToRead, EndsToWrite, Drops, DropsToRead, Beside, Puts, Visits, Lends}
-use Rattle.schedule_rules.specs.History.{Event, accepts, count}
-use Rattle.schedule_rules.specs.Sections.{Section, innermost, without_innermost, runs_in, sections_by, sections}
-use Rattle.schedule_rules.specs.Guards.{Guard, numbered, without_guard, reader, writer, carrier, reader_made, writer_made, reader_beside, guards_by, guards}
-use Rattle.schedule_rules.specs.Holds.{writes_cell, write_holds}
-use Rattle.schedule_rules.specs.Legal.{IsExclusive}
+use Rattle.schedule_rules.proofs.Words.{ℕ, ◌≡◌, List, arith, Bool, true, refl, false, Some, ◌∷◌, ◌∙◌, [], sym, ap, None, subst, ◌⊎◌, inl, ◌<◌, inr, length, ◌+◌, cond, ◌≤◌}
+use Rattle.schedule_rules.proofs.Words.{AllByRecursion, ◌==◌, if◌then◌else◌, Option, Call, CellPlan, cell_at, Content, Change, effect, Asked, content_after, Ended, Deed, Visits}
+use Rattle.schedule_rules.proofs.Words.{Makes, Finishes, EndsToRead, Ends, DropsToRead, Drops, EndsToWrite, Lends, Opens, Holds, Puts, Beside, Ending, Event, accepts, count}
+use Rattle.schedule_rules.proofs.Words.{sections, Section, innermost, runs_in, without_innermost, sections_by, Guard, guards, numbered, without_guard, guards_by, writer_made}
+use Rattle.schedule_rules.proofs.Words.{reader_beside, reader_made, reader, carrier, writer, replay, Back, content_after_back, back_of_section, back_by, change_of, back_of_guard}
+use Rattle.schedule_rules.proofs.Words.{write_holds, writes_cell, IsExclusive}
+use Rattle.schedule_rules.proofs.Facts.{whether, apart, same_number, at_least}
 use Rattle.schedule_rules.proofs.Found.{each_counted, each_found, each_ended, each_removed, each_put}
 use Rattle.schedule_rules.proofs.Opened.{put, count_ended, count_removed, writes_put}
 use Rattle.schedule_rules.proofs.Exclusion.{no_writer_beside, no_run_left, no_run_beside, no_writer_left}
 use Rattle.schedule_rules.proofs.Counts.{one_if}
-use Rattle.schedule_rules.proofs.Facts.{apart, same_number, at_least}
 use Rattle.schedule_rules.proofs.Cases.{Asking, Resting}
 use Rattle.schedule_rules.proofs.Finds.{Visit, Finds}
 
@@ -33,11 +23,7 @@ module _ (cells : List CellPlan) (c : ℕ) (o : Option Back) (b : Back) (y : Con
 
 -- a call that leaves nothing open leaves the value
 pub asked_value : (x : CellPlan) (o : Bool) (k : Call) (y : Content) → (content_after x (Asked o k) y).value ≡ y.value
-asked_value x o k y = by (is_declined x.kind (tolerance_of x) k o y.phase)
-  where
-    by : (b : Bool) → (if b then record { phase = 36; value = y.value } else y).value ≡ y.value
-    by true = refl
-    by false = refl
+asked_value x o k y = grind arith
 
 module _ (cells : List CellPlan) (h : List Event) (p : ℕ) where
   -- what is published at the cell after the deed
@@ -75,13 +61,10 @@ module _ (cells : List CellPlan) (h : List Event) (p : ℕ) where
     -- one that gives back what held its cell
     gives : (d : Deed) (b : Back) (c : ℕ) → back_by p d (sections h) (guards h) ≡ Some b
         → (count (runs_in b.cell) (sections_left d) ≡ 0) × (count (writes_cell b.cell) (guards_left d) ≡ 0) → Settles d c
-    gives d b c e none = by (b.cell == c) refl
-      where
-        by : (x : Bool) → (b.cell == c) ≡ x → Settles d c
-        by false other = inl (elsewhere d b c e other)
-        by true same =
-            let at : b.cell ≡ c = grind arith in
-            inr (subst (λ z. (count (runs_in z) (sections_left d) ≡ 0) × (count (writes_cell z) (guards_left d) ≡ 0)) at none)
+    gives d b c e none =
+        whether (b.cell == c)
+        (λ same. let at : b.cell ≡ c = grind arith in inr (subst (λ z. (count (runs_in z) (sections_left d) ≡ 0) × (count (writes_cell z) (guards_left d) ≡ 0)) at none))
+        (λ other. inl (elsewhere d b c e other))
 
     -- a guard that is taken off
     drops : (d : Deed) (g : ℕ) (x : Guard) (c : ℕ) → numbered g (guards h) ≡ Some x → back_by p d (sections h) (guards h) ≡ back_of_guard (numbered g (guards h))
@@ -106,26 +89,16 @@ module _ (cells : List CellPlan) (h : List Event) (p : ℕ) where
 
     -- a call that leaves nothing open and is not declined
     pub rests : (c : ℕ) (chs : List Change) (k : _) → chs ≡ Asked (accepts h) k ∷ [] → Resting cells h p c k → effect (cell_at cells c) chs (replay cells c h) ≡ replay cells c h
-    rests c chs k e r =
-        ap (λ l. effect (cell_at cells c) l (replay cells c h)) e
-        ∙ ap (λ (b : Bool). if b && not (runs_generator (cell_at cells c).kind (tolerance_at cells c) (accepts h) (replay cells c h).phase) then record { phase = 36; value = (replay cells c h).value } else replay cells c h) r.unasked
+    rests c chs k e r = grind arith
 
     rests_at : (c z : ℕ) (chs : List Change) (reads : Bool) → effect (cell_at cells c) chs (replay cells c h) ≡ replay cells c h → left_at (Visits c chs reads) z ≡ replay cells z h
-    rests_at c z chs reads same = by (c == z) refl
-      where
-        by : (x : Bool) → (c == z) ≡ x → left_at (Visits c chs reads) z ≡ replay cells z h
-        by true d =
-            let at : c ≡ z = grind arith in
-            ap (λ (x : Bool). if x then effect (cell_at cells z) chs (replay cells z h) else replay cells z h) d
-            ∙ subst (λ z. effect (cell_at cells z) chs (replay cells z h) ≡ replay cells z h) at same
-        by false d = ap (λ (x : Bool). if x then effect (cell_at cells z) chs (replay cells z h) else replay cells z h) d
+    rests_at c z chs reads same = grind arith
 
     visits : (c z : ℕ) (chs : List Change) (reads : Bool) → Visit cells h p c chs reads → Settles (Visits c chs reads) z
     visits c z chs reads v = by v.finds
       where
         none_written : (r : Bool) → write_holds c h ≡ 0 → count (writes_cell c) (guards_left (Visits c chs r)) ≡ 0
-        none_written true u = omega (arith, u)
-        none_written false u = omega (arith, u)
+        none_written r u = grind arith
 
         by : Asking cells h p c v.asked false ⊎ Resting cells h p c v.asked → Settles (Visits c chs reads) z
         by (inl q) = let u : _ = q.unheld (alone c) in gives (Visits c chs reads) (record { cell = c; changes = chs }) z refl (omega (arith, u), none_written reads u)
@@ -153,10 +126,9 @@ module _ (cells : List CellPlan) (h : List Event) (p : ℕ) where
         by : (b : Bool) → (t.cell == c) ≡ b → Holding d c
         by true here = inr (record { back = record { cell = t.cell; changes = change_of i t ∷ [] }; given = e ∙ ap (back_of_section i) f; here = here })
         by false other =
-            let one : _ = count_ended (runs_in c) p (sections h) t f in
             let none : one_if (t.cell == c) ≡ 0 = ap one_if other in
             let l : count (runs_in c) (sections_left d) ≡ count (runs_in c) (without_innermost p (sections h)) = ap (count (runs_in c)) left in
-            inl (omega (arith, one, none, l, same))
+            inl (omega (arith, count_ended (runs_in c) p (sections h) t f, none, l, same))
 
     -- and a guard to write
     abbrev pub Writing : Deed → ℕ → Type 0
@@ -197,8 +169,7 @@ module _ (cells : List CellPlan) (h : List Event) (p : ℕ) where
       where
         by : (b : Bool) → count (runs_in c) (sections h) ≡ count (runs_in c) (without_innermost p (sections h)) + cond b 1 0
             → write_holds c h ≤ cond b (count (writes_cell c) (guards h) + 1) (count (writes_cell c) (guards h)) + count (runs_in c) (without_innermost p (sections h))
-        by true one = omega (arith, one)
-        by false one = omega (arith, one)
+        by b one = grind arith
 
     pub holding : (d : Deed) → Finds cells h p d → (c : ℕ) → Holding d c
     holding (Ends (Makes made)) f c = ends_hold (Ends (Makes made)) (Makes made) f.section c f.found refl refl refl
@@ -227,19 +198,13 @@ module _ (cells : List CellPlan) (h : List Event) (p : ℕ) where
         stays c n e = subst (R c (replay cells c h)) (sym e) (same c n)
 
         nothing : (c : ℕ) → back_by p d (sections h) (guards h) ≡ None → R c (replay cells c h) (left_at d c)
-        nothing c e = stays c (λ g. none (sym e ∙ g.given)) (nowhere d c e)
-          where
-            none : {b : Back} → None ≡ Some b → ⊥
-            none x = cc
+        nothing c e = stays c (λ g. let n : _ = g.given in cc) (nowhere d c e)
 
         back : (b : Back) (c : ℕ) → back_by p d (sections h) (guards h) ≡ Some b → R b.cell (replay cells b.cell h) (effect (cell_at cells b.cell) b.changes (replay cells b.cell h)) → R c (replay cells c h) (left_at d c)
         back b c e r = by (b.cell == c) refl
           where
             at_back : (g : GivenAt d c) → b.cell ≡ g.back.cell
-            at_back g = one (sym e ∙ g.given)
-              where
-                one : Some b ≡ Some g.back → b.cell ≡ g.back.cell
-                one x = cc
+            at_back g = grind arith
 
             by : (x : Bool) → (b.cell == c) ≡ x → R c (replay cells c h) (left_at d c)
             by false other = stays c (λ g. apart (sym g.here ∙ ap (λ z. z == c) (sym (at_back g)) ∙ other)) (elsewhere d b c e other)
@@ -250,11 +215,10 @@ module _ (cells : List CellPlan) (h : List Event) (p : ℕ) where
 
         dropped : (g : ℕ) (x : Guard) (c : ℕ) → numbered g (guards h) ≡ Some x → back_by p d (sections h) (guards h) ≡ back_of_guard (numbered g (guards h))
             → (x.writes ≡ true → R x.cell (replay cells x.cell h) (effect (cell_at cells x.cell) x.changes (replay cells x.cell h))) → R c (replay cells c h) (left_at d c)
-        dropped g x c f e r = by x.writes refl
-          where
-            by : (b : Bool) → x.writes ≡ b → R c (replay cells c h) (left_at d c)
-            by true w = back (record { cell = x.cell; changes = x.changes }) c (e ∙ ap back_of_guard f ∙ ap (λ b. cond b (Some (record { cell = x.cell; changes = x.changes })) None) w) (r w)
-            by false w = nothing c (e ∙ ap back_of_guard f ∙ ap (λ b. cond b (Some (record { cell = x.cell; changes = x.changes })) None) w)
+        dropped g x c f e r =
+            whether (x.writes)
+            (λ w. back (record { cell = x.cell; changes = x.changes }) c (e ∙ ap back_of_guard f ∙ ap (λ b. cond b (Some (record { cell = x.cell; changes = x.changes })) None) w) (r w))
+            (λ w. nothing c (e ∙ ap back_of_guard f ∙ ap (λ b. cond b (Some (record { cell = x.cell; changes = x.changes })) None) w))
 
       -- so it is of each cell, where it is said of those of which nothing is given back
       pub moves : (d : Deed) (f : Finds cells h p d) → ((c : ℕ) → (GivenAt d c → ⊥) → R c (replay cells c h) (replay cells c h)) → GivesOf d f → (c : ℕ) → R c (replay cells c h) (left_at d c)

@@ -1,39 +1,29 @@
 -- No turn of the exit that ended is Busy.
-use Rattle.std.proofs.Common.{◌≢◌, ℕ, List, [], ◌∷◌, ◌++◌, Bool, true, false}
-use Rattle.std.specs.declared.option.Option.{Option}
-use Rattle.std.specs.declared.option.Option.TheVariants.{None, Some}
-use Rattle.std.proofs.lemmas.List.Elements.{All-nil, All-cons, All-append}
-use Rattle.exit_registry.specs.declared.turns.Turn.{Turn}
-use Rattle.exit_registry.specs.declared.turns.Turn.TheVariants as turn
-use Rattle.exit_registry.specs.declared.turns.Turned.{Turned}
-use Rattle.schedule_rules.specs.Deeds.{Makes, Finishes, Deed, Ends, Skips}
-use Rattle.schedule_rules.specs.History.{Event, deed_of}
-use Rattle.schedule_rules.specs.Sections.{Section, innermost, sections}
-use Rattle.schedule_rules.specs.Exits.{turn_of, turn_of_section, turns_by, ended_turns, NoneBusy}
-use Rattle.schedule_rules.specs.Transcripts.{Schedule, Account, IsLegalTranscript, told}
+use Rattle.schedule_rules.proofs.Words.{ℕ, List, arith, Bool, Some, ◌∷◌, [], None, ◌≢◌, ◌++◌, All-cons, All-nil, All-append, Option, Turn, Turned, Deed, Makes, Finishes, Ends}
+use Rattle.schedule_rules.proofs.Words.{Skips, Event, deed_of, sections, Section, innermost, ended_turns, turn_of, turns_by, turn_of_section, NoneBusy, IsLegalTranscript, told}
+use Rattle.schedule_rules.proofs.Words.{Schedule, Account}
 
 -- behind turns of which none is Busy, one more that is not
-one_more : (ts : List Turned) (c : ℕ) (t : Turn) → t ≢ turn.Busy → NoneBusy ts → NoneBusy (ts ++ record { cell = c; turn = t } ∷ [])
+one_more : (ts : List Turned) (c : ℕ) (t : Turn) → t ≢ Turn.Busy → NoneBusy ts → NoneBusy (ts ++ record { cell = c; turn = t } ∷ [])
 one_more ts c t other before =
-    let NotBusy : Turned → Type 0 = λ t. t.turn ≢ turn.Busy in
+    let NotBusy : Turned → Type 0 = λ t. t.turn ≢ Turn.Busy in
     All-append NotBusy ts _ before (All-cons NotBusy (record { cell = c; turn = t }) [] other (All-nil NotBusy))
 
-of_section : (t : Turn) (s : Option Section) (ts : List Turned) → t ≢ turn.Busy → NoneBusy ts → NoneBusy (turn_of_section t s ts)
+of_section : (t : Turn) (s : Option Section) (ts : List Turned) → t ≢ Turn.Busy → NoneBusy ts → NoneBusy (turn_of_section t s ts)
 of_section t None ts other before = before
 of_section t (Some s) ts other before = one_more ts s.cell t other before
 
-not_busy : (fine : Bool) → turn_of fine ≢ turn.Busy
-not_busy true = λ e. cc
-not_busy false = λ e. cc
+not_busy : (fine : Bool) → turn_of fine ≢ Turn.Busy
+not_busy fine = grind arith
 
 after : (p : ℕ) (d : Deed) (ss : List Section) (ts : List Turned) → NoneBusy ts → NoneBusy (turns_by p d ss ts)
-after p (Skips c taken) ss ts before = one_more ts c turn.Skipped (λ e. cc) before
+after p (Skips c taken) ss ts before = one_more ts c Turn.Skipped (λ e. cc) before
 after p (Ends (Finishes fine left)) ss ts before = of_section (turn_of fine) (innermost p ss) ts (not_busy fine) before
 after p (Ends (Makes made)) ss ts before = before
 after p _ ss ts before = before
 
 ended : (h : List Event) → NoneBusy (ended_turns h)
-ended [] = All-nil (λ t. t.turn ≢ turn.Busy)
+ended [] = All-nil (λ t. t.turn ≢ Turn.Busy)
 ended (e ∷ h) = after e.step.party (deed_of h e.step e.line.answer) (sections h) (ended_turns h) (ended h)
 
 -- so a legal transcript has a text

@@ -1,23 +1,8 @@
 -- A call that waits asks for no run of a generator that its own party is running.
-use Rattle.std.proofs.Common.{◌≡◌, ◌≢◌, ◌<◌, ◌≤◌, ◌+◌, ℕ, List, [], ◌∷◌, refl, sym, ◌∙◌, ap, subst, arith, Bool, true, false, not, ◌&&◌, cond, None, Some}
-use Rattle.std.specs.Prelude.{◌==◌, if◌then◌else◌, is_none}
-use Rattle.std.specs.List.{find}
-use Rattle.std.specs.declared.option.Option.{Option}
-use Rattle.phase_locker.specs.declared.ways.How.{How}
-use Rattle.schedule_rules.specs.declared.plan.CellPlan.{CellPlan}
-use Rattle.schedule_rules.specs.declared.step.Act.TheVariants as act
-use Rattle.schedule_rules.specs.declared.step.Step.{Step}
-use Rattle.schedule_rules.specs.declared.line.Line.{Line}
-use Rattle.schedule_rules.specs.declared.line.Answer.TheVariants as answer
-use Rattle.schedule_rules.specs.Kinds.{cell_at}
-use Rattle.schedule_rules.specs.Calls.{initializes}
-use Rattle.schedule_rules.specs.Deeds.{Deed, Opens, Ends, EndsToRead, EndsToWrite, deed_waiting}
-use Rattle.schedule_rules.specs.History.{Event, is_exit, deed_of, count}
-use Rattle.schedule_rules.specs.Sections.{Section, without_innermost, sections_by, runs_in, is_turn, generates_for, runs, sections}
-use Rattle.schedule_rules.specs.Waits.{Attempt, attempt_of_wait, attempt, Wait, wait_of, waits}
-use Rattle.schedule_rules.specs.Refusals.{refusal}
-use Rattle.schedule_rules.specs.Legal.{IsLegal, IsLegalLine, IsExclusive}
-use Rattle.schedule_rules.specs.Causes.{is_waiting, is_cyclic, is_cyclic_step, is_attempted, is_made_to_wait, waits_judged}
+use Rattle.schedule_rules.proofs.Words.{ℕ, ◌≡◌, List, arith, Bool, true, refl, false, Some, ◌∷◌, ◌∙◌, [], sym, ap, None, subst, ◌&&◌, not, ◌≢◌, ◌≤◌, ◌==◌, is_none, Option, How}
+use Rattle.schedule_rules.proofs.Words.{Answer, Line, CellPlan, Act, Step, cell_at, initializes, Deed, deed_waiting, Event, deed_of, count, is_exit, sections, Section, is_turn}
+use Rattle.schedule_rules.proofs.Words.{runs_in, without_innermost, sections_by, runs, Wait, waits, wait_of, Attempt, attempt, attempt_of_wait, refusal, IsLegal, IsLegalLine}
+use Rattle.schedule_rules.proofs.Words.{IsExclusive, waits_judged, is_attempted, is_waiting, is_cyclic, is_cyclic_step, is_made_to_wait}
 use Rattle.schedule_rules.proofs.Exclusion.{alone}
 use Rattle.schedule_rules.proofs.Facts.{first, second, apart}
 use Rattle.schedule_rules.proofs.Found.{found_counts, found_passes, none_counted, only_one}
@@ -36,27 +21,11 @@ module _ (p : ℕ) where
 
   ended_fewer : (q c : ℕ) (ss : List Section) → own_runs p c (without_innermost q ss) ≤ own_runs p c ss
   ended_fewer q c [] = omega arith
-  ended_fewer q c (s ∷ ss) = by (s.party == q) (is_own_run p c s) (ended_fewer q c ss)
-    where
-      more : (d : Bool) (x y : ℕ) → x ≤ y → cond d (x + 1) x ≤ cond d (y + 1) y
-      more true x y n = omega (arith, n)
-      more false x y n = n
-
-      most : (d : Bool) (x : ℕ) → x ≤ cond d (x + 1) x
-      most true x = omega arith
-      most false x = omega arith
-
-      by : (b d : Bool) → own_runs p c (without_innermost q ss) ≤ own_runs p c ss → own_runs p c (cond b ss (s ∷ without_innermost q ss)) ≤ cond (is_own_run p c s) (own_runs p c ss + 1) (own_runs p c ss)
-      by true d n = most (is_own_run p c s) (own_runs p c ss)
-      by false d n = more (is_own_run p c s) (own_runs p c (without_innermost q ss)) (own_runs p c ss) n
+  ended_fewer q c (s ∷ ss) = grind (arith, ended_fewer q c ss)
 
   -- another's deed opens none of the party's
   others_fewer : (h : List Event) (q : ℕ) (d : Deed) (c : ℕ) (ss : List Section) → (q == p) ≡ false → own_runs p c (sections_by h q d ss) ≤ own_runs p c ss
-  others_fewer h q (Opens b w taken) c ss e = rw e (omega arith)
-  others_fewer h q (Ends i) c ss e = ended_fewer q c ss
-  others_fewer h q (EndsToRead v) c ss e = ended_fewer q c ss
-  others_fewer h q (EndsToWrite v) c ss e = ended_fewer q c ss
-  others_fewer h q d c ss e = omega arith
+  others_fewer h q k1 c ss e = grind (arith, ended_fewer)
 
   -- what waits opens and ends none
   waiting_fewer : (h : List Event) (q : ℕ) (b : Bool) (c : ℕ) (ss : List Section) → own_runs p c (sections_by h q (deed_waiting b) ss) ≤ own_runs p c ss
@@ -68,40 +37,11 @@ module _ (cells : List CellPlan) where
 
   -- where the party does not run the generator of the cell, it has no such section
   none_own : (h : List Event) (p c : ℕ) → IsExclusive cells h c → runs p c h ≡ false → own_runs p c (sections h) ≡ 0
-  none_own h p c only e = by (find (is_own_run p c) (sections h)) refl
-    where
-      by : (o : Option Section) → find (is_own_run p c) (sections h) ≡ o → own_runs p c (sections h) ≡ 0
-      by None f = none_counted (is_own_run p c) (sections h) f
-      by (Some x) f =
-          let own : is_own_run p c x ≡ true = found_passes (is_own_run p c) (sections h) x f in
-          let mine : (x.party == p) ≡ true = first _ _ own in
-          let here : runs_in c x ≡ true = first _ _ (second (x.party == p) _ own) in
-          let calls : not (is_turn x.want) ≡ true = second (runs_in c x) _ (second (x.party == p) _ own) in
-          let one : count (runs_in c) (sections h) ≤ 1 = omega (arith, only.one_writer) in
-          let found : find (runs_in c) (sections h) ≡ Some x = only_one (is_own_run p c) (runs_in c) (sections h) x f here one in
-          absurd (apart (sym (generates (is_turn x.want) (x.party == p) calls mine) ∙ sym (ap (generates_for p) found) ∙ e))
-        where
-          generates : (t m : Bool) → not t ≡ true → m ≡ true → (if t then false else m) ≡ true
-          generates true m u v = absurd (cc)
-          generates false m u v = v
+  none_own h p c only e = grind (arith, none_counted, found_passes, first, second, only_one)
 
   -- where it has none, it does not run it
   runs_none : (h : List Event) (p c : ℕ) → own_runs p c (sections h) ≡ 0 → runs p c h ≡ false
-  runs_none h p c none = by (find (runs_in c) (sections h)) refl
-    where
-      turns : (t m d : Bool) → (m && (d && not t)) ≡ false → d ≡ true → (if t then false else m) ≡ false
-      turns true m d f e = refl
-      turns false false d f e = refl
-      turns false true true f e = absurd (apart f)
-      turns false true false f e = absurd (apart (sym e))
-
-      uncounted : (x : Section) → find (runs_in c) (sections h) ≡ Some x → (b : Bool) → is_own_run p c x ≡ b → b ≡ false
-      uncounted x f true e = let n : 0 < own_runs p c (sections h) = found_counts (runs_in c) (is_own_run p c) (sections h) x f e in absurd (omega (arith, n, none))
-      uncounted x f false e = refl
-
-      by : (o : Option Section) → find (runs_in c) (sections h) ≡ o → generates_for p o ≡ false
-      by None f = refl
-      by (Some x) f = turns (is_turn x.want) (x.party == p) (runs_in c x) (uncounted x f (is_own_run p c x) refl) (found_passes (runs_in c) (sections h) x f)
+  runs_none h p c none = grind (arith, found_counts, found_passes)
 
   -- what is attempted asks for no run that its party is running
   abbrev Apart : List Event → ℕ → Attempt → Type 0
@@ -112,9 +52,7 @@ module _ (cells : List CellPlan) where
   waits_apart h s l legal k w = by (attempt cells h s) (second (is_none (refusal cells h s)) _ (sym (waits_where_barred cells h s l k) ∙ w))
     where
       not_both : (i o rest : Bool) → (not (i && o) && rest) ≡ true → i ≡ true → o ≡ false
-      not_both i false rest f e = refl
-      not_both true true rest f e = absurd (apart (sym f))
-      not_both false true rest f e = absurd (apart (sym e))
+      not_both i o rest f e = grind arith
 
       by : (o : Option Attempt) → is_attempted (is_made_to_wait cells h s.party (waits_judged cells k.moment h s l.given)) o ≡ true → Of (Apart h s.party) o
       by None f = tt
@@ -127,7 +65,7 @@ module _ (cells : List CellPlan) where
     now = now;
   }
     where
-      now : (h : List Event) (e : Event) (way : How) → IsLegal cells (e ∷ h) → e.line.answer ≡ answer.Waiting way → Of (Apart h e.step.party) (waiting cells h e.step.party) → Of (Apart (e ∷ h) e.step.party) (attempt cells h e.step)
+      now : (h : List Event) (e : Event) (way : How) → IsLegal cells (e ∷ h) → e.line.answer ≡ Answer.Waiting way → Of (Apart h e.step.party) (waiting cells h e.step.party) → Of (Apart (e ∷ h) e.step.party) (attempt cells h e.step)
       now h e way l is t =
           each_of (Apart h e.step.party) (Apart (e ∷ h) e.step.party)
           (λ a f i. let none : _ = f i in let less : _ = waiting_fewer e.step.party h e.step.party (is_exit e.step.act) a.cell (sections h) in rw is (omega (arith, none, less)))
@@ -141,13 +79,11 @@ module _ (cells : List CellPlan) where
       mine = subst (λ o. Of (Apart h p) (attempt_of_wait o)) f (waits_so cells (IsLegal cells) (λ e h l. l.2) Apart goes h p k)
 
       by : (b : Bool) → initializes (cell_at cells w.cell).kind w.want ≡ b → (b && runs p w.cell h) ≡ false
-      by true i = runs_none h p w.cell (mine i)
-      by false i = refl
+      by b i = grind (arith, runs_none, mine)
 
   -- and an Again is not answered so
-  pub again-not-cyclic : (h : List Event) (s : Step) (l : Line) → IsLegal cells h → IsLegalLine cells h s l → s.act ≡ act.Again → l.answer ≢ answer.Cyclic
+  pub again-not-cyclic : (h : List Event) (s : Step) (l : Line) → IsLegal cells h → IsLegalLine cells h s l → s.act ≡ Act.Again → l.answer ≢ Answer.Cyclic
   again-not-cyclic h s l legal k a e = apart (sym (ap is_cyclic e) ∙ cyclic_where_own cells h s l k ∙ none (wait_of s.party (waits cells h)) refl)
     where
       none : (o : Option Wait) → wait_of s.party (waits cells h) ≡ o → is_cyclic_step cells h s ≡ false
-      none None f = rw (a, f) refl
-      none (Some w) f = rw (a, f) (rw (waiting-not-cyclic h s.party w legal f) refl)
+      none o f = grind (arith, waiting-not-cyclic)

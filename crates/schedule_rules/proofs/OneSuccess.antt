@@ -1,30 +1,15 @@
 -- A generator of a cell succeeds at most once.
-use Rattle.std.proofs.Common.{◌≡◌, ◌<◌, ◌≤◌, ◌+◌, ℕ, List, [], ◌∷◌, refl, sym, ◌∙◌, ap, subst, arith, Bool, true, false, ◌&&◌, ◌||◌, cond, ◌⊎◌, inl, inr, None, Some}
-use Rattle.std.specs.Prelude.{◌==◌}
-use Rattle.phase_bits.specs.Flags.{has, initialized}
-use Rattle.schedule_rules.specs.declared.plan.CellPlan.{CellPlan}
-use Rattle.schedule_rules.specs.declared.step.Act.{Act}
-use Rattle.schedule_rules.specs.declared.step.Act.TheVariants as act
-use Rattle.schedule_rules.specs.declared.line.Answer.{Answer}
-use Rattle.schedule_rules.specs.declared.line.Answer.TheVariants as answer
-use Rattle.schedule_rules.specs.Kinds.{cell_at, tolerance_at}
-use Rattle.schedule_rules.specs.Phases.{flags_kept}
-use Rattle.schedule_rules.specs.Changes.{Content, Change, Ran, effect}
-use Rattle.schedule_rules.specs.Deeds.{Makes, Finishes, Deed, EndsToRead, EndsToWrite, Ends, Drops, DropsToRead, Visits, Lends}
-use Rattle.schedule_rules.specs.History.{Event, deed_of, count}
-use Rattle.schedule_rules.specs.Sections.{Section, innermost, is_turn, runs_in, sections}
-use Rattle.schedule_rules.specs.Guards.{Guard, numbered, guards}
-use Rattle.schedule_rules.specs.Replay.{back_of_section, back_by, replay, phase_at}
-use Rattle.schedule_rules.specs.Holds.{writes_cell, write_holds}
-use Rattle.schedule_rules.specs.Legal.{IsLegal}
-use Rattle.schedule_rules.specs.Causes.{is_failed, lends_at, runs_to_lend}
-use Rattle.schedule_rules.specs.Laws.{successes, is_success, is_lent_at}
+use Rattle.schedule_rules.proofs.Words.{ℕ, ◌≡◌, List, arith, Bool, true, refl, false, Some, ◌∷◌, ◌∙◌, [], sym, ap, None, subst, ◌&&◌, ◌⊎◌, inl, ◌<◌, inr, ◌+◌, cond, ◌≤◌, ◌||◌}
+use Rattle.schedule_rules.proofs.Words.{◌==◌, has, initialized, Answer, CellPlan, Act, cell_at, flags_kept, Content, Change, effect, Ran, Deed, Visits, Makes, Finishes, EndsToRead}
+use Rattle.schedule_rules.proofs.Words.{Ends, DropsToRead, Drops, EndsToWrite, Lends, Event, deed_of, count, sections, Section, innermost, is_turn, runs_in, Guard, guards}
+use Rattle.schedule_rules.proofs.Words.{numbered, replay, phase_at, back_of_section, back_by, writes_cell, IsLegal, lends_at, runs_to_lend, is_failed, is_success, successes}
+use Rattle.schedule_rules.proofs.Words.{is_lent_at}
 use Rattle.schedule_rules.proofs.Exclusion.{alone}
 use Rattle.schedule_rules.proofs.Found.{found_counts, each_found}
 use Rattle.schedule_rules.proofs.Leaves.{back_here, left_at, guards_left, GivenAt, Writing, writing, GivesOf, moves}
 use Rattle.schedule_rules.proofs.Cases.{step, AsksToLend}
 use Rattle.schedule_rules.proofs.Finds.{Inside, Lending, LendsSo, Both, Finds, finds, tells}
-use Rattle.schedule_rules.proofs.Grows.{IsReady, IsStanding, has_made, asked-lacks, needs-lacks, sound, initialized-stays}
+use Rattle.schedule_rules.proofs.Grows.{IsReady, IsStanding, has_made, needs-lacks, sound, initialized-stays}
 use Rattle.schedule_rules.proofs.Facts.{apart, first, second, one_of}
 
 module _ (cells : List CellPlan) (c : ℕ) where
@@ -45,8 +30,7 @@ module _ (cells : List CellPlan) (c : ℕ) where
     stays d f z none n = by (writing cells h p (alone cells h legal) d f z)
       where
         by : Writing cells h p (alone cells h legal) d z → (has (phase_at cells z h) initialized ≡ true) ⊎ (0 < count (writes_cell z) (guards_left cells h p d))
-        by (inl le) = inr (omega (arith, n, le))
-        by (inr g) = absurd (none g)
+        by k1 = grind arith
 
     seen : (g : ℕ) (x : Guard) → numbered g (guards h) ≡ Some x → x.writes ≡ true → has (effect (cell_at cells x.cell) x.changes (replay cells x.cell h)).phase initialized ≡ true
     seen g x f w = (each_found (λ y. y.number == g) (IsReady cells h) (guards h) x f (sound cells h legal).ready w).0
@@ -117,19 +101,16 @@ module _ (cells : List CellPlan) (c : ℕ) where
         at = grind arith
 
         never : IsMade h → ⊥
-        never (inl is) = apart (sym (subst (λ y. has (phase_at cells y h) initialized ≡ true) (sym at) is) ∙ asked-lacks (cell_at cells z).kind (tolerance_at cells z) (phase_at cells z h) e)
-        never (inr w) = let none : write_holds c h ≡ 0 = subst (λ y. write_holds y h ≡ 0) at f.free.unheld in omega (arith, w, none)
+        never k1 = grind arith
 
         made : has (left_at cells h p (Lends z chs) c).phase initialized ≡ true
-        made =
-            ap (λ y. has y.phase initialized) (back_here cells c (Some (record { cell = z; changes = chs })) (record { cell = z; changes = chs }) (replay cells c h) refl same)
-            ∙ subst (λ y. has (effect (cell_at cells y) chs (replay cells y h)).phase initialized ≡ true) at (first _ _ (t.leaves fine))
+        made = grind arith
 
     at_once : (a : Act) (r : Answer) → Both cells h p a r (deed_of h (step cells h p a) r) → is_lent_at c a r ≡ true → runs_to_lend cells h a ≡ true → Makes_one (deed_of h (step cells h p a) r)
-    at_once a (answer.Value v) = by a
+    at_once a (Answer.Value v) = by a
       where
-        by : (a : Act) → Both cells h p a (answer.Value v) (deed_of h (step cells h p a) (answer.Value v)) → lends_at c a ≡ true → runs_to_lend cells h a ≡ true → Makes_one (deed_of h (step cells h p a) (answer.Value v))
-        by (act.GetMut z made left) b same e = lent_here z _ (act.GetMut z made left) (answer.Value v) b.0 b.1 same e refl
+        by : (a : Act) → Both cells h p a (Answer.Value v) (deed_of h (step cells h p a) (Answer.Value v)) → lends_at c a ≡ true → runs_to_lend cells h a ≡ true → Makes_one (deed_of h (step cells h p a) (Answer.Value v))
+        by (Act.GetMut z made left) b same e = lent_here z _ (Act.GetMut z made left) (Answer.Value v) b.0 b.1 same e refl
         by _ b same e = absurd (apart (sym e))
     at_once a _ = λ b same e. absurd (apart (sym same))
 
@@ -157,15 +138,8 @@ module _ (cells : List CellPlan) (c : ℕ) where
 
       by : (b : Bool) → (is_success c d (innermost e.step.party (sections h)) || (is_lent_at c e.step.act e.line.answer && runs_to_lend cells h e.step.act)) ≡ b → IsCounted h
           → (cond b (successes cells c h + 1) (successes cells c h) ≡ 0) ⊎ ((cond b (successes cells c h + 1) (successes cells c h) ≡ 1) × IsMade (e ∷ h))
-      by true ok (inl none) = inr (omega (arith, none), (makes (one_of _ _ ok)).1)
-      by true ok (inr one) = absurd ((makes (one_of _ _ ok)).0 one.1)
-      by false ok (inl none) = inl none
-      by false ok (inr one) = inr (one.0, made_stays one.1)
+      by b ok k1 = grind (arith, makes, one_of, made_stays)
 
   -- at most one generator of the cell ends by a value
   pub one-success : (h : List Event) → IsLegal cells h → successes cells c h ≤ 1
-  one-success h k = by (counted h k)
-    where
-      by : IsCounted h → successes cells c h ≤ 1
-      by (inl none) = omega (arith, none)
-      by (inr one) = omega (arith, one.0)
+  one-success h k = grind (arith, counted h k)

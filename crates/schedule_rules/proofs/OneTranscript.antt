@@ -1,42 +1,10 @@
 -- A schedule of cells that do not park has at most one legal transcript.
-use Rattle.std.proofs.Common.{◌≡◌, ◌<◌, ℕ, List, [], ◌∷◌, length, refl, sym, ◌∙◌, ap, subst, arith, Bool, true, false, ◌&&◌, not}
-use Rattle.std.specs.Prelude.{if◌then◌else◌, nat_lt}
-use Rattle.std.specs.declared.option.Option.{Option}
-use Rattle.std.specs.declared.option.Option.TheVariants.{None, Some}
-use Rattle.std.proofs.lemmas.List.{same_lists}
-use Rattle.std.proofs.lemmas.List.{get_or_past}
+use Rattle.schedule_rules.proofs.Words.{ℕ, ◌≡◌, List, arith, Bool, true, refl, false, Some, ◌∷◌, ◌∙◌, [], sym, ap, None, subst, ◌<◌, length, get_or_past, same_lists, Option, Given}
+use Rattle.schedule_rules.proofs.Words.{Answer, Line, Refusal, CellPlan, Act, Step, Want, cell_at, is_parking, Event, ended_turns, Wait, Attempt, attempt, other_waits, refusal}
+use Rattle.schedule_rules.proofs.Words.{answer_of_attempt, Meeting, due_answer, due_tried, meeting, may_give_first, may_give_last, is_nobody, may_give_on, IsLegal, IsLegalLine}
+use Rattle.schedule_rules.proofs.Words.{answer_of, due_at, Moment, may_give, Last, First, IsLegalTranscript, told, Schedule, Account, AreFinals, final_of, NoneParks}
 use Rattle.std.proofs.lemmas.Option.{get_or_from_slice_get}
-use Rattle.exit_registry.specs.Registry.{first_of}
-use Rattle.phase_locker.specs.declared.tickets.LockNature.{LockNature}
-use Rattle.schedule_rules.specs.declared.plan.CellPlan.{CellPlan}
-use Rattle.schedule_rules.specs.declared.step.Step.{Step}
-use Rattle.schedule_rules.specs.declared.line.Line.{Line}
-use Rattle.schedule_rules.specs.declared.line.Answer.{Answer}
-use Rattle.schedule_rules.specs.declared.line.Answer.TheVariants as answer
-use Rattle.schedule_rules.specs.declared.line.Refusal.{Refusal}
-use Rattle.phase_locker.specs.declared.ways.Given.{Given}
-use Rattle.phase_locker.specs.declared.ways.Given.TheVariants as given
-use Rattle.phase_locker.specs.declared.ways.How.{How}
-use Rattle.schedule_rules.specs.declared.plan.Place.{Place}
-use Rattle.schedule_rules.specs.declared.plan.Place.TheVariants as place
-use Rattle.schedule_rules.specs.declared.step.Act.{Act}
-use Rattle.schedule_rules.specs.declared.step.Act.TheVariants as act
 use Rattle.schedule_rules.specs.declared.transcript.Final.{Final}
-use Rattle.schedule_rules.specs.History.{Event}
-use Rattle.schedule_rules.specs.Kinds.{no_cell, cell_at, tolerance_of, is_parking}
-use Rattle.schedule_rules.specs.Calls.{lock_wanted, initializes, is_fast}
-use Rattle.schedule_rules.specs.declared.step.Want.{Want}
-use Rattle.schedule_rules.specs.declared.step.Want.TheVariants.{Calls}
-use Rattle.schedule_rules.specs.Exits.{registry, ended_turns}
-use Rattle.schedule_rules.specs.Waits.{Attempt, attempt, Wait, wait_of, attempt_of_wait, attempt_of_turn, waits, other_waits, cell_concerned}
-use Rattle.schedule_rules.specs.Refusals.{refusal}
-use Rattle.schedule_rules.specs.Answers.{way_parked, Meeting, drains_by, answer_barred, answer_admitted, answer_of_attempt}
-use Rattle.schedule_rules.specs.Holds.{is_barred}
-use Rattle.schedule_rules.specs.Due.{meeting, due_tried, due_answer}
-use Rattle.schedule_rules.specs.Gifts.{is_nobody, may_give_on, may_give_first, may_give_last}
-use Rattle.schedule_rules.specs.Legal.{IsLegal, IsLegalLine, Moment, First, Last, answer_of, due_at, may_give}
-use Rattle.schedule_rules.specs.Laws.{NoneParks}
-use Rattle.schedule_rules.specs.Transcripts.{Schedule, Account, told, AreFinals, final_of, IsLegalTranscript}
 
 -- what a legal history goes on from is legal
 legal-behind : (cells : List CellPlan) (ss : List Step) (ls : List Line) (h : List Event) → IsLegal cells (told h ss ls) → IsLegal cells h
@@ -52,21 +20,9 @@ line a g = record { answer = a; given = g }
 line_by_answer : (a b : Answer) (g k : Given) → a ≡ b → g ≡ k → line a g ≡ line b k
 line_by_answer a b g k e f = ap (λ x. line x g) e ∙ ap (λ x. line b x) f
 
--- at a place where no call parks, a barred call is answered in one way
-one_way : (fast : Bool) (p : Place) (v w : How) → is_parking p ≡ false → answer_barred fast p v ≡ answer_barred fast p w
-one_way true p v w e = refl
-one_way false place.Spin v w e = refl
-one_way false (place.Own q) v w e = refl
-one_way false place.Park v w e = absurd (cc)
-
 -- so an attempt there has one answer
 one_answer : (x : CellPlan) (w : Want) (m : Meeting) (b d : Bool) → is_parking x.place ≡ false → answer_of_attempt x w m b ≡ answer_of_attempt x w m d
-one_answer x w m b d e =
-    ap (λ (y : Answer). if initializes x.kind w && m.own_run then answer.Cyclic else if not m.kept && is_barred n m.holding then y else answer_admitted x.kind (tolerance_of x) m.cell m.is_open w m.content)
-    (one_way (is_fast w) x.place (way_parked x.kind w (drains_by n m.holding b)) (way_parked x.kind w (drains_by n m.holding d)) e)
-  where
-    n : LockNature
-    n = lock_wanted x.kind (tolerance_of x) w m.content.phase
+one_answer x w m b d e = grind arith
 
 apart : false ≡ true → ⊥
 apart e = cc
@@ -74,11 +30,7 @@ apart e = cc
 module _ (cells : List CellPlan) (spins : NoneParks cells) where
   -- no cell parks, also none that no plan has
   never_parks : (c : ℕ) → is_parking (cell_at cells c).place ≡ false
-  never_parks c = by (nat_lt c (length cells)) refl
-    where
-      by : (b : Bool) → nat_lt c (length cells) ≡ b → is_parking (cell_at cells c).place ≡ false
-      by true e = spins c no_cell (grind arith)
-      by false e = ap (λ x. is_parking x.place) (get_or_past cells c no_cell (grind arith))
+  never_parks c = grind (arith, get_or_past)
 
   module _ (h : List Event) (s : Step) where
     -- a step has no choice how it waits
@@ -88,37 +40,28 @@ module _ (cells : List CellPlan) (spins : NoneParks cells) where
         one_answer (cell_at cells a.cell) a.want (meeting cells h p a ws) b d (never_parks a.cell)
 
     due_alike : (p : ℕ) (a : Act) (ws : List Wait) (b d : Bool) → due_answer cells h (record { party = p; act = a }) ws b ≡ due_answer cells h (record { party = p; act = a }) ws d
-    due_alike p (act.Call c k) ws b d = tried_alike p (Some (record { cell = c; want = Calls k })) ws b d
-    due_alike p act.Again ws b d = tried_alike p (attempt_of_wait (wait_of p (waits cells h))) ws b d
-    due_alike p act.Exit ws b d = tried_alike p (attempt_of_turn (first_of (registry cells h).left)) ws b d
-    due_alike p _ ws b d = refl
+    due_alike p k1 ws b d = grind (arith, tried_alike)
 
     -- nothing may be given at the first moment
     never_first : (o : Option Attempt) (g : Given) → may_give_first cells h s o g ≡ false
-    never_first None g = refl
-    never_first (Some a) g = rw (never_parks a.cell) refl
+    never_first k1 g = grind (arith, never_parks)
 
     -- nor at the last
     never_on : (o : Option ℕ) (a : Answer) (g : Given) → may_give_on cells h s o a g ≡ false
-    never_on None a g = refl
-    never_on (Some c) a g = rw (never_parks c) refl
+    never_on k1 a g = grind (arith, never_parks)
 
-    nothing_last : (a : Answer) (g : Given) → may_give_last cells h s a g ≡ true → g ≡ given.Nobody
-    nothing_last a given.Nobody d = refl
-    nothing_last a given.Readers d = absurd (apart (sym (never_on (cell_concerned cells h s) a given.Readers) ∙ d))
-    nothing_last a (given.Writer q) d = absurd (apart (sym (never_on (cell_concerned cells h s) a (given.Writer q)) ∙ d))
+    nothing_last : (a : Answer) (g : Given) → may_give_last cells h s a g ≡ true → g ≡ Given.Nobody
+    nothing_last a k1 d = grind (arith, never_on)
 
-    nobody : (g : Given) → is_nobody g ≡ true → g ≡ given.Nobody
-    nobody given.Nobody d = refl
-    nobody given.Readers d = absurd (cc)
-    nobody (given.Writer q) d = absurd (cc)
+    nobody : (g : Given) → is_nobody g ≡ true → g ≡ Given.Nobody
+    nobody g d = grind arith
 
     -- a legal line gives nothing, and its answer is the due one
-    just_one : (l : Line) → IsLegalLine cells h s l → (l.answer ≡ answer_of (refusal cells h s) (due_answer cells h s (other_waits cells h s) false)) × (l.given ≡ given.Nobody)
+    just_one : (l : Line) → IsLegalLine cells h s l → (l.answer ≡ answer_of (refusal cells h s) (due_answer cells h s (other_waits cells h s) false)) × (l.given ≡ Given.Nobody)
     just_one l k = by (refusal cells h s) k.moment k.answered k.gave
       where
         by : (o : Option Refusal) (m : Moment) → l.answer ≡ answer_of o (due_at cells m h s l.given k.chosen) → may_give cells o m h s l ≡ true
-            → (l.answer ≡ answer_of o (due_answer cells h s (other_waits cells h s) false)) × (l.given ≡ given.Nobody)
+            → (l.answer ≡ answer_of o (due_answer cells h s (other_waits cells h s) false)) × (l.given ≡ Given.Nobody)
         by (Some r) m e d = (e, nobody l.given d)
         by None First e d = absurd (apart (sym (never_first (attempt cells h s) l.given) ∙ d))
         by None Last e d = (e ∙ due_alike s.party s.act (other_waits cells h s) k.chosen false, nothing_last l.answer l.given d)

@@ -1,12 +1,6 @@
 -- The lists of what is open after one is taken off, or changed.
-use Rattle.std.proofs.Common.{◌≡◌, ◌≢◌, ℕ, ◌+◌, List, [], ◌∷◌, refl, arith, Bool, false, cond, None, Some}
-use Rattle.std.specs.List.{find}
-use Rattle.schedule_rules.specs.Changes.{Put}
-use Rattle.schedule_rules.specs.History.{count}
-use Rattle.schedule_rules.specs.Sections.{Section, innermost, without_innermost, runs_in}
-use Rattle.schedule_rules.specs.Guards.{Guard, numbered, without_guard, put_in}
-use Rattle.schedule_rules.specs.Waits.{Wait, wait_of, without_wait}
-use Rattle.schedule_rules.specs.Holds.{reads_cell, writes_cell}
+use Rattle.schedule_rules.proofs.Words.{ℕ, ◌≡◌, List, arith, Bool, refl, Some, ◌∷◌, [], None, ◌≢◌, ◌+◌, cond, Put, count, Section, innermost, without_innermost, Guard, numbered}
+use Rattle.schedule_rules.proofs.Words.{without_guard, put_in, Wait, wait_of, without_wait, writes_cell, reads_cell}
 
 -- the party's wait is gone
 pub wait_removed : (p : ℕ) (ws : List Wait) → wait_of p (without_wait p ws) ≡ None
@@ -28,11 +22,6 @@ pub innermost_kept : (p r : ℕ) (ss : List Section) → r ≢ p → innermost r
 innermost_kept p r [] ne = refl
 innermost_kept p r (x ∷ ss) ne = grind (arith, innermost_kept p r ss)
 
--- the sections of other cells are kept
-pub section_kept : (c p : ℕ) (ss : List Section) (s : Section) → innermost p ss ≡ Some s → c ≢ s.cell → find (runs_in c) (without_innermost p ss) ≡ find (runs_in c) ss
-section_kept c p [] s e ne = cc
-section_kept c p (x ∷ ss) s e ne = grind (arith, section_kept c p ss s)
-
 -- the guards with other numbers are kept
 pub guard_kept : (g k : ℕ) (gs : List Guard) → k ≢ g → numbered k (without_guard g gs) ≡ numbered k gs
 guard_kept g k [] ne = refl
@@ -42,11 +31,6 @@ guard_kept g k (x ∷ gs) ne = grind (arith, guard_kept g k gs)
 pub count_removed : (t : Guard → Bool) (g : ℕ) (gs : List Guard) (x : Guard) → numbered g gs ≡ Some x → count t gs ≡ count t (without_guard g gs) + cond (t x) 1 0
 count_removed t g [] x e = cc
 count_removed t g (y ∷ gs) x e = grind (arith, count_removed t g gs x)
-
--- what a guard does not pass, finds the same without it
-pub found_without : (t : Guard → Bool) (g : ℕ) (gs : List Guard) (x : Guard) → numbered g gs ≡ Some x → t x ≡ false → find t (without_guard g gs) ≡ find t gs
-found_without t g [] x e f = cc
-found_without t g (y ∷ gs) x e f = grind (arith, found_without t g gs x)
 
 -- the guard with a value set
 abbrev pub put : ℕ → Guard → Guard
@@ -71,8 +55,3 @@ reads_put c g v (y ∷ gs) = grind (arith, reads_put c g v gs)
 pub writes_put : (c g v : ℕ) (gs : List Guard) → count (writes_cell c) (put_in g v gs) ≡ count (writes_cell c) gs
 writes_put c g v [] = refl
 writes_put c g v (y ∷ gs) = grind (arith, writes_put c g v gs)
-
--- nor the writers of other cells
-pub writer_put : (c g v : ℕ) (gs : List Guard) (x : Guard) → numbered g gs ≡ Some x → c ≢ x.cell → find (writes_cell c) (put_in g v gs) ≡ find (writes_cell c) gs
-writer_put c g v [] x e ne = cc
-writer_put c g v (y ∷ gs) x e ne = grind (arith, writer_put c g v gs x)

@@ -1,34 +1,13 @@
 -- What holds of each open guard: what happened in its section, that it bears the number of an earlier step, and that no
 -- section of a cell is open while a guard reads it.
-use Rattle.std.proofs.Common.{◌≡◌, ℕ, List, [], ◌∷◌, length, refl, None, Some, true, false, sym, ◌∙◌, ap, Bool, ◌<◌, ◌++◌, arith}
-use Rattle.std.specs.List.{AllByRecursion}
-use Rattle.std.specs.declared.option.Option.{Option}
-use Rattle.schedule_rules.specs.Changes.{Change, Ran, Asked, Put, RanIfAsked, Ended, Content, is_declined, effect}
-use Rattle.schedule_rules.specs.Deeds.{Deed, Holds, EndsToRead, EndsToWrite, Drops, DropsToRead, Beside, Puts, Visits, deed_read}
-use Rattle.schedule_rules.specs.History.{Event, deed_of, act_by}
-use Rattle.schedule_rules.specs.Sections.{Section, innermost, sections}
-use Rattle.schedule_rules.specs.Guards.{Guard, numbered, without_guard, reader_made, writer_made, reader_beside, guards_by, guards, reader}
+use Rattle.schedule_rules.proofs.Words.{ℕ, ◌≡◌, List, arith, Bool, true, refl, false, Some, ◌∷◌, ◌∙◌, [], sym, ap, None, ◌<◌, length, ◌++◌, and_or_apart, and_assoc, bit_and}
+use Rattle.schedule_rules.proofs.Words.{AllByRecursion, ◌==◌, is_some, ◌-◌, ◌^◌, Option, has, Given, final_outcome, CellPlan, Step, flags_kept, Content, Change, effect, Ran, Put}
+use Rattle.schedule_rules.proofs.Words.{Asked, Deed, Visits, EndsToRead, DropsToRead, Drops, EndsToWrite, Holds, Puts, Beside, Event, deed_of, sections, innermost, Guard, guards}
+use Rattle.schedule_rules.proofs.Words.{numbered, without_guard, guards_by, writer_made, reader_beside, reader_made, reader, cell_concerned, write_holds, read_guards, reads_cell}
+use Rattle.schedule_rules.proofs.Words.{turns_to_read, IsLegal, read_at}
 use Rattle.schedule_rules.proofs.Opened.{put}
 use Rattle.schedule_rules.proofs.Found.{each_removed, each_put, each_mapped, each_found, found_counts, found_passes}
-use Rattle.std.specs.Prelude.{◌==◌, ◌^◌, ◌-◌, if◌then◌else◌, is_some}
-use Rattle.std.specs.Int.RustNames.{bit_and}
-use Rattle.std.proofs.lemmas.Nat.{and_assoc, and_or_apart}
-use Rattle.phase_bits.specs.Flags.{has}
-use Rattle.phase_seq.specs.Phases.{final_outcome, registration}
-use Rattle.schedule_rules.specs.declared.plan.CellPlan.{CellPlan}
-use Rattle.lazy_cells.specs.Kinds.{is_finalizable}
-use Rattle.schedule_rules.specs.Kinds.{tolerance_of}
-use Rattle.schedule_rules.specs.Phases.{flags_kept}
-use Rattle.schedule_rules.proofs.Facts.{apart, same_number}
-use Rattle.phase_locker.specs.declared.ways.Given.{Given}
-use Rattle.schedule_rules.specs.declared.step.Act.{Act}
-use Rattle.schedule_rules.specs.declared.step.Act.TheVariants as act
-use Rattle.schedule_rules.specs.declared.step.Step.{Step}
-use Rattle.schedule_rules.specs.Waits.{cell_of_section, cell_of_guard, cell_concerned_with, cell_concerned, waits}
-use Rattle.schedule_rules.specs.Holds.{reads_cell, read_guards, write_holds}
-use Rattle.schedule_rules.specs.Legal.{IsLegal}
-use Rattle.schedule_rules.specs.Gifts.{turns_to_read}
-use Rattle.schedule_rules.specs.Laws.{read_at}
+use Rattle.schedule_rules.proofs.Facts.{same_number}
 use Rattle.schedule_rules.proofs.Exclusion.{alone}
 
 -- a generator ran in the section, or values were set, and no more
@@ -36,9 +15,7 @@ abbrev pub IsOfRun : List Change → Type 0
 IsOfRun [] = Unit {0}
 IsOfRun (Ran o m ∷ chs) = IsOfRun chs
 IsOfRun (Put v ∷ chs) = IsOfRun chs
-IsOfRun (Asked o k ∷ chs) = ⊥
-IsOfRun (RanIfAsked o m ∷ chs) = ⊥
-IsOfRun (Ended fine left ∷ chs) = ⊥
+IsOfRun (ch ∷ chs) = ⊥
 
 -- a guard that the step with this number opens
 pub record IsOpened (n : ℕ) (x : Guard) : Type 0 where
@@ -46,28 +23,18 @@ pub record IsOpened (n : ℕ) (x : Guard) : Type 0 where
   pub runs : IsOfRun x.changes
 
 module _ (Q : Guard → Type 0) (h : List Event) (opens : (x : Guard) → IsOpened (length h) x → Q x) (puts : (v : ℕ) (x : Guard) → Q x → Q (put v x)) where
-  each_made : (p : ℕ) (o : Option Section) (gs : List Guard) → AllByRecursion Q gs → AllByRecursion Q (reader_made (length h) p o gs)
-  each_made p None gs ks = ks
-  each_made p (Some s) gs ks = (opens _ (record { number = refl; runs = tt }), ks)
-
-  each_carried : (p v : ℕ) (o : Option Section) (gs : List Guard) → AllByRecursion Q gs → AllByRecursion Q (writer_made (length h) p v o gs)
-  each_carried p v None gs ks = ks
-  each_carried p v (Some s) gs ks = (opens _ (record { number = refl; runs = tt }), ks)
-
-  each_beside : (p : ℕ) (o : Option Guard) (gs : List Guard) → AllByRecursion Q gs → AllByRecursion Q (reader_beside (length h) p o gs)
-  each_beside p None gs ks = ks
-  each_beside p (Some x) gs ks = (opens _ (record { number = refl; runs = tt }), ks)
-
   each_by : (p : ℕ) (d : Deed) (gs : List Guard) → AllByRecursion Q gs → AllByRecursion Q (guards_by (length h) p d (sections h) gs)
   each_by p (Holds c false) gs ks = (opens _ (record { number = refl; runs = tt }), ks)
   each_by p (Holds c true) gs ks = (opens _ (record { number = refl; runs = tt }), ks)
   each_by p (Visits c chs true) gs ks = (opens _ (record { number = refl; runs = tt }), ks)
   each_by p (Visits c chs false) gs ks = ks
-  each_by p (EndsToRead v) gs ks = each_made p (innermost p (sections h)) gs ks
-  each_by p (EndsToWrite v) gs ks = each_carried p v (innermost p (sections h)) gs ks
+  each_by p (EndsToRead v) gs ks = elim (innermost p (sections h)) as (λ o. AllByRecursion Q (reader_made (length h) p o gs)) [ None ↦ ks | Some s ↦ (opens _ (record { number = refl; runs = tt }), ks) ]
+  each_by p (EndsToWrite v) gs ks = elim (innermost p (sections h)) as (λ o. AllByRecursion Q (writer_made (length h) p v o gs)) [ None ↦ ks | Some s ↦ (opens _ (record { number = refl; runs = tt }), ks) ]
   each_by p (Drops g) gs ks = each_removed Q g gs ks
-  each_by p (DropsToRead g) gs ks = each_beside p (numbered g gs) (without_guard g gs) (each_removed Q g gs ks)
-  each_by p (Beside g) gs ks = each_beside p (numbered g gs) gs ks
+  each_by p (DropsToRead g) gs ks =
+      elim (numbered g gs) as (λ o. AllByRecursion Q (reader_beside (length h) p o (without_guard g gs)))
+      [ None ↦ each_removed Q g gs ks | Some x ↦ (opens _ (record { number = refl; runs = tt }), each_removed Q g gs ks) ]
+  each_by p (Beside g) gs ks = elim (numbered g gs) as (λ o. AllByRecursion Q (reader_beside (length h) p o gs)) [ None ↦ ks | Some x ↦ (opens _ (record { number = refl; runs = tt }), ks) ]
   each_by p (Puts g v) gs ks = each_put Q g v gs (puts v) ks
   each_by p _ gs ks = ks
 
@@ -101,13 +68,7 @@ beside false = record { made = refl; failed = refl; stays = refl; nothing = refl
 module _ (f : ℕ) (is : IsBeside f) where
   -- it is among the flags that stay only where it was
   kept_before : (x : CellPlan) (o : Bool) (p : ℕ) → has (flags_kept x.kind o p) f ≡ true → has p f ≡ true
-  kept_before x o p e = by (is_finalizable x.kind) (p == 0) o e
-    where
-      by : (b d o : Bool) → has (if b then (if d then registration o else bit_and p (2 ^ 32 - 1 - 7)) else 0) f ≡ true → has p f ≡ true
-      by false d o g = absurd (apart (sym g ∙ is.nothing))
-      by true true true g = absurd (apart (sym g ∙ is.registered))
-      by true true false g = absurd (apart (sym g ∙ is.refused))
-      by true false o g = sym (ap (λ z. z == f) (and_assoc f p (2 ^ 32 - 1 - 7) ∙ ap (bit_and p) is.stays)) ∙ g
+  kept_before x o p e = grind (arith, and_assoc)
 
   -- and after a run only where it was
   pub run_before : (x : CellPlan) (chs : List Change) (y : Content) → IsOfRun chs → has (effect x chs y).phase f ≡ true → has y.phase f ≡ true
@@ -119,17 +80,11 @@ module _ (f : ℕ) (is : IsBeside f) where
       let p : ℕ = (effect x chs y).phase in
       run_before x chs y r (kept_before x o p (sym (ap (λ z. z == f) (and_or_apart f (flags_kept x.kind o p) 6 is.failed)) ∙ e))
   run_before x (Put v ∷ chs) y r e = run_before x chs y r e
-  run_before x (Asked o k ∷ chs) y r e = absurd r
-  run_before x (RanIfAsked o m ∷ chs) y r e = absurd r
-  run_before x (Ended fine left ∷ chs) y r e = absurd r
+  run_before x (ch ∷ chs) y r e = absurd r
 
   -- so it is with a call that leaves nothing open
   pub asked_before : (x : CellPlan) (o : Bool) (k : _) (y : Content) → has (effect x (Asked o k ∷ []) y).phase f ≡ true → has y.phase f ≡ true
-  asked_before x o k y e = by (is_declined x.kind (tolerance_of x) k o y.phase) e
-    where
-      by : (b : Bool) → has (if b then record { phase = 36; value = y.value } else y).phase f ≡ true → has y.phase f ≡ true
-      by true g = absurd (apart (sym g ∙ is.declined))
-      by false g = g
+  asked_before x o k y e = grind arith
 
 -- a guard bears the number of an earlier step
 abbrev IsOlder : List Event → Guard → Type 0
@@ -149,11 +104,8 @@ Reads n c x = (x.number == n) ≡ true → (x.cell ≡ c) × (x.writes ≡ false
 stays_reading : (n c : ℕ) (k h : List Event) → n < length h → AllByRecursion (Reads n c) (guards h) → AllByRecursion (Reads n c) (guards (k ++ h)) × (n < length (k ++ h))
 stays_reading n c [] h le rs = (rs, le)
 stays_reading n c (e ∷ k) h le rs =
-    let before : _ = stays_reading n c k h le rs in
-    (each_after (Reads n c) (k ++ h) (λ x o same. absurd (other x.number (length (k ++ h)) o.number before.1 same)) (λ v x r. r) e before.0, omega (arith, before.1))
-  where
-    other : (m l : ℕ) → m ≡ l → n < l → (m == n) ≡ true → ⊥
-    other m l e le same = let at : m ≡ n = grind arith in omega (arith, at, e, le)
+    let before : _ = stays_reading n c k h le rs in let later : _ = before.1 in
+    (each_after (Reads n c) (k ++ h) (λ x o same. let m : _ = o.number in absurd (grind arith)) (λ v x r. r) e before.0, omega (arith, later))
 
 -- what reads the cell keeps every section of it out
 reading_keeps_out : (cells : List CellPlan) (h : List Event) (n c : ℕ) → IsLegal cells h → AllByRecursion (Reads n c) (guards h) → is_some (numbered n (guards h)) ≡ true → write_holds c h ≡ 0
@@ -175,41 +127,12 @@ module _ (h : List Event) (s : Step) (i : Given) (c : ℕ) where
   -- where one guard more reads the cell, and the others are older, what bears the number of this step reads the cell
   now : (gs : List Guard) → guards (read_at s i ∷ h) ≡ reader (length h) s.party c ∷ gs → AllByRecursion (IsOlder h) gs
       → AllByRecursion (Reads (length h) c) (guards (read_at s i ∷ h)) × (numbered (length h) (guards (read_at s i ∷ h)) ≡ Some (reader (length h) s.party c))
-  now gs e le = rw e (
-    ((λ same. (refl, refl)), each_mapped (IsOlder h) (Reads (length h) c) gs (λ x m same. absurd (other x.number m same)) le),
-    ap (λ (b : Bool). if b then Some (reader (length h) s.party c) else numbered (length h) gs) (same_number (length h) (length h) refl),
-  )
-    where
-      other : (m : ℕ) → m < length h → (m == length h) ≡ true → ⊥
-      other m le same = let at : m ≡ length h = grind arith in omega (arith, at, le)
+  now gs e le = grind (arith, each_mapped)
 
   -- a downgrade opens a guard to read on the cell that the step concerns
   downgraded : (cells : List CellPlan) → turns_to_read s.act ≡ true → cell_concerned cells h s ≡ Some c
       → AllByRecursion (Reads (length h) c) (guards (read_at s i ∷ h)) × (numbered (length h) (guards (read_at s i ∷ h)) ≡ Some (reader (length h) s.party c))
-  downgraded cells = by s.act refl
-    where
-      cell : (x y : ℕ) → Some x ≡ Some y → x ≡ y
-      cell x y e = cc
-
-      made : (v : ℕ) (o : Option Section) → s.act ≡ act.Made v → innermost s.party (sections h) ≡ o → cell_of_section o ≡ Some c
-          → AllByRecursion (Reads (length h) c) (guards (read_at s i ∷ h)) × (numbered (length h) (guards (read_at s i ∷ h)) ≡ Some (reader (length h) s.party c))
-      made v None d f n = absurd (cc)
-      made v (Some t) d f n =
-          now (guards h) (ap (λ b. guards_by (length h) s.party (deed_read (act_by b s.party h)) (sections h) (guards h)) d ∙ ap (λ o. reader_made (length h) s.party o (guards h)) f ∙ ap (λ z. reader (length h) s.party z ∷ guards h) (cell t.cell c n)) (older h)
-
-      dropped : (g : ℕ) (o : Option Guard) → s.act ≡ act.Downgrade g → numbered g (guards h) ≡ o → cell_of_guard o ≡ Some c
-          → AllByRecursion (Reads (length h) c) (guards (read_at s i ∷ h)) × (numbered (length h) (guards (read_at s i ∷ h)) ≡ Some (reader (length h) s.party c))
-      dropped g None d f n = absurd (cc)
-      dropped g (Some x) d f n =
-          now (without_guard g (guards h))
-          (ap (λ b. guards_by (length h) s.party (deed_read (act_by b s.party h)) (sections h) (guards h)) d ∙ ap (λ o. reader_beside (length h) s.party o (without_guard g (guards h))) f ∙ ap (λ z. reader (length h) s.party z ∷ without_guard g (guards h)) (cell x.cell c n))
-          (each_removed (IsOlder h) g (guards h) (older h))
-
-      by : (a : Act) → s.act ≡ a → turns_to_read a ≡ true → cell_concerned_with cells (waits cells h) h s.party a ≡ Some c
-          → AllByRecursion (Reads (length h) c) (guards (read_at s i ∷ h)) × (numbered (length h) (guards (read_at s i ∷ h)) ≡ Some (reader (length h) s.party c))
-      by (act.Made v) d t n = made v (innermost s.party (sections h)) d refl n
-      by (act.Downgrade g) d t n = dropped g (numbered g (guards h)) d refl n
-      by _ d t n = absurd (cc)
+  downgraded cells = grind (arith, now, older, each_removed)
 
   -- the guard that a downgrade opens
   pub downgrade-opens : (cells : List CellPlan) → turns_to_read s.act ≡ true → cell_concerned cells h s ≡ Some c → numbered (length h) (guards (read_at s i ∷ h)) ≡ Some (reader (length h) s.party c)

@@ -1,27 +1,14 @@
 -- What is published changes only while no guard reads the cell, and its phase where a section of the cell is given back.
-use Rattle.std.proofs.Common.{◌≡◌, ◌≢◌, ◌<◌, ℕ, List, ◌∷◌, refl, ◌∙◌, ap, subst, arith, Bool, true, false, not, Some, ◌⊎◌, inl, inr}
-use Rattle.std.specs.Prelude.{◌==◌, if◌then◌else◌}
-use Rattle.schedule_rules.specs.declared.plan.CellPlan.{CellPlan}
-use Rattle.schedule_rules.specs.declared.step.Step.{Step}
-use Rattle.schedule_rules.specs.declared.step.Want.TheVariants.{Calls}
-use Rattle.schedule_rules.specs.declared.line.Answer.{Answer}
-use Rattle.schedule_rules.specs.Kinds.{cell_at, tolerance_at}
-use Rattle.schedule_rules.specs.Changes.{Content, Change, is_declined, effect}
-use Rattle.schedule_rules.specs.Deeds.{Makes, Finishes, Deed, Ends, EndsToRead, Drops, DropsToRead, Visits, Lends}
-use Rattle.schedule_rules.specs.History.{Event, accepts, deed_of, count}
-use Rattle.schedule_rules.specs.Sections.{Section, innermost, runs_in, sections}
-use Rattle.schedule_rules.specs.Guards.{Guard, numbered, guards}
-use Rattle.schedule_rules.specs.Replay.{replay, phase_at}
-use Rattle.schedule_rules.specs.Holds.{writes_cell, read_guards, write_holds}
-use Rattle.schedule_rules.specs.Legal.{IsLegal}
-use Rattle.schedule_rules.specs.Causes.{lends_at}
-use Rattle.schedule_rules.specs.Laws.{GivesBack, DeclinesAt, LendsAt}
+use Rattle.schedule_rules.proofs.Words.{ℕ, ◌≡◌, List, arith, Bool, true, refl, false, Some, ◌∷◌, ◌∙◌, ap, subst, ◌⊎◌, inl, ◌<◌, inr, not, ◌≢◌, ◌==◌, if◌then◌else◌, Answer}
+use Rattle.schedule_rules.proofs.Words.{CellPlan, Step, Calls, cell_at, tolerance_at, Content, Change, effect, is_declined, Deed, Visits, Makes, Finishes, EndsToRead, Ends}
+use Rattle.schedule_rules.proofs.Words.{DropsToRead, Drops, Lends, Event, deed_of, accepts, count, sections, Section, innermost, runs_in, Guard, guards, numbered, replay, phase_at}
+use Rattle.schedule_rules.proofs.Words.{write_holds, writes_cell, read_guards, IsLegal, lends_at, LendsAt, DeclinesAt, GivesBack}
+use Rattle.schedule_rules.proofs.Facts.{whether, same_number, number_found}
 use Rattle.schedule_rules.proofs.Exclusion.{alone}
 use Rattle.schedule_rules.proofs.Found.{found_counts}
 use Rattle.schedule_rules.proofs.Cases.{Asking, Resting}
 use Rattle.schedule_rules.proofs.Finds.{Lending, LendsSo, Finds, Tells, finds, tells}
 use Rattle.schedule_rules.proofs.Leaves.{left_at, holds_left, Settles, settles, rests, GivesOf, moves}
-use Rattle.schedule_rules.proofs.Facts.{same_number, number_found}
 
 module _ (cells : List CellPlan) (h : List Event) (s : Step) (r : Answer) (legal : IsLegal cells h) where
   -- it is a section at once: a call that leaves nothing open, or a value that is lent
@@ -54,11 +41,7 @@ module _ (cells : List CellPlan) (h : List Event) (s : Step) (r : Answer) (legal
   untouches (EndsToRead v) f = inr (unread f.section.cell (ran f.section f.found))
   untouches (Drops g) f = λ w. inr (unread f.guard.cell (wrote g f.guard f.found w))
   untouches (DropsToRead g) f = inr (unread f.guard.cell (wrote g f.guard f.found f.way))
-  untouches (Visits c chs reads) f = by f.finds
-    where
-      by : Asking cells h s.party c f.asked false ⊎ Resting cells h s.party c f.asked → Stays c (replay cells c h) (effect (cell_at cells c) chs (replay cells c h))
-      by (inl q) = inr (q.unread (alone cells h legal c))
-      by (inr q) = inl (rests cells h s.party (alone cells h legal) c chs f.asked f.does q)
+  untouches (Visits c chs reads) f = elim (f.finds) [ inl q ↦ inr (q.unread (alone cells h legal c)) | inr q ↦ inl (rests cells h s.party (alone cells h legal) c chs f.asked f.does q) ]
   untouches (Lends c chs) f = inr f.free.unread
   untouches _ f = tt
 
@@ -87,8 +70,7 @@ module _ (cells : List CellPlan) (h : List Event) (s : Step) (r : Answer) (legal
     one_less d f ne was = (by (settles cells h s.party (alone cells h legal) d f c), unread c was)
       where
         by : Settles cells h s.party d c → (holds_left cells h s.party d c < write_holds c h) ⊎ (DeclinesAt cells h s c ⊎ LendsAt s r c)
-        by (inl same) = absurd (ne (ap (λ y. y.phase) same))
-        by (inr none) = let a : _ = none.0 in let b : _ = none.1 in inl (omega (arith, a, b, was))
+        by k1 = grind arith
 
     -- a call that leaves nothing open is declined
     visits : (z : ℕ) (chs : List Change) (reads : Bool) → Tells cells h s.party s.act r (Visits z chs reads) → (left_at cells h s.party (Visits z chs reads) c).phase ≢ phase_at cells c h → IsGiven (Visits z chs reads)
@@ -111,10 +93,7 @@ module _ (cells : List CellPlan) (h : List Event) (s : Step) (r : Answer) (legal
             declines = rw q.asked (ap not q.generates)
 
         still : (z == c) ≡ true → Resting cells h s.party z v.asked → (left_at cells h s.party (Visits z chs reads) c).phase ≡ phase_at cells c h
-        still same q =
-            let at : z ≡ c = number_found z c same in
-            ap (λ (b : Bool). (if b then effect (cell_at cells c) chs (replay cells c h) else replay cells c h).phase) same
-            ∙ subst (λ y. (effect (cell_at cells y) chs (replay cells y h)).phase ≡ phase_at cells y h) at (ap (λ y. y.phase) (rests cells h s.party (alone cells h legal) z chs v.asked v.does q))
+        still same q = grind (arith, number_found, rests, alone)
 
         by : (b : Bool) → (z == c) ≡ b → Asking cells h s.party z v.asked false ⊎ Resting cells h s.party z v.asked → IsGiven (Visits z chs reads)
         by true same (inl q) = declined same q
@@ -123,22 +102,15 @@ module _ (cells : List CellPlan) (h : List Event) (s : Step) (r : Answer) (legal
 
     -- a value that is lent
     lends : (z : ℕ) (chs : List Change) → Lending cells h s.party z chs → LendsSo cells h s.party s.act r z chs → (left_at cells h s.party (Lends z chs) c).phase ≢ phase_at cells c h → IsGiven (Lends z chs)
-    lends z chs f t ne = by (z == c) refl
-      where
-        by : (b : Bool) → (z == c) ≡ b → IsGiven (Lends z chs)
-        by true same =
-            let at : z ≡ c = number_found z c same in
-            (inr (inr (record { lends = subst (λ y. lends_at y s.act ≡ true) at t.lends; answered = t.answered })), subst (λ y. read_guards y h ≡ 0) at f.free.unread)
-        by false other = absurd (ne (ap (λ (b : Bool). (if b then effect (cell_at cells c) chs (replay cells c h) else replay cells c h).phase) other))
+    lends z chs f t ne =
+        whether (z == c)
+        (λ same. let at : z ≡ c = number_found z c same in (inr (inr (record { lends = subst (λ y. lends_at y s.act ≡ true) at t.lends; answered = t.answered })), subst (λ y. read_guards y h ≡ 0) at f.free.unread))
+        (λ other. absurd (ne (ap (λ (b : Bool). (if b then effect (cell_at cells c) chs (replay cells c h) else replay cells c h).phase) other)))
 
     published : (d : Deed) → Finds cells h s.party d → Tells cells h s.party s.act r d → (left_at cells h s.party d c).phase ≢ phase_at cells c h → IsGiven d
     published (Visits z chs reads) f t ne = visits z chs reads t ne
     published (Lends z chs) f t ne = lends z chs f t ne
-    published d f t ne = by (held d f c ne)
-      where
-        by : (0 < write_holds c h) ⊎ ⊥ → IsGiven d
-        by (inl was) = one_less d f ne was
-        by (inr no_visit) = absurd no_visit
+    published d f t ne = elim (held d f c ne) [ inl was ↦ one_less d f ne was | inr no_visit ↦ absurd no_visit ]
 
 -- in a legal history
 pub published-given : (cells : List CellPlan) (h : List Event) (e : Event) (c : ℕ) → IsLegal cells (e ∷ h) → phase_at cells c (e ∷ h) ≢ phase_at cells c h

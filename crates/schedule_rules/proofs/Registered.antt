@@ -1,22 +1,9 @@
 -- A cell that the registry knows was touched, and is registered at most once.
-use Rattle.std.proofs.Common.{◌≡◌, ◌≢◌, ◌<◌, ◌≤◌, ◌+◌, ℕ, List, [], ◌∷◌, length, refl, sym, subst, ◌∙◌, arith, Bool, true, false, cond, Some, ◌⊎◌, inl, inr, ap}
-use Rattle.std.specs.Prelude.{◌==◌, if◌then◌else◌, slice_set, slice_index_or, replicate, nat_lt}
-use Rattle.std.specs.List.{AllByRecursion}
-use Rattle.std.proofs.lemmas.List.{get_or-set_other, get_or-replicate, get_or_past, length-replicate}
-use Rattle.exit_registry.specs.Registry.{Registry, is_known, first_of, rest_of, after_register}
-use Rattle.lazy_cells.specs.Kinds.{is_finalizable}
-use Rattle.schedule_rules.specs.declared.plan.CellPlan.{CellPlan}
-use Rattle.schedule_rules.specs.declared.step.Want.TheVariants.{Calls, Turns}
-use Rattle.schedule_rules.specs.Kinds.{cell_at, no_cell}
-use Rattle.schedule_rules.specs.Phases.{tries_registration}
-use Rattle.schedule_rules.specs.Deeds.{Deed, Opens, Skips, Takes, Looks}
-use Rattle.schedule_rules.specs.History.{Event, deed_of, count}
-use Rattle.schedule_rules.specs.Sections.{runs_in, sections_by, sections}
-use Rattle.schedule_rules.specs.Replay.{phase_at}
-use Rattle.schedule_rules.specs.Exits.{registry_taken, registry_of_run, registry_by, registry}
-use Rattle.schedule_rules.specs.Holds.{write_holds}
-use Rattle.schedule_rules.specs.Legal.{IsLegal}
-use Rattle.schedule_rules.proofs.Facts.{first}
+use Rattle.schedule_rules.proofs.Words.{ℕ, ◌≡◌, List, arith, Bool, true, refl, false, Some, ◌∷◌, ◌∙◌, [], sym, ◌⊎◌, inl, ◌<◌, inr, length, get_or-set_other, get_or_past}
+use Rattle.schedule_rules.proofs.Words.{length-replicate, get_or-replicate, AllByRecursion, ◌==◌, if◌then◌else◌, slice_index_or, slice_set, replicate, first_of, is_known, rest_of}
+use Rattle.schedule_rules.proofs.Words.{after_register, Registry, is_finalizable, CellPlan, Calls, Turns, cell_at, tries_registration, Deed, Opens, Skips, Looks, Takes, Event}
+use Rattle.schedule_rules.proofs.Words.{deed_of, count, sections, runs_in, sections_by, phase_at, registry, registry_by, registry_taken, registry_of_run, write_holds, IsLegal}
+use Rattle.schedule_rules.proofs.Facts.{apart, first}
 use Rattle.schedule_rules.proofs.Held.{IsHeld, held-stays}
 
 -- a turn that is taken leaves which are known
@@ -26,78 +13,30 @@ known_taken false m c = refl
 
 -- what is known after a registration, was known or is registered
 known_more : (c d : ℕ) (m : Registry) → is_known (after_register c m) d ≡ true → ((c == d) ≡ true) ⊎ (is_known m d ≡ true)
-known_more c d m e = by m.is_open (c == d) refl e
-  where
-    other : (c == d) ≡ false → d ≢ c
-    other f = grind arith
-
-    by : (o same : Bool) → (c == d) ≡ same → slice_index_or (if o then record { pending = c ∷ m.pending; left = m.left; known = slice_set m.known c true; is_open = m.is_open } else m).known d false ≡ true
-        → ((c == d) ≡ true) ⊎ (is_known m d ≡ true)
-    by o true f g = inl f
-    by false false f g = inr g
-    by true false f g = inr (sym (get_or-set_other m.known c d true false (other f)) ∙ g)
+known_more c d m e = grind (arith, get_or-set_other)
 
 -- no cell is known at first
 pub none_known : (n c : ℕ) → slice_index_or (replicate n false) c false ≡ false
-none_known n c = by (nat_lt c n) refl
-  where
-    by : (b : Bool) → nat_lt c n ≡ b → slice_index_or (replicate n false) c false ≡ false
-    by true e = get_or-replicate n c false false (grind arith)
-    by false e = get_or_past (replicate n false) c false (let l : length (replicate n false) ≡ n = length-replicate n false in omega (arith, l, at_least_it e))
-      where
-        at_least_it : nat_lt c n ≡ false → n ≤ c
-        at_least_it f = grind arith
+none_known n c = grind (arith, get_or-replicate, get_or_past, length-replicate)
 
 module _ (cells : List CellPlan) where
   -- what is known after a deed, was known before, or the section that it opens is in the cell
   known_by : (c : ℕ) (h : List Event) (p : ℕ) (d : Deed) → is_known (registry_by cells h d (registry cells h)) c ≡ true
       → (is_known (registry cells h) c ≡ true) ⊎ (0 < count (runs_in c) (sections_by h p d (sections h)))
-  known_by c h p (Opens d (Calls j) taken) known = by (tries_registration (cell_at cells d).kind (phase_at cells d h)) known
-    where
-      new : ((d == c) ≡ true) ⊎ (is_known (registry cells h) c ≡ true)
-          → (is_known (registry cells h) c ≡ true) ⊎ (0 < cond (d == c) (count (runs_in c) (sections h) + 1) (count (runs_in c) (sections h)))
-      new (inl same) = inr (rw same (omega arith))
-      new (inr was) = inl was
-
-      by : (b : Bool) → is_known (if b then after_register d (registry cells h) else registry cells h) c ≡ true
-          → (is_known (registry cells h) c ≡ true) ⊎ (0 < cond (d == c) (count (runs_in c) (sections h) + 1) (count (runs_in c) (sections h)))
-      by false was = inl was
-      by true is = new (known_more d c (registry cells h) is)
-  known_by c h p (Opens d Turns taken) known = inl (sym (known_taken taken (registry cells h) c) ∙ known)
-  known_by c h p (Skips d taken) known = inl (sym (known_taken taken (registry cells h) c) ∙ known)
-  known_by c h p _ known = inl known
+  known_by c h p k1 known = grind (arith, known_more, known_taken)
 
   -- what is known after an event was known before it, or is held after it
   known_before : (c : ℕ) (e : Event) (h : List Event) → is_known (registry cells (e ∷ h)) c ≡ true → (is_known (registry cells h) c ≡ true) ⊎ IsHeld cells (e ∷ h) c
-  known_before c e h known = by (known_by c h e.step.party (deed_of h e.step e.line.answer) known)
-    where
-      by : (is_known (registry cells h) c ≡ true) ⊎ (0 < count (runs_in c) (sections (e ∷ h))) → (is_known (registry cells h) c ≡ true) ⊎ IsHeld cells (e ∷ h) c
-      by (inl was) = inl was
-      by (inr n) = inr (inr (omega (arith, n)))
+  known_before c e h known = grind (arith, known_by, IsHeld)
 
   -- what the registry knows is held
   known-held : (c : ℕ) (h : List Event) → IsLegal cells h → is_known (registry cells h) c ≡ true → IsHeld cells h c
-  known-held c [] k known = absurd (none (sym (none_known (length cells) c) ∙ known))
-    where
-      none : false ≡ true → ⊥
-      none x = cc
-  known-held c (e ∷ h) k known = by (known_before c e h known) (λ was. known-held c h k.2 was)
-    where
-      by : (is_known (registry cells h) c ≡ true) ⊎ IsHeld cells (e ∷ h) c → (is_known (registry cells h) c ≡ true → IsHeld cells h c) → IsHeld cells (e ∷ h) c
-      by (inl was) f = held-stays cells h e c k (f was)
-      by (inr is) f = is
+  known-held c [] k known = let none : _ = none_known (length cells) c in absurd (apart (sym known ∙ none))
+  known-held c (e ∷ h) k known = elim (known_before c e h known) [ inl was ↦ held-stays cells h e c k (known-held c h k.2 was) | inr is ↦ is ]
 
   -- so one whose phase is 0, and that nothing holds to write, is not known
   pub fresh-unknown : (h : List Event) (c : ℕ) → IsLegal cells h → phase_at cells c h ≡ 0 → write_holds c h ≡ 0 → is_known (registry cells h) c ≡ false
-  fresh-unknown h c k empty unheld = by (is_known (registry cells h) c) refl
-    where
-      never : IsHeld cells h c → ⊥
-      never (inl ne) = ne empty
-      never (inr n) = omega (arith, unheld, n)
-
-      by : (b : Bool) → is_known (registry cells h) c ≡ b → is_known (registry cells h) c ≡ false
-      by true e = absurd (never (known-held c h k e))
-      by false e = e
+  fresh-unknown h c k empty unheld = grind (arith, IsHeld, known-held)
 
   -- ---- what is registered is of a kind that is
 
@@ -119,11 +58,7 @@ module _ (cells : List CellPlan) where
       by false o e = k
 
   takes : (b : Bool) (m : Registry) → AreRegistered m → AreRegistered (registry_taken b m)
-  takes true m k = record { pending = k.pending; left = rest m.left k.left }
-    where
-      rest : (cs : List ℕ) → AllByRecursion IsRegistered cs → AllByRecursion IsRegistered (rest_of cs)
-      rest [] r = tt
-      rest (c ∷ cs) r = r.1
+  takes true m k = record { pending = k.pending; left = (elim (m.left) as (λ cs. AllByRecursion IsRegistered cs → AllByRecursion IsRegistered (rest_of cs)) [ [] ↦ λ r. tt | c ∷ cs ↦ λ r. r.1 ]) k.left }
   takes false m k = k
 
   registered_by : (h : List Event) (d : Deed) (m : Registry) → AreRegistered m → AreRegistered (registry_by cells h d m)
@@ -140,25 +75,8 @@ module _ (cells : List CellPlan) where
 
   -- so the first cell left is of a kind that is registered
   pub left-finalizable : (h : List Event) (c : ℕ) → first_of (registry cells h).left ≡ Some c → is_finalizable (cell_at cells c).kind ≡ true
-  left-finalizable h c e = by (registry cells h).left (are_registered h).left e
-    where
-      same : (d : ℕ) → Some d ≡ Some c → d ≡ c
-      same d f = cc
-
-      by : (cs : List ℕ) → AllByRecursion IsRegistered cs → first_of cs ≡ Some c → is_finalizable (cell_at cells c).kind ≡ true
-      by [] k f = absurd (cc)
-      by (d ∷ ds) k f = subst IsRegistered (same d f) k.0
+  left-finalizable h c e = grind (arith, are_registered)
 
 -- a cell that is registered is one of the plan
 pub finalizable-inside : (cells : List CellPlan) (c : ℕ) → is_finalizable (cell_at cells c).kind ≡ true → c < length cells
-finalizable-inside cells c e = by (nat_lt c (length cells)) refl
-  where
-    none : cell_at cells c ≡ no_cell → ⊥
-    none f = clash (sym (ap (λ x. is_finalizable x.kind) f) ∙ e)
-      where
-        clash : false ≡ true → ⊥
-        clash x = cc
-
-    by : (b : Bool) → nat_lt c (length cells) ≡ b → c < length cells
-    by true f = grind arith
-    by false f = absurd (none (get_or_past cells c no_cell (grind arith)))
+finalizable-inside cells c e = grind (arith, get_or_past)

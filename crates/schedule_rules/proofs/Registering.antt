@@ -1,51 +1,19 @@
 -- What a step registers.
-use Rattle.std.proofs.Common.{◌≡◌, ◌<◌, ℕ, List, ◌∷◌, length, refl, sym, ◌∙◌, ap, subst, arith, Bool, true, false, ◌&&◌, ◌||◌, Some, ◌⊎◌, inl, inr}
-use Rattle.std.specs.Prelude.{◌==◌, if◌then◌else◌, slice_set, slice_index_or}
-use Rattle.std.proofs.lemmas.List.{get_or-set_same, get_or-set_other}
-use Rattle.exit_registry.specs.Registry.{is_known, after_register, registered}
-use Rattle.phase_bits.specs.Flags.{without_flags}
-use Rattle.phase_seq.specs.Phases.{flags_generate, registration, initialization_flags}
-use Rattle.lazy_cells.specs.declared.call.Call.{Call}
-use Rattle.schedule_rules.specs.declared.plan.CellPlan.{CellPlan}
-use Rattle.schedule_rules.specs.declared.step.Want.TheVariants.{Calls, Turns}
-use Rattle.lazy_cells.specs.Kinds.{is_finalizable}
-use Rattle.schedule_rules.specs.Kinds.{cell_at, tolerance_of}
-use Rattle.schedule_rules.specs.Phases.{tries_registration, runs_generator}
-use Rattle.schedule_rules.specs.Changes.{Change}
-use Rattle.schedule_rules.specs.Deeds.{Deed, Opens, Visits, Skips}
-use Rattle.schedule_rules.specs.History.{Event, accepts, deed_of}
-use Rattle.schedule_rules.specs.Replay.{phase_at}
-use Rattle.schedule_rules.specs.Exits.{registry_taken, registry_of_run, registry_by, registry}
-use Rattle.schedule_rules.specs.Legal.{IsLegal}
-use Rattle.schedule_rules.proofs.Registrations.{asks_so, visit_registers, deed_registers, shows_registration}
-use Rattle.schedule_rules.proofs.Facts.{first, second}
-use Rattle.schedule_rules.proofs.Cases.{Asking, Resting}
+use Rattle.schedule_rules.proofs.Words.{ℕ, ◌≡◌, List, arith, Bool, true, refl, false, ◌∷◌, ◌∙◌, sym, ap, ◌&&◌, ◌||◌, get_or-set_other, get_or-set_same, ◌==◌, if◌then◌else◌}
+use Rattle.schedule_rules.proofs.Words.{is_known, registered, Call, CellPlan, Calls, Turns, cell_at, tries_registration, Change, Deed, Visits, Opens, Skips, Event, deed_of}
+use Rattle.schedule_rules.proofs.Words.{accepts, phase_at, registry, registry_by, registry_taken, registry_of_run, IsLegal}
+use Rattle.schedule_rules.proofs.Registrations.{visit_registers, deed_registers, shows_registration}
+use Rattle.schedule_rules.proofs.Facts.{first}
+use Rattle.schedule_rules.proofs.Cases.{Asking}
 use Rattle.schedule_rules.proofs.Finds.{Visit, Finds, finds}
 use Rattle.schedule_rules.proofs.Accepts.{open-accepts, known-length}
 use Rattle.schedule_rules.proofs.Registered.{known_taken, finalizable-inside}
 
 or_none : (b : Bool) → (b || false) ≡ b
-or_none true = refl
-or_none false = refl
+or_none b = grind arith
 
 or_all : (b : Bool) → (b || true) ≡ true
-or_all true = refl
-or_all false = refl
-
-and_none : (b : Bool) → (b && false) ≡ false
-and_none true = refl
-and_none false = refl
-
--- what is declined on the empty phase was asked when no cell could be registered
-declined-closed : (x : CellPlan) (o : Bool) (p : ℕ) → tries_registration x.kind p ≡ true → runs_generator x.kind (tolerance_of x) o p ≡ false → o ≡ false
-declined-closed x o p e f = by (is_finalizable x.kind) (p == 0) o e f
-  where
-    by : (b d o : Bool) → (b && d) ≡ true
-        → (if b then flags_generate x.leak (if b then (if d then registration o else without_flags p initialization_flags) else 0) else true) ≡ false → o ≡ false
-    by true true false e f = refl
-    by true true true e f = absurd (cc)
-    by true false o e f = absurd (cc)
-    by false d o e f = absurd (cc)
+or_all b = grind arith
 
 module _ (cells : List CellPlan) (c : ℕ) (h : List Event) (p : ℕ) (legal : IsLegal cells h) where
   -- after the deed the registry knows the cell where it did, or where the deed tries to register it and cells may be
@@ -59,19 +27,7 @@ module _ (cells : List CellPlan) (c : ℕ) (h : List Event) (p : ℕ) (legal : I
 
   -- a call that leaves nothing open registers nothing
   visits : (d : ℕ) (chs : List Change) (reads : Bool) (v : Visit cells h p d chs reads) → (visit_registers cells c h d chs && accepts h) ≡ false
-  visits d chs reads v = subst (λ l. (visit_registers cells c h d l && accepts h) ≡ false) (sym v.does) (by v.finds)
-    where
-      tried : Bool
-      tried = asks_so cells c h (Some (record { cell = d; want = Calls v.asked }))
-
-      by : Asking cells h p d v.asked false ⊎ Resting cells h p d v.asked → (tried && accepts h) ≡ false
-      by (inl q) = none tried refl
-        where
-          none : (b : Bool) → tried ≡ b → (b && accepts h) ≡ false
-          none false e = refl
-          none true e = declined-closed (cell_at cells d) (accepts h) (phase_at cells d h) (second _ _ (second _ _ e)) q.generates
-      by (inr r) =
-          ap (λ b. ((d == c) && (b && tries_registration (cell_at cells d).kind (phase_at cells d h))) && accepts h) r.unasked ∙ ap (λ b. b && accepts h) (and_none (d == c))
+  visits d chs reads v = grind arith
 
   -- a call that begins a run
   run_registers : (d : ℕ) (j : Call) (taken : Bool) → Asking cells h p d j true → IsRegistering (Opens d (Calls j) taken)
@@ -82,25 +38,15 @@ module _ (cells : List CellPlan) (c : ℕ) (h : List Event) (p : ℕ) (legal : I
       -- what is known of the cell where this is so
       known_by : (b o : Bool) → tries_registration (cell_at cells d).kind (phase_at cells d h) ≡ b → (registry cells h).is_open ≡ o
           → is_known (registry_of_run cells d (phase_at cells d h) (registry cells h)) c ≡ is_known (if b && o then registered d (registry cells h) else registry cells h) c
-      known_by true o e g =
-          ap (λ (b : Bool). is_known (if b then after_register d (registry cells h) else registry cells h) c) e
-          ∙ ap (λ (b : Bool). is_known (if b then registered d (registry cells h) else registry cells h) c) g
-      known_by false o e g = ap (λ (b : Bool). is_known (if b then after_register d (registry cells h) else registry cells h) c) e
+      known_by b o e g = grind arith
 
       -- and what is said of it
       said_by : (b same o : Bool) → tries_registration (cell_at cells d).kind (phase_at cells d h) ≡ b → (d == c) ≡ same → (registry cells h).is_open ≡ o
           → ((same && b) && o) ≡ (((d == c) && (true && tries_registration (cell_at cells d).kind (phase_at cells d h))) && accepts h)
-      said_by b same o e f g =
-          ap (λ x. (x && b) && o) (sym f) ∙ ap (λ x. ((d == c) && x) && o) (sym e)
-          ∙ ap (λ x. ((d == c) && tries_registration (cell_at cells d).kind (phase_at cells d h)) && x) (sym g ∙ open-accepts cells h legal)
+      said_by b same o e f g = grind (arith, open-accepts)
 
       same_cell : (d == c) ≡ true → tries_registration (cell_at cells d).kind (phase_at cells d h) ≡ true → is_known (registered d (registry cells h)) c ≡ true
-      same_cell same e =
-          let at : d ≡ c = grind arith in
-          let inside : d < length cells = finalizable-inside cells d (first _ _ e) in
-          let long : _ = known-length cells h in
-          subst (λ z. slice_index_or (slice_set (registry cells h).known d true) z false ≡ true) at
-          (get_or-set_same (registry cells h).known d true false (omega (arith, inside, long)))
+      same_cell same e = grind (arith, finalizable-inside, first, known-length, get_or-set_same)
 
       other_cell : (d == c) ≡ false → is_known (registered d (registry cells h)) c ≡ is_known (registry cells h) c
       other_cell other = get_or-set_other (registry cells h).known d c true false (grind arith)
@@ -108,12 +54,7 @@ module _ (cells : List CellPlan) (c : ℕ) (h : List Event) (p : ℕ) (legal : I
       -- the two are the same
       meet : (b same o : Bool) → tries_registration (cell_at cells d).kind (phase_at cells d h) ≡ b → (d == c) ≡ same
           → is_known (if b && o then registered d (registry cells h) else registry cells h) c ≡ (is_known (registry cells h) c || ((same && b) && o))
-      meet true true true e f = same_cell f e ∙ sym (or_all (is_known (registry cells h) c))
-      meet true false true e f = other_cell f ∙ sym (or_none (is_known (registry cells h) c))
-      meet true true false e f = sym (or_none (is_known (registry cells h) c))
-      meet true false false e f = sym (or_none (is_known (registry cells h) c))
-      meet false true o e f = sym (or_none (is_known (registry cells h) c))
-      meet false false o e f = sym (or_none (is_known (registry cells h) c))
+      meet b same o e f = grind (arith, same_cell, or_all, other_cell, or_none)
 
       by : (b same o : Bool) → tries_registration (cell_at cells d).kind (phase_at cells d h) ≡ b → (d == c) ≡ same → (registry cells h).is_open ≡ o
           → is_known (registry_of_run cells d (phase_at cells d h) (registry cells h)) c

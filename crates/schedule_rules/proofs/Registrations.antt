@@ -1,35 +1,14 @@
 -- Which lines show that their step tried to register a cell, and that it is tried at most once at a cell.
-use Rattle.std.specs.Prelude.{ℕ, Bool, false, List, [], ◌∷◌, ◌+◌, if◌then◌else◌, ◌==◌}
-use Rattle.std.specs.declared.option.Option.{Option}
-use Rattle.std.specs.declared.option.Option.TheVariants.{Some}
-use Rattle.schedule_rules.specs.declared.plan.CellPlan.{CellPlan}
-use Rattle.schedule_rules.specs.declared.step.Step.{Step}
-use Rattle.schedule_rules.specs.declared.line.Answer.{Answer}
-use Rattle.schedule_rules.specs.declared.step.Want.TheVariants.{Calls}
-use Rattle.schedule_rules.specs.Changes.{Change, Asked, is_declined, effect}
-use Rattle.schedule_rules.specs.Deeds.{Deed, Opens, Visits}
-use Rattle.schedule_rules.specs.History.{Event, deed_of, accepts}
-use Rattle.schedule_rules.specs.Waits.{Attempt}
-use Rattle.schedule_rules.specs.Causes.{is_attempted}
-use Rattle.schedule_rules.specs.Laws.{asks_registration}
-use Rattle.std.proofs.Common.{◌≡◌, ◌≢◌, ◌<◌, ◌≤◌, ◌+◌, ℕ, List, [], ◌∷◌, refl, sym, ◌∙◌, ap, subst, arith, Bool, true, false, not, cond, Some, ◌⊎◌, inl, inr}
-use Rattle.exit_registry.specs.Registry.{is_known}
-use Rattle.lazy_cells.specs.declared.call.Call.{Call}
-use Rattle.schedule_rules.specs.declared.line.Line.{Line}
-use Rattle.lazy_cells.specs.Kinds.{is_finalizable}
-use Rattle.schedule_rules.specs.Kinds.{cell_at, tolerance_at}
-use Rattle.schedule_rules.specs.Calls.{asks}
-use Rattle.schedule_rules.specs.Exits.{registry}
-use Rattle.schedule_rules.specs.Replay.{replay, phase_at}
-use Rattle.schedule_rules.specs.Holds.{write_holds}
-use Rattle.schedule_rules.specs.Legal.{IsLegal, IsLegalLine, IsExclusive}
+use Rattle.schedule_rules.proofs.Words.{ℕ, ◌≡◌, List, arith, Bool, true, refl, false, Some, ◌∷◌, [], subst, ◌⊎◌, inl, ◌<◌, inr, ◌≢◌, ◌+◌, cond, ◌≤◌, ◌==◌, if◌then◌else◌, Option}
+use Rattle.schedule_rules.proofs.Words.{is_known, Call, Answer, Line, CellPlan, Step, Calls, cell_at, tolerance_at, asks, Change, Asked, Deed, Visits, Opens, Event, deed_of}
+use Rattle.schedule_rules.proofs.Words.{phase_at, registry, Attempt, write_holds, IsLegal, IsLegalLine, IsExclusive, is_attempted, asks_registration}
 use Rattle.schedule_rules.proofs.Exclusion.{alone}
 use Rattle.schedule_rules.proofs.Cases.{Asking, Resting}
 use Rattle.schedule_rules.proofs.Finds.{Visit, Finds, finds}
 use Rattle.schedule_rules.proofs.Leaves.{left_at, holds_left}
 use Rattle.schedule_rules.proofs.Held.{IsHeld, held-stays}
 use Rattle.schedule_rules.proofs.Registered.{fresh-unknown}
-use Rattle.schedule_rules.proofs.Facts.{apart, first, second}
+use Rattle.schedule_rules.proofs.Facts.{first, second}
 
 module _ (cells : List CellPlan) where
   -- something is attempted that asks for a run which registers the cell
@@ -71,13 +50,7 @@ module _ (cells : List CellPlan) (c : ℕ) where
     -- what a call asks that tries to register the cell
     tried : (d : ℕ) (j : Call) → asks_so cells c h (Some (record { cell = d; want = Calls j })) ≡ true
         → (d ≡ c) × (asks (cell_at cells d).kind (tolerance_at cells d) (Calls j) (phase_at cells d h) ≡ true) × (phase_at cells d h ≡ 0)
-    tried d j e = (same (first _ _ e), first _ _ (second _ _ e), empty (second (is_finalizable (cell_at cells d).kind) _ (second _ _ (second _ _ e))))
-      where
-        same : (d == c) ≡ true → d ≡ c
-        same f = grind arith
-
-        empty : (phase_at cells d h == 0) ≡ true → phase_at cells d h ≡ 0
-        empty f = grind arith
+    tried d j e = grind (arith, first, second)
 
     asked : (d : ℕ) (j : Call) (x : Deed) → (IsExclusive cells h d → write_holds d h ≡ 0) → (d ≡ c → IsHeldBy x)
         → (d ≡ c) × (asks (cell_at cells d).kind (tolerance_at cells d) (Calls j) (phase_at cells d h) ≡ true) × (phase_at cells d h ≡ 0)
@@ -85,35 +58,14 @@ module _ (cells : List CellPlan) (c : ℕ) where
     asked d j x unheld is (here, n, empty) = (subst (λ z. phase_at cells z h ≡ 0) here empty, subst (λ z. IsExclusive cells h z → write_holds z h ≡ 0) here unheld only, is here)
 
     running : (d : ℕ) (j : Call) (taken : Bool) → Asking cells h p d j true → IsFresh (Opens d (Calls j) taken)
-    running d j taken q e = asked d j (Opens d (Calls j) taken) q.unheld (λ here. inr (by here)) (tried d j e)
-      where
-        by : d ≡ c → 0 < holds_left cells h p (Opens d (Calls j) taken) c
-        by here = let same : (d == c) ≡ true = grind arith in rw same (omega arith)
+    running d j taken q e = asked d j (Opens d (Calls j) taken) q.unheld (λ here. inr (let same : (d == c) ≡ true = grind arith in rw same (omega arith))) (tried d j e)
 
     visits : (d : ℕ) (chs : List Change) (reads : Bool) → Visit cells h p d chs reads → IsFresh (Visits d chs reads)
     visits d chs reads v e = by v.finds (tried d v.asked (subst (λ l. visit_registers cells c h d l ≡ true) v.does e))
       where
         by : Asking cells h p d v.asked false ⊎ Resting cells h p d v.asked → (d ≡ c) × (asks (cell_at cells d).kind (tolerance_at cells d) (Calls v.asked) (phase_at cells d h) ≡ true) × (phase_at cells d h ≡ 0)
             → (phase_at cells c h ≡ 0) × (write_holds c h ≡ 0) × IsHeldBy (Visits d chs reads)
-        by (inr r) t = absurd (apart (sym t.1 ∙ r.unasked))
-        by (inl q) t = asked d v.asked (Visits d chs reads) q.unheld (λ here. inl (left here)) t
-          where
-            declined : is_declined (cell_at cells d).kind (tolerance_at cells d) v.asked (accepts h) (phase_at cells d h) ≡ true
-            declined = rw q.asked (ap not q.generates)
-
-            phase : effect (cell_at cells d) chs (replay cells d h) ≡ record { phase = 36; value = (replay cells d h).value }
-            phase = ap (λ l. effect (cell_at cells d) l (replay cells d h)) v.does ∙ ap (λ (b : Bool). if b then record { phase = 36; value = (replay cells d h).value } else replay cells d h) declined
-
-            left : d ≡ c → (left_at cells h p (Visits d chs reads) c).phase ≢ 0
-            left here z =
-                let same : (d == c) ≡ true = grind arith in
-                let is : left_at cells h p (Visits d chs reads) c ≡ record { phase = 36; value = (replay cells c h).value } =
-                ap (λ (b : Bool). if b then effect (cell_at cells c) chs (replay cells c h) else replay cells c h) same
-                ∙ subst (λ y. effect (cell_at cells y) chs (replay cells y h) ≡ record { phase = 36; value = (replay cells y h).value }) here phase in
-                clash (left_at cells h p (Visits d chs reads) c).phase (ap (λ y. y.phase) is) z
-              where
-                clash : (n : ℕ) → n ≡ 36 → n ≡ 0 → ⊥
-                clash n e z = omega (arith, e, z)
+        by k1 t = grind arith
 
     pub freshly : (d : Deed) → Finds cells h p d → IsFresh d
     freshly (Opens d (Calls j) taken) f = running d j taken f
@@ -139,8 +91,7 @@ module _ (cells : List CellPlan) (c : ℕ) where
   counted (e ∷ h) k = by (shows_registration cells c h e.step e.line.answer) refl (counted h k.2)
     where
       never : (phase_at cells c h ≡ 0) × (write_holds c h ≡ 0) × IsHeld cells (e ∷ h) c → IsHeld cells h c → ⊥
-      never f (inl ne) = ne f.0
-      never f (inr n) = omega (arith, f.1, n)
+      never f k1 = grind arith
 
       by : (b : Bool) → shows_registration cells c h e.step e.line.answer ≡ b → IsTried h
           → (cond b (registrations_shown cells c h + 1) (registrations_shown cells c h) ≡ 0) ⊎ ((cond b (registrations_shown cells c h + 1) (registrations_shown cells c h) ≡ 1) × IsHeld cells (e ∷ h) c)
@@ -151,8 +102,4 @@ module _ (cells : List CellPlan) (c : ℕ) where
 
   -- so registration is tried at most once
   pub registered-once : (h : List Event) → IsLegal cells h → registrations_shown cells c h ≤ 1
-  registered-once h k = by (counted h k)
-    where
-      by : IsTried h → registrations_shown cells c h ≤ 1
-      by (inl none) = omega (arith, none)
-      by (inr one) = omega (arith, one.0)
+  registered-once h k = grind (arith, counted)

@@ -1,32 +1,13 @@
 -- A phase that has INITIALIZED changes only where a finalizer of its cell ends, and of a plain cell the value stays.
-use Rattle.std.proofs.Common.{◌≡◌, ◌≢◌, ◌⊎◌, inl, inr, ℕ, List, [], ◌∷◌, ◌++◌, refl, sym, ◌∙◌, ap, subst, arith, Bool, true, false, Some, All}
-use Rattle.std.specs.Prelude.{◌==◌, if◌then◌else◌}
-use Rattle.std.specs.declared.option.Option.{Option}
-use Rattle.std.proofs.lemmas.List.Elements.{All-head, All-tail}
-use Rattle.phase_bits.specs.Flags.{has, initialized}
-use Rattle.lazy_cells.specs.Kinds.{is_plain, is_hard}
-use Rattle.lazy_cells.specs.declared.kind.Kind.{Kind}
-use Rattle.lazy_cells.specs.declared.kind.Kind.TheVariants as kind
-use Rattle.schedule_rules.specs.declared.plan.CellPlan.{CellPlan}
-use Rattle.schedule_rules.specs.declared.step.Act.{Act}
-use Rattle.schedule_rules.specs.declared.line.Answer.{Answer}
-use Rattle.schedule_rules.specs.Kinds.{cell_at, tolerance_at}
-use Rattle.schedule_rules.specs.Changes.{Content, Change, Ran, Asked, Put, RanIfAsked, Ended, effect}
-use Rattle.schedule_rules.specs.Deeds.{Makes, Finishes, Deed, Ends, EndsToRead, Drops, DropsToRead, Visits, Lends}
-use Rattle.schedule_rules.specs.History.{Event, accepts, deed_of}
-use Rattle.schedule_rules.specs.Sections.{innermost, sections}
-use Rattle.schedule_rules.specs.Guards.{Guard, numbered, guards}
-use Rattle.schedule_rules.specs.Replay.{replay, phase_at}
-use Rattle.schedule_rules.specs.Waits.{cell_of_section}
-use Rattle.schedule_rules.specs.Legal.{IsLegal}
-use Rattle.schedule_rules.specs.Causes.{lends_at}
-use Rattle.schedule_rules.specs.Laws.{IsEndedTurn}
+use Rattle.schedule_rules.proofs.Words.{ℕ, ◌≡◌, List, arith, Bool, true, refl, false, Some, ◌∷◌, ◌∙◌, [], sym, ap, ◌⊎◌, inl, inr, ◌≢◌, ◌++◌, All, All-head, All-tail, ◌==◌}
+use Rattle.schedule_rules.proofs.Words.{if◌then◌else◌, has, initialized, is_plain, is_hard, Kind, Answer, CellPlan, Act, cell_at, Content, Change, effect, Ran, Put, Deed, Visits}
+use Rattle.schedule_rules.proofs.Words.{Makes, Finishes, EndsToRead, Ends, DropsToRead, Drops, Lends, Event, deed_of, sections, innermost, Guard, guards, numbered, replay}
+use Rattle.schedule_rules.proofs.Words.{phase_at, cell_of_section, IsLegal, lends_at, IsEndedTurn}
 use Rattle.schedule_rules.proofs.Exclusion.{alone}
 use Rattle.schedule_rules.proofs.Found.{each_found}
-use Rattle.schedule_rules.proofs.Cases.{Asking, Resting, AsksToLend, Reach}
-use Rattle.schedule_rules.proofs.Finds.{Visit, Comes, Lending, Finds, Tells, finds, tells}
-use Rattle.schedule_rules.proofs.Leaves.{left_at, GivesOf, moves, rests, asked_value}
-use Rattle.schedule_rules.proofs.Grows.{HasRun, IsReady, wanted-lacks, asked-lacks, lacks, sound, initialized-stays}
+use Rattle.schedule_rules.proofs.Finds.{Visit, Lending, Finds, Tells, finds, tells}
+use Rattle.schedule_rules.proofs.Leaves.{left_at, GivesOf, moves, asked_value}
+use Rattle.schedule_rules.proofs.Grows.{HasRun, IsReady, lacks, sound, initialized-stays}
 use Rattle.schedule_rules.proofs.Opening.{IsOfRun, IsRunning, guards-run}
 use Rattle.schedule_rules.proofs.Kinded.{IsUnplain, unplain}
 use Rattle.schedule_rules.proofs.Finishing.{ended-turn}
@@ -35,17 +16,13 @@ use Rattle.schedule_rules.proofs.Facts.{apart, same_number}
 -- a section of sets alone keeps the phase
 puts_keep : (q : CellPlan) (chs : List Change) (y : Content) → IsOfRun chs → HasRun chs ⊎ ((effect q chs y).phase ≡ y.phase)
 puts_keep q [] y r = inr refl
-puts_keep q (Ran o m ∷ chs) y r = inl tt
 puts_keep q (Put v ∷ chs) y r = puts_keep q chs y r
-puts_keep q (Asked o k ∷ chs) y r = absurd r
-puts_keep q (RanIfAsked o m ∷ chs) y r = absurd r
-puts_keep q (Ended fine left ∷ chs) y r = absurd r
+puts_keep q (Ran o m ∷ chs) y r = inl tt
+puts_keep q (ch ∷ chs) y r = absurd r
 
 -- a plain kind is soft
 pub plain_soft : (q : Kind) → is_plain q ≡ true → is_hard q ≡ false
-plain_soft kind.Lazy e = refl
-plain_soft kind.LazyFinalize e = refl
-plain_soft _ e = absurd (apart (sym e))
+plain_soft q e = grind arith
 
 module _ (cells : List CellPlan) (h : List Event) (p : ℕ) (legal : IsLegal cells h) where
   -- a finalizer of the cell ends
@@ -58,20 +35,11 @@ module _ (cells : List CellPlan) (h : List Event) (p : ℕ) (legal : IsLegal cel
   Settles d z y w = has y.phase initialized ≡ true → (w.phase ≡ y.phase) ⊎ IsEnding d z
 
   visits : (c : ℕ) (chs : List Change) (reads : Bool) (v : Visit cells h p c chs reads) → has (phase_at cells c h) initialized ≡ true → (effect (cell_at cells c) chs (replay cells c h)).phase ≡ phase_at cells c h
-  visits c chs reads v r = by v.finds
-    where
-      by : Asking cells h p c v.asked false ⊎ Resting cells h p c v.asked → (effect (cell_at cells c) chs (replay cells c h)).phase ≡ phase_at cells c h
-      by (inl q) = absurd (apart (sym r ∙ wanted-lacks (tolerance_at cells c) (phase_at cells c h) q.wanted))
-      by (inr q) = ap (λ y. y.phase) (rests cells h p (alone cells h legal) c chs v.asked v.does q)
+  visits c chs reads v r = grind arith
 
   -- no run is asked to lend a value that is there
   lends : (c : ℕ) (chs : List Change) → Lending cells h p c chs → has (phase_at cells c h) initialized ≡ true → (effect (cell_at cells c) chs (replay cells c h)).phase ≡ phase_at cells c h
-  lends c chs f r = by f.does
-    where
-      by : (AsksToLend cells h p c true × ((made : Option ℕ) × Comes cells h p c chs (Ran (accepts h) made))) ⊎ (Reach cells h p c true × ((left : ℕ) × Comes cells h p c chs (Put left)))
-          → (effect (cell_at cells c) chs (replay cells c h)).phase ≡ phase_at cells c h
-      by (inl a) = absurd (apart (sym r ∙ asked-lacks (cell_at cells c).kind (tolerance_at cells c) (phase_at cells c h) a.0))
-      by (inr a) = ap (λ y. y.phase) a.1.1
+  lends c chs f r = grind arith
 
   -- no generator ended in the section of a guard that stands on a value
   dropped : (g : ℕ) (x : Guard) → numbered g (guards h) ≡ Some x → x.writes ≡ true → has (phase_at cells x.cell h) initialized ≡ true
@@ -79,8 +47,7 @@ module _ (cells : List CellPlan) (h : List Event) (p : ℕ) (legal : IsLegal cel
   dropped g x f w r = by (puts_keep (cell_at cells x.cell) x.changes (replay cells x.cell h) (each_found (λ y. y.number == g) IsRunning (guards h) x f (guards-run h)))
     where
       by : HasRun x.changes ⊎ ((effect (cell_at cells x.cell) x.changes (replay cells x.cell h)).phase ≡ phase_at cells x.cell h) → (effect (cell_at cells x.cell) x.changes (replay cells x.cell h)).phase ≡ phase_at cells x.cell h
-      by (inl n) = absurd (apart (sym r ∙ (each_found (λ y. y.number == g) (IsReady cells h) (guards h) x f (sound cells h legal).ready w).1 n))
-      by (inr e) = e
+      by k1 = grind (arith, each_found, IsReady, sound)
 
   gives : (d : Deed) (f : Finds cells h p d) → GivesOf cells h p (alone cells h legal) (Settles d) d f
   gives (Ends (Makes made)) f = λ r. absurd (apart (sym r ∙ lacks cells h p (alone cells h legal) (sound cells h legal) f))
@@ -123,12 +90,7 @@ module _ (cells : List CellPlan) (h : List Event) (p : ℕ) (legal : IsLegal cel
 
   -- a deed lends a value by an act that is to lend it
   lent_by : (a : Act) (r : Answer) (d : Deed) (c : ℕ) → Tells cells h p a r d → lends_at c a ≡ false → lends_to c d ≡ false
-  lent_by a r (Lends z chs) c t n = by (z == c) refl
-    where
-      by : (b : Bool) → (z == c) ≡ b → (z == c) ≡ false
-      by false e = e
-      by true e = let at : z ≡ c = grind arith in absurd (apart (sym (subst (λ y. lends_at y a ≡ true) at t.lends) ∙ n))
-  lent_by a r _ c t n = refl
+  lent_by a r k1 c t n = grind arith
 
 -- the value of a plain cell stays once its phase has INITIALIZED, while no step is to lend it
 pub plain-stays : (cells : List CellPlan) (h later : List Event) (c : ℕ) → IsLegal cells (later ++ h) → All (λ e. lends_at c e.step.act ≡ false) later → is_plain (cell_at cells c).kind ≡ true → has (phase_at cells c h) initialized ≡ true

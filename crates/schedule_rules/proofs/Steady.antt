@@ -1,17 +1,7 @@
 -- What is published of a cell stays while a section of it is open.
-use Rattle.std.proofs.Common.{◌≡◌, ℕ, ◌≤◌, List, [], ◌∷◌, length, refl, arith, ◌<◌, sym, ◌∙◌, ap, true, Some}
-use Rattle.schedule_rules.specs.History.{Event, before, deed_of}
-use Rattle.std.specs.Prelude.{◌==◌}
-use Rattle.std.specs.List.{AllByRecursion}
-use Rattle.schedule_rules.specs.declared.plan.CellPlan.{CellPlan}
-use Rattle.schedule_rules.specs.Kinds.{cell_at}
-use Rattle.schedule_rules.specs.Changes.{Content, effect}
-use Rattle.schedule_rules.specs.Deeds.{Deed, Opens, Holds, EndsToWrite}
-use Rattle.schedule_rules.specs.Sections.{Section, innermost, sections}
-use Rattle.schedule_rules.specs.Guards.{Guard, numbered, guards}
-use Rattle.schedule_rules.specs.Replay.{replay, inside}
-use Rattle.schedule_rules.specs.Legal.{IsLegal, IsExclusive}
-use Rattle.schedule_rules.specs.Laws.{IsAsAt}
+use Rattle.schedule_rules.proofs.Words.{ℕ, ◌≡◌, List, arith, true, refl, Some, ◌∷◌, ◌∙◌, [], sym, ap, ◌<◌, length, ◌≤◌, AllByRecursion, ◌==◌, CellPlan, cell_at, Content, effect}
+use Rattle.schedule_rules.proofs.Words.{Deed, EndsToWrite, Opens, Holds, Event, deed_of, before, sections, Section, innermost, Guard, guards, numbered, replay, inside, IsLegal}
+use Rattle.schedule_rules.proofs.Words.{IsExclusive, IsAsAt}
 use Rattle.schedule_rules.proofs.Exclusion.{alone}
 use Rattle.schedule_rules.proofs.Found.{each_found}
 use Rattle.schedule_rules.proofs.Finds.{Finds, finds}

@@ -1,62 +1,35 @@
 -- Tests of answers, and which answers of what is admitted pass them.
-use Rattle.std.proofs.Common.{◌≡◌, ℕ, List, Bool, true, false, not, ◌&&◌, ◌||◌, None, Some, refl, sym, ◌∙◌, ap}
-use Rattle.std.specs.Prelude.{◌==◌, is_none, if◌then◌else◌}
-use Rattle.std.specs.declared.option.Option.{Option}
-use Rattle.phase_bits.specs.declared.phase.Phase.{Phase}
-use Rattle.phase_bits.specs.Flags.{has, initialized}
-use Rattle.phase_locker.specs.declared.tickets.LockNature.{LockNature}
-use Rattle.phase_locker.specs.declared.tickets.LockNature.TheVariants as nature
-use Rattle.phase_seq.specs.Phases.{flags_refused}
-use Rattle.phase_seq.specs.declared.tolerance.Tolerance.{Tolerance}
-use Rattle.lazy_cells.specs.declared.kind.Kind.{Kind}
-use Rattle.schedule_rules.specs.declared.form.Form.{Form}
-use Rattle.schedule_rules.specs.declared.form.Form.TheVariants.{Told, Shown, Held}
-use Rattle.schedule_rules.specs.declared.plan.CellPlan.{CellPlan}
-use Rattle.schedule_rules.specs.declared.step.Act.{Act}
-use Rattle.schedule_rules.specs.declared.step.Act.TheVariants as act
-use Rattle.schedule_rules.specs.declared.step.Want.{Want}
-use Rattle.schedule_rules.specs.declared.step.Want.TheVariants.{Calls, Turns}
-use Rattle.schedule_rules.specs.declared.line.Answer.{Answer}
-use Rattle.schedule_rules.specs.declared.line.Answer.TheVariants as answer
-use Rattle.schedule_rules.specs.Kinds.{cell_at, tolerance_at}
-use Rattle.schedule_rules.specs.Forms.{form_of, denies}
-use Rattle.schedule_rules.specs.Phases.{is_accessible, runs_generator}
-use Rattle.schedule_rules.specs.Calls.{lock_wanted, asks}
-use Rattle.schedule_rules.specs.Changes.{Content, content_of_run, asks_to_lend, content_to_lend}
-use Rattle.schedule_rules.specs.History.{Event, accepts}
-use Rattle.schedule_rules.specs.Replay.{replay, phase_at}
-use Rattle.schedule_rules.specs.Refusals.{refusal}
-use Rattle.schedule_rules.specs.Sections.{is_turn}
-use Rattle.schedule_rules.specs.Answers.{answer_at, answer_lent, answer_made_to_lend, turn_answer_admitted, answer_admitted, answer_barred}
-use Rattle.schedule_rules.specs.Causes.{is_waiting, is_borrowed, is_missed, is_running, is_access, is_cyclic, is_finalizing, is_skipped, is_round, is_closing, want_denies, is_denied_to_lend}
-use Rattle.schedule_rules.proofs.Answered.{IsShown, IsTold, either, admitted}
-use Rattle.schedule_rules.proofs.Steps.{made_accessible, lendable}
-use Rattle.phase_locker.specs.declared.ways.How.{How}
-use Rattle.lazy_cells.specs.declared.call.Call.{Call}
-use Rattle.lazy_cells.specs.declared.call.Call.TheVariants as call
-use Rattle.schedule_rules.specs.declared.plan.Place.{Place}
-use Rattle.schedule_rules.specs.declared.plan.Place.TheVariants as place
-use Rattle.schedule_rules.specs.Laws.{is_initializing}
+use Rattle.schedule_rules.proofs.Words.{ℕ, ◌≡◌, List, arith, Bool, true, refl, false, sym, None, ◌&&◌, not, length, ◌||◌, ◌==◌, if◌then◌else◌, Option, has, initialized, Phase}
+use Rattle.schedule_rules.proofs.Words.{look_at, is_empty, LockNature, How, flags_refused, Tolerance, Call, Kind, Form, Answer, CellPlan, Place, Act, Want, Calls, Turns, cell_at}
+use Rattle.schedule_rules.proofs.Words.{tolerance_at, is_owned, form_of, denies, is_accessible, runs_generator, asks, lock_wanted, Content, Event, accepts, is_turn, replay}
+use Rattle.schedule_rules.proofs.Words.{refusal, answer_barred, answer_made_to_lend, answer_admitted, answer_lent, answer_at, turn_answer_admitted, answer_of_look, is_waiting}
+use Rattle.schedule_rules.proofs.Words.{is_cyclic, is_finalizing, is_missed, is_borrowed, is_access, is_skipped, is_round, is_running, is_denied_to_lend, is_closing, want_denies}
+use Rattle.schedule_rules.proofs.Words.{is_initializing}
+use Rattle.schedule_rules.proofs.Answered.{IsShown, IsTold, admitted}
 
 -- a test that no answer passes of a step that attempts nothing, but a clone that is barred, and one that is to lend a value which
 -- may not be accessed, where the test is passed by that
 pub record IsOfTries (t : Answer → Bool) (denies : Bool) : Type 0 where
   pub shown : IsShown (λ a. t a ≡ false)
-  pub access : (p : Phase) → t (answer.Access p) ≡ denies
-  pub done : t answer.Done ≡ false
-  pub failed : t answer.Failed ≡ false
+  pub access : (p : Phase) → t (Answer.Access p) ≡ denies
+  pub done : t Answer.Done ≡ false
+  pub failed : t Answer.Failed ≡ false
 
--- one that no answer passes of a step that is neither refused nor barred, nor begins a run, is told that it may not access the
--- value, or is a turn
+-- one that no answer passes either of a step that is neither refused nor barred, nor begins a run, is told that it may not
+-- access the value, or is a turn
 pub record IsBeyond (t : Answer → Bool) : Type 0 where
-  pub told : IsTold (λ a. t a ≡ false)
-  pub running : t answer.Running ≡ false
-  pub finalizing : (c : ℕ) → t (answer.Finalizing c) ≡ false
-  pub skipped : (c : ℕ) → t (answer.Skipped c) ≡ false
+  pub tries : IsOfTries t false
+  pub err_guard : t Answer.ErrGuard ≡ false
+  pub running : t Answer.Running ≡ false
+  pub finalizing : (c : ℕ) → t (Answer.Finalizing c) ≡ false
+  pub skipped : (c : ℕ) → t (Answer.Skipped c) ≡ false
+
+pub told_of : (t : Answer → Bool) → IsOfTries t false → t Answer.ErrGuard ≡ false → IsTold (λ a. t a ≡ false)
+told_of t is e = record { shown = is.shown; access = is.access; err_guard = e }
 
 -- the answer says that the step is refused
 abbrev pub is_refused : Answer → Bool
-is_refused (answer.Refused r) = true
+is_refused (Answer.Refused r) = true
 is_refused _ = false
 
 pub of_running : IsOfTries is_running false
@@ -65,91 +38,95 @@ of_running = record { shown = record { phase = λ p. refl; value = λ v. refl; r
 pub of_access : IsOfTries is_access true
 of_access = record { shown = record { phase = λ p. refl; value = λ v. refl; read_guard = refl; write_guard = refl }; access = λ p. refl; done = refl; failed = refl }
 
-pub of_cyclic : IsOfTries is_cyclic false
-of_cyclic = record { shown = record { phase = λ p. refl; value = λ v. refl; read_guard = refl; write_guard = refl }; access = λ p. refl; done = refl; failed = refl }
-
 pub of_finalizing : (c : ℕ) → IsOfTries (is_finalizing c) false
 of_finalizing c = record { shown = record { phase = λ p. refl; value = λ v. refl; read_guard = refl; write_guard = refl }; access = λ p. refl; done = refl; failed = refl }
 
 pub of_skipped : (c : ℕ) → IsOfTries (is_skipped c) false
 of_skipped c = record { shown = record { phase = λ p. refl; value = λ v. refl; read_guard = refl; write_guard = refl }; access = λ p. refl; done = refl; failed = refl }
 
-pub of_round : (n : ℕ) → IsOfTries (is_round n) false
-of_round n = record { shown = record { phase = λ p. refl; value = λ v. refl; read_guard = refl; write_guard = refl }; access = λ p. refl; done = refl; failed = refl }
-
-pub of_closing : IsOfTries is_closing false
-of_closing = record { shown = record { phase = λ p. refl; value = λ v. refl; read_guard = refl; write_guard = refl }; access = λ p. refl; done = refl; failed = refl }
-
-pub of_waiting : IsOfTries is_waiting false
-of_waiting = record { shown = record { phase = λ p. refl; value = λ v. refl; read_guard = refl; write_guard = refl }; access = λ p. refl; done = refl; failed = refl }
-
-pub of_missed : IsOfTries is_missed false
-of_missed = record { shown = record { phase = λ p. refl; value = λ v. refl; read_guard = refl; write_guard = refl }; access = λ p. refl; done = refl; failed = refl }
-
-pub of_borrowed : IsOfTries is_borrowed false
-of_borrowed = record { shown = record { phase = λ p. refl; value = λ v. refl; read_guard = refl; write_guard = refl }; access = λ p. refl; done = refl; failed = refl }
-
-pub of_refused : IsOfTries is_refused false
-of_refused = record { shown = record { phase = λ p. refl; value = λ v. refl; read_guard = refl; write_guard = refl }; access = λ p. refl; done = refl; failed = refl }
-
 -- those that look at the ways of being barred, and so on
-pub beyond_waiting : IsBeyond is_waiting
-beyond_waiting = record { told = record { shown = of_waiting.shown; access = λ p. refl; err_guard = refl }; running = refl; finalizing = λ c. refl; skipped = λ c. refl }
+pub of_waiting : IsBeyond is_waiting
+of_waiting = record { tries = record { shown = record { phase = λ p. refl; value = λ v. refl; read_guard = refl; write_guard = refl }; access = λ p. refl; done = refl; failed = refl }; err_guard = refl; running = refl; finalizing = λ c. refl; skipped = λ c. refl }
 
-pub beyond_missed : IsBeyond is_missed
-beyond_missed = record { told = record { shown = of_missed.shown; access = λ p. refl; err_guard = refl }; running = refl; finalizing = λ c. refl; skipped = λ c. refl }
+pub of_missed : IsBeyond is_missed
+of_missed = record { tries = record { shown = record { phase = λ p. refl; value = λ v. refl; read_guard = refl; write_guard = refl }; access = λ p. refl; done = refl; failed = refl }; err_guard = refl; running = refl; finalizing = λ c. refl; skipped = λ c. refl }
 
-pub beyond_borrowed : IsBeyond is_borrowed
-beyond_borrowed = record { told = record { shown = of_borrowed.shown; access = λ p. refl; err_guard = refl }; running = refl; finalizing = λ c. refl; skipped = λ c. refl }
+pub of_borrowed : IsBeyond is_borrowed
+of_borrowed = record { tries = record { shown = record { phase = λ p. refl; value = λ v. refl; read_guard = refl; write_guard = refl }; access = λ p. refl; done = refl; failed = refl }; err_guard = refl; running = refl; finalizing = λ c. refl; skipped = λ c. refl }
 
-pub beyond_refused : IsBeyond is_refused
-beyond_refused = record { told = record { shown = of_refused.shown; access = λ p. refl; err_guard = refl }; running = refl; finalizing = λ c. refl; skipped = λ c. refl }
+pub of_refused : IsBeyond is_refused
+of_refused = record { tries = record { shown = record { phase = λ p. refl; value = λ v. refl; read_guard = refl; write_guard = refl }; access = λ p. refl; done = refl; failed = refl }; err_guard = refl; running = refl; finalizing = λ c. refl; skipped = λ c. refl }
 
-pub beyond_cyclic : IsBeyond is_cyclic
-beyond_cyclic = record { told = record { shown = of_cyclic.shown; access = λ p. refl; err_guard = refl }; running = refl; finalizing = λ c. refl; skipped = λ c. refl }
+pub of_cyclic : IsBeyond is_cyclic
+of_cyclic = record { tries = record { shown = record { phase = λ p. refl; value = λ v. refl; read_guard = refl; write_guard = refl }; access = λ p. refl; done = refl; failed = refl }; err_guard = refl; running = refl; finalizing = λ c. refl; skipped = λ c. refl }
 
-pub beyond_round : (n : ℕ) → IsBeyond (is_round n)
-beyond_round n = let is : _ = of_round n in record { told = record { shown = is.shown; access = λ p. refl; err_guard = refl }; running = refl; finalizing = λ c. refl; skipped = λ c. refl }
+pub of_round : (n : ℕ) → IsBeyond (is_round n)
+of_round n = record { tries = record { shown = record { phase = λ p. refl; value = λ v. refl; read_guard = refl; write_guard = refl }; access = λ p. refl; done = refl; failed = refl }; err_guard = refl; running = refl; finalizing = λ c. refl; skipped = λ c. refl }
 
-pub beyond_closing : IsBeyond is_closing
-beyond_closing = record { told = record { shown = of_closing.shown; access = λ p. refl; err_guard = refl }; running = refl; finalizing = λ c. refl; skipped = λ c. refl }
+pub of_closing : IsBeyond is_closing
+of_closing = record { tries = record { shown = record { phase = λ p. refl; value = λ v. refl; read_guard = refl; write_guard = refl }; access = λ p. refl; done = refl; failed = refl }; err_guard = refl; running = refl; finalizing = λ c. refl; skipped = λ c. refl }
 
 pub no_more : (b : Bool) → (b && false) ≡ false
-no_more true = refl
-no_more false = refl
+no_more b = grind arith
 
 pub same_both : (b : Bool) → b ≡ (b && true)
-same_both true = refl
-same_both false = refl
+same_both b = grind arith
 
 pub nothing_else : (b : Bool) → (b || false) ≡ b
-nothing_else true = refl
-nothing_else false = refl
+nothing_else b = grind arith
 
 pub neither : (x y b d : Bool) → b ≡ false → d ≡ false → ((x && b) || (y && d)) ≡ false
-neither true true b d e f = rw (e, f) refl
-neither true false b d e f = rw e refl
-neither false true b d e f = f
-neither false false b d e f = refl
+neither x y b d e f = grind arith
 
 pub unless_first : (x y u v : Bool) → u ≡ v → (x || ((y && false) || (u && true))) ≡ (x || v)
-unless_first true y u v e = refl
-unless_first false true u v e = sym (same_both u) ∙ e
-unless_first false false u v e = sym (same_both u) ∙ e
+unless_first x y u v e = grind arith
+
+-- what is barred alone, what is admitted alone, what is its own run alone, and what is not admitted
+pub only_barred : (own kept barred x : Bool) → (if own then false else if not kept && barred then x else false) ≡ ((not own && (not kept && barred)) && x)
+only_barred own kept barred x = grind arith
+
+pub only_admitted : (own kept barred x : Bool) → (if own then false else if not kept && barred then false else x) ≡ ((not own && not (not own && (not kept && barred))) && x)
+only_admitted own kept barred x = grind arith
+
+pub only_own : (own kept barred x : Bool) → (if own then x else if not kept && barred then false else false) ≡ (own && x)
+only_own own kept barred x = grind arith
+
+pub not_admitted : (own kept barred : Bool) → (if own then true else if not kept && barred then true else false) ≡ not (not own && not (not own && (not kept && barred)))
+not_admitted own kept barred = grind arith
+
+pub none_kept : (x y z : Bool) → ((not x && (not true && y)) && z) ≡ false
+none_kept x y z = grind arith
+
+pub none_asked : (x y a g : Bool) → a ≡ false → (x && (y && (a && g))) ≡ false
+none_asked x y a g f = grind arith
+
+pub parts_of_look : (a b c d : Bool) → (a && (b && (c && d))) ≡ ((a && (b && c)) && d)
+parts_of_look a b c d = grind arith
+
+pub parts_of_borrowing : (n x y u : Bool) → (n && (x || ((y && true) || (u && false)))) ≡ ((n && y) || (n && x))
+parts_of_borrowing n x y u = grind arith
+
+-- which of what is barred waits, misses and borrows
+pub barred_waits : (fast : Bool) (x : Place) (w : How) → is_waiting (answer_barred fast x w) ≡ (not fast && not (is_owned x))
+barred_waits fast x w = grind arith
+
+pub barred_misses : (fast : Bool) (x : Place) (w : How) → is_missed (answer_barred fast x w) ≡ fast
+barred_misses fast x w = grind arith
+
+pub barred_borrows : (fast : Bool) (x : Place) (w : How) → is_borrowed (answer_barred fast x w) ≡ (not fast && is_owned x)
+barred_borrows fast x w = grind arith
+
+-- a look took so many, or found none
+pub look_rounds : (n : ℕ) (cs : List ℕ) → is_round n (answer_of_look (look_at cs)) ≡ (not (is_empty cs) && (length cs == n))
+look_rounds n cs = grind arith
+
+pub look_closes : (cs : List ℕ) → is_closing (answer_of_look (look_at cs)) ≡ is_empty cs
+look_closes cs = grind arith
+
+pub runs_at : (f : Form) (b : Bool) (z : Content) → is_running (answer_at f b z) ≡ false
+runs_at f b z = grind arith
 
 -- ---- what is admitted
-
--- the answer of a call that runs nothing says that the value may not be accessed, where it may not be and the call is told so
-pub at_denies : (f : Form) (b : Bool) (y : Content) → is_access (answer_at f b y) ≡ (denies f && not b)
-at_denies (Told tests) true y = sym (no_more tests)
-at_denies (Told true) false y = refl
-at_denies (Told false) false y = refl
-at_denies Shown true y = refl
-at_denies Shown false y = refl
-at_denies (Held true falls_back) true y = sym (no_more (not falls_back))
-at_denies (Held false falls_back) true y = sym (no_more (not falls_back))
-at_denies (Held writes true) false y = refl
-at_denies (Held writes false) false y = refl
 
 module _ (q : Kind) (t : Tolerance) (c : ℕ) (o : Bool) (y : Content) where
   -- what it holds where a run is asked, and its generator runs
@@ -160,26 +137,9 @@ module _ (q : Kind) (t : Tolerance) (c : ℕ) (o : Bool) (y : Content) where
   pub admitted_runs : (w : Want) → is_running (answer_admitted q t c o w y) ≡ (asks q t w y.phase && runs_generator q t o y.phase)
   admitted_runs (Calls k) = by (asks q t (Calls k) y.phase) (runs_generator q t o y.phase)
     where
-      shows : (f : Form) (b : Bool) (z : Content) → is_running (answer_at f b z) ≡ false
-      shows (Told tests) true z = refl
-      shows (Told true) false z = refl
-      shows (Told false) false z = refl
-      shows Shown true z = refl
-      shows Shown false z = refl
-      shows (Held true falls_back) true z = refl
-      shows (Held false falls_back) true z = refl
-      shows (Held writes true) false z = refl
-      shows (Held writes false) false z = refl
-
-      by : (b g : Bool) → is_running (if b && g then answer.Running else answer_at (form_of q k) (is_accessible q (content b g).phase) (content b g)) ≡ (b && g)
-      by true true = refl
-      by true false = shows (form_of q k) false (content true false)
-      by false g = shows (form_of q k) (is_accessible q y.phase) y
-  admitted_runs Turns = by (has y.phase initialized)
-    where
-      by : (b : Bool) → is_running (turn_answer_admitted (if b then nature.Write else nature.None) c) ≡ false
-      by true = refl
-      by false = refl
+      by : (b g : Bool) → is_running (if b && g then Answer.Running else answer_at (form_of q k) (is_accessible q (content b g).phase) (content b g)) ≡ (b && g)
+      by b g = grind (arith, runs_at)
+  admitted_runs Turns = elim (has y.phase initialized) as (λ b. is_running (turn_answer_admitted (if b then LockNature.Write else LockNature.None) c) ≡ false) [ true ↦ refl | false ↦ refl ]
 
   -- it is turned away exactly where it runs nothing, is a call that is told where the value may not be accessed, and it may
   -- not be at the phase that it leaves
@@ -187,103 +147,51 @@ module _ (q : Kind) (t : Tolerance) (c : ℕ) (o : Bool) (y : Content) where
       ≡ (not (asks q t w y.phase && runs_generator q t o y.phase) && (want_denies q w && not (is_accessible q (if asks q t w y.phase then flags_refused else y.phase))))
   admitted_away (Calls k) = by (asks q t (Calls k) y.phase) (runs_generator q t o y.phase)
     where
-      by : (b g : Bool) → is_access (if b && g then answer.Running else answer_at (form_of q k) (is_accessible q (content b g).phase) (content b g))
+      by : (b g : Bool) → is_access (if b && g then Answer.Running else answer_at (form_of q k) (is_accessible q (content b g).phase) (content b g))
           ≡ (not (b && g) && (denies (form_of q k) && not (is_accessible q (if b then flags_refused else y.phase))))
-      by true true = refl
-      by true false = at_denies (form_of q k) false (content true false)
-      by false g = at_denies (form_of q k) (is_accessible q y.phase) y
-  admitted_away Turns = by (has y.phase initialized)
-    where
-      by : (b : Bool) → is_access (turn_answer_admitted (if b then nature.Write else nature.None) c) ≡ false
-      by true = refl
-      by false = refl
+      by b g = grind arith
+  admitted_away Turns = elim (has y.phase initialized) as (λ b. is_access (turn_answer_admitted (if b then LockNature.Write else LockNature.None) c) ≡ false) [ true ↦ refl | false ↦ refl ]
 
   -- a turn finalizes exactly where the value is there
   pub admitted_finalizes : (d : ℕ) (w : Want) → is_finalizing d (answer_admitted q t c o w y) ≡ (is_turn w && ((c == d) && has y.phase initialized))
-  admitted_finalizes d (Calls k) = admitted (λ a. is_finalizing d a ≡ false) (record { shown = (of_finalizing d).shown; access = λ p. refl; err_guard = refl }) refl q t o k y
-  admitted_finalizes d Turns = by (has y.phase initialized)
-    where
-      by : (b : Bool) → is_finalizing d (turn_answer_admitted (if b then nature.Write else nature.None) c) ≡ ((c == d) && b)
-      by true = same_both (c == d)
-      by false = sym (no_more (c == d))
+  admitted_finalizes d (Calls k) = admitted (λ a. is_finalizing d a ≡ false) (told_of (is_finalizing d) (of_finalizing d) refl) refl q t o k y
+  admitted_finalizes d Turns = elim (has y.phase initialized) as (λ b. is_finalizing d (turn_answer_admitted (if b then LockNature.Write else LockNature.None) c) ≡ ((c == d) && b)) [ true ↦ same_both _ | false ↦ sym (no_more _) ]
 
   -- and is skipped exactly where it is not
   pub admitted_skips : (d : ℕ) (w : Want) → is_skipped d (answer_admitted q t c o w y) ≡ (is_turn w && ((c == d) && not (has y.phase initialized)))
-  admitted_skips d (Calls k) = admitted (λ a. is_skipped d a ≡ false) (record { shown = (of_skipped d).shown; access = λ p. refl; err_guard = refl }) refl q t o k y
-  admitted_skips d Turns = by (has y.phase initialized)
-    where
-      by : (b : Bool) → is_skipped d (turn_answer_admitted (if b then nature.Write else nature.None) c) ≡ ((c == d) && not b)
-      by true = sym (no_more (c == d))
-      by false = same_both (c == d)
+  admitted_skips d (Calls k) = admitted (λ a. is_skipped d a ≡ false) (told_of (is_skipped d) (of_skipped d) refl) refl q t o k y
+  admitted_skips d Turns = elim (has y.phase initialized) as (λ b. is_skipped d (turn_answer_admitted (if b then LockNature.Write else LockNature.None) c) ≡ ((c == d) && not b)) [ true ↦ sym (no_more _) | false ↦ same_both _ ]
 
   -- nothing that is admitted passes a test of what is not
   pub admitted_fails : (f : Answer → Bool) → IsBeyond f → (w : Want) → f (answer_admitted q t c o w y) ≡ false
-  admitted_fails f is (Calls k) = admitted (λ a. f a ≡ false) is.told is.running q t o k y
-  admitted_fails f is Turns = by (lock_wanted q t Turns y.phase)
-    where
-      by : (n : LockNature) → f (turn_answer_admitted n c) ≡ false
-      by nature.None = is.skipped c
-      by nature.Read = is.finalizing c
-      by nature.Write = is.finalizing c
+  admitted_fails f is (Calls k) = admitted (λ a. f a ≡ false) (told_of f is.tries is.err_guard) is.running q t o k y
+  admitted_fails f is Turns = elim (lock_wanted q t Turns y.phase) as (λ n. f (turn_answer_admitted n c) ≡ false) [ LockNature.None ↦ is.skipped c | _ ↦ is.finalizing c ]
 
--- a test that fails on what is barred
-pub record FailsBarred (t : Answer → Bool) : Type 0 where
-  pub missed : t answer.Missed ≡ false
-  pub borrowed : t answer.Borrowed ≡ false
-  pub waiting : (w : How) → t (answer.Waiting w) ≡ false
-
-pub fails_barred : (t : Answer → Bool) → FailsBarred t → (fast : Bool) (x : Place) (w : How) → t (answer_barred fast x w) ≡ false
-fails_barred t k true x w = k.missed
-fails_barred t k false place.Park w = k.waiting _
-fails_barred t k false place.Spin w = k.waiting _
-fails_barred t k false (place.Own p) w = k.borrowed
+-- a test fails on what is barred
+pub fails_barred : (t : Answer → Bool) → t Answer.Missed ≡ false → t Answer.Borrowed ≡ false → ((w : How) → t (Answer.Waiting w) ≡ false) → (fast : Bool) (x : Place) (w : How) → t (answer_barred fast x w) ≡ false
+fails_barred t m b k fast x w = grind (arith, k)
 
 -- a call that does not initialize asks for no run
 pub calls_not : (q : Kind) (t : Tolerance) (k : Call) (p : ℕ) → is_initializing k ≡ false → asks q t (Calls k) p ≡ false
-calls_not q t call.Phase p e = refl
-calls_not q t call.TryGet p e = refl
-calls_not q t call.TryRead p e = refl
-calls_not q t call.TryWrite p e = refl
-calls_not q t call.FastTryRead p e = refl
-calls_not q t call.FastTryWrite p e = refl
-calls_not q t call.PrimedReadNonInitializing p e = refl
-calls_not q t call.PrimedWriteNonInitializing p e = refl
-calls_not q t _ p e = absurd (cc)
+calls_not q t k1 p e = grind arith
 
 -- ---- a value that is lent
 
 -- the answer of a step that is to lend a value says that it may not be accessed
 abbrev pub is_unlent : List CellPlan → List Event → Act → Bool
-is_unlent cells h (act.GetMut c made left) = is_access (answer_made_to_lend (cell_at cells c).kind (tolerance_at cells c) (accepts h) made (replay cells c h))
-is_unlent cells h (act.TryGetMut c left) = is_access (answer_lent (cell_at cells c).kind (replay cells c h))
+is_unlent cells h (Act.GetMut c made left) = is_access (answer_made_to_lend (cell_at cells c).kind (tolerance_at cells c) (accepts h) made (replay cells c h))
+is_unlent cells h (Act.TryGetMut c left) = is_access (answer_lent (cell_at cells c).kind (replay cells c h))
 is_unlent cells h _ = false
 
 -- where it is not refused, exactly where that is so
 pub unlent_where_denied : (cells : List CellPlan) (h : List Event) (p : ℕ) (a : Act) → refusal cells h (record { party = p; act = a }) ≡ None → is_unlent cells h a ≡ is_denied_to_lend cells h a
-unlent_where_denied cells h p (act.TryGetMut c left) n = at_denies Shown (is_accessible (cell_at cells c).kind (phase_at cells c h)) (replay cells c h)
-unlent_where_denied cells h p (act.GetMut c made left) n = by (asks_to_lend q (tolerance_at cells c) (phase_at cells c h)) made
-  where
-    q : Kind
-    q = (cell_at cells c).kind
-
-    by : (b : Bool) (m : Option ℕ)
-        → is_access (if b && is_none m then answer.Failed else answer_lent q (if b then content_of_run q (accepts h) m (replay cells c h) else replay cells c h)) ≡ (not b && not (is_accessible q (phase_at cells c h)))
-    by true None = refl
-    by true (Some v) =
-        ap (λ b. is_access (answer_at Shown b (content_of_run q (accepts h) (Some v) (replay cells c h)))) (made_accessible q (accepts h) (phase_at cells c h) (lendable cells h p c made left n).lends)
-    by false m = at_denies Shown (is_accessible q (phase_at cells c h)) (replay cells c h)
-unlent_where_denied cells h p _ n = refl
+unlent_where_denied cells h p k1 n = grind arith
 
 module _ (t : Answer → Bool) {denies : Bool} (is : IsOfTries t denies) where
   -- of a value that is lent
   pub shows : (q : Kind) (y : Content) → t (answer_lent q y) ≡ (is_access (answer_lent q y) && denies)
-  shows q y = by (is_accessible q y.phase)
-    where
-      by : (b : Bool) → t (answer_at Shown b y) ≡ (is_access (answer_at Shown b y) && denies)
-      by true = is.shown.value _
-      by false = is.access _
+  shows q y = grind arith
 
   -- and of one that a run makes first, where it is asked
   pub makes : (q : Kind) (u : Tolerance) (o : Bool) (made : Option ℕ) (y : Content) → t (answer_made_to_lend q u o made y) ≡ (is_access (answer_made_to_lend q u o made y) && denies)
-  makes q u o made y =
-      either (λ r. t r ≡ (is_access r && denies)) (asks_to_lend q u y.phase && is_none made) answer.Failed (answer_lent q (content_to_lend q u o made y)) is.failed (shows q (content_to_lend q u o made y))
+  makes q u o made y = grind arith

@@ -1,32 +1,12 @@
 -- A phase that is not empty tells whether its cell is registered: which flags tell it, what runs and finalizers leave of them,
 -- and that it is so in legal histories.
-use Rattle.std.proofs.Common.{◌≡◌, ◌≢◌, ℕ, refl, sym, ◌∙◌, ap, subst, arith, Bool, true, false, ◌||◌, None, Some, List, [], ◌∷◌, not, ◌&&◌, ◌⊎◌, inl, inr}
-use Rattle.std.specs.Prelude.{◌==◌, ◌^◌, ◌-◌, if◌then◌else◌}
-use Rattle.std.specs.Int.RustNames.{bit_and, bit_or}
-use Rattle.std.proofs.lemmas.Nat.{and_assoc, and_or_apart}
-use Rattle.std.specs.declared.option.Option.{Option}
-use Rattle.phase_bits.specs.Flags.{has, initialized}
-use Rattle.phase_seq.specs.Phases.{registration}
-use Rattle.schedule_rules.specs.declared.plan.CellPlan.{CellPlan}
-use Rattle.lazy_cells.specs.Kinds.{is_finalizable}
-use Rattle.schedule_rules.specs.Kinds.{tolerance_of, cell_at, tolerance_at}
-use Rattle.schedule_rules.specs.Phases.{flags_kept, runs_generator, tries_registration}
-use Rattle.schedule_rules.specs.Changes.{Content, Ran, Ended, content_after, Change, is_declined, effect}
-use Rattle.schedule_rules.specs.Laws.{TellsRegistration}
+use Rattle.schedule_rules.proofs.Words.{ℕ, ◌≡◌, List, arith, Bool, true, refl, false, Some, ◌∷◌, ◌∙◌, [], sym, ap, None, subst, ◌&&◌, ◌⊎◌, inl, inr, not, ◌≢◌, ◌||◌, and_or_apart}
+use Rattle.schedule_rules.proofs.Words.{and_assoc, bit_or, bit_and, AllByRecursion, ◌==◌, if◌then◌else◌, ◌-◌, ◌^◌, Option, has, initialized, is_known, registration, is_finalizable}
+use Rattle.schedule_rules.proofs.Words.{Call, CellPlan, Calls, Turns, cell_at, tolerance_at, tolerance_of, flags_kept, runs_generator, tries_registration, asks, Content, Change}
+use Rattle.schedule_rules.proofs.Words.{effect, Ran, content_after, Ended, is_declined, Deed, Visits, Makes, Finishes, EndsToRead, Ends, DropsToRead, Drops, EndsToWrite, Lends}
+use Rattle.schedule_rules.proofs.Words.{Opens, Holds, Skips, Event, deed_of, accepts, sections, Section, is_turn, runs_in, Guard, guards, numbered, replay, phase_at, registry}
+use Rattle.schedule_rules.proofs.Words.{registry_by, write_holds, writes_cell, IsLegal, TellsRegistration}
 use Rattle.schedule_rules.proofs.Facts.{apart}
-use Rattle.std.specs.List.{AllByRecursion}
-use Rattle.exit_registry.specs.Registry.{is_known}
-use Rattle.lazy_cells.specs.declared.call.Call.{Call}
-use Rattle.schedule_rules.specs.declared.step.Want.TheVariants.{Calls, Turns}
-use Rattle.schedule_rules.specs.Calls.{asks}
-use Rattle.schedule_rules.specs.Deeds.{Makes, Finishes, Deed, Opens, Holds, Ends, EndsToRead, EndsToWrite, Drops, DropsToRead, Visits, Lends, Skips}
-use Rattle.schedule_rules.specs.History.{Event, accepts, deed_of}
-use Rattle.schedule_rules.specs.Sections.{Section, is_turn, runs_in, sections}
-use Rattle.schedule_rules.specs.Guards.{Guard, numbered, guards}
-use Rattle.schedule_rules.specs.Replay.{replay, phase_at}
-use Rattle.schedule_rules.specs.Exits.{registry_by, registry}
-use Rattle.schedule_rules.specs.Holds.{writes_cell, write_holds}
-use Rattle.schedule_rules.specs.Legal.{IsLegal}
 use Rattle.schedule_rules.proofs.Exclusion.{alone}
 use Rattle.schedule_rules.proofs.Found.{each_none, each_found}
 use Rattle.schedule_rules.proofs.Cases.{Asking, Resting}
@@ -96,19 +76,13 @@ told_declined x o b p is declines now before = by (p == 0) refl
         sym t.taken ∙ neither (has (flags_kept x.kind o p) 8) x.leak (sym (ap (λ (d : Bool). if d then has (flags_kept x.kind o p) 8 || x.leak else true) is) ∙ declines)
 
     by : (d : Bool) → (p == 0) ≡ d → b ≡ false
-    by true e = now (grind arith)
-    by false e = kept (λ z. apart (sym (ap (λ n. n == 0) z) ∙ e))
+    by d e = grind (arith, kept)
 
 or_none : (b : Bool) → (b || false) ≡ b
-or_none true = refl
-or_none false = refl
+or_none b = grind arith
 
 not_empty : (p : ℕ) → p ≢ 0 → (p == 0) ≡ false
-not_empty p ne = by (p == 0) refl
-  where
-    by : (b : Bool) → (p == 0) ≡ b → (p == 0) ≡ false
-    by true e = absurd (ne (grind arith))
-    by false e = e
+not_empty p ne = grind arith
 
 module _ (cells : List CellPlan) (c : ℕ) (kind : is_finalizable (cell_at cells c).kind ≡ true) where
   -- where this is known of the cell, and it holds this: a generator that runs in it registered it or not

@@ -1,40 +1,12 @@
 -- A legal line shows that its step tried to register a cell exactly where it did.
-use Rattle.std.proofs.Common.{◌≡◌, ◌≤◌, ℕ, List, [], ◌∷◌, refl, sym, ◌∙◌, ap, subst, Bool, true, false, not, ◌&&◌, ◌||◌, None, Some, ◌⊎◌, inl, inr}
-use Rattle.std.specs.Prelude.{◌==◌, ◌+◌, is_none, if◌then◌else◌}
-use Rattle.std.specs.declared.option.Option.{Option}
-use Rattle.exit_registry.specs.Registry.{is_known, first_of}
-use Rattle.phase_locker.specs.declared.ways.How.{How}
-use Rattle.phase_seq.specs.Phases.{flags_refused}
-use Rattle.lazy_cells.specs.declared.call.Call.{Call}
-use Rattle.schedule_rules.specs.declared.form.Form.{Form}
-use Rattle.schedule_rules.specs.declared.form.Form.TheVariants.{Told, Shown, Held}
-use Rattle.schedule_rules.specs.declared.plan.CellPlan.{CellPlan}
-use Rattle.schedule_rules.specs.declared.plan.Place.{Place}
-use Rattle.schedule_rules.specs.declared.plan.Place.TheVariants as place
-use Rattle.schedule_rules.specs.declared.step.Act.{Act}
-use Rattle.schedule_rules.specs.declared.step.Act.TheVariants as act
-use Rattle.schedule_rules.specs.declared.step.Want.TheVariants.{Calls, Turns}
-use Rattle.schedule_rules.specs.declared.step.Step.{Step}
-use Rattle.schedule_rules.specs.declared.line.Line.{Line}
-use Rattle.schedule_rules.specs.declared.line.Answer.{Answer}
-use Rattle.schedule_rules.specs.declared.line.Answer.TheVariants as answer
-use Rattle.schedule_rules.specs.declared.line.Refusal.{Refusal}
-use Rattle.schedule_rules.specs.Kinds.{cell_at}
-use Rattle.schedule_rules.specs.Phases.{tries_registration}
-use Rattle.schedule_rules.specs.Deeds.{deed_waiting, deed_by}
-use Rattle.schedule_rules.specs.History.{Event, is_exit, accepts}
-use Rattle.schedule_rules.specs.Replay.{replay, phase_at}
-use Rattle.schedule_rules.specs.Exits.{finishing, registry}
-use Rattle.schedule_rules.specs.Waits.{Attempt, attempt_of_turn, attempt_with, attempt, Wait, waits}
-use Rattle.schedule_rules.specs.Refusals.{refusal}
-use Rattle.schedule_rules.specs.Answers.{answer_denied, answer_barred}
-use Rattle.schedule_rules.specs.Due.{phase_made, due_attempt, due_tried, due_answer}
-use Rattle.schedule_rules.specs.Legal.{IsLegal, IsLegalLine, answer_of}
-use Rattle.schedule_rules.specs.Causes.{is_attempted, waits_judged, is_admitted}
-use Rattle.schedule_rules.specs.Laws.{tells_declined, asks_registration, tries_to_register, registrations}
+use Rattle.schedule_rules.proofs.Words.{ℕ, ◌≡◌, List, arith, Bool, true, refl, false, Some, ◌∷◌, ◌∙◌, [], sym, ap, None, subst, ◌&&◌, ◌⊎◌, inl, not, ◌+◌, ◌≤◌, ◌||◌, ◌==◌}
+use Rattle.schedule_rules.proofs.Words.{if◌then◌else◌, is_none, Option, phase_of, Phase, first_of, is_known, How, flags_refused, Call, Answer, Line, Refusal, CellPlan, Place, Act}
+use Rattle.schedule_rules.proofs.Words.{Step, Calls, Turns, cell_at, tries_registration, deed_waiting, deed_by, Event, accepts, is_exit, replay, phase_at, registry, Wait, waits}
+use Rattle.schedule_rules.proofs.Words.{Attempt, attempt, attempt_with, attempt_of_turn, refusal, answer_of_value, answer_barred, due_answer, due_attempt, IsLegal, IsLegalLine}
+use Rattle.schedule_rules.proofs.Words.{answer_of, waits_judged, is_attempted, is_admitted, asks_registration, tells_declined, tries_to_register, registrations}
+use Rattle.schedule_rules.proofs.Cases.{Visiting, step, Calling, Resting, Case}
 use Rattle.schedule_rules.proofs.Registrations.{asks_so, deed_registers, shows_registration, registrations_shown, tries-unknown, registered-once}
-use Rattle.schedule_rules.proofs.Answered.{due_at-judged, IsShown, IsTold, opened, denied, made_so}
-use Rattle.schedule_rules.proofs.Cases.{step, Calling, Resting, form_at, Cases}
+use Rattle.schedule_rules.proofs.Answered.{due_at-judged, denied}
 use Rattle.schedule_rules.proofs.Steps.{of_legal}
 use Rattle.schedule_rules.proofs.Facts.{apart}
 use Rattle.schedule_rules.proofs.Tests.{IsBeyond}
@@ -43,37 +15,37 @@ use Rattle.schedule_rules.proofs.Registering.{known-by-trying}
 
 -- a step that is answered so was refused, or turned back or put off
 abbrev is_back : Answer → Bool
-is_back answer.Cyclic = true
-is_back answer.Borrowed = true
-is_back answer.Missed = true
-is_back (answer.Waiting way) = true
-is_back (answer.Refused q) = true
+is_back Answer.Cyclic = true
+is_back Answer.Borrowed = true
+is_back Answer.Missed = true
+is_back (Answer.Waiting way) = true
+is_back (Answer.Refused q) = true
 is_back _ = false
 
 barred_back : (fast : Bool) (x : Place) (w : How) → is_back (answer_barred fast x w) ≡ true
 barred_back true x w = refl
-barred_back false place.Park w = refl
-barred_back false place.Spin w = refl
-barred_back false (place.Own p) w = refl
+barred_back false Place.Park w = refl
+barred_back false Place.Spin w = refl
+barred_back false (Place.Own p) w = refl
 
 beyond_back : IsBeyond is_back
 beyond_back = record {
-  told = record { shown = record { phase = λ p. refl; value = λ v. refl; read_guard = refl; write_guard = refl }; access = λ p. refl; err_guard = refl };
+  tries = record { shown = record { phase = λ p. refl; value = λ v. refl; read_guard = refl; write_guard = refl }; access = λ p. refl; done = refl; failed = refl };
+  err_guard = refl;
   running = refl;
   finalizing = λ c. refl;
   skipped = λ c. refl;
 }
 
 no_more : (b : Bool) → false ≡ (b && false)
-no_more true = refl
-no_more false = refl
+no_more b = grind arith
 
 module _ (cells : List CellPlan) (c : ℕ) where
   module _ (h : List Event) (p : ℕ) where
     -- what is known of the deed of a step that is answered so, where this is asked
     record Shows (r : Answer) (registers asks : Bool) : Type 0 where
       pub same : registers ≡ (not (is_back r) && asks)
-      pub answers : registers ≡ true → (r ≡ answer.Running) ⊎ (tells_declined r ≡ true)
+      pub answers : registers ≡ true → (r ≡ Answer.Running) ⊎ (tells_declined r ≡ true)
 
     -- that of a step of the party
     abbrev Tried : Act → Answer → Type 0
@@ -84,7 +56,7 @@ module _ (cells : List CellPlan) (c : ℕ) where
     asks_of d j = asks_so cells c h (Some (record { cell = d; want = Calls j }))
 
     abbrev Called : Act → ℕ → Call → Answer → Type 0
-    Called a d j r = Shows r (deed_registers cells c h (deed_by (accepts h) (is_exit a) (act.Call d j) r)) (asks_of d j)
+    Called a d j r = Shows r (deed_registers cells c h (deed_by (accepts h) (is_exit a) (Act.Call d j) r)) (asks_of d j)
 
     called : (a : Act) (d : ℕ) (j : Call) (r : Answer) → Calling cells h p a d j → Called a d j r → Tried a r
     called a d j r t k =
@@ -92,36 +64,26 @@ module _ (cells : List CellPlan) (c : ℕ) where
         (subst (λ b. Shows r (deed_registers cells c h (deed_by (accepts h) (is_exit a) b r)) (asks_of d j)) (sym t.does) k)
 
     -- one that asks for no run
-    module _ (a : Act) (d : ℕ) (j : Call) (q : Resting cells h p d j) where
-      none : asks_of d j ≡ false
-      none = ap (λ b. (d == c) && (b && tries_registration (cell_at cells d).kind (phase_at cells d h))) q.unasked ∙ sym (no_more (d == c))
+    none : (d : ℕ) (j : Call) → Resting cells h p d j → asks_of d j ≡ false
+    none d j q = ap (λ b. (d == c) && (b && tries_registration (cell_at cells d).kind (phase_at cells d h))) q.unasked ∙ sym (no_more (d == c))
 
-      never : {r : Answer} → asks_of d j ≡ true → (r ≡ answer.Running) ⊎ (tells_declined r ≡ true)
-      never e = absurd (apart (sym e ∙ none))
+    -- one that runs nothing, and says so where it is declined
+    visited : (a : Act) (d : ℕ) (j : Call) (q : Phase) (T : Type 0) (r : Answer) → Calling cells h p a d j → Visiting cells h p d j q T → is_back r ≡ false
+        → deed_registers cells c h (deed_by (accepts h) (is_exit a) (Act.Call d j) r) ≡ asks_of d j → (q ≡ phase_of flags_refused → tells_declined r ≡ true) → Tried a r
+    visited a d j q T r t v on is tells = called a d j r t (record { same = is ∙ ap (λ b. not b && asks_of d j) (sym on); answers = λ e. by v (sym is ∙ e) })
+      where
+        by : Visiting cells h p d j q T → asks_of d j ≡ true → (r ≡ Answer.Running) ⊎ (tells_declined r ≡ true)
+        by k1 e = grind arith
 
-      rests : IsTold (Called a d j)
-      rests = record {
-        shown = record {
-          phase = λ x. record { same = refl; answers = never };
-          value = λ v. record { same = sym none; answers = λ e. absurd (cc) };
-          read_guard = record { same = sym none; answers = λ e. absurd (cc) };
-          write_guard = record { same = sym none; answers = λ e. absurd (cc) };
-        };
-        access = λ x. record { same = refl; answers = never };
-        err_guard = record { same = refl; answers = never };
-      }
-
-    -- one that is declined says so
-    declines : (a : Act) (d : ℕ) (j : Call) (f : Form) → Called a d j (answer_denied f flags_refused)
-    declines a d j (Told true) = record { same = refl; answers = λ e. inr refl }
-    declines a d j (Told false) = record { same = refl; answers = λ e. inr refl }
-    declines a d j Shown = record { same = refl; answers = λ e. inr refl }
-    declines a d j (Held writes true) = record { same = refl; answers = λ e. inr refl }
-    declines a d j (Held writes false) = record { same = refl; answers = λ e. inr refl }
+    -- one that gets what the cell holds
+    shows_what_is : (a : Act) (d : ℕ) (j : Call) (r : Answer) → Calling cells h p a d j → Resting cells h p d j → deed_registers cells c h (deed_by (accepts h) (is_exit a) (Act.Call d j) r) ≡ false → Tried a r
+    shows_what_is a d j r t q is = called a d j r t (record {
+      same = is ∙ no_more (not (is_back r)) ∙ ap (λ b. not (is_back r) && b) (sym (none d j q));
+      answers = λ e. absurd (apart (sym e ∙ is));
+    })
 
     waited : (b : Bool) → deed_registers cells c h (deed_waiting b) ≡ false
-    waited true = refl
-    waited false = refl
+    waited b = grind arith
 
     -- that of the turn of a cell
     turned : (o : Option Attempt) (d : ℕ) → o ≡ Some (record { cell = d; want = Turns }) → false ≡ asks_so cells c h o
@@ -131,70 +93,40 @@ module _ (cells : List CellPlan) (c : ℕ) where
     looked : (cs : List ℕ) → cs ≡ [] → false ≡ asks_so cells c h (attempt_of_turn (first_of cs))
     looked cs e = ap (λ x. asks_so cells c h (attempt_of_turn (first_of x))) (sym e)
 
-    made : (v : ℕ) → IsShown (Tried (act.Made v))
-    made v = record {
-      phase = λ x. record { same = refl; answers = λ e. absurd (cc) };
-      value = λ w. record { same = refl; answers = λ e. absurd (cc) };
-      read_guard = record { same = refl; answers = λ e. absurd (cc) };
-      write_guard = record { same = refl; answers = λ e. absurd (cc) };
-    }
-
-    finished : (fine : Bool) (left : Option ℕ) (q : _) → Tried (finishing fine left) (answer.Phase q)
-    finished true left q = record { same = refl; answers = λ e. absurd (cc) }
-    finished false left q = record { same = refl; answers = λ e. absurd (cc) }
-
-    cases : Cases cells h p Tried
-    cases = record {
-      cyclic = λ a d j t. record { same = refl; answers = λ e. absurd (cc) };
-      waiting = λ a d w way t. record { same = waited (is_exit a); answers = λ e. absurd (apart (sym e ∙ waited (is_exit a))) };
-      missed = λ a d w f t. record { same = refl; answers = λ e. absurd (cc) };
-      owned = λ a d w o t. record { same = refl; answers = λ e. absurd (cc) };
-      opened = λ a d j t q e. called a d j _ t (opened (Called a d j) (rests a d j q).shown (form_at cells h p d j) (replay cells d h));
-      denied = λ a d j t q e. called a d j _ t (denied (Called a d j) (rests a d j q) (form_at cells h p d j) (phase_at cells d h));
-      running = λ a d j t q. called a d j answer.Running t (record { same = refl; answers = λ e. inl refl });
-      declined = λ a d j t q. called a d j _ t (declines a d j (form_at cells h p d j));
-      skipped = λ a d t q. record { same = turned _ d t.tried; answers = λ e. absurd (cc) };
-      finalizing = λ a d t q u. record { same = turned _ d t.tried; answers = λ e. absurd (cc) };
-      round = λ d ds e n. record { same = looked _ n; answers = λ f. absurd (cc) };
-      closed = λ e n. record { same = looked _ n; answers = λ f. absurd (cc) };
-      made = λ v t j g. made_so (Tried (act.Made v)) (made v) (form_at cells h p t.cell j) v (phase_made cells h t);
-      failed = λ t j g. record { same = refl; answers = λ e. absurd (cc) };
-      finished = λ fine left t g. finished fine left _;
-      looked = λ g x f. record { same = refl; answers = λ e. absurd (cc) };
-      set = λ g v x f w. record { same = refl; answers = λ e. absurd (cc) };
-      released = λ g x f. record { same = refl; answers = λ e. absurd (cc) };
-      downgraded = λ g x f w. record { same = refl; answers = λ e. absurd (cc) };
-      borrowed = λ g x f w. record { same = refl; answers = λ e. absurd (cc) };
-      cloned = λ g x f w. record { same = refl; answers = λ e. absurd (cc) };
-      lent_made = λ d v left u e. record { same = refl; answers = λ f. absurd (cc) };
-      lent_failed = λ d left u e. record { same = refl; answers = λ f. absurd (cc) };
-      lent_rested = λ d made left u e f. record { same = refl; answers = λ g. absurd (cc) };
-      lent_denied = λ d made left u e f. record { same = refl; answers = λ g. absurd (cc) };
-      lent = λ d left u f. record { same = refl; answers = λ g. absurd (cc) };
-      unlent = λ d left u f. record { same = refl; answers = λ g. absurd (cc) };
-    }
+    each : (a : Act) (r : Answer) → Case cells h p a r → Tried a r
+    each _ _ (Case.waiting a d w way t) = record { same = waited (is_exit a); answers = λ e. absurd (apart (sym e ∙ waited (is_exit a))) }
+    each _ _ (Case.told a d j q t v) = visited a d j q _ (Answer.Phase q) t v refl refl (λ e. ap (λ z. tells_declined (Answer.Phase z)) e)
+    each _ _ (Case.denied a d j q t v) = visited a d j q _ (Answer.Access q) t v refl refl (λ e. ap (λ z. tells_declined (Answer.Access z)) e)
+    each _ _ (Case.erring a d j q t v e) = visited a d j q _ Answer.ErrGuard t v refl refl (λ e. refl)
+    each _ _ (Case.shown a d j t q e) = shows_what_is a d j (answer_of_value (replay cells d h)) t q refl
+    each _ _ (Case.reading a d j t q e) = shows_what_is a d j Answer.ReadGuard t q refl
+    each _ _ (Case.writing a d j t q e w) = shows_what_is a d j Answer.WriteGuard t q refl
+    each _ _ (Case.running a d j t q) = called a d j Answer.Running t (record { same = refl; answers = λ e. inl refl })
+    each _ _ (Case.skipped a d t q) = record { same = turned _ d t.tried; answers = λ e. absurd (cc) }
+    each _ _ (Case.finalizing a d t q u) = record { same = turned _ d t.tried; answers = λ e. absurd (cc) }
+    each _ _ (Case.round d ds e n) = record { same = looked _ n; answers = λ f. absurd (cc) }
+    each _ _ (Case.closed e n) = record { same = looked _ n; answers = λ f. absurd (cc) }
+    each _ _ (Case.finished true left t g) = record { same = refl; answers = λ e. absurd (cc) }
+    each _ _ (Case.finished false left t g) = record { same = refl; answers = λ e. absurd (cc) }
+    each _ _ _ = record { same = refl; answers = λ e. absurd (cc) }
 
   module _ (h : List Event) (s : Step) (l : Line) (k : IsLegalLine cells h s l) where
     abbrev ws : List Wait
     ws = waits_judged cells k.moment h s l.given
 
     shows : Shows h s.party l.answer (shows_registration cells c h s l.answer) (asks_so cells c h (attempt cells h s))
-    shows = of_legal cells h s l k (Tried h s.party) (λ a r. record { same = refl; answers = λ e. absurd (cc) }) (cases h s.party)
+    shows = of_legal cells h s l k (Tried h s.party) (λ a r. record { same = refl; answers = λ e. absurd (cc) }) (λ a r k n. each h s.party a r k)
 
     -- what is due for a step that attempts this
     due_of : (a : Act) (x : Attempt) → attempt_with cells (waits cells h) h s.party a ≡ Some x → due_answer cells h (record { party = s.party; act = a }) ws k.chosen ≡ due_attempt cells h s.party x ws k.chosen
-    due_of (act.Call d j) x e = ap (λ o. due_tried cells h s.party o ws k.chosen) e
-    due_of act.Again x e = ap (λ o. due_tried cells h s.party o ws k.chosen) e
-    due_of act.Exit x e = ap (λ o. due_tried cells h s.party o ws k.chosen) e
-    due_of _ x e = absurd (cc)
+    due_of k1 x e = grind arith
 
     -- it is not put off exactly where it is admitted
     not_back : (not (is_back l.answer) && asks_so cells c h (attempt cells h s)) ≡ tries_to_register cells c h s l.given k.moment
     not_back = by (refusal cells h s) (attempt cells h s) refl (k.answered ∙ ap (answer_of (refusal cells h s)) (due_at-judged cells k.moment h s l.given k.chosen))
       where
         twice : (b : Bool) → not (not b) ≡ b
-        twice true = refl
-        twice false = refl
+        twice b = grind arith
 
         by : (r : Option Refusal) (o : Option Attempt) → attempt cells h s ≡ o → l.answer ≡ answer_of r (due_answer cells h s ws k.chosen)
             → (not (is_back l.answer) && asks_so cells c h o) ≡ (is_none r && is_attempted (λ a. is_admitted cells h s.party ws a && asks_registration cells c h a) o)
@@ -210,7 +142,7 @@ module _ (cells : List CellPlan) (c : ℕ) where
     shown_where_tried = shows.same ∙ not_back
 
     -- a step that tries begins a run or is declined
-    pub tried-runs-or-declines : tries_to_register cells c h s l.given k.moment ≡ true → (l.answer ≡ answer.Running) ⊎ (tells_declined l.answer ≡ true)
+    pub tried-runs-or-declines : tries_to_register cells c h s l.given k.moment ≡ true → (l.answer ≡ Answer.Running) ⊎ (tells_declined l.answer ≡ true)
     tried-runs-or-declines e = shows.answers (shown_where_tried ∙ e)
 
   -- where the registry does not know the cell

@@ -1,23 +1,9 @@
 -- The turns of a legal history are no more than its cells.
-use Rattle.std.proofs.Common.{◌≡◌, ◌<◌, ◌≤◌, ◌+◌, ◌++◌, ℕ, List, [], ◌∷◌, length, refl, ◌∙◌, ap, arith, Bool, true, false, ◌&&◌, cond, Some, All}
-use Rattle.std.specs.Prelude.{◌==◌, if◌then◌else◌}
-use Rattle.std.proofs.lemmas.List.{get_or_past, length-append, length-map}
-use Rattle.std.proofs.lemmas.List.Elements.{All-nil, All-cons}
-use Rattle.exit_registry.specs.Registry.{is_known, first_of, rest_of, occurs, due}
-use Rattle.exit_registry.specs.Exits.{cells_of_turns}
+use Rattle.schedule_rules.proofs.Words.{ℕ, ◌≡◌, List, arith, Bool, true, refl, false, Some, ◌∷◌, ◌∙◌, [], ap, ◌&&◌, ◌<◌, length, ◌+◌, ◌≤◌, ◌++◌, All, get_or_past, length-map}
+use Rattle.schedule_rules.proofs.Words.{length-append, All-cons, All-nil, ◌==◌, if◌then◌else◌, cells_of_turns, is_known, rest_of, occurs, due, CellPlan, Act, Step, Turns, Event}
+use Rattle.schedule_rules.proofs.Words.{count, sections, Section, innermost, is_turn, registry, ended_turns, Wait, waits, wait_of, attempt, attempt_with, IsLegal, turns_of}
+use Rattle.schedule_rules.proofs.Words.{turns_at_hand}
 use Rattle.exit_registry.proofs.Exiting.{few_below}
-use Rattle.schedule_rules.specs.declared.plan.CellPlan.{CellPlan}
-use Rattle.schedule_rules.specs.declared.step.Act.{Act}
-use Rattle.schedule_rules.specs.declared.step.Act.TheVariants as act
-use Rattle.schedule_rules.specs.declared.step.Step.{Step}
-use Rattle.schedule_rules.specs.declared.step.Want.TheVariants.{Turns}
-use Rattle.schedule_rules.specs.History.{Event, count}
-use Rattle.schedule_rules.specs.Sections.{Section, innermost, is_turn, sections}
-use Rattle.schedule_rules.specs.Exits.{registry, ended_turns}
-use Rattle.schedule_rules.specs.Waits.{Wait, wait_of, attempt, attempt_with, waits}
-use Rattle.schedule_rules.specs.Legal.{IsLegal}
-use Rattle.schedule_rules.specs.Causes.{is_attempted}
-use Rattle.schedule_rules.specs.Laws.{waits_to_turn, finalizes_in, turns_of, turns_at_hand}
 use Rattle.schedule_rules.proofs.Accepts.{known-length}
 use Rattle.schedule_rules.proofs.Counts.{occurs_joined, waits_so, first_so, begins}
 use Rattle.schedule_rules.proofs.Found.{found_counts}
@@ -34,22 +20,12 @@ module _ {X : Type 0} (t : X → Bool) (f : X → ℕ) where
   -- a cell is as often in them as one of it passes
   occurs_where : (c : ℕ) (xs : List X) → occurs c (cells_where t f xs) ≡ count (λ x. t x && (f x == c)) xs
   occurs_where c [] = refl
-  occurs_where c (x ∷ xs) = by (t x) (f x == c) refl (occurs_where c xs)
-    where
-      by : (b d : Bool) → (f x == c) ≡ d → occurs c (cells_where t f xs) ≡ count (λ x. t x && (f x == c)) xs
-          → occurs c (cond b (f x ∷ cells_where t f xs) (cells_where t f xs)) ≡ cond (b && d) (count (λ x. t x && (f x == c)) xs + 1) (count (λ x. t x && (f x == c)) xs)
-      by true true e n = rw e (omega (arith, n))
-      by true false e n = rw e (omega (arith, n))
-      by false d e n = n
+  occurs_where c (x ∷ xs) = grind (arith, occurs_where c xs)
 
   -- they are as many as those that pass
   length_where : (xs : List X) → length (cells_where t f xs) ≡ count t xs
   length_where [] = refl
-  length_where (x ∷ xs) = by (t x) (length_where xs)
-    where
-      by : (b : Bool) → length (cells_where t f xs) ≡ count t xs → length (cond b (f x ∷ cells_where t f xs) (cells_where t f xs)) ≡ cond b (count t xs + 1) (count t xs)
-      by true n = omega (arith, n)
-      by false n = n
+  length_where (x ∷ xs) = grind (arith, length_where xs)
 
 differ : false ≡ true → ⊥
 differ e = cc
@@ -84,13 +60,7 @@ module _ (cells : List CellPlan) (h : List Event) (legal : IsLegal cells h) wher
   every = due (registry cells h) ++ (waiting ++ (going_on ++ ended))
 
   occurs_every : (c : ℕ) → occurs c every ≡ turns_of cells c h
-  occurs_every c =
-      let a : _ = occurs_joined c (due (registry cells h)) (waiting ++ (going_on ++ ended)) in
-      let b : _ = occurs_joined c waiting (going_on ++ ended) in
-      let d : _ = occurs_joined c going_on ended in
-      let w : occurs c waiting ≡ count (waits_to_turn c) (waits cells h) = occurs_where (λ w. is_turn w.want) (λ w. w.cell) c (waits cells h) in
-      let s : occurs c going_on ≡ count (finalizes_in c) (sections h) = occurs_where (λ s. is_turn s.want) (λ s. s.cell) c (sections h) in
-      omega (arith, a, b, d, w, s)
+  occurs_every c = grind (arith, occurs_joined, occurs_where)
 
   at_most_one : (b : Bool) (n : ℕ) → n ≡ (if b then 1 else 0) → n ≤ 1
   at_most_one true n e = omega (arith, e)
@@ -101,20 +71,10 @@ module _ (cells : List CellPlan) (h : List Event) (legal : IsLegal cells h) wher
 
   -- a cell beyond the plan has none
   none_beyond : (c : ℕ) → length cells ≤ c → occurs c every ≡ 0
-  none_beyond c le = occurs_every c ∙ one-turn cells c h legal ∙ ap (λ (b : Bool). if b then 1 else 0) unknown
-    where
-      unknown : is_known (registry cells h) c ≡ false
-      unknown = let long : _ = known-length cells h in get_or_past (registry cells h).known c false (omega (arith, long, le))
+  none_beyond c le = grind (arith, occurs_every, one-turn, known-length, get_or_past)
 
   length_every : length every ≡ turns_at_hand cells h + length (ended_turns h)
-  length_every =
-      let a : _ = length-append (due (registry cells h)) (waiting ++ (going_on ++ ended)) in
-      let b : _ = length-append waiting (going_on ++ ended) in
-      let d : _ = length-append going_on ended in
-      let w : length waiting ≡ count (λ w. is_turn w.want) (waits cells h) = length_where (λ w. is_turn w.want) (λ w. w.cell) (waits cells h) in
-      let s : length going_on ≡ count (λ s. is_turn s.want) (sections h) = length_where (λ s. is_turn s.want) (λ s. s.cell) (sections h) in
-      let e : length ended ≡ length (ended_turns h) = length-map (ended_turns h) (λ t. t.cell) in
-      omega (arith, a, b, d, w, s, e)
+  length_every = grind (arith, length-append, length_where, length-map)
 
   -- all turns are at most as many as the cells
   pub few-turns : turns_at_hand cells h + length (ended_turns h) ≤ length cells
@@ -122,8 +82,7 @@ module _ (cells : List CellPlan) (h : List Event) (legal : IsLegal cells h) wher
 
   -- a finalizer that runs leaves room for its turn
   pub room-running : (p : ℕ) (s : Section) → innermost p (sections h) ≡ Some s → is_turn s.want ≡ true → length (ended_turns h) < length cells
-  room-running p s f d =
-      let some : 0 < count (λ t. is_turn t.want) (sections h) = found_counts (λ t. t.party == p) (λ t. is_turn t.want) (sections h) s f d in omega (arith, few-turns, some)
+  room-running p s f d = grind (arith, found_counts, few-turns)
 
   -- so does a turn that is taken
   pub room-taken : (s : Step) (c : ℕ) → attempt cells h s ≡ Some (record { cell = c; want = Turns }) → length (ended_turns h) < length cells
@@ -132,16 +91,10 @@ module _ (cells : List CellPlan) (h : List Event) (legal : IsLegal cells h) wher
       from_left : (registry cells h).left ≡ c ∷ rest_of (registry cells h).left → length (ended_turns h) < length cells
       from_left is =
           let more : length (due (registry cells h)) ≡ length (registry cells h).left + length (registry cells h).pending = length-append (registry cells h).left (registry cells h).pending in
-          let one : _ = ap length is in
-          omega (arith, few-turns, more, one)
+          omega (arith, few-turns, more, ap length is)
 
       from_wait : (w : Wait) × (wait_of s.party (waits cells h) ≡ Some w) × (w.cell ≡ c) × (w.want ≡ Turns) → length (ended_turns h) < length cells
-      from_wait w =
-          let some : 0 < count (λ v. is_turn v.want) (waits cells h) = found_counts (λ v. v.party == s.party) (λ v. is_turn v.want) (waits cells h) w.0 w.1 (ap is_turn w.3) in
-          omega (arith, few-turns, some)
+      from_wait w = grind (arith, found_counts, few-turns)
 
       by : (a : Act) → attempt_with cells (waits cells h) h s.party a ≡ Some (record { cell = c; want = Turns }) → length (ended_turns h) < length cells
-      by act.Exit f = from_left (begins (registry cells h).left c (first_so (first_of (registry cells h).left) c f))
-      by act.Again f = from_wait (waits_so (wait_of s.party (waits cells h)) c Turns f)
-      by (act.Call d k) f = absurd (differ (ap (is_attempted (λ a. is_turn a.want)) f))
-      by _ f = absurd (differ (ap (is_attempted (λ a. is_turn a.want)) f))
+      by a f = grind (arith, from_left, begins, first_so, from_wait, waits_so, differ)

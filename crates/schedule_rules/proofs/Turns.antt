@@ -1,49 +1,23 @@
 -- Each registered cell has one turn: to come, waiting, going on or ended.
-use Rattle.std.proofs.Common.{◌≡◌, ◌<◌, ◌+◌, ◌++◌, ℕ, List, [], ◌∷◌, length, refl, sym, ◌∙◌, ap, subst, arith, Bool, true, false, ◌&&◌, cond, None, Some}
-use Rattle.std.specs.Prelude.{◌==◌, if◌then◌else◌, slice_set, slice_index_or}
-use Rattle.std.specs.declared.option.Option.{Option}
-use Rattle.std.proofs.lemmas.List.{get_or-set_same, get_or-set_other}
-use Rattle.exit_registry.specs.Registry.{is_known, first_of, rest_of, occurs, due, registered, after_register}
-use Rattle.exit_registry.specs.Exits.{cells_of_turns}
-use Rattle.exit_registry.specs.declared.turns.Turn.TheVariants as turn
-use Rattle.phase_bits.specs.Number.{phase_of}
-use Rattle.phase_seq.specs.Phases.{flags_refused}
-use Rattle.phase_locker.specs.declared.ways.Given.{Given}
-use Rattle.lazy_cells.specs.Kinds.{is_finalizable}
-use Rattle.lazy_cells.specs.declared.call.Call.{Call}
-use Rattle.schedule_rules.specs.declared.plan.CellPlan.{CellPlan}
-use Rattle.schedule_rules.specs.declared.step.Act.{Act}
-use Rattle.schedule_rules.specs.declared.step.Act.TheVariants as act
-use Rattle.schedule_rules.specs.declared.step.Want.{Want}
-use Rattle.schedule_rules.specs.declared.step.Want.TheVariants.{Calls, Turns}
-use Rattle.schedule_rules.specs.declared.line.Answer.{Answer}
-use Rattle.schedule_rules.specs.declared.line.Refusal.{Refusal}
-use Rattle.schedule_rules.specs.declared.line.Answer.TheVariants as answer
-use Rattle.schedule_rules.specs.Kinds.{cell_at, is_owned}
-use Rattle.schedule_rules.specs.Phases.{tries_registration, phase_finalized}
-use Rattle.schedule_rules.specs.Calls.{is_fast}
-use Rattle.schedule_rules.specs.Deeds.{Makes, Finishes, Deed, Opens, Ends, EndsToRead, EndsToWrite, Skips, Takes, Looks, deed_waiting, deed_by}
-use Rattle.schedule_rules.specs.History.{Event, accepts, is_exit, deed_of, count}
-use Rattle.schedule_rules.specs.Sections.{Section, innermost, without_innermost, is_turn, sections_by, sections}
-use Rattle.schedule_rules.specs.Exits.{finishing, registry_taken, registry_by, registry, turn_of, turn_of_section, turns_by, ended_turns}
-use Rattle.schedule_rules.specs.Waits.{Wait, wait_of, without_wait, with_wait, attempt_with, waits_given_with, waits}
-use Rattle.schedule_rules.specs.Replay.{replay, phase_at}
-use Rattle.schedule_rules.specs.Refusals.{refusal, refusal_waiting}
-use Rattle.schedule_rules.specs.Due.{phase_made}
-use Rattle.schedule_rules.specs.Legal.{IsLegal}
-use Rattle.schedule_rules.specs.Laws.{waits_to_turn, finalizes_in, turns_of}
+use Rattle.schedule_rules.proofs.Words.{ℕ, ◌≡◌, List, arith, Bool, true, refl, false, Some, ◌∷◌, ◌∙◌, [], sym, ap, None, subst, ◌&&◌, ◌<◌, length, ◌+◌, cond, ◌++◌}
+use Rattle.schedule_rules.proofs.Words.{get_or-set_other, get_or-set_same, ◌==◌, if◌then◌else◌, slice_index_or, slice_set, Option, cells_of_turns, first_of, is_known, rest_of}
+use Rattle.schedule_rules.proofs.Words.{after_register, occurs, registered, due, Turn, Given, is_finalizable, Call, Answer, Refusal, CellPlan, Act, Want, Calls, Turns, cell_at}
+use Rattle.schedule_rules.proofs.Words.{is_owned, tries_registration, is_fast, Deed, Makes, Finishes, EndsToRead, Ends, EndsToWrite, Opens, Skips, deed_waiting, deed_by, Looks}
+use Rattle.schedule_rules.proofs.Words.{Takes, Event, deed_of, accepts, count, is_exit, sections, Section, innermost, is_turn, without_innermost, sections_by, replay, phase_at}
+use Rattle.schedule_rules.proofs.Words.{registry, registry_by, registry_taken, ended_turns, turn_of, turns_by, turn_of_section, Wait, waits, wait_of, attempt_with, without_wait}
+use Rattle.schedule_rules.proofs.Words.{waits_given_with, with_wait, refusal, refusal_waiting, answer_of_value, IsLegal, turns_of, finalizes_in, waits_to_turn}
+use Rattle.schedule_rules.proofs.Facts.{whether, first, second, apart}
 use Rattle.schedule_rules.proofs.Exclusion.{alone}
 use Rattle.schedule_rules.proofs.Opened.{count_ended}
-use Rattle.schedule_rules.proofs.Cases.{step, IsCalling, IsTurning, Calling, Turning, Tries, Asking, form_at, Cases}
-use Rattle.schedule_rules.proofs.Answered.{IsShown, IsTold, opened, denied, made_so}
+use Rattle.schedule_rules.proofs.Cases.{step, IsCalling, IsTurning, Calling, Turning, Tries, Asking, Case}
+use Rattle.schedule_rules.proofs.Answered.{denied}
 use Rattle.schedule_rules.proofs.WaitsToLock.{waiting-shared}
 use Rattle.schedule_rules.proofs.Attempts.{rests}
-use Rattle.schedule_rules.proofs.Steps.{of_free}
+use Rattle.schedule_rules.proofs.Steps.{of_legal}
 use Rattle.schedule_rules.proofs.Finds.{Inside, Finishing, Finds, finds}
 use Rattle.schedule_rules.proofs.Accepts.{known-length}
 use Rattle.schedule_rules.proofs.Registered.{none_known, known_taken, fresh-unknown, finalizable-inside}
 use Rattle.schedule_rules.proofs.Counts.{one_if, occurs_joined, occurs_ended, count_given, without_none, count_without, one-wait, begins, waits_so, first_so}
-use Rattle.schedule_rules.proofs.Facts.{first, second, apart}
 
 module _ (cells : List CellPlan) (c : ℕ) where
   -- one turn where the cell is registered, and else none
@@ -96,57 +70,47 @@ module _ (cells : List CellPlan) (c : ℕ) where
     called_count : (a : Act) (d : ℕ) (j : Call) → Calling cells h p a d j → IsAllowed a → count (waits_to_turn c) (others a) ≡ count (waits_to_turn c) (waits cells h)
     called_count a d j t f = by a t.acts t.tried f
       where
-        goes_on : (w : Wait) × (wait_of p (waits cells h) ≡ Some w) × (w.cell ≡ d) × (w.want ≡ Calls j) → count (waits_to_turn c) (others act.Again) ≡ count (waits_to_turn c) (waits cells h)
-        goes_on w =
-            let not_a_turn : waits_to_turn c w.0 ≡ false = ap (λ u. is_turn u && (w.0.cell == c)) w.3 in
-            let less : _ = own_count w.0 w.1 ∙ ap (λ b. count (waits_to_turn c) (without_wait p (waits cells h)) + cond b 1 0) not_a_turn in
-            omega (arith, others_count act.Again, less)
-
+        goes_on : (w : Wait) × (wait_of p (waits cells h) ≡ Some w) × (w.cell ≡ d) × (w.want ≡ Calls j) → count (waits_to_turn c) (others Act.Again) ≡ count (waits_to_turn c) (waits cells h)
+        goes_on (w, e, at, is) = grind (arith, others_count Act.Again, own_count w e)
+    
         by : (a : Act) → IsCalling a → attempt_with cells (waits cells h) h p a ≡ Some (record { cell = d; want = Calls j }) → IsAllowed a → count (waits_to_turn c) (others a) ≡ count (waits_to_turn c) (waits cells h)
-        by (act.Call b m) t e f = rests_count (act.Call b m) (rests cells h p (act.Call b m) (λ x. cc) f).0
-        by act.Again t e f = goes_on (waits_so (wait_of p (waits cells h)) d (Calls j) e)
-        by _ t e f = absurd t
+        by a t e f = grind (arith, rests_count, rests, goes_on, waits_so)
 
     one_or_none : (b : Bool) (n : ℕ) → cond b (n + 1) n ≡ n + one_if b
-    one_or_none true n = refl
-    one_or_none false n = omega arith
+    one_or_none b n = grind arith
 
     -- a call, by what it does
     called : (a : Act) (d : ℕ) (j : Call) (r : Answer) → Calling cells h p a d j → count (waits_to_turn c) (waits cells (event a r ∷ h)) ≡ waiting
-        → (WaitsSo (deed_by (accepts h) (is_exit a) (act.Call d j) r) (count (waits_to_turn c) (waits cells (event a r ∷ h))))
+        → (WaitsSo (deed_by (accepts h) (is_exit a) (Act.Call d j) r) (count (waits_to_turn c) (waits cells (event a r ∷ h))))
         → WaitsSo (deed_of h (step cells h p a) r) (count (waits_to_turn c) (waits cells (event a r ∷ h)))
     called a d j r t same w = subst (λ b. WaitsSo (deed_by (accepts h) (is_exit a) b r) (count (waits_to_turn c) (waits cells (event a r ∷ h)))) (sym t.does) w
 
     -- one that waits
-    call_waits : (a : Act) (d : ℕ) (j : Call) (way : _) → Calling cells h p a d j → IsAllowed a → WaitsSo (deed_waiting (is_exit a)) (count (waits_to_turn c) (waits cells (event a (answer.Waiting way) ∷ h)))
+    call_waits : (a : Act) (d : ℕ) (j : Call) (way : _) → Calling cells h p a d j → IsAllowed a → WaitsSo (deed_waiting (is_exit a)) (count (waits_to_turn c) (waits cells (event a (Answer.Waiting way) ∷ h)))
     call_waits a d j way t f =
-        by a t.acts (count (waits_to_turn c) (waits cells (event a (answer.Waiting way) ∷ h))) (ap (λ o. count (waits_to_turn c) (with_wait p way o (others a))) t.tried ∙ called_count a d j t f)
+        by a t.acts (count (waits_to_turn c) (waits cells (event a (Answer.Waiting way) ∷ h))) (ap (λ o. count (waits_to_turn c) (with_wait p way o (others a))) t.tried ∙ called_count a d j t f)
       where
         by : (a : Act) → IsCalling a → (n : ℕ) → n ≡ waiting → WaitsSo (deed_waiting (is_exit a)) n
-        by (act.Call b m) t n e = e
-        by act.Again t n e = e
+        by (Act.Call b m) t n e = e
+        by Act.Again t n e = e
         by _ t n e = absurd t
 
     -- an act that takes a turn, where it goes on or ends
     took : (a : Act) (d : ℕ) → Turning cells h p a d → IsAllowed a → Took d (is_exit a) (count (waits_to_turn c) (others a))
     took a d t f = by a t.acts t.tried f
       where
-        from_wait : (w : Wait) × (wait_of p (waits cells h) ≡ Some w) × (w.cell ≡ d) × (w.want ≡ Turns) → count (waits_to_turn c) (others act.Again) + one_if (d == c) ≡ waiting
-        from_wait w =
-            let a_turn : waits_to_turn c w.0 ≡ (d == c) = ap (λ u. is_turn u && (w.0.cell == c)) w.3 ∙ ap (λ z. z == c) w.2 in
-            let less : _ = own_count w.0 w.1 ∙ ap (λ b. count (waits_to_turn c) (without_wait p (waits cells h)) + cond b 1 0) a_turn in
-            let same : _ = others_count act.Again in
-            omega (arith, same, less)
+        from_wait : (w : Wait) × (wait_of p (waits cells h) ≡ Some w) × (w.cell ≡ d) × (w.want ≡ Turns) → count (waits_to_turn c) (others Act.Again) + one_if (d == c) ≡ waiting
+        from_wait (w, e, at, is) = grind (arith, others_count Act.Again, own_count w e)
 
         by : (a : Act) → IsTurning a → attempt_with cells (waits cells h) h p a ≡ Some (record { cell = d; want = Turns }) → IsAllowed a → Took d (is_exit a) (count (waits_to_turn c) (others a))
-        by act.Exit t e f = (first_so (first_of (registry cells h).left) d e, rests_count act.Exit (rests cells h p act.Exit (λ x. cc) f).0)
-        by act.Again t e f = from_wait (waits_so (wait_of p (waits cells h)) d Turns e)
+        by Act.Exit t e f = (first_so (first_of (registry cells h).left) d e, rests_count Act.Exit (rests cells h p Act.Exit (λ x. cc) f).0)
+        by Act.Again t e f = from_wait (waits_so (wait_of p (waits cells h)) d Turns e)
         by _ t e f = absurd t
 
     -- and where it waits
-    turn_waits : (a : Act) (d : ℕ) (way : _) → Turning cells h p a d → IsAllowed a → WaitsSo (deed_waiting (is_exit a)) (count (waits_to_turn c) (waits cells (event a (answer.Waiting way) ∷ h)))
+    turn_waits : (a : Act) (d : ℕ) (way : _) → Turning cells h p a d → IsAllowed a → WaitsSo (deed_waiting (is_exit a)) (count (waits_to_turn c) (waits cells (event a (Answer.Waiting way) ∷ h)))
     turn_waits a d way t f =
-        by (is_exit a) (count (waits_to_turn c) (waits cells (event a (answer.Waiting way) ∷ h))) (count (waits_to_turn c) (others a)) (took a d t f)
+        by (is_exit a) (count (waits_to_turn c) (waits cells (event a (Answer.Waiting way) ∷ h))) (count (waits_to_turn c) (others a)) (took a d t f)
         (ap (λ o. count (waits_to_turn c) (with_wait p way o (others a))) t.tried ∙ one_or_none (d == c) (count (waits_to_turn c) (others a)))
       where
         by : (b : Bool) (n m : ℕ) → Took d b m → n ≡ m + one_if (d == c) → WaitsSo (deed_waiting b) n
@@ -162,88 +126,37 @@ module _ (cells : List CellPlan) (c : ℕ) where
 
     -- a turn that is barred at a cell of the party's own does not wait: the act is an Exit
     borrowing : (a : Act) (d : ℕ) → is_owned (cell_at cells d).place ≡ true → Turning cells h p a d → IsAllowed a → count (waits_to_turn c) (others a) ≡ waiting
-    borrowing a d o t f = by a t.acts t.tried f
-      where
-        by : (a : Act) → IsTurning a → attempt_with cells (waits cells h) h p a ≡ Some (record { cell = d; want = Turns }) → IsAllowed a → count (waits_to_turn c) (others a) ≡ waiting
-        by act.Exit t e f = resting act.Exit (waits_for _) f
-        by act.Again t e f =
-            let w : _ = waits_so (wait_of p (waits cells h)) d Turns e in absurd (apart (sym o ∙ ap (λ z. is_owned (cell_at cells z).place) (sym w.2) ∙ shared w.0 w.1))
-        by _ t e f = absurd t
+    borrowing a d o t f = grind (arith, IsTurning, resting, waits_for, waits_so)
 
-    -- a call that is answered so leaves the waits of others, and the turns that wait
-    abbrev IsPlain : Act → ℕ → Call → Answer → Type 0
-    IsPlain a d j r =
-        (count (waits_to_turn c) (waits cells (event a r ∷ h)) ≡ count (waits_to_turn c) (others a))
-        × ((n : ℕ) → n ≡ waiting → WaitsSo (deed_by (accepts h) (is_exit a) (act.Call d j) r) n)
-
-    plain : (a : Act) (d : ℕ) (j : Call) → IsTold (IsPlain a d j)
-    plain a d j = record {
-      shown = record { phase = λ q. (refl, λ n e. e); value = λ v. (refl, λ n e. e); read_guard = (refl, λ n e. e); write_guard = (refl, λ n e. e) };
-      access = λ q. (refl, λ n e. e);
-      err_guard = (refl, λ n e. e);
-    }
-
-    plainly : (a : Act) (d : ℕ) (j : Call) (r : Answer) → Calling cells h p a d j → IsAllowed a → IsPlain a d j r → WaitsSo (deed_of h (step cells h p a) r) (count (waits_to_turn c) (waits cells (event a r ∷ h)))
-    plainly a d j r t f k = let n : _ = k.0 ∙ called_count a d j t f in called a d j r t n (k.1 _ n)
+    -- a call that waits for nothing and opens no turn
+    plainly : (a : Act) (d : ℕ) (j : Call) (r : Answer) → Calling cells h p a d j → IsAllowed a → count (waits_to_turn c) (waits cells (event a r ∷ h)) ≡ count (waits_to_turn c) (others a)
+        → ((n : ℕ) → n ≡ waiting → WaitsSo (deed_by (accepts h) (is_exit a) (Act.Call d j) r) n) → WaitsSo (deed_of h (step cells h p a) r) (count (waits_to_turn c) (waits cells (event a r ∷ h)))
+    plainly a d j r t f same so = let n : _ = same ∙ called_count a d j t f in called a d j r t n (so _ n)
 
     -- what holds of each answer of a step that is allowed
     abbrev Allowed : Act → Answer → Type 0
     Allowed a r = IsAllowed a → WaitsSo (deed_of h (step cells h p a) r) (count (waits_to_turn c) (waits cells (event a r ∷ h)))
 
-    made : (v : ℕ) → IsShown (Allowed (act.Made v))
-    made v = record {
-      phase = λ q f. resting (act.Made v) (waits_for _) f;
-      value = λ w f. resting (act.Made v) (waits_for _) f;
-      read_guard = λ f. resting (act.Made v) (waits_for _) f;
-      write_guard = λ f. resting (act.Made v) (waits_for _) f;
-    }
-
-    finished : (fine : Bool) (left : Option ℕ) (q : _) → Allowed (finishing fine left) (answer.Phase q)
-    finished true left q f = resting (act.Finished left) (waits_for _) f
-    finished false left q f = resting (act.FinishFailed left) (waits_for _) f
-
-    waits_so_far : (a : Act) (d : ℕ) (w : Want) (way : _) → Tries cells h p a d w → Allowed a (answer.Waiting way)
-    waits_so_far a d (Calls j) way t f = call_waits a d j way t f
-    waits_so_far a d Turns way t f = turn_waits a d way t f
-
-    misses : (a : Act) (d : ℕ) (w : Want) → is_fast w ≡ true → Tries cells h p a d w → Allowed a answer.Missed
-    misses a d (Calls j) q t f = called_count a d j t f
-    misses a d Turns q t f = absurd (apart (sym q))
-
-    borrows : (a : Act) (d : ℕ) (w : Want) → is_owned (cell_at cells d).place ≡ true → Tries cells h p a d w → Allowed a answer.Borrowed
-    borrows a d (Calls j) o t f = called_count a d j t f
-    borrows a d Turns o t f = borrowing a d o t f
-
-    cases : Cases cells h p Allowed
-    cases = record {
-      cyclic = λ a d j t f. called_count a d j t f;
-      waiting = waits_so_far;
-      missed = misses;
-      owned = borrows;
-      opened = λ a d j t q e f. plainly a d j _ t f (opened (IsPlain a d j) (plain a d j).shown (form_at cells h p d j) (replay cells d h));
-      denied = λ a d j t q e f. plainly a d j _ t f (denied (IsPlain a d j) (plain a d j) (form_at cells h p d j) (phase_at cells d h));
-      running = λ a d j t q f. let n : _ = called_count a d j t f in called a d j answer.Running t n n;
-      declined = λ a d j t q f. plainly a d j _ t f (denied (IsPlain a d j) (plain a d j) (form_at cells h p d j) flags_refused);
-      skipped = λ a d t q f. took a d t f;
-      finalizing = λ a d t q u f. took a d t f;
-      round = λ d ds e n f. resting act.Exit (waits_for _) f;
-      closed = λ e n f. resting act.Exit (waits_for _) f;
-      made = λ v t j g. made_so (Allowed (act.Made v)) (made v) (form_at cells h p t.cell j) v (phase_made cells h t);
-      failed = λ t j g f. resting act.MadeFailed (waits_for _) f;
-      finished = λ fine left t g. finished fine left (phase_of (phase_finalized (phase_at cells t.cell h) fine));
-      looked = λ g x e f. resting (act.Look g) (waits_for _) f;
-      set = λ g v x e w f. resting (act.Set g v) (waits_for _) f;
-      released = λ g x e f. resting (act.Release g) (waits_for _) f;
-      downgraded = λ g x e w f. resting (act.Downgrade g) (waits_for _) f;
-      borrowed = λ g x e w f. resting (act.Clone g) (waits_for _) f;
-      cloned = λ g x e w f. resting (act.Clone g) (waits_for _) f;
-      lent_made = λ d v left u e f. resting (act.GetMut d (Some v) left) (waits_for _) f;
-      lent_failed = λ d left u e f. resting (act.GetMut d None left) (waits_for _) f;
-      lent_rested = λ d made left u e r f. resting (act.GetMut d made left) (waits_for _) f;
-      lent_denied = λ d made left u e r f. resting (act.GetMut d made left) (waits_for _) f;
-      lent = λ d left u r f. resting (act.TryGetMut d left) (waits_for _) f;
-      unlent = λ d left u r f. resting (act.TryGetMut d left) (waits_for _) f;
-    }
+    each : (a : Act) (r : Answer) → Case cells h p a r → Allowed a r
+    each _ _ (Case.cyclic a d j t) f = called_count a d j t f
+    each _ _ (Case.waiting a d (Calls j) way t) f = call_waits a d j way t f
+    each _ _ (Case.waiting a d Turns way t) f = turn_waits a d way t f
+    each _ _ (Case.missed a d (Calls j) q t) f = called_count a d j t f
+    each _ _ (Case.missed a d Turns q t) f = absurd (apart (sym q))
+    each _ _ (Case.owned a d (Calls j) o t) f = called_count a d j t f
+    each _ _ (Case.owned a d Turns o t) f = borrowing a d o t f
+    each _ _ (Case.told a d j q t v) f = plainly a d j (Answer.Phase q) t f refl (λ n e. e)
+    each _ _ (Case.denied a d j q t v) f = plainly a d j (Answer.Access q) t f refl (λ n e. e)
+    each _ _ (Case.erring a d j q t v e) f = plainly a d j Answer.ErrGuard t f refl (λ n e. e)
+    each _ _ (Case.shown a d j t q e) f = plainly a d j (answer_of_value (replay cells d h)) t f refl (λ n e. e)
+    each _ _ (Case.reading a d j t q e) f = plainly a d j Answer.ReadGuard t f refl (λ n e. e)
+    each _ _ (Case.writing a d j t q e w) f = plainly a d j Answer.WriteGuard t f refl (λ n e. e)
+    each _ _ (Case.running a d j t q) f = plainly a d j Answer.Running t f refl (λ n e. e)
+    each _ _ (Case.skipped a d t q) f = took a d t f
+    each _ _ (Case.finalizing a d t q u) f = took a d t f
+    each _ _ (Case.finished true left t g) f = resting (Act.Finished left) (waits_for _) f
+    each _ _ (Case.finished false left t g) f = resting (Act.FinishFailed left) (waits_for _) f
+    each _ _ _ f = resting _ (waits_for _) f
 
   -- ---- each deed
 
@@ -271,28 +184,22 @@ module _ (cells : List CellPlan) (c : ℕ) where
         let e : (registry cells h).left ≡ d ∷ rest_of (registry cells h).left = begins (registry cells h).left d t.0 in
         let whole : occurs c (due (registry cells h)) ≡ one_if (d == c) + occurs c (rest_of (registry cells h).left) + occurs c (registry cells h).pending =
         occurs_joined c (registry cells h).left (registry cells h).pending ∙ ap (λ cs. occurs c cs + occurs c (registry cells h).pending) e in
-        let rest : _ = occurs_joined c (rest_of (registry cells h).left) (registry cells h).pending in
         let n : _ = t.1 in
-        omega (arith, whole, rest, n)
+        omega (arith, whole, occurs_joined c (rest_of (registry cells h).left) (registry cells h).pending, n)
     taken_count d n false t = omega (arith, t)
 
     skips : (d n : ℕ) (b : Bool) → Took h p i shared d b n → HasTurnBy (Skips d b) n
     skips d n b t =
-        let taken : _ = taken_count d n b t in
-        let e : _ = occurs_ended c d turn.Skipped (ended_turns h) in
-        keeps (Skips d b) n (known_taken b (registry cells h) c) (omega (arith, taken, e))
+        keeps (Skips d b) n (known_taken b (registry cells h) c) (omega (arith, taken_count d n b t, occurs_ended c d Turn.Skipped (ended_turns h)))
 
     finalizes : (d n : ℕ) (b : Bool) → Took h p i shared d b n → HasTurnBy (Opens d Turns b) n
     finalizes d n b t =
-        let taken : _ = taken_count d n b t in
-        let one : _ = one_or_none h p i shared (d == c) (count (finalizes_in c) (sections h)) in
-        keeps (Opens d Turns b) n (known_taken b (registry cells h) c) (omega (arith, taken, one))
+        keeps (Opens d Turns b) n (known_taken b (registry cells h) c) (omega (arith, taken_count d n b t, one_or_none h p i shared (d == c) (count (finalizes_in c) (sections h))))
 
     looks : (b : Bool) (n : ℕ) → (registry cells h).left ≡ [] → n ≡ waiting h p i shared → HasTurnBy (Looks b) n
     looks b n none w =
-        let all : _ = occurs_joined c (registry cells h).pending [] in
         let before : occurs c (due (registry cells h)) ≡ occurs c (registry cells h).pending = ap (λ cs. occurs c (cs ++ (registry cells h).pending)) none in
-        keeps (Looks b) n refl (omega (arith, all, before, w))
+        keeps (Looks b) n refl (omega (arith, occurs_joined c (registry cells h).pending [], before, w))
 
     -- a generator's section that ends
     run_ends : (d : Deed) (n : ℕ) (f : Inside cells h p false) → registry_by cells h d (registry cells h) ≡ registry cells h → sections_by h p d (sections h) ≡ without_innermost p (sections h)
@@ -324,11 +231,7 @@ module _ (cells : List CellPlan) (c : ℕ) where
 
       module _ (fresh : is_known (registry cells h) d ≡ false) (inside : d < length (registry cells h).known) (now : registry_by cells h (Opens d (Calls j) b) (registry cells h) ≡ registered d (registry cells h)) where
         to_come : occurs c (due (registry_by cells h (Opens d (Calls j) b) (registry cells h))) ≡ occurs c (due (registry cells h)) + one_if (d == c)
-        to_come =
-            let more : occurs c (due (registry_by cells h (Opens d (Calls j) b) (registry cells h))) ≡ occurs c ((registry cells h).left ++ d ∷ (registry cells h).pending) = ap (λ m. occurs c (due m)) now in
-            let new : _ = occurs_joined c (registry cells h).left (d ∷ (registry cells h).pending) in
-            let old : _ = occurs_joined c (registry cells h).left (registry cells h).pending in
-            omega (arith, more, new, old)
+        to_come = grind (arith, occurs_joined)
 
         here : (d == c) ≡ true → HasTurnBy (Opens d (Calls j) b) n
         here same =
@@ -336,23 +239,17 @@ module _ (cells : List CellPlan) (c : ℕ) where
             let unknown : turns_of cells c h ≡ 0 = k ∙ ap (λ (b : Bool). if b then 1 else 0) (subst (λ z. is_known (registry cells h) z ≡ false) at fresh) in
             let known : is_known (registry_by cells h (Opens d (Calls j) b) (registry cells h)) c ≡ true =
             ap (λ m. is_known m c) now ∙ subst (λ z. slice_index_or (slice_set (registry cells h).known d true) z false ≡ true) at (get_or-set_same (registry cells h).known d true false inside) in
-            let more : _ = to_come in
             let one : one_if (d == c) ≡ 1 = ap one_if same in
-            let goal : turns_left (Opens d (Calls j) b) n ≡ 1 = omega (arith, unknown, more, one, w) in
+            let goal : turns_left (Opens d (Calls j) b) n ≡ 1 = omega (arith, unknown, to_come, one, w) in
             goal ∙ sym (ap (λ (b : Bool). if b then 1 else 0) known)
 
         elsewhere : (d == c) ≡ false → HasTurnBy (Opens d (Calls j) b) n
         elsewhere other =
-            let more : _ = to_come in
             let none : one_if (d == c) ≡ 0 = ap one_if other in
-            keeps (Opens d (Calls j) b) n (ap (λ m. is_known m c) now ∙ get_or-set_other (registry cells h).known d c true false (grind arith)) (omega (arith, more, none, w))
+            keeps (Opens d (Calls j) b) n (ap (λ m. is_known m c) now ∙ get_or-set_other (registry cells h).known d c true false (grind arith)) (omega (arith, to_come, none, w))
 
         registers : HasTurnBy (Opens d (Calls j) b) n
-        registers = by (d == c) refl
-          where
-            by : (x : Bool) → (d == c) ≡ x → HasTurnBy (Opens d (Calls j) b) n
-            by true same = here same
-            by false other = elsewhere other
+        registers = whether (d == c) (λ same. here same) (λ other. elsewhere other)
 
       running : Asking cells h p d j true → HasTurnBy (Opens d (Calls j) b) n
       running q = by (tries_registration (cell_at cells d).kind (phase_at cells d h)) (registry cells h).is_open refl refl
@@ -365,8 +262,7 @@ module _ (cells : List CellPlan) (c : ℕ) where
               let empty : (phase_at cells d h == 0) ≡ true = second (is_finalizable (cell_at cells d).kind) _ e in
               let zero : phase_at cells d h ≡ 0 = grind arith in
               let inside : d < length cells = finalizable-inside cells d (first _ _ e) in
-              let long : _ = known-length cells h in
-              registers (fresh-unknown cells h d legal zero (q.unheld (alone cells h legal d))) (omega (arith, inside, long))
+              registers (fresh-unknown cells h d legal zero (q.unheld (alone cells h legal d))) (omega (arith, inside, known-length cells h))
               (ap (λ (x : Bool). if x then after_register d (registry cells h) else registry cells h) e ∙ ap (λ (x : Bool). if x then registered d (registry cells h) else registry cells h) f)
 
     has_turn : (d : Deed) (n : ℕ) → Finds cells h p d → WaitsSo h p i shared d n → HasTurnBy d n
@@ -388,5 +284,5 @@ module _ (cells : List CellPlan) (c : ℕ) where
   one-turn [] k = sym (ap (λ (b : Bool). if b then 1 else 0) (none_known (length cells) c))
   one-turn (e ∷ h) k =
       has_turn h e.step.party e.line.given k.2 (one-turn h k.2) (deed_of h e.step e.line.answer) (count (waits_to_turn c) (waits cells (e ∷ h))) (finds cells h e.step e.line k.0)
-      (of_free cells h e.step e.line k.0 (λ a r. WaitsSo h e.step.party e.line.given (λ w f. waiting-shared cells h e.step.party w k.2 f) (deed_of h (step cells h e.step.party a) r) (count (waits_to_turn c) (waits cells (event h e.step.party e.line.given (λ w f. waiting-shared cells h e.step.party w k.2 f) a r ∷ h))))
-      (λ a r. refl) (cases h e.step.party e.line.given (λ w f. waiting-shared cells h e.step.party w k.2 f)))
+      (of_legal cells h e.step e.line k.0 (λ a r. WaitsSo h e.step.party e.line.given (λ w f. waiting-shared cells h e.step.party w k.2 f) (deed_of h (step cells h e.step.party a) r) (count (waits_to_turn c) (waits cells (event h e.step.party e.line.given (λ w f. waiting-shared cells h e.step.party w k.2 f) a r ∷ h))))
+      (λ a r. refl) (each h e.step.party e.line.given (λ w f. waiting-shared cells h e.step.party w k.2 f)))

@@ -1,39 +1,14 @@
 -- A value that is shown is there.
-use Rattle.std.proofs.Common.{◌≡◌, ◌<◌, ◌≤◌, ℕ, List, [], ◌∷◌, length, refl, sym, ◌∙◌, ap, subst, arith, Bool, true, false, not, ◌&&◌, ◌||◌, None, Some, ◌⊎◌, inl, inr}
-use Rattle.std.specs.Prelude.{◌==◌, ◌^◌, ◌-◌, is_some, if◌then◌else◌}
-use Rattle.std.specs.List.{AllByRecursion}
+use Rattle.schedule_rules.proofs.Words.{ℕ, ◌≡◌, List, arith, Bool, true, refl, false, Some, ◌∷◌, ◌∙◌, [], sym, ap, None, subst, ◌&&◌, ◌⊎◌, inl, ◌<◌, inr, not, length, ◌||◌}
+use Rattle.schedule_rules.proofs.Words.{and_assoc, and_or_self, and_le_r, AllByRecursion, ◌==◌, if◌then◌else◌, is_some, Option, has, initialized, is_plain, is_primed, is_hard}
+use Rattle.schedule_rules.proofs.Words.{Call, Answer, Line, CellPlan, Act, Step, cell_at, tolerance_of, is_accessible, flags_kept, finishes_so, phase_finalized, value_finalized}
+use Rattle.schedule_rules.proofs.Words.{Content, Change, effect, Ran, Put, Asked, content_after, Ended, asks_to_lend, is_declined, RanIfAsked, content_of_run, Deed, Visits, Makes}
+use Rattle.schedule_rules.proofs.Words.{Finishes, EndsToRead, Ends, DropsToRead, Drops, EndsToWrite, Lends, Holds, Puts, Beside, Event, deed_of, sections, Section, Guard, guards}
+use Rattle.schedule_rules.proofs.Words.{numbered, without_guard, guards_by, writer_made, reader_beside, reader_made, replay, phase_at, Back, back_of_step, content_after_back}
+use Rattle.schedule_rules.proofs.Words.{back_of_section, back_by, inside, change_of, back_of_guard, read_guards, reads_cell, answer_of_value, IsLegal, IsLegalLine, lends_at}
+use Rattle.schedule_rules.proofs.Words.{runs_to_lend, ShowsValue}
 use Rattle.std.specs.Option.{unwrap_or}
-use Rattle.std.specs.Int.RustNames.{bit_and, bit_or}
-use Rattle.std.proofs.lemmas.Nat.{and_assoc, and_le_r, and_or_self}
-use Rattle.std.specs.declared.option.Option.{Option}
-use Rattle.phase_bits.specs.Flags.{has, initialized}
-use Rattle.phase_seq.specs.Phases.{registration, flags_refused}
-use Rattle.lazy_cells.specs.Kinds.{is_finalizable, is_plain, is_primed, is_hard}
-use Rattle.lazy_cells.specs.declared.call.Call.{Call}
-use Rattle.schedule_rules.specs.declared.form.Form.{Form}
-use Rattle.schedule_rules.specs.declared.form.Form.TheVariants.{Told, Shown, Held}
-use Rattle.schedule_rules.specs.declared.plan.CellPlan.{CellPlan}
-use Rattle.schedule_rules.specs.declared.step.Act.{Act}
-use Rattle.schedule_rules.specs.declared.step.Act.TheVariants as act
-use Rattle.schedule_rules.specs.declared.step.Step.{Step}
-use Rattle.schedule_rules.specs.declared.line.Line.{Line}
-use Rattle.schedule_rules.specs.declared.line.Answer.{Answer}
-use Rattle.schedule_rules.specs.declared.line.Answer.TheVariants as answer
-use Rattle.schedule_rules.specs.Kinds.{cell_at, tolerance_of}
-use Rattle.schedule_rules.specs.Phases.{is_accessible, flags_kept, phase_finalized, value_finalized, finishes_so}
-use Rattle.schedule_rules.specs.Changes.{Content, Change, Ran, Asked, Put, RanIfAsked, Ended, is_declined, content_of_run, asks_to_lend, content_after, effect}
-use Rattle.schedule_rules.specs.Deeds.{Makes, Finishes, Deed, Holds, Ends, EndsToRead, EndsToWrite, Drops, DropsToRead, Beside, Puts, Visits, Lends}
-use Rattle.schedule_rules.specs.History.{Event, deed_of}
-use Rattle.schedule_rules.specs.Sections.{Section, sections}
-use Rattle.schedule_rules.specs.Guards.{Guard, numbered, without_guard, reader_made, writer_made, reader_beside, guards_by, guards}
-use Rattle.schedule_rules.specs.Replay.{Back, change_of, back_of_section, back_of_guard, back_by, back_of_step, content_after_back, replay, phase_at, inside}
-use Rattle.schedule_rules.specs.Holds.{reads_cell, read_guards}
-use Rattle.schedule_rules.specs.Answers.{answer_of_value, answer_opened, answer_denied, answer_made}
-use Rattle.schedule_rules.specs.Due.{phase_made}
-use Rattle.schedule_rules.specs.Legal.{IsLegal, IsLegalLine}
-use Rattle.schedule_rules.specs.Causes.{lends_at, runs_to_lend}
-use Rattle.schedule_rules.specs.Laws.{ShowsValue}
-use Rattle.schedule_rules.proofs.Cases.{step, Calling, Reach, form_at, Cases}
+use Rattle.schedule_rules.proofs.Cases.{step, Reach, Case}
 use Rattle.schedule_rules.proofs.Steps.{lent_unprimed, of_legal}
 use Rattle.schedule_rules.proofs.Exclusion.{alone}
 use Rattle.schedule_rules.proofs.Found.{each_counted, each_found, each_of, each_removed, each_put}
@@ -53,21 +28,11 @@ HasValue y = is_some y.value ≡ true
 
 -- a value that is there is shown
 pub shown_so : (o : Option ℕ) → is_some o ≡ true → o ≡ Some (unwrap_or o 0)
-shown_so None e = absurd (apart (sym e))
-shown_so (Some v) e = refl
+shown_so o e = grind arith
 
 -- no flag that stays is INITIALIZED
 kept_lacks : (x : CellPlan) (o : Bool) (p : ℕ) → has (flags_kept x.kind o p) initialized ≡ false
-kept_lacks x o p = by (is_finalizable x.kind) (p == 0) o
-  where
-    none : bit_and p 0 ≤ 0 → bit_and p 0 ≡ 0
-    none le = omega (arith, le)
-
-    by : (b d o : Bool) → has (if b then (if d then registration o else bit_and p (2 ^ 32 - 1 - 7)) else 0) initialized ≡ false
-    by false d o = refl
-    by true true true = refl
-    by true true false = refl
-    by true false o = ap (λ z. z == 1) (and_assoc 1 p (2 ^ 32 - 1 - 7) ∙ none (and_le_r p 0))
+kept_lacks x o p = grind (arith, and_assoc, and_le_r)
 
 module _ (x : CellPlan) where
   -- there is one where it may be accessed
@@ -78,67 +43,29 @@ module _ (x : CellPlan) where
   ended_true : (fine : Bool) (left : Option ℕ) (y : Content) → IsTrue y → IsTrue (content_after x (Ended fine left) y)
   ended_true fine left y t = by fine (is_hard x.kind) refl
     where
-      marked : (m : ℕ) (b : Bool) → b ≡ false → (b && false) ≡ true → is_some left ≡ true
-      marked m b e f = absurd (apart (sym f ∙ ap (λ z. z && false) e))
-
       out : (i a b : Bool) → (a || b) ≡ true → (i && not (true && (a || b))) ≡ true → is_some left ≡ true
-      out i true b e f = absurd (none i f)
-        where
-          none : (i : Bool) → (i && false) ≡ true → ⊥
-          none true g = apart (sym g)
-          none false g = apart (sym g)
-      out i false true e f = absurd (none i f)
-        where
-          none : (i : Bool) → (i && false) ≡ true → ⊥
-          none true g = apart (sym g)
-          none false g = apart (sym g)
-      out i false false e f = absurd (apart (sym e))
-
-      within : (i b : Bool) → (i && not (false && b)) ≡ true → i ≡ true
-      within true b e = refl
-      within false b e = absurd (apart (sym e))
+      out i a b e f = grind arith
 
       marks : (fine : Bool) → (has (phase_finalized y.phase fine) 64 || has (phase_finalized y.phase fine) 128) ≡ true
-      marks true = ap (λ z. (z == 64) || has (bit_or y.phase 64) 128) (and_or_self 64 y.phase)
-      marks false = ap (λ z. has (bit_or y.phase 128) 64 || (z == 128)) (and_or_self 128 y.phase) ∙ or_true (has (bit_or y.phase 128) 64)
-        where
-          or_true : (b : Bool) → (b || true) ≡ true
-          or_true true = refl
-          or_true false = refl
+      marks fine = grind (arith, and_or_self)
 
       kept : (fine : Bool) → has (phase_finalized y.phase fine) initialized ≡ has y.phase initialized
-      kept true = has_more y.phase 64 refl
-      kept false = has_more y.phase 128 refl
+      kept fine = grind (arith, has_more)
 
       by : (fine h : Bool) → is_hard x.kind ≡ h → is_accessible x.kind (phase_finalized y.phase fine) ≡ true → is_some (value_finalized x.kind left y.value) ≡ true
-      by fine true e a =
-          ap (λ b. is_some (if b then left else y.value)) e
-          ∙ out (has (phase_finalized y.phase fine) initialized) (has (phase_finalized y.phase fine) 64) (has (phase_finalized y.phase fine) 128) (marks fine)
-          (sym (ap (λ b. has (phase_finalized y.phase fine) initialized && not (b && (has (phase_finalized y.phase fine) 64 || has (phase_finalized y.phase fine) 128))) e) ∙ a)
-      by fine false e a =
-          ap (λ b. is_some (if b then left else y.value)) e
-          ∙ t (soft (has y.phase initialized) _ e (sym (kept fine) ∙ first _ _ a))
-        where
-          soft : (i b : Bool) → is_hard x.kind ≡ false → i ≡ true → (i && not (is_hard x.kind && b)) ≡ true
-          soft i b f g = ap (λ z. z && not (is_hard x.kind && b)) g ∙ ap (λ z. not (z && b)) f
+      by fine h e a = grind (arith, out, marks, kept, first)
 
   asked_true : (o : Bool) (k : Call) (y : Content) → IsTrue y → IsTrue (content_after x (Asked o k) y)
-  asked_true o k y t = by (is_declined x.kind (tolerance_of x) k o y.phase)
-    where
-      by : (b : Bool) → IsTrue (if b then record { phase = 36; value = y.value } else y)
-      by true = λ e. absurd (apart (sym e))
-      by false = t
+  asked_true o k y t =
+      elim (is_declined x.kind (tolerance_of x) k o y.phase) as (λ b. IsTrue (if b then record { phase = 36; value = y.value } else y))
+      [ true ↦ λ e. absurd (apart (sym e)) | false ↦ t ]
 
   ran_true : (o : Bool) (made : Option ℕ) (y : Content) → IsTrue (content_after x (Ran o made) y)
   ran_true o (Some v) y = λ e. refl
   ran_true o None y = λ e. absurd (apart (sym (first _ _ e) ∙ has_more (flags_kept x.kind o y.phase) 6 refl ∙ kept_lacks x o y.phase))
 
   lent_true : (o : Bool) (made : Option ℕ) (y : Content) → IsTrue y → IsTrue (content_after x (RanIfAsked o made) y)
-  lent_true o made y t = by (asks_to_lend x.kind (tolerance_of x) y.phase)
-    where
-      by : (b : Bool) → IsTrue (if b then content_of_run x.kind o made y else y)
-      by true = ran_true o made y
-      by false = t
+  lent_true o made y t = elim (asks_to_lend x.kind (tolerance_of x) y.phase) as (λ b. IsTrue (if b then content_of_run x.kind o made y else y)) [ true ↦ ran_true o made y | false ↦ t ]
 
   -- what happens in a section keeps this
   effect_true : (chs : List Change) (y : Content) → IsTrue y → IsTrue (effect x chs y)
@@ -152,38 +79,26 @@ module _ (x : CellPlan) where
   -- and no value is lost where no finalizer ends
   effect_stays : (chs : List Change) (y : Content) → IsOfRun chs → HasValue y → HasValue (effect x chs y)
   effect_stays [] y r v = v
+  effect_stays (Put w ∷ chs) y r v = refl
   effect_stays (Ran o (Some w) ∷ chs) y r v = refl
   effect_stays (Ran o None ∷ chs) y r v = effect_stays chs y r v
-  effect_stays (Put w ∷ chs) y r v = refl
-  effect_stays (Asked o k ∷ chs) y r v = absurd r
-  effect_stays (RanIfAsked o m ∷ chs) y r v = absurd r
-  effect_stays (Ended fine left ∷ chs) y r v = absurd r
+  effect_stays (ch ∷ chs) y r v = absurd r
 
   -- nor by a call that leaves nothing open
   asked_stays : (o : Bool) (k : Call) (y : Content) → HasValue y → HasValue (content_after x (Asked o k) y)
-  asked_stays o k y v = by (is_declined x.kind (tolerance_of x) k o y.phase)
-    where
-      by : (b : Bool) → HasValue (if b then record { phase = 36; value = y.value } else y)
-      by true = v
-      by false = v
+  asked_stays o k y v = elim (is_declined x.kind (tolerance_of x) k o y.phase) as (λ b. HasValue (if b then record { phase = 36; value = y.value } else y)) [ true ↦ v | false ↦ v ]
 
   -- nor by a finalizer of a primed kind, which leaves one where it takes it out of reach
   primed_left : (fine : Bool) (left : Option ℕ) (y : Content) → is_primed x.kind ≡ true → finishes_so x.kind fine left ≡ true → HasValue y → HasValue (content_after x (Ended fine left) y)
   primed_left fine left y p so v = by (is_hard x.kind) (is_primed x.kind) p so
     where
       by : (h q : Bool) → q ≡ true → ((if h && q then is_some left else not (is_some left)) && (fine || (not h || q))) ≡ true → is_some (if h then left else y.value) ≡ true
-      by true true e f = first _ _ f
-      by false q e f = v
-      by true false e f = absurd (apart (sym e))
+      by h q e f = grind arith
 
 module _ (cells : List CellPlan) where
   back_true : (c : ℕ) (o : Option Back) (y : Content) → IsTrue (cell_at cells c) y → IsTrue (cell_at cells c) (content_after_back cells c o y)
   back_true c None y t = t
-  back_true c (Some b) y t = by (b.cell == c)
-    where
-      by : (d : Bool) → IsTrue (cell_at cells c) (if d then effect (cell_at cells c) b.changes y else y)
-      by true = effect_true (cell_at cells c) b.changes y t
-      by false = t
+  back_true c (Some b) y t = elim (b.cell == c) as (λ d. IsTrue (cell_at cells c) (if d then effect (cell_at cells c) b.changes y else y)) [ true ↦ effect_true (cell_at cells c) b.changes y t | false ↦ t ]
 
   -- so it is with what is published: where it may be accessed, it has a value
   pub accessed-value : (c : ℕ) (h : List Event) → IsTrue (cell_at cells c) (replay cells c h)
@@ -305,76 +220,29 @@ module _ (cells : List CellPlan) where
 
   -- what an open guard shows has a value
   pub shown-value : (h : List Event) (g : ℕ) (x : Guard) → IsLegal cells h → numbered g (guards h) ≡ Some x → is_some (if x.writes then inside cells h x else replay cells x.cell h).value ≡ true
-  shown-value h g x legal f = by x.writes refl
-    where
-      by : (b : Bool) → x.writes ≡ b → HasValue (if b then inside cells h x else replay cells x.cell h)
-      by true w =
-          subst HasValue (sym (guard-shows cells h g x legal f w))
-          (each_found (λ y. y.number == g) (λ x. x.writes ≡ true → HasValue (effect (cell_at cells x.cell) x.changes (replay cells x.cell h))) (guards h) x f (all_see h legal) w)
-      by false w = each_found (λ y. y.number == g) (Reads h) (guards h) x f (all_read h legal) w
+  shown-value h g x legal f = grind (arith, guard-shows, each_found, all_see, all_read)
 
   -- ---- lines that show a value
 
   module _ (h : List Event) (p : ℕ) (legal : IsLegal cells h) where
     -- a step of the party that is answered by a value shows one that is there
     abbrev Showing : Act → Answer → Type 0
-    Showing a (answer.Value v) = ShowsValue cells h (step cells h p a) v
+    Showing a (Answer.Value v) = ShowsValue cells h (step cells h p a) v
     Showing a _ = Unit {0}
-
-    opened : (a : Act) (c : ℕ) (k : Call) → Calling cells h p a c k → Reach cells h p c true → (f : Form) → Showing a (answer_opened f (replay cells c h))
-    opened a c k t e (Told tests) = tt
-    opened a c k t e Shown = inl (record { cell = c; call = k; tried = t.tried; reached = e; value = shown_so (replay cells c h).value (accessed-value c h e) })
-    opened a c k t e (Held true falls_back) = tt
-    opened a c k t e (Held false falls_back) = tt
-
-    denied : (a : Act) (f : Form) (q : ℕ) → Showing a (answer_denied f q)
-    denied a (Told true) q = tt
-    denied a (Told false) q = tt
-    denied a Shown q = tt
-    denied a (Held writes true) q = tt
-    denied a (Held writes false) q = tt
-
-    made : (v : ℕ) (f : Form) (q : ℕ) → Showing (act.Made v) (answer_made f v q)
-    made v (Told tests) q = tt
-    made v Shown q = inr (inr (inl refl))
-    made v (Held true falls_back) q = tt
-    made v (Held false falls_back) q = tt
 
     -- a value that is lent as it is
     found : (a : Act) (c : ℕ) → lends_at c a ≡ true → runs_to_lend cells h a ≡ false → Reach cells h p c true → Showing a (answer_of_value (replay cells c h))
     found a c is e f = inr (inr (inr (inl (record { cell = c; lends = is; unasked = e; reached = f; value = shown_so (replay cells c h).value (accessed-value c h f) }))))
 
-    shows : Cases cells h p Showing
-    shows = record {
-      cyclic = λ a c k t. tt;
-      waiting = λ a c w way t. tt;
-      missed = λ a c w f t. tt;
-      owned = λ a c w o t. tt;
-      opened = λ a c k t q e. opened a c k t e (form_at cells h p c k);
-      denied = λ a c k t q e. denied a (form_at cells h p c k) (phase_at cells c h);
-      running = λ a c k t q. tt;
-      declined = λ a c k t q. denied a (form_at cells h p c k) flags_refused;
-      skipped = λ a c t q. tt;
-      finalizing = λ a c t q u. tt;
-      round = λ c cs e n. tt;
-      closed = λ e n. tt;
-      made = λ v t k g. made v (form_at cells h p t.cell k) (phase_made cells h t);
-      failed = λ t k g. tt;
-      finished = λ fine left t g. tt;
-      looked = λ g x f. inr (inl (record { number = g; guard = x; looks = refl; found = f; value = shown_so _ (shown-value h g x legal f) }));
-      set = λ g v x f w. tt;
-      released = λ g x f. tt;
-      downgraded = λ g x f w. tt;
-      borrowed = λ g x f w. tt;
-      cloned = λ g x f w. tt;
-      lent_made = λ c v left u e. inr (inr (inr (inr (record { cell = c; left = left; acts = refl; asked = e }))));
-      lent_failed = λ c left u e. tt;
-      lent_rested = λ c made left u e f. found (act.GetMut c made left) c (same_number c c refl) e f;
-      lent_denied = λ c made left u e f. tt;
-      lent = λ c left u f. found (act.TryGetMut c left) c (same_number c c refl) refl f;
-      unlent = λ c left u f. tt;
-    }
+    each : (a : Act) (r : Answer) → Case cells h p a r → Showing a r
+    each _ _ (Case.shown a c k t q e) = inl (record { cell = c; call = k; tried = t.tried; reached = e; value = shown_so (replay cells c h).value (accessed-value c h e) })
+    each _ _ (Case.made v t k g) = inr (inr (inl refl))
+    each _ _ (Case.looked g x f) = inr (inl (record { number = g; guard = x; looks = refl; found = f; value = shown_so _ (shown-value h g x legal f) }))
+    each _ _ (Case.lent_made c v left u e) = inr (inr (inr (inr (record { cell = c; left = left; acts = refl; asked = e }))))
+    each _ _ (Case.lent_rested c made left u e f) = found (Act.GetMut c made left) c (same_number c c refl) e f
+    each _ _ (Case.lent c left u f) = found (Act.TryGetMut c left) c (same_number c c refl) refl f
+    each _ _ _ = tt
 
   -- a legal line that shows a value shows one that is there
-  pub value-shown : (h : List Event) (s : Step) (l : Line) (v : ℕ) → IsLegal cells h → IsLegalLine cells h s l → l.answer ≡ answer.Value v → ShowsValue cells h s v
-  value-shown h s l v legal k e = subst (Showing h s.party legal s.act) e (of_legal cells h s l k (Showing h s.party legal) (λ a r. tt) (shows h s.party legal))
+  pub value-shown : (h : List Event) (s : Step) (l : Line) (v : ℕ) → IsLegal cells h → IsLegalLine cells h s l → l.answer ≡ Answer.Value v → ShowsValue cells h s v
+  value-shown h s l v legal k e = subst (Showing h s.party legal s.act) e (of_legal cells h s l k (Showing h s.party legal) (λ a r. tt) (λ a r k n. each h s.party legal a r k))

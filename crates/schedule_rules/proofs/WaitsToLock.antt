@@ -1,32 +1,10 @@
 -- What waits: a call for a lock or a turn, which is not fast, at a cell of no party's own, whose kind has the call.
-use Rattle.std.proofs.Common.{◌≡◌, ℕ, List, refl, sym, ◌∙◌, ap, subst, arith, Bool, true, false, not, None, Some}
-use Rattle.std.specs.Prelude.{◌==◌, is_none, is_some}
-use Rattle.std.specs.List.{find}
-use Rattle.std.specs.declared.option.Option.{Option}
-use Rattle.exit_registry.specs.Registry.{first_of}
+use Rattle.schedule_rules.proofs.Words.{ℕ, ◌≡◌, List, arith, Bool, true, refl, false, Some, ◌∙◌, sym, ap, None, subst, not, find, ◌==◌, is_none, is_some, Option, first_of}
+use Rattle.schedule_rules.proofs.Words.{has_call, asking, lends_value, Call, Answer, Line, Refusal, CellPlan, Act, Step, Calls, Turns, cell_at, tolerance_at, is_owned, is_of_other}
+use Rattle.schedule_rules.proofs.Words.{is_fast, lock_asked, seeks, Event, count, registry, Wait, waits, wait_of, Attempt, attempt, attempt_of_wait, attempt_with, attempt_of_turn}
+use Rattle.schedule_rules.proofs.Words.{is_barred, holding_with, is_in_use, refusal, refusal_by, no_lending, refusal_free, no_call, IsLegal, IsLegalLine, answer_of, due_at}
+use Rattle.schedule_rules.proofs.Words.{lends_at, waits_judged, is_attempted, is_waiting, is_made_to_wait, phase_met, ChangesNothing}
 use Rattle.phase_seq.specs.declared.ask.Want.{Want as Sought}
-use Rattle.lazy_cells.specs.Calls.{asking, has_call}
-use Rattle.lazy_cells.specs.Kinds.{lends_value}
-use Rattle.lazy_cells.specs.declared.call.Call.{Call}
-use Rattle.schedule_rules.specs.declared.plan.CellPlan.{CellPlan}
-use Rattle.schedule_rules.specs.declared.step.Act.{Act}
-use Rattle.schedule_rules.specs.declared.step.Act.TheVariants as act
-use Rattle.schedule_rules.specs.declared.step.Step.{Step}
-use Rattle.schedule_rules.specs.declared.step.Want.TheVariants.{Calls, Turns}
-use Rattle.schedule_rules.specs.declared.line.Line.{Line}
-use Rattle.schedule_rules.specs.declared.line.Answer.TheVariants as answer
-use Rattle.schedule_rules.specs.declared.line.Refusal.{Refusal}
-use Rattle.schedule_rules.specs.declared.line.Refusal.TheVariants as refused
-use Rattle.schedule_rules.specs.Kinds.{cell_at, tolerance_at, is_of_other, is_owned}
-use Rattle.schedule_rules.specs.Calls.{seeks, is_fast, lock_asked}
-use Rattle.schedule_rules.specs.History.{Event, count}
-use Rattle.schedule_rules.specs.Exits.{registry}
-use Rattle.schedule_rules.specs.Waits.{Attempt, attempt_of_wait, attempt_of_turn, attempt_with, attempt, Wait, wait_of, waits}
-use Rattle.schedule_rules.specs.Holds.{holding_with, is_barred, is_in_use}
-use Rattle.schedule_rules.specs.Refusals.{refusal, refusal_by, refusal_free, no_call, no_lending}
-use Rattle.schedule_rules.specs.Legal.{IsLegal, IsLegalLine, answer_of, due_at}
-use Rattle.schedule_rules.specs.Laws.{ChangesNothing}
-use Rattle.schedule_rules.specs.Causes.{lends_at, is_waiting, is_attempted, is_made_to_wait, waits_judged, phase_met}
 use Rattle.schedule_rules.proofs.Facts.{first, second, apart, same_number}
 use Rattle.schedule_rules.proofs.Found.{found_passes, only_one, none_counted}
 use Rattle.schedule_rules.proofs.Counts.{one-wait}
@@ -53,12 +31,10 @@ module _ (cells : List CellPlan) where
   barred h s l k w = by (attempt cells h s) (second (is_none (refusal cells h s)) _ (sym (waits_where_barred cells h s l k) ∙ w))
     where
       not_so : (b : Bool) → not b ≡ true → b ≡ false
-      not_so true e = absurd (apart (sym e))
-      not_so false e = refl
+      not_so b e = grind arith
 
       sought : (a : Attempt) (o : Option Sought) (x : _) → is_barred (lock_asked (asking o (is_fast a.want) (tolerance_at cells a.cell)) (phase_met cells h s.party a)) x ≡ true → is_some o ≡ true
-      sought a None x e = absurd (apart (sym e))
-      sought a (Some u) x e = refl
+      sought a k1 x e = grind arith
 
       by : (o : Option Attempt) → is_attempted (is_made_to_wait cells h s.party (waits_judged cells k.moment h s l.given)) o ≡ true → Of (Waits cells) o
       by None f = tt
@@ -97,22 +73,17 @@ module _ (cells : List CellPlan) where
   allowed h s n IH = by s.act (wait_of s.party (waits cells h)) refl n
     where
       has : (b d : Bool) → no_call b d ≡ None → d ≡ true
-      has true d e = absurd (cc)
-      has false false e = absurd (cc)
-      has false true e = refl
+      has b d e = grind arith
 
       turned : (o : Option ℕ) → Of HasCall (attempt_of_turn o)
       turned None = tt
       turned (Some c) = λ k e. absurd (turns_not k e)
 
       by : (a : Act) (o : Option Wait) → wait_of s.party (waits cells h) ≡ o → refusal_by cells (is_some o) h s.party a ≡ None → Of HasCall (attempt_with cells (waits cells h) h s.party a)
-      by (act.Call c k) None e f = λ j d. same k j d (has (is_of_other (cell_at cells c).place s.party) (has_call (cell_at cells c).kind k) f)
-        where
-          same : (k j : Call) → Calls k ≡ Calls j → has_call (cell_at cells c).kind k ≡ true → has_call (cell_at cells c).kind j ≡ true
-          same k j d e = let is : k ≡ j = cc in subst (λ i. has_call (cell_at cells c).kind i ≡ true) is e
-      by (act.Call c k) (Some w) e f = absurd (cc)
-      by act.Again o e f = IH
-      by act.Exit o e f = turned (first_of (registry cells h).left)
+      by (Act.Call c k) None e f = λ j d. let is : k ≡ j = cc in subst (λ i. has_call (cell_at cells c).kind i ≡ true) is (has (is_of_other (cell_at cells c).place s.party) (has_call (cell_at cells c).kind k) f)
+      by (Act.Call c k) (Some w) e f = absurd (cc)
+      by Act.Again o e f = IH
+      by Act.Exit o e f = turned (first_of (registry cells h).left)
       by _ o e f = tt
 
   -- what waits is a call that the kind of its cell has
@@ -123,17 +94,12 @@ module _ (cells : List CellPlan) where
       unrefused h s l m w = none (refusal cells h s) (first (is_none (refusal cells h s)) _ (sym (waits_where_barred cells h s l m) ∙ w))
         where
           none : (o : Option Refusal) → is_none o ≡ true → o ≡ None
-          none None e = refl
-          none (Some r) e = absurd (cc)
+          none o e = grind arith
 
   -- so is what a step attempts that is not refused
   pub attempted-has : (h : List Event) (s : Step) (c : ℕ) (k : Call) → IsLegal cells h → refusal cells h s ≡ None → attempt cells h s ≡ Some (record { cell = c; want = Calls k })
       → has_call (cell_at cells c).kind k ≡ true
   attempted-has h s c k legal n e = subst (Of HasCall) e (allowed h s n (has-waiting h s.party legal)) k refl
-
-  -- and what waits is a call that its kind has
-  pub waiting-has : (h : List Event) (p : ℕ) (w : Wait) (k : Call) → IsLegal cells h → wait_of p (waits cells h) ≡ Some w → w.want ≡ Calls k → has_call (cell_at cells w.cell).kind k ≡ true
-  waiting-has h p w k legal f e = subst (λ o. Of HasCall (attempt_of_wait o)) f (has-waiting h p legal) k e
 
   -- ---- cells of a party's own
 
@@ -150,22 +116,21 @@ module _ (cells : List CellPlan) where
           absurd (apart (sym o ∙ ap (λ z. is_owned (cell_at cells z).place) (sym at) ∙ waiting-shared h w.party w legal own))
 
   -- what is refused as another's of a party that does not wait, changes nothing
-  refused_so : (h : List Event) (s : Step) (l : Line) → IsLegalLine cells h s l → refusal_free cells h s.party s.act ≡ Some refused.NotOwner
-      → is_none (wait_of s.party (waits cells h)) ≡ true → (l.answer ≡ answer.Refused refused.NotOwner) × ChangesNothing cells h (record { step = s; line = l })
+  refused_so : (h : List Event) (s : Step) (l : Line) → IsLegalLine cells h s l → refusal_free cells h s.party s.act ≡ Some Refusal.NotOwner
+      → is_none (wait_of s.party (waits cells h)) ≡ true → (l.answer ≡ Answer.Refused Refusal.NotOwner) × ChangesNothing cells h (record { step = s; line = l })
   refused_so h s l m e n =
       (answered, subst (λ r. ChangesNothing cells h (record { step = s; line = record { answer = r; given = l.given } })) (sym answered) nothing)
     where
-      none : (x : Option Wait) → is_none x ≡ true → refusal_by cells (is_some x) h s.party s.act ≡ Some refused.NotOwner
-      none None f = e
-      none (Some w) f = absurd (cc)
+      none : (x : Option Wait) → is_none x ≡ true → refusal_by cells (is_some x) h s.party s.act ≡ Some Refusal.NotOwner
+      none x f = grind arith
 
-      refuses : refusal cells h s ≡ Some refused.NotOwner
+      refuses : refusal cells h s ≡ Some Refusal.NotOwner
       refuses = none (wait_of s.party (waits cells h)) n
 
-      answered : l.answer ≡ answer.Refused refused.NotOwner
+      answered : l.answer ≡ Answer.Refused Refusal.NotOwner
       answered = m.answered ∙ ap (λ r. answer_of r (due_at cells m.moment h s l.given m.chosen)) refuses
 
-      nothing : ChangesNothing cells h (record { step = s; line = record { answer = answer.Refused refused.NotOwner; given = l.given } })
+      nothing : ChangesNothing cells h (record { step = s; line = record { answer = Answer.Refused Refusal.NotOwner; given = l.given } })
       nothing = record {
         sections_stay = refl;
         guards_stay = refl;
@@ -178,21 +143,17 @@ module _ (cells : List CellPlan) where
       }
 
   -- so is a call on it by another party
-  pub other-refused : (h : List Event) (s : Step) (l : Line) (c : ℕ) (k : Call) → IsLegalLine cells h s l → s.act ≡ act.Call c k → is_of_other (cell_at cells c).place s.party ≡ true
-      → is_none (wait_of s.party (waits cells h)) ≡ true → (l.answer ≡ answer.Refused refused.NotOwner) × ChangesNothing cells h (record { step = s; line = l })
+  pub other-refused : (h : List Event) (s : Step) (l : Line) (c : ℕ) (k : Call) → IsLegalLine cells h s l → s.act ≡ Act.Call c k → is_of_other (cell_at cells c).place s.party ≡ true
+      → is_none (wait_of s.party (waits cells h)) ≡ true → (l.answer ≡ Answer.Refused Refusal.NotOwner) × ChangesNothing cells h (record { step = s; line = l })
   other-refused h s l c k m e o n = refused_so h s l m (ap (refusal_free cells h s.party) e ∙ ap (λ b. no_call b (has_call (cell_at cells c).kind k)) o) n
 
   -- and an act of it that is to lend its value
   pub lending-refused : (h : List Event) (s : Step) (l : Line) (c : ℕ) → IsLegalLine cells h s l → lends_at c s.act ≡ true → is_of_other (cell_at cells c).place s.party ≡ true
-      → is_none (wait_of s.party (waits cells h)) ≡ true → (l.answer ≡ answer.Refused refused.NotOwner) × ChangesNothing cells h (record { step = s; line = l })
+      → is_none (wait_of s.party (waits cells h)) ≡ true → (l.answer ≡ Answer.Refused Refusal.NotOwner) × ChangesNothing cells h (record { step = s; line = l })
   lending-refused h s l c m e o n = refused_so h s l m (by s.act e) n
     where
-      other : (z : ℕ) → (z == c) ≡ true → no_lending (no_call (is_of_other (cell_at cells z).place s.party) (lends_value (cell_at cells z).kind)) (is_in_use cells z h) ≡ Some refused.NotOwner
-      other z f =
-          let at : z ≡ c = grind arith in
-          ap (λ b. no_lending (no_call b (lends_value (cell_at cells z).kind)) (is_in_use cells z h)) (subst (λ y. is_of_other (cell_at cells y).place s.party ≡ true) (sym at) o)
+      other : (z : ℕ) → (z == c) ≡ true → no_lending (no_call (is_of_other (cell_at cells z).place s.party) (lends_value (cell_at cells z).kind)) (is_in_use cells z h) ≡ Some Refusal.NotOwner
+      other z f = grind arith
 
-      by : (a : Act) → lends_at c a ≡ true → refusal_free cells h s.party a ≡ Some refused.NotOwner
-      by (act.GetMut z made left) f = other z f
-      by (act.TryGetMut z left) f = other z f
-      by _ f = absurd (apart (sym f))
+      by : (a : Act) → lends_at c a ≡ true → refusal_free cells h s.party a ≡ Some Refusal.NotOwner
+      by a f = grind (arith, other)

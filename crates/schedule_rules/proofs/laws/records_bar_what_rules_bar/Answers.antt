@@ -1,13 +1,7 @@
-use Rattle.std.proofs.Common.{◌≡◌, ℕ, ◌<◌, List, refl, arith, Bool, true, false, ◌&&◌, ◌||◌, not}
-use Rattle.std.specs.Prelude.{◌==◌, nat_lt}
+use Rattle.schedule_rules.proofs.Words.{ℕ, ◌≡◌, List, arith, Bool, true, refl, false, ◌&&◌, ◌<◌, not, ◌||◌, ◌==◌, nat_lt, LockNature, CellPlan, Event, Wait, waits, is_barred}
+use Rattle.schedule_rules.proofs.Words.{holding_with, writers_with, readers_with, drains_with}
 use Rattle.phase_bits.specs.Records.{most_readers, bars_read, bars_write}
-use Rattle.phase_locker.specs.declared.tickets.LockNature.TheVariants as nature
-use Rattle.schedule_rules.specs.declared.plan.CellPlan.{CellPlan}
-use Rattle.schedule_rules.specs.History.{Event}
-use Rattle.schedule_rules.specs.Waits.{Wait}
-use Rattle.schedule_rules.specs.Holds.{is_barred, readers_with, writers_with, drains_with, holding_with}
 use Rattle.schedule_rules.specs.Core.{core_with}
-use Rattle.schedule_rules.specs.Waits.{waits}
 use Rattle.schedule_rules.proofs.Causes.{kept_is_answered}
 use Rattle.schedule_rules.proofs.laws.records_bar_what_rules_bar.Goals as goal
 
@@ -22,10 +16,10 @@ bars_to_read : (w d n m : ℕ) → (0 < w → n ≡ 0) → (nat_lt 0 w || ((nat_
 bars_to_read w d n m alone = grind arith
 
 module _ (cells : List CellPlan) (h : List Event) (c : ℕ) (ws : List Wait) where
-  bars_read-core : (0 < writers_with c h ws → readers_with c h ws ≡ 0) → is_barred nature.Read (holding_with c h ws) ≡ bars_read (core_with cells c h ws)
+  bars_read-core : (0 < writers_with c h ws → readers_with c h ws ≡ 0) → is_barred LockNature.Read (holding_with c h ws) ≡ bars_read (core_with cells c h ws)
   bars_read-core alone = bars_to_read (writers_with c h ws) (drains_with c ws) (readers_with c h ws) most_readers alone
 
-  bars_write-core : is_barred nature.Write (holding_with c h ws) ≡ bars_write (core_with cells c h ws)
+  bars_write-core : is_barred LockNature.Write (holding_with c h ws) ≡ bars_write (core_with cells c h ws)
   bars_write-core = bars_to_write (nat_lt 0 (writers_with c h ws)) (nat_lt 0 (drains_with c ws)) (readers_with c h ws)
 
 pub returns-clause-reads : goal.returns-clause-reads
