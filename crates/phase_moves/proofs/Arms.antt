@@ -1,5 +1,5 @@
 -- The rows stand for what is open after an attempt, whatever it was answered.
-use Rattle.std.proofs.Common.{◌≡◌, ◌<◌, ◌≤◌, ◌+◌, ◌∙◌, ℕ, List, length, set, get_or, ap, sym, subst, refl, arith, Bool, true, false, None, Some, inl, inr}
+use Rattle.std.proofs.Common.{◌≡◌, ◌<◌, ◌≤◌, ◌+◌, ◌∙◌, ℕ, length, set, get_or, ap, sym, subst, refl, arith, Bool, true, false, None, Some, inl, inr}
 use Rattle.std.specs.Prelude.{◌⊎◌, ◌&&◌, MatchBool, if◌then◌else◌, is_some}
 use Rattle.std.specs.declared.option.Option.{Option}
 use Rattle.phase_bits.specs.declared.phase.Phase.{Phase}
@@ -32,7 +32,7 @@ use Rattle.schedule_rules.specs.declared.step.Want.{Want}
 use Rattle.schedule_rules.specs.declared.step.Want.TheVariants.{Calls, Turns}
 use Rattle.schedule_rules.specs.Calls.{initializes, seeks}
 use Rattle.schedule_rules.specs.Kinds.{cell_at}
-use Rattle.schedule_rules.specs.Changes.{Content, Change}
+use Rattle.schedule_rules.specs.Changes.{Content}
 use Rattle.schedule_rules.specs.Phases.{tries_registration}
 use Rattle.schedule_rules.specs.Sections.{innermost, is_turn}
 use Rattle.schedule_rules.specs.History.{count}
@@ -46,7 +46,7 @@ use Rattle.phase_moves.specs.declared.rows.Target.{Target}
 use Rattle.phase_moves.specs.declared.rows.Rows.{Rows}
 use Rattle.phase_moves.specs.declared.rows.Taken.TheVariants as taken
 use Rattle.phase_moves.specs.Calls.{Calls as CallOf, registry_for, registry_begun}
-use Rattle.phase_moves.specs.Standing.{Standing, run_in, runner_of, reads_in, writes_in, changes_at, section_asked, registry_asked}
+use Rattle.phase_moves.specs.Standing.{Standing, run_in, runner_of, reads_in, writes_in, section_asked, registry_asked}
 use Rattle.phase_moves.specs.Stands.{Stands, seen_at, IsCell, IsExit, IsLocked, AreShown, party_row, open_run, run_as, stays_in}
 use Rattle.phase_moves.specs.Tries.{IsAttempting, IsTook, MayWait, WaitsAt, ask_of, draft_after, is_quick, opens_section, party_after, run_after, taken_of, waiting_after, waiting_with}
 use Rattle.phase_moves.specs.declared.rows.Taken.{Taken}
@@ -86,9 +86,6 @@ module _ {L : Type 0} (held : L → Holders) (place : L → LockerKind) where
 
     abbrev y : Content
     y = m.content t.cell
-
-    abbrev chs : List Change
-    chs = changes_at t.cell t.want m
 
     abbrev reg : Option Registry
     reg = registry_for row.plan.kind v.exit.registry

@@ -44,9 +44,6 @@ not_less n e = grind (arith, e)
 positive : (n : ℕ) → nat_lt 0 n ≡ true → 0 < n
 positive n e = grind (arith, e)
 
-zero : (n : ℕ) → nat_lt 0 n ≡ false → n ≡ 0
-zero n e = grind (arith, e)
-
 is_zero : (n : ℕ) → n ≡ 0 → (n == 0) ≡ true
 is_zero n e = grind (arith, e)
 

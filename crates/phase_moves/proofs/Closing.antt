@@ -27,7 +27,7 @@ use Rattle.phase_moves.specs.declared.rows.OpenRun.{OpenRun}
 use Rattle.phase_moves.specs.declared.rows.Rows.{Rows}
 use Rattle.phase_moves.specs.Standing.{Run, Standing, left, run_in, runner_of}
 use Rattle.phase_moves.specs.Stands.{IsCell, Stands, guard_row, open_run, section_of, seen_at, slot_row}
-use Rattle.phase_moves.specs.Moves.{Rests, LeavesRead, LeavesWrite, MayLeaveRead, MayLeaveWrite, IsReader, IsWriter}
+use Rattle.phase_moves.specs.Moves.{Rests, LeavesRead, LeavesWrite, IsReader, IsWriter}
 use Rattle.phase_moves.specs.Closing.{AreClosing, CanClose, IsClosing, IsOpenRun, IsPopped, RunsFor, StayBeside}
 use Rattle.phase_moves.proofs.Ending.{asked_run}
 use Rattle.phase_moves.proofs.Finalizing.{asked_final}
@@ -118,28 +118,11 @@ module _ {L : Type 0} (held : L → Holders) (place : L → LockerKind) where
     abbrev hand : ℕ
     hand = length v.guards.items
 
-    pub closes_none : row ≡ guard.Free → CanClose held place v
-    closes_none e = by (numbered hand popped.m.guards) refl
-      where
-        never : (x : Guard) (b : Bool) → x.writes ≡ b → guard.Free ≡ guard_row (Some x) → ⊥
-        never x true w z = let y = rw w at z in cc
-        never x false w z = let y = rw w at z in cc
-
-        by : (o : Option Guard) → numbered hand popped.m.guards ≡ o → CanClose held place v
-        by None q = record { m = popped.m; rests = record { stands = popped.stands; empty = q } }
-        by (Some x) q = absurd (never x x.writes refl (sym e ∙ popped.row_is ∙ ap guard_row q))
-
     read_in : (p c : ℕ) (l : ReadTicket) → row ≡ guard.Read p c l → (x : Guard) × IsReader held place hand popped.m v x c
     read_in p c l e = let r = read_row p c l (numbered hand popped.m.guards) (sym e ∙ popped.row_is) in (r.x, record { stands = popped.stands; found = r.is; at = r.at; reads = r.reads })
 
     write_in : (p c : ℕ) (l : WriteTicket) → row ≡ guard.Write p c l → (x : Guard) × IsWriter held place hand popped.m v x c
     write_in p c l e = let r = write_row p c l (numbered hand popped.m.guards) (sym e ∙ popped.row_is) in (r.x, record { stands = popped.stands; found = r.is; at = r.at; writes = r.writes })
-
-    pub may_read : (p c : ℕ) (l : ReadTicket) → row ≡ guard.Read p c l → MayLeaveRead held place v c
-    may_read p c l e = let r = read_in p c l e in record { hand = hand; m = popped.m; x = r.0; is = r.1 }
-
-    pub may_write : (p c : ℕ) (l : WriteTicket) → row ≡ guard.Write p c l → MayLeaveWrite held place v c
-    may_write p c l e = let r = write_in p c l e in record { hand = hand; m = popped.m; x = r.0; is = r.1 }
 
     pub closes_read : (new : Rows L) (d : Given) (p c : ℕ) (l : ReadTicket) → row ≡ guard.Read p c l → LeavesRead held place v c d new → CanClose held place new × (new.exit.turns.items ≡ v.exit.turns.items)
     closes_read new d p c l e leaves =

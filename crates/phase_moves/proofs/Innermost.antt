@@ -1,6 +1,5 @@
 -- The innermost section of a party, and what is left when it is given back.
 use Rattle.std.proofs.Common.{◌≡◌, ◌≢◌, ◌==◌, ◌<◌, ◌≤◌, ◌+◌, ◌∙◌, ℕ, List, length, set, get_or, ap, sym, subst, refl, arith, true, false, cond, None, Some}
-use Rattle.std.specs.declared.option.Option.{Option}
 use Rattle.phase_bits.specs.declared.holders.Holders.{Holders}
 use Rattle.phase_bits.specs.Number.{phase_of, IsKnown}
 use Rattle.exit_registry.specs.declared.turns.Turned.{Turned}
@@ -12,7 +11,6 @@ use Rattle.phase_locker.specs.Gifts.{rows_handed}
 use Rattle.phase_locker.specs.Left.{Left}
 use Rattle.schedule_rules.specs.Kinds.{cell_at}
 use Rattle.schedule_rules.specs.Changes.{Content, Change, effect}
-use Rattle.schedule_rules.specs.Replay.{Back}
 use Rattle.schedule_rules.specs.History.{count}
 use Rattle.schedule_rules.specs.Sections.{Section, innermost, without_innermost, runs_in}
 use Rattle.schedule_rules.specs.Holds.{writes_cell}
@@ -140,9 +138,6 @@ module _ {L : Type 0} (held : L → Holders) (place : L → LockerKind) (m : Sta
 
   -- the section is gone, in which this happened, and g was given
   module _ (chs : List Change) (g : Given) where
-    abbrev back : Option Back
-    back = Some (record { cell = s.cell; changes = chs })
-
     abbrev y : Content
     y = effect (cell_at m.plans c) chs (m.content c)
 

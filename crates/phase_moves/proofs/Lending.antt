@@ -101,22 +101,12 @@ module _ {L : Type 0} (held : L → Holders) (place : L → LockerKind) (hand : 
   pub lend_kind : lends_value row.plan.kind ≡ true
   lend_kind = ap (λ (x : _). lends_value x.kind) here.planned ∙ is.lends
 
-  pub lend_parks : c < length v.parks.readers
-  lend_parks = let a = is.inside in let b = is.stands.sizes.readers in omega (arith, a, b)
-
-  pub lend_fits : Fits (place row.seq.locker) (held row.seq.locker) v.parks c
-  lend_fits = here.locked.fits
-
   -- what was read before
   pub none_waits : (first : CellRow L) → first ≡ get_or v.cells.items c first → (0 < first.waiting → ⊥) → row.waiting ≡ 0
   none_waits first first_is calm =
       let same : Some first ≡ Some row = sym (read_at v.cells.items c first is.inside first_is) ∙ row_at in
       let same_row : first ≡ row = cc in
       no_more row.waiting (λ lt. calm (subst (λ (x : CellRow L). 0 < x.waiting) (sym same_row) lt))
-
-  -- something waits
-  pub waited_on : 0 < row.waiting → true ≡ in_use c m
-  waited_on lt = let e = many in used_by (reads_in c m + writes_in c m + count (waits_at c) m.waits) (omega (arith, e, lt))
 
   -- somebody holds it
   pub held_on : row.waiting ≡ 0 → bars_write (held row.seq.locker) ≡ true → true ≡ in_use c m
@@ -192,9 +182,6 @@ module _ {L : Type 0} (held : L → Holders) (place : L → LockerKind) (hand : 
 
     pub got_open : IsWriteOpen (held l₁) s₁ c
     got_open = record { locked = ap (λ (h : Holders). h.locked) tried.1; unclaimed = ap (λ (s : Parking). claims s c) parks₁ ∙ unlocked none tried.0 }
-
-    pub got_known : IsKnown (held l₁).phase
-    got_known = subst IsKnown (sym (ap (λ (h : Holders). h.phase) tried.1 ∙ here.locked.phase_is)) here.known
 
     -- what was published
     was_is : (was : Published) → was.phase ≡ (held l₁).phase → was.value ≡ row.value → content_of was ≡ m.content c

@@ -21,8 +21,7 @@ use Rattle.waiting_rows.specs.Given.{given_on, IsListed}
 -- so it is with what may be handed on
 pub listed_hand : (c : ℕ) (x : Holders) (s : Rows) (g : Given) → MayHand c x s g → IsListed c s g
 listed_hand c x s given.Nobody may = tt
-listed_hand c x s (given.Writer q) may = may.1
-listed_hand c x s given.Readers may = may.1
+listed_hand c x s _ may = may.1
 
 -- and with what may be given at a downgrade
 pub listed_share : (c : ℕ) (s : Rows) (g : Given) → MayShare c s g → IsListed c s g
@@ -32,9 +31,8 @@ listed_share c s given.Readers may = may
 
 -- a step gives on the cell that it concerns
 pub given_concerned : (cells : List CellPlan) (all : List Wait) (h : List Event) (s : Step) (c : ℕ) (g : Given) (ws : List Wait) → cell_concerned_with cells all h s.party s.act ≡ Some c → waits_given_with cells all h s g ws ≡ given_on c g ws
-given_concerned cells all h s c given.Nobody ws e = refl
-given_concerned cells all h s c (given.Writer q) ws e = refl
 given_concerned cells all h s c given.Readers ws e = ap (λ o. wake_readers o ws) e
+given_concerned cells all h s c _ ws e = refl
 
 -- the gift reaches those that it is for
 pub reaches_given : (c : ℕ) (g : Given) (ws : List Wait) (s : Rows) → Shows ws s → IsListed c s g → reaches c g ws ≡ true

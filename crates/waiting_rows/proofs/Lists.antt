@@ -1,12 +1,10 @@
 -- The lists of the parked calls, and how they change.
-use Rattle.std.proofs.Common.{◌≡◌, ◌≢◌, ◌==◌, ℕ, ◌+◌, ◌<◌, List, [], ◌∷◌, ◌++◌, length, refl, arith, Bool, true, false, cond, ◌∙◌, ap, sym, not, map, ◌||◌, ◌&&◌}
-use Rattle.std.proofs.lemmas.Grind.{common_steps}
+use Rattle.std.proofs.Common.{◌≡◌, ◌≢◌, ◌==◌, ℕ, ◌+◌, ◌<◌, List, [], ◌∷◌, ◌++◌, refl, arith, Bool, true, false, cond, ◌∙◌, ap, sym, not, map, ◌||◌, ◌&&◌}
 use Rattle.std.proofs.lemmas.List.{append-nil}
 use Rattle.std.proofs.lemmas.List.Elements.{filter-append}
 use Rattle.std.specs.List.{list_any}
 use Rattle.phase_locker.specs.Rows.{is_empty, occurs, without}
 use Rattle.phase_locker.proofs.Filters.{occurs-append}
-use Rattle.schedule_rules.specs.History.{count}
 use Rattle.schedule_rules.specs.Waits.{Wait, party_if, parks_to_read, parks_to_write, parked_readers, parked_writers, without_wait, wake_reader, wake_writer}
 use Rattle.waiting_rows.proofs.Each.{woken_to_read, reader_party, writer_party, writer_gone, writer_reads, writer_other}
 
@@ -30,9 +28,8 @@ listed_writers c (w ∷ ws) = ap (λ ps. ps ++ party_if (parks_to_write c w) w.p
 -- one party more
 pub empty-append : (ps : List ℕ) (b : Bool) (p : ℕ) → (b || not (is_empty ps)) ≡ not (is_empty (ps ++ party_if b p))
 empty-append [] true p = refl
-empty-append [] false p = refl
 empty-append (q ∷ ps) true p = refl
-empty-append (q ∷ ps) false p = refl
+empty-append _ _ p = refl
 
 -- some call passes where the list is not empty
 pub any_listed : (t : Wait → Bool) (ws : List Wait) → list_any t ws ≡ not (is_empty (listed t ws))
@@ -43,20 +40,7 @@ any_listed t (w ∷ ws) = ap (λ b. t w || b) (any_listed t ws) ∙ empty-append
 pub any_readers : (c : ℕ) (ws : List Wait) → list_any (parks_to_read c) ws ≡ not (is_empty (parked_readers c ws))
 any_readers c ws = any_listed (parks_to_read c) ws ∙ ap (λ ps. not (is_empty ps)) (sym (listed_readers c ws))
 
--- the flag of writers
-pub any_writers : (c : ℕ) (ws : List Wait) → list_any (parks_to_write c) ws ≡ not (is_empty (parked_writers c ws))
-any_writers c ws = any_listed (parks_to_write c) ws ∙ ap (λ ps. not (is_empty ps)) (sym (listed_writers c ws))
-
 -- ---- lengths and members
-
--- the list has as many as pass
-pub length_listed : (t : Wait → Bool) (ws : List Wait) → length (listed t ws) ≡ count t ws
-length_listed t [] = refl
-length_listed t (w ∷ ws) = by (t w) (length_listed t ws)
-  where
-    by : (b : Bool) → length (listed t ws) ≡ count t ws → length (listed t ws ++ party_if b w.party) ≡ cond b (count t ws + 1) (count t ws)
-    by true e = grind (arith, common_steps, e)
-    by false e = rw append-nil e
 
 -- a member is the party of a call that passes
 pub any_member : (t : Wait → Bool) (q : ℕ) (ws : List Wait) → 0 < occurs q (listed t ws) → list_any (λ w. (w.party == q) && t w) ws ≡ true

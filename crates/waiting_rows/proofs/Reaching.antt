@@ -1,6 +1,5 @@
 -- The calls in a cell's lists are those that a gift reaches, and the flags of the lists are those of the waits.
 use Rattle.std.proofs.Common.{◌≡◌, ℕ, ◌<◌, List, length, refl, arith, Bool, true, false, None, Some, ◌∙◌, ap, sym, not}
-use Rattle.std.specs.List.{list_any}
 use Rattle.std.specs.declared.option.Option.{Option}
 use Rattle.phase_locker.specs.declared.ways.How.{How}
 use Rattle.phase_locker.specs.declared.ways.How.TheVariants as how
@@ -11,7 +10,7 @@ use Rattle.schedule_rules.specs.declared.step.Want.{Want}
 use Rattle.schedule_rules.specs.Waits.{Wait, wait_of, parks_to_read, parks_to_write, parked_writers}
 use Rattle.schedule_rules.specs.Gifts.{reaches}
 use Rattle.waiting_rows.specs.Shown.{Shows, wait_row}
-use Rattle.waiting_rows.proofs.Lists.{listed_writers, any_member, any_readers, any_writers}
+use Rattle.waiting_rows.proofs.Lists.{listed_writers, any_member, any_readers}
 
 -- a waiting call, where it passes a test
 abbrev pub passes : (Wait → Bool) → Option Wait → Bool
@@ -69,11 +68,3 @@ reaches_writer q c ws s shows one =
 -- a gift to the readers of a list that is not empty reaches them
 pub reaches_readers : (c : ℕ) (ws : List Wait) (s : Rows) → Shows ws s → is_empty (readers_of s c) ≡ false → reaches c given.Readers ws ≡ true
 reaches_readers c ws s shows some = any_readers c ws ∙ ap not (ap is_empty (sym (shows.readers c)) ∙ some)
-
--- the readers' flag of the rows is that of the waits
-pub flag_readers : (c : ℕ) (ws : List Wait) (s : Rows) → Shows ws s → not (is_empty (readers_of s c)) ≡ list_any (parks_to_read c) ws
-flag_readers c ws s shows = ap (λ ps. not (is_empty ps)) (shows.readers c) ∙ sym (any_readers c ws)
-
--- and the writers'
-pub flag_writers : (c : ℕ) (ws : List Wait) (s : Rows) → Shows ws s → not (is_empty (writers_of s c)) ≡ list_any (parks_to_write c) ws
-flag_writers c ws s shows = ap (λ ps. not (is_empty ps)) (shows.writers c) ∙ sym (any_writers c ws)

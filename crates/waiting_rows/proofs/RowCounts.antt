@@ -23,10 +23,8 @@ use Rattle.waiting_rows.proofs.Passing.{count_set, count_before, count_free, cou
 pub never_free : (way : How) (woken : Bool) → waiting_of way woken ≡ waiting.Free → ⊥
 never_free how.Spin woken e = cc
 never_free how.ParkedRead true e = cc
-never_free how.ParkedRead false e = cc
 never_free how.ParkedWrite true e = cc
-never_free how.ParkedWrite false e = cc
-never_free how.Drain woken e = cc
+never_free _ _ e = cc
 
 -- a party that does not wait
 pub row_free : (p : ℕ) (ws : List Wait) (s : Rows) → Shows ws s → wait_of p ws ≡ None → row_of s p ≡ free_row
@@ -89,12 +87,10 @@ row_claims c w = by w.party w.cell w.want w.way w.woken
   where
     by : (p x : ℕ) (want : Want) (way : How) (woken : Bool) → cond {A = ℕ} (claims_at c (wait_row (Some (record { party = p; cell = x; want = want; way = way; woken = woken })))) 1 0
         ≡ cond {A = ℕ} (shares_write c (record { party = p; cell = x; want = want; way = way; woken = woken })) 1 0 + cond {A = ℕ} (drains_on c (record { party = p; cell = x; want = want; way = way; woken = woken })) 1 0
-    by p x want how.Spin woken = refl
-    by p x want how.ParkedRead true = refl
-    by p x want how.ParkedRead false = refl
     by p x want how.ParkedWrite true = omega arith
-    by p x want how.ParkedWrite false = refl
     by p x want how.Drain woken = omega arith
+    by p x want how.ParkedRead true = refl
+    by p x want _ _ = refl
 
 module _ (c : ℕ) (ws : List Wait) (s : Rows) (single : IsSingle ws) (shows : Shows ws s) where
   -- read shares

@@ -42,32 +42,19 @@ pub readers_left : (v : Waiting) (c p : ℕ) (s : Rows) → IsSound s → row_of
 readers_left waiting.ParkedRead c p s sound row d =
     set_shows_past s.readers c (without p (readers_of s c)) [] (readers_of s) (λ d. without p (readers_of s d)) (λ d. refl) (λ d ne. unlisted_reader d p s sound (reads_here c d (row_of s p) row ne)) refl (λ k. rw (get_or_past s.readers c [] k) refl) d
 readers_left waiting.Free c p s sound row d = sym (unlisted_reader d p s sound (rw row refl))
-readers_left waiting.Spin c p s sound row d = sym (unlisted_reader d p s sound (rw row refl))
-readers_left waiting.ParkedWrite c p s sound row d = sym (unlisted_reader d p s sound (rw row refl))
-readers_left waiting.Drain c p s sound row d = sym (unlisted_reader d p s sound (rw row refl))
-readers_left waiting.ShareRead c p s sound row d = sym (unlisted_reader d p s sound (rw row refl))
-readers_left waiting.ShareWrite c p s sound row d = sym (unlisted_reader d p s sound (rw row refl))
+readers_left _ c p s sound row d = sym (unlisted_reader d p s sound (rw row refl))
 
 -- and the list of writers
 pub writers_left : (v : Waiting) (c p : ℕ) (s : Rows) → IsSound s → row_of s p ≡ record { waiting = v; cell = c } → (d : ℕ) → writers_of (left v c p s) d ≡ without p (writers_of s d)
 writers_left waiting.ParkedWrite c p s sound row d =
     set_shows_past s.writers c (without p (writers_of s c)) [] (writers_of s) (λ d. without p (writers_of s d)) (λ d. refl) (λ d ne. unlisted_writer d p s sound (writes_here c d (row_of s p) row ne)) refl (λ k. rw (get_or_past s.writers c [] k) refl) d
 writers_left waiting.Free c p s sound row d = sym (unlisted_writer d p s sound (rw row refl))
-writers_left waiting.Spin c p s sound row d = sym (unlisted_writer d p s sound (rw row refl))
-writers_left waiting.ParkedRead c p s sound row d = sym (unlisted_writer d p s sound (rw row refl))
-writers_left waiting.Drain c p s sound row d = sym (unlisted_writer d p s sound (rw row refl))
-writers_left waiting.ShareRead c p s sound row d = sym (unlisted_writer d p s sound (rw row refl))
-writers_left waiting.ShareWrite c p s sound row d = sym (unlisted_writer d p s sound (rw row refl))
+writers_left _ c p s sound row d = sym (unlisted_writer d p s sound (rw row refl))
 
 -- the rows after the party left
 pub rows_left : (v : Waiting) (c p : ℕ) (s : Rows) → (left v c p s).rows ≡ set s.rows p free_row
 rows_left waiting.Free c p s = refl
-rows_left waiting.Spin c p s = refl
-rows_left waiting.ParkedRead c p s = refl
-rows_left waiting.ParkedWrite c p s = refl
-rows_left waiting.Drain c p s = refl
-rows_left waiting.ShareRead c p s = refl
-rows_left waiting.ShareWrite c p s = refl
+rows_left _ c p s = refl
 
 -- a party waits no longer
 pub shows_freed : (p : ℕ) (ws : List Wait) (s : Rows) → IsSound s → Shows ws s → Shows (without_wait p ws) (freed p s)

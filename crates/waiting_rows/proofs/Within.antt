@@ -1,5 +1,5 @@
 -- The calls wait at known cells, whatever happens to them; and where nobody waits, new rows show it.
-use Rattle.std.proofs.Common.{zero, suc, ◌≡◌, ◌≢◌, ℕ, ◌<◌, List, [], refl, None, Some, ◌∙◌, sym, subst, map, inl, inr, false, ◌⊎◌}
+use Rattle.std.proofs.Common.{suc, ◌≡◌, ◌≢◌, ℕ, ◌<◌, List, [], refl, None, Some, ◌∙◌, sym, subst, map, inl, inr, false, ◌⊎◌}
 use Rattle.std.specs.Prelude.{replicate, slice_index_or}
 use Rattle.std.proofs.lemmas.Bool.{cases_eq}
 use Rattle.std.specs.declared.option.Option.{Option}
@@ -59,9 +59,8 @@ no_parties = []
 
 -- a new list is empty
 no_list : (n c : ℕ) → slice_index_or (replicate n no_parties) c no_parties ≡ no_parties
-no_list zero c = refl
-no_list (suc n) zero = refl
 no_list (suc n) (suc c) = no_list n c
+no_list _ _ = refl
 
 -- the rows of which nobody waits show that nobody waits
 pub shows_fresh : (cells parties : ℕ) → Shows [] (no_rows cells parties)
