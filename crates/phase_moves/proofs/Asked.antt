@@ -1,38 +1,11 @@
 -- What is asked of a cell is what the rules ask for it, and so is what a call that is declined leaves.
-use Rattle.std.proofs.Common.{◌≡◌, ◌∙◌, ℕ, [], ◌∷◌, refl, sym, ap, Bool, true, false, not, ◌&&◌, None, Some, length-set}
-use Rattle.std.specs.Prelude.{if◌then◌else◌, ◌==◌}
-use Rattle.std.specs.Option.{unwrap_or}
-use Rattle.std.specs.declared.option.Option.{Option}
-use Rattle.phase_bits.specs.Flags.{has, initialized}
-use Rattle.phase_bits.specs.Number.{number, phase_of}
-use Rattle.phase_bits.specs.declared.phase.Phase.{Phase}
-use Rattle.exit_registry.specs.Registry.{Registry, after_register, registered, cells_of}
-use Rattle.phase_seq.specs.declared.ask.Ask.{Ask}
-use Rattle.phase_seq.specs.declared.ask.Want.{Want as Sought}
-use Rattle.phase_seq.specs.declared.ask.Want.TheVariants as want
-use Rattle.phase_seq.specs.declared.section.Begun.{Begun}
-use Rattle.phase_seq.specs.declared.tolerance.Tolerance.{Tolerance}
-use Rattle.phase_seq.specs.Asks.{asks_run as seq_asks_run, initializes as run_sought, nature_of, nature_where, shall_init, wake_of}
-use Rattle.phase_seq.specs.Exactly.{is_run}
-use Rattle.phase_seq.specs.Phases.{flags_generate, flags_refused, flags_staying}
-use Rattle.phase_seq.specs.Registers.{after_asking, is_refused}
-use Rattle.lazy_cells.specs.declared.call.Call.{Call}
-use Rattle.lazy_cells.specs.declared.kind.Kind.{Kind}
-use Rattle.lazy_cells.specs.Calls.{asking}
-use Rattle.lazy_cells.specs.Kinds.{is_finalizable}
-use Rattle.schedule_rules.specs.declared.plan.CellPlan.{CellPlan}
-use Rattle.schedule_rules.specs.declared.step.Want.{Want}
-use Rattle.schedule_rules.specs.declared.step.Want.TheVariants.{Calls, Turns}
-use Rattle.schedule_rules.specs.Forms.{form_of}
-use Rattle.schedule_rules.specs.Kinds.{tolerance_of}
-use Rattle.schedule_rules.specs.Phases.{NoRun, phase_reached, runs_generator, tries_registration}
-use Rattle.schedule_rules.specs.Calls.{asks, initializes, is_fast, lock_asked, lock_wanted, run_asked, seeks, seeks_run, wakes_as, woken_as}
-use Rattle.schedule_rules.specs.Changes.{Content, Asked, content_asked, effect, is_declined}
-use Rattle.schedule_rules.specs.Sections.{is_turn}
-use Rattle.phase_moves.specs.Calls.{registry_for, registry_begun}
-use Rattle.phase_moves.specs.Standing.{changes_asked}
-use Rattle.phase_moves.specs.Stands.{form_as, run_as, stays_in}
-use Rattle.phase_moves.specs.Tries.{ask_of, is_quick}
+use Rattle.phase_moves.proofs.Words.{◌≡◌, ◌∙◌, ℕ, [], ◌∷◌, refl, sym, ap, Bool, true, false, not, ◌&&◌, None, Some, length-set, if◌then◌else◌, ◌==◌, unwrap_or, Option, has}
+use Rattle.phase_moves.proofs.Words.{initialized, number, phase_of, Phase, Registry, after_register, registered, cells_of, Ask, Sought, Begun, Tolerance}
+use Rattle.phase_moves.proofs.Words.{asks_run as seq_asks_run, run_sought, nature_of, nature_where, shall_init, wake_of, is_run, flags_generate, flags_refused, flags_staying}
+use Rattle.phase_moves.proofs.Words.{after_asking, is_refused, Call, Kind, asking, is_finalizable, CellPlan, Want, Calls, Turns, form_of, tolerance_of, NoRun, phase_reached}
+use Rattle.phase_moves.proofs.Words.{runs_generator, tries_registration, asks, initializes, is_fast, lock_asked, lock_wanted, run_asked, seeks, seeks_run, wakes_as, woken_as}
+use Rattle.phase_moves.proofs.Words.{Content, Asked, content_asked, effect, is_declined, is_turn, registry_for, registry_begun, changes_asked, form_as, run_as, stays_in}
+use Rattle.phase_moves.proofs.Words.{ask_of, is_quick}
 use Rattle.phase_moves.proofs.Attempts.{declines, stays_asked, phase_told}
 
 -- what is asked is what is sought, of a cell that puts up with this
@@ -80,7 +53,7 @@ module _ (x : CellPlan) (w : Want) (ask : Ask) (is : IsAsked x w ask) where
     where
       by : (v : Want) → seeks x.kind v ≡ Some ask.want → is_turn v ≡ false
       by (Calls k) f = refl
-      by Turns f = absurd (let g : want.Finalize ≡ ask.want = cc in let h : false ≡ true = ap (λ s. run_sought s && shall_init ask.tol p) g ∙ e in cc)
+      by Turns f = absurd (let g : Sought.Finalize ≡ ask.want = cc in let h : false ≡ true = ap (λ s. run_sought s && shall_init ask.tol p) g ∙ e in cc)
 
   -- what asks for a run has its section run as it seeks
   pub asked_as : (p : Phase) → seq_asks_run ask p ≡ true → ask.want ≡ run_as x.kind w
@@ -94,7 +67,7 @@ module _ (x : CellPlan) (w : Want) (ask : Ask) (is : IsAsked x w ask) where
           first false b e = absurd (cc)
 
       by : (v : Want) → seeks x.kind v ≡ Some ask.want → ask.want ≡ run_as x.kind v
-      by (Calls k) f = sym (ap (λ s. if seeks_run s then unwrap_or s want.Write else form_as (form_of x.kind k)) f ∙ ap (λ b. if b then ask.want else form_as (form_of x.kind k)) runs)
+      by (Calls k) f = sym (ap (λ s. if seeks_run s then unwrap_or s Sought.Write else form_as (form_of x.kind k)) f ∙ ap (λ b. if b then ask.want else form_as (form_of x.kind k)) runs)
       by Turns f = cc
 
 -- the flags that stay beside those of a section
@@ -121,7 +94,7 @@ refuses_same x m p = by (is_finalizable x.kind)
 pub declines_same : (x : CellPlan) (w : Want) (ask : Ask) → IsAsked x w ask → (m : Registry) (p : ℕ) → declines ask (registry_for x.kind m) (phase_of p) ≡ declined x w m.is_open p
 declines_same x (Calls k) ask is m p =
     ap (λ (t : Tolerance). seq_asks_run ask (phase_of p) && is_refused t.leak (registry_for x.kind m) (phase_of p)) is.tol ∙ (λ i. asks_same x (Calls k) ask is (phase_of p) i && refuses_same x m p i)
-declines_same x Turns ask is m p = let sought = is.sought in let g : ask.want ≡ want.Finalize = cc in ap (λ s. (run_sought s && shall_init ask.tol (phase_of p)) && is_refused ask.tol.leak (registry_for x.kind m) (phase_of p)) g
+declines_same x Turns ask is m p = let sought = is.sought in let g : ask.want ≡ Sought.Finalize = cc in ap (λ s. (run_sought s && shall_init ask.tol (phase_of p)) && is_refused ask.tol.leak (registry_for x.kind m) (phase_of p)) g
 
 -- what it leaves
 pub asked_left : (x : CellPlan) (w : Want) (o : Bool) (y : Content) → effect x (changes_asked x w o y) y ≡ record { phase = if declined x w o y.phase then flags_refused else y.phase; value = y.value }

@@ -1,37 +1,10 @@
 -- A locker bars as the rules do, keeps what they keep, and a barred call waits in a way that is due.
-use Rattle.std.proofs.Common.{◌≡◌, ◌==◌, ◌<◌, ◌≤◌, ◌+◌, ◌∙◌, ℕ, List, [], ◌∷◌, ap, sym, refl, arith, Bool, true, false, None, Some, not, ◌||◌, ◌&&◌, inl, inr}
-use Rattle.std.proofs.lemmas.Bool.{cases_lt}
-use Rattle.std.specs.Prelude.{nat_lt, if◌then◌else◌}
-use Rattle.std.specs.declared.option.Option.{Option}
-use Rattle.phase_bits.specs.declared.holders.Holders.{Holders}
-use Rattle.phase_bits.specs.Records.{most_readers}
-use Rattle.phase_locker.specs.declared.tickets.LockNature.{LockNature}
-use Rattle.phase_locker.specs.declared.tickets.LockNature.TheVariants as nature
-use Rattle.phase_locker.specs.declared.ways.How.{How}
-use Rattle.phase_locker.specs.declared.ways.How.TheVariants as how
-use Rattle.phase_locker.specs.declared.ways.LockerKind.{LockerKind}
-use Rattle.phase_locker.specs.Natures.{bars}
-use Rattle.phase_locker.specs.Rows.{Rows as Parking, claims, drains, drains_at, row_of}
-use Rattle.phase_locker.specs.Fits.{Fits, IsWriteOpen, is_park, open_reads}
-use Rattle.phase_locker.specs.Attempts.{MayWait, keeps as row_keeps}
-use Rattle.phase_locker.proofs.Leaving.{write_has_no_reader}
-use Rattle.lazy_cells.specs.declared.kind.Kind.{Kind}
-use Rattle.schedule_rules.specs.declared.plan.Place.{Place}
-use Rattle.schedule_rules.specs.declared.plan.Place.TheVariants as place
-use Rattle.schedule_rules.specs.declared.step.Want.{Want}
-use Rattle.schedule_rules.specs.declared.line.Answer.TheVariants as answer
-use Rattle.schedule_rules.specs.declared.plan.CellPlan.{CellPlan}
-use Rattle.schedule_rules.specs.Answers.{answer_barred, answer_barred_at, drains_by, way_parked}
-use Rattle.schedule_rules.specs.Calls.{is_fast, wakes_as, way_of_nature}
-use Rattle.schedule_rules.specs.Kinds.{is_owned}
-use Rattle.schedule_rules.specs.History.{count}
-use Rattle.schedule_rules.specs.Holds.{Holding, is_barred, is_barred_by_readers, keeps, keeps_way}
-use Rattle.schedule_rules.specs.Waits.{Wait, drains_on, is_drain, shares_read, shares_write, wait_of}
-use Rattle.waiting_rows.specs.Shown.{IsSingle, Shows, wait_row, waiting_of}
-use Rattle.waiting_rows.proofs.RowCounts.{claims_shown, count_rows, shares_shown}
-use Rattle.phase_moves.specs.Meets.{answer_missed}
-use Rattle.phase_moves.specs.Stands.{kind_at}
-use Rattle.phase_moves.specs.Tries.{is_quick}
+use Rattle.phase_moves.proofs.Words.{◌≡◌, ◌==◌, ◌<◌, ◌≤◌, ◌+◌, ◌∙◌, ℕ, List, [], ◌∷◌, ap, sym, refl, arith, Bool, true, false, None, Some, not, ◌||◌, ◌&&◌, inl, inr, cases_lt}
+use Rattle.phase_moves.proofs.Words.{nat_lt, if◌then◌else◌, Option, Holders, most_readers, LockNature, How, LockerKind, bars, Parking, claims, drains, drains_at, row_of, Fits}
+use Rattle.phase_moves.proofs.Words.{IsWriteOpen, is_park, open_reads, MayWait, keeps as row_keeps, write_has_no_reader, Kind, Place, Want, CellPlan, answer_barred}
+use Rattle.phase_moves.proofs.Words.{answer_barred_at, drains_by, way_parked, is_fast, wakes_as, way_of_nature, is_owned, count, Holding, is_barred, is_barred_by_readers}
+use Rattle.phase_moves.proofs.Words.{keeps_of_holds as keeps, keeps_way, Wait, drains_on, is_drain, shares_read, shares_write, wait_of, IsSingle, Shows, wait_row, waiting_of}
+use Rattle.phase_moves.proofs.Words.{claims_shown, count_rows, shares_shown, answer_missed, kind_at, is_quick, Answer}
 
 -- ---- tests of numbers
 
@@ -75,12 +48,12 @@ row_drains : (c : ℕ) (w : Wait) → drains_at c (wait_row (Some w)) ≡ drains
 row_drains c w = by w.party w.cell w.want w.way w.woken
   where
     by : (p x : ℕ) (want : Want) (way : How) (woken : Bool) → drains_at c (wait_row (Some (record { party = p; cell = x; want = want; way = way; woken = woken }))) ≡ drains_on c (record { party = p; cell = x; want = want; way = way; woken = woken })
-    by p x want how.Spin woken = refl
-    by p x want how.ParkedRead true = refl
-    by p x want how.ParkedRead false = refl
-    by p x want how.ParkedWrite true = refl
-    by p x want how.ParkedWrite false = refl
-    by p x want how.Drain woken = refl
+    by p x want How.Spin woken = refl
+    by p x want How.ParkedRead true = refl
+    by p x want How.ParkedRead false = refl
+    by p x want How.ParkedWrite true = refl
+    by p x want How.ParkedWrite false = refl
+    by p x want How.Drain woken = refl
 
 -- the rows of who is parked tell the drains
 pub drains_shown : (c : ℕ) (ws : List Wait) (s : Parking) → IsSingle ws → Shows ws s → drains s c ≡ count (drains_on c) ws
@@ -148,39 +121,27 @@ module _ (k : LockerKind) (h : Holders) (s : Parking) (c reads writes : ℕ) (ws
 
   -- it bars as the rules do
   pub barred_same : (n : LockNature) → bars h n ≡ is_barred n (record { readers = readers; written = nat_lt 0 writers; drained = nat_lt 0 drainers })
-  barred_same nature.None = refl
-  barred_same nature.Read =
+  barred_same LockNature.None = refl
+  barred_same LockNature.Read =
       (λ i. (locked_same i && (readers_same i == 0)) || (readers_same i == most_readers))
       ∙ read_same (nat_lt 0 writers) (nat_lt 0 drainers) (readers == 0) (readers == most_readers) (λ e. is_zero readers (unread_written (positive writers e)))
-  barred_same nature.Write = (λ i. locked_same i || not (readers_same i == 0)) ∙ write_same (nat_lt 0 writers) (nat_lt 0 drainers) (readers == 0) (nat_lt 0 readers) (some_not readers)
+  barred_same LockNature.Write = (λ i. locked_same i || not (readers_same i == 0)) ∙ write_same (nat_lt 0 writers) (nat_lt 0 drainers) (readers == 0) (nat_lt 0 readers) (some_not readers)
 
 -- ---- what is kept
 
 way_kept : (way : How) (woken : Bool) (n : LockNature) (h : Holders) → row_keeps (waiting_of way woken) n h ≡ keeps_way way woken n h.readers
-way_kept how.Spin woken nature.None h = refl
-way_kept how.Spin woken nature.Read h = refl
-way_kept how.Spin woken nature.Write h = refl
-way_kept how.ParkedRead true nature.None h = refl
-way_kept how.ParkedRead true nature.Read h = refl
-way_kept how.ParkedRead true nature.Write h = refl
-way_kept how.ParkedRead false nature.None h = refl
-way_kept how.ParkedRead false nature.Read h = refl
-way_kept how.ParkedRead false nature.Write h = refl
-way_kept how.ParkedWrite true nature.None h = refl
-way_kept how.ParkedWrite true nature.Read h = refl
-way_kept how.ParkedWrite true nature.Write h = refl
-way_kept how.ParkedWrite false nature.None h = refl
-way_kept how.ParkedWrite false nature.Read h = refl
-way_kept how.ParkedWrite false nature.Write h = refl
-way_kept how.Drain woken nature.None h = refl
-way_kept how.Drain woken nature.Read h = refl
-way_kept how.Drain woken nature.Write h = refl
+way_kept How.Spin woken LockNature.None h = refl
+way_kept How.ParkedRead true LockNature.None h = refl
+way_kept How.ParkedRead false LockNature.None h = refl
+way_kept How.ParkedWrite true LockNature.None h = refl
+way_kept How.ParkedWrite false LockNature.None h = refl
+way_kept How.Drain woken LockNature.None h = refl
+way_kept _ _ _ h = refl
 
 call_kept : (o : Option Wait) (n : LockNature) (h : Holders) → row_keeps (wait_row o).waiting n h ≡ keeps o n h.readers
-call_kept None nature.None h = refl
-call_kept None nature.Read h = refl
-call_kept None nature.Write h = refl
 call_kept (Some w) n h = way_kept w.way w.woken n h
+call_kept None LockNature.None h = refl
+call_kept None _ h = refl
 
 -- what the row of a party says is kept where the rules keep it
 pub row_kept : (p : ℕ) (n : LockNature) (ws : List Wait) (s : Parking) (h : Holders) → Shows ws s → row_keeps (row_of s p).waiting n h ≡ keeps (wait_of p ws) n h.readers
@@ -188,38 +149,33 @@ row_kept p n ws s h shows = rw (shows.row p) (call_kept (wait_of p ws) n h)
 
 -- ---- ways
 
-spin_way : (p : Place) (way : How) → is_owned p ≡ false → is_park (kind_at p) ≡ false → answer.Waiting how.Spin ≡ answer_barred_at p way
-spin_way place.Park way f e = absurd (cc)
-spin_way place.Spin way f e = refl
-spin_way (place.Own q) way f e = absurd (cc)
+spin_way : (p : Place) (way : How) → is_owned p ≡ false → is_park (kind_at p) ≡ false → Answer.Waiting How.Spin ≡ answer_barred_at p way
+spin_way Place.Spin way f e = refl
+spin_way _ way f e = absurd (cc)
 
-park_way : (p : Place) (way : How) → is_park (kind_at p) ≡ true → answer.Waiting way ≡ answer_barred_at p way
-park_way place.Park way e = refl
-park_way place.Spin way e = absurd (cc)
-park_way (place.Own q) way e = absurd (cc)
+park_way : (p : Place) (way : How) → is_park (kind_at p) ≡ true → Answer.Waiting way ≡ answer_barred_at p way
+park_way Place.Park way e = refl
+park_way _ way e = absurd (cc)
 
 -- readers alone bar a writer of an unlocked record
 alone : (w d l : Bool) → (w || d) ≡ false → (w || (d || l)) ≡ true → (l && (not w && not d)) ≡ true
-alone true d l e f = absurd (cc)
-alone false true l e f = absurd (cc)
 alone false false true e f = refl
-alone false false false e f = absurd (cc)
+alone _ _ _ e f = absurd (cc)
 
-by_readers : (n : LockNature) (o : Holding) → n ≡ nature.Write → (o.written || o.drained) ≡ false → is_barred n o ≡ true → is_barred_by_readers n o ≡ true
-by_readers nature.None o e f b = absurd (cc)
-by_readers nature.Read o e f b = absurd (cc)
-by_readers nature.Write o e f b = alone o.written o.drained (nat_lt 0 o.readers) f b
+by_readers : (n : LockNature) (o : Holding) → n ≡ LockNature.Write → (o.written || o.drained) ≡ false → is_barred n o ≡ true → is_barred_by_readers n o ≡ true
+by_readers LockNature.Write o e f b = alone o.written o.drained (nat_lt 0 o.readers) f b
+by_readers _ o e f b = absurd (cc)
 
 -- the way that the locker chose is one that is due
-way_due : (p : Place) (q : Kind) (w : Want) (n : LockNature) (o : Holding) (fresh : Bool) (h : Holders) → is_owned p ≡ false → h.locked ≡ (o.written || o.drained) → is_barred n o ≡ true → (way : How) → MayWait (kind_at p) fresh (wakes_as q w) n h way → answer.Waiting way ≡ answer_barred_at p (way_parked q w (drains_by n o (is_drain way)))
-way_due p q w n o fresh h slow locks is how.Spin may = spin_way p (way_parked q w false) slow may
-way_due p q w n o fresh h slow locks is how.ParkedRead may = park_way p how.ParkedRead may.0 ∙ ap (λ x. answer_barred_at p (way_of_nature x)) (sym may.1)
-way_due p q w n o fresh h slow locks is how.ParkedWrite may = park_way p how.ParkedWrite may.0 ∙ ap (λ x. answer_barred_at p (way_of_nature x)) (sym may.1)
-way_due p q w n o fresh h slow locks is how.Drain may = park_way p how.Drain may.0 ∙ ap (λ b. answer_barred_at p (way_parked q w b)) (sym (by_readers n o may.2 (sym locks ∙ may.3) is))
+way_due : (p : Place) (q : Kind) (w : Want) (n : LockNature) (o : Holding) (fresh : Bool) (h : Holders) → is_owned p ≡ false → h.locked ≡ (o.written || o.drained) → is_barred n o ≡ true → (way : How) → MayWait (kind_at p) fresh (wakes_as q w) n h way → Answer.Waiting way ≡ answer_barred_at p (way_parked q w (drains_by n o (is_drain way)))
+way_due p q w n o fresh h slow locks is How.Spin may = spin_way p (way_parked q w false) slow may
+way_due p q w n o fresh h slow locks is How.ParkedRead may = park_way p How.ParkedRead may.0 ∙ ap (λ x. answer_barred_at p (way_of_nature x)) (sym may.1)
+way_due p q w n o fresh h slow locks is How.ParkedWrite may = park_way p How.ParkedWrite may.0 ∙ ap (λ x. answer_barred_at p (way_of_nature x)) (sym may.1)
+way_due p q w n o fresh h slow locks is How.Drain may = park_way p How.Drain may.0 ∙ ap (λ b. answer_barred_at p (way_parked q w b)) (sym (by_readers n o may.2 (sym locks ∙ may.3) is))
 
 -- so is the answer of what waits
 pub waits_due : (x : CellPlan) (w : Want) (n : LockNature) (o : Holding) (fresh : Bool) (h : Holders) → is_quick x w ≡ false → h.locked ≡ (o.written || o.drained) → is_barred n o ≡ true → (way : How) → MayWait (kind_at x.place) fresh (wakes_as x.kind w) n h way
-    → answer.Waiting way ≡ answer_barred (is_fast w) x.place (way_parked x.kind w (drains_by n o (is_drain way)))
+    → Answer.Waiting way ≡ answer_barred (is_fast w) x.place (way_parked x.kind w (drains_by n o (is_drain way)))
 waits_due x w n o fresh h slow locks is way may = way_due x.place x.kind w n o fresh h (neither (is_fast w) (is_owned x.place) slow).1 locks is way may ∙ sym (ap (λ f. answer_barred f x.place (way_parked x.kind w (drains_by n o (is_drain way)))) (neither (is_fast w) (is_owned x.place) slow).0)
   where
     neither : (a b : Bool) → (a || b) ≡ false → (a ≡ false) × (b ≡ false)
@@ -230,11 +186,10 @@ waits_due x w n o fresh h slow locks is way may = way_due x.place x.kind w n o f
 pub misses_due : (x : CellPlan) (w : Want) (way : How) → is_quick x w ≡ true → answer_missed w ≡ answer_barred (is_fast w) x.place way
 misses_due x w way quick = by (is_fast w) quick
   where
-    owned : (p : Place) → is_owned p ≡ true → answer.Borrowed ≡ answer_barred_at p way
-    owned place.Park e = absurd (cc)
-    owned place.Spin e = absurd (cc)
-    owned (place.Own q) e = refl
+    owned : (p : Place) → is_owned p ≡ true → Answer.Borrowed ≡ answer_barred_at p way
+    owned (Place.Own q) e = refl
+    owned _ e = absurd (cc)
 
-    by : (f : Bool) → (f || is_owned x.place) ≡ true → (if f then answer.Missed else answer.Borrowed) ≡ answer_barred f x.place way
+    by : (f : Bool) → (f || is_owned x.place) ≡ true → (if f then Answer.Missed else Answer.Borrowed) ≡ answer_barred f x.place way
     by true e = refl
     by false e = owned x.place e

@@ -1,35 +1,11 @@
 -- A call at one cell, which changes who waits alone.
-use Rattle.std.proofs.Common.{◌≡◌, ◌≢◌, ◌==◌, ◌<◌, ◌+◌, ◌∙◌, ℕ, List, length, set, get_or, ap, sym, subst, refl, arith, true, None, Some}
-use Rattle.std.specs.Prelude.{IsNone, OnSome, ◌↔◌}
-use Rattle.std.specs.declared.option.Option.{Option}
-use Rattle.phase_bits.specs.declared.holders.Holders.{Holders}
-use Rattle.exit_registry.specs.Registry.{Registry}
-use Rattle.phase_bits.specs.Records.{admit_read, most_readers}
-use Rattle.phase_locker.specs.declared.ways.LockerKind.{LockerKind}
-use Rattle.phase_locker.specs.declared.tickets.ReadTicket.{ReadTicket}
-use Rattle.phase_locker.specs.Rows.{Rows as Parking, SameSize, claims}
-use Rattle.phase_locker.specs.Fits.{Fits, KeepsFit, open_reads}
-use Rattle.phase_locker.specs.Others.{OthersStay}
-use Rattle.phase_locker.proofs.Others.{others_refl}
-use Rattle.schedule_rules.specs.Changes.{Content}
-use Rattle.schedule_rules.specs.Kinds.{cell_at}
-use Rattle.schedule_rules.specs.Guards.{Guard, numbered, reader}
-use Rattle.schedule_rules.specs.Holds.{reads_cell}
-use Rattle.schedule_rules.specs.History.{count}
-use Rattle.schedule_rules.specs.Waits.{Wait, waits_at}
-use Rattle.schedule_rules.proofs.Found.{found_counts}
-use Rattle.waiting_rows.proofs.RowCounts.{shares_shown}
-use Rattle.phase_moves.specs.declared.rows.CellRow.{CellRow}
-use Rattle.phase_moves.specs.declared.rows.Rows.{Rows}
-use Rattle.phase_moves.specs.Standing.{Standing, cloned, reads_in, writes_in, run_in}
-use Rattle.phase_moves.specs.Stands.{CountsWaits, KeepsDraft, Seen, seen_at, IsCell, IsExit, IsLocked, AreShown, Stands}
-use Rattle.phase_moves.specs.Moves.{IsOpenReader, IsFull, ClonesAs}
-use Rattle.phase_moves.proofs.Drafts.{beside_reader, keeps_still}
-use Rattle.phase_moves.proofs.Guards.{found_itself, reads_here}
-use Rattle.phase_moves.proofs.Lockers.{reading_alone}
-use Rattle.phase_moves.proofs.Opening.{guard_opened, seen_reader}
-use Rattle.phase_moves.proofs.Moved.{IsMoved, exit_kept, parties_same, moved}
-use Rattle.phase_moves.proofs.Places.{read_at}
+use Rattle.phase_moves.proofs.Words.{◌≡◌, ◌≢◌, ◌==◌, ◌<◌, ◌+◌, ◌∙◌, ℕ, List, length, set, get_or, ap, sym, subst, refl, arith, true, None, Some, IsNone, OnSome, ◌↔◌, Option}
+use Rattle.phase_moves.proofs.Words.{Holders, Registry, admit_read, most_readers, LockerKind, ReadTicket, Parking, SameSize, claims, Fits, KeepsFit, open_reads, OthersStay}
+use Rattle.phase_moves.proofs.Words.{others_refl, Content, cell_at, Guard, numbered, reader, reads_cell, count, Wait, waits_at, found_counts, shares_shown, CellRow, Rows}
+use Rattle.phase_moves.proofs.Words.{Standing, cloned, reads_in, writes_in, run_in, CountsWaits, KeepsDraft, Seen, seen_at, IsCell, IsExit, IsLocked, AreShown, Stands}
+use Rattle.phase_moves.proofs.Words.{IsOpenReader, IsFull, ClonesAs}
+use Rattle.phase_moves.proofs.{Drafts.beside_reader, Drafts.keeps_still, Guards.found_itself, Guards.reads_here, Lockers.reading_alone, Opening.guard_opened}
+use Rattle.phase_moves.proofs.{Opening.seen_reader, Moved.IsMoved, Moved.exit_kept, Moved.parties_same, Moved.moved, Places.read_at}
 
 module _ {L : Type 0} (held : L → Holders) (place : L → LockerKind) where
   -- other calls wait, the registry is this, and the cell holds something else

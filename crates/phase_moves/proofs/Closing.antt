@@ -1,39 +1,10 @@
 -- What is open is given back, one after another.
-use Rattle.std.proofs.Common.{◌≡◌, ◌≢◌, ◌<◌, ◌+◌, ◌∙◌, ℕ, List, [], ◌∷◌, ◌++◌, length, ◌==◌, ap, sym, subst, refl, arith, Bool, true, false, None, Some}
-use Rattle.std.proofs.lemmas.Grind.{common_steps}
-use Rattle.std.proofs.lemmas.Option.{gets, slice_get_within}
-use Rattle.std.specs.Prelude.{slice_get, if◌then◌else◌}
-use Rattle.std.specs.declared.option.Option.{Option}
-use Rattle.phase_bits.specs.declared.holders.Holders.{Holders}
-use Rattle.phase_locker.specs.declared.ways.LockerKind.{LockerKind}
-use Rattle.phase_locker.specs.declared.ways.Given.{Given}
-use Rattle.phase_locker.specs.declared.tickets.ReadTicket.{ReadTicket}
-use Rattle.phase_locker.specs.declared.tickets.WriteTicket.{WriteTicket}
-use Rattle.phase_locker.specs.Fits.{IsWriteOpen}
-use Rattle.phase_locker.specs.Rows.{Rows as Parking}
-use Rattle.phase_locker.proofs.Others.{fits_beside}
-use Rattle.phase_seq.specs.declared.section.Section.{Section as SeqSection}
-use Rattle.phase_seq.specs.declared.sequentializer.LazySequentializer.{LazySequentializer}
-use Rattle.schedule_rules.specs.declared.step.Want.{Want}
-use Rattle.schedule_rules.specs.declared.step.Want.TheVariants.{Calls, Turns}
-use Rattle.schedule_rules.specs.Guards.{Guard, numbered}
-use Rattle.schedule_rules.specs.History.{count}
-use Rattle.schedule_rules.specs.Kinds.{cell_at}
-use Rattle.schedule_rules.specs.Sections.{Section, runs_in}
-use Rattle.phase_moves.specs.declared.rows.CellRow.{CellRow}
-use Rattle.phase_moves.specs.declared.rows.GuardRow.{GuardRow}
-use Rattle.phase_moves.specs.declared.rows.GuardRow.TheVariants as guard
-use Rattle.phase_moves.specs.declared.rows.OpenRun.{OpenRun}
-use Rattle.phase_moves.specs.declared.rows.Rows.{Rows}
-use Rattle.phase_moves.specs.Standing.{Run, Standing, left, run_in, runner_of}
-use Rattle.phase_moves.specs.Stands.{IsCell, Stands, guard_row, open_run, section_of, seen_at, slot_row}
-use Rattle.phase_moves.specs.Moves.{Rests, LeavesRead, LeavesWrite, IsReader, IsWriter}
-use Rattle.phase_moves.specs.Closing.{AreClosing, CanClose, IsClosing, IsOpenRun, IsPopped, RunsFor, StayBeside}
-use Rattle.phase_moves.proofs.Ending.{asked_run}
-use Rattle.phase_moves.proofs.Finalizing.{asked_final}
-use Rattle.phase_moves.proofs.Hand.{read_row, write_row, left_empty, beyond}
-use Rattle.phase_moves.proofs.Known.{stays_known}
-use Rattle.phase_moves.proofs.Opening.{rehand}
+use Rattle.phase_moves.proofs.Words.{◌≡◌, ◌≢◌, ◌<◌, ◌+◌, ◌∙◌, ℕ, List, [], ◌∷◌, ◌++◌, length, ◌==◌, ap, sym, subst, refl, arith, Bool, true, false, None, Some, common_steps}
+use Rattle.phase_moves.proofs.Words.{gets, slice_get_within, slice_get, if◌then◌else◌, Option, Holders, LockerKind, Given, ReadTicket, WriteTicket, IsWriteOpen, Parking}
+use Rattle.phase_moves.proofs.Words.{fits_beside, SeqSection, LazySequentializer, Want, Calls, Turns, Guard, numbered, count, cell_at, Section, runs_in, CellRow, GuardRow}
+use Rattle.phase_moves.proofs.Words.{OpenRun, Rows, Run, Standing, left_of_standing as left, run_in, runner_of, IsCell, Stands, guard_row, open_run, section_of, seen_at}
+use Rattle.phase_moves.proofs.Words.{slot_row, Rests, LeavesRead, LeavesWrite, IsReader, IsWriter, AreClosing, CanClose, IsClosing, IsOpenRun, IsPopped, RunsFor, StayBeside}
+use Rattle.phase_moves.proofs.{Ending.asked_run, Finalizing.asked_final, Hand.read_row, Hand.write_row, Hand.left_empty, Hand.beyond, Known.stays_known, Opening.rehand}
 
 -- ---- lists whose last is popped
 
@@ -118,13 +89,13 @@ module _ {L : Type 0} (held : L → Holders) (place : L → LockerKind) where
     abbrev hand : ℕ
     hand = length v.guards.items
 
-    read_in : (p c : ℕ) (l : ReadTicket) → row ≡ guard.Read p c l → (x : Guard) × IsReader held place hand popped.m v x c
+    read_in : (p c : ℕ) (l : ReadTicket) → row ≡ GuardRow.Read p c l → (x : Guard) × IsReader held place hand popped.m v x c
     read_in p c l e = let r = read_row p c l (numbered hand popped.m.guards) (sym e ∙ popped.row_is) in (r.x, record { stands = popped.stands; found = r.is; at = r.at; reads = r.reads })
 
-    write_in : (p c : ℕ) (l : WriteTicket) → row ≡ guard.Write p c l → (x : Guard) × IsWriter held place hand popped.m v x c
+    write_in : (p c : ℕ) (l : WriteTicket) → row ≡ GuardRow.Write p c l → (x : Guard) × IsWriter held place hand popped.m v x c
     write_in p c l e = let r = write_row p c l (numbered hand popped.m.guards) (sym e ∙ popped.row_is) in (r.x, record { stands = popped.stands; found = r.is; at = r.at; writes = r.writes })
 
-    pub closes_read : (new : Rows L) (d : Given) (p c : ℕ) (l : ReadTicket) → row ≡ guard.Read p c l → LeavesRead held place v c d new → CanClose held place new × (new.exit.turns.items ≡ v.exit.turns.items)
+    pub closes_read : (new : Rows L) (d : Given) (p c : ℕ) (l : ReadTicket) → row ≡ GuardRow.Read p c l → LeavesRead held place v c d new → CanClose held place new × (new.exit.turns.items ≡ v.exit.turns.items)
     closes_read new d p c l e leaves =
         let r = read_in p c l e in
         let after = leaves hand popped.m r.0 r.1 in (
@@ -132,7 +103,7 @@ module _ {L : Type 0} (held : L → Holders) (place : L → LockerKind) where
           after.exit.turns_are ∙ sym popped.stands.exit.turns_are,
         )
 
-    pub closes_write : (new : Rows L) (d : Given) (p c : ℕ) (l : WriteTicket) → row ≡ guard.Write p c l → LeavesWrite held place v c d new → CanClose held place new × (new.exit.turns.items ≡ v.exit.turns.items)
+    pub closes_write : (new : Rows L) (d : Given) (p c : ℕ) (l : WriteTicket) → row ≡ GuardRow.Write p c l → LeavesWrite held place v c d new → CanClose held place new × (new.exit.turns.items ≡ v.exit.turns.items)
     closes_write new d p c l e leaves =
         let r = write_in p c l e in
         let after = leaves hand popped.m r.0 r.1 in (

@@ -1,17 +1,7 @@
 -- What the row of a cell keeps of the guard that writes the cell.
-use Rattle.std.proofs.Common.{◌≡◌, ◌≢◌, ◌∙◌, ℕ, ◌∷◌, ap, subst, sym, arith, true, false, Some, inl, inr}
-use Rattle.std.proofs.lemmas.Bool.{cases_eq}
-use Rattle.schedule_rules.specs.Changes.{Content, effect}
-use Rattle.schedule_rules.specs.Kinds.{cell_at}
-use Rattle.schedule_rules.specs.History.{count}
-use Rattle.schedule_rules.specs.Guards.{Guard, numbered, without_guard, reader}
-use Rattle.schedule_rules.specs.Holds.{writes_cell}
-use Rattle.schedule_rules.proofs.Found.{found_counts}
-use Rattle.schedule_rules.proofs.Opened.{guard_kept}
-use Rattle.std.specs.Prelude.{List, ◌≤◌, ◌==◌, ◌⊎◌}
-use Rattle.phase_moves.specs.declared.rows.CellRow.{CellRow}
-use Rattle.phase_moves.specs.Standing.{Standing, seen_by, guarded}
-use Rattle.phase_moves.specs.Stands.{KeepsDraft, draft_of}
+use Rattle.phase_moves.proofs.Words.{◌≡◌, ◌≢◌, ◌∙◌, ℕ, ◌∷◌, ap, subst, sym, arith, true, false, Some, inl, inr, cases_eq, Content, effect, cell_at, count, Guard, numbered}
+use Rattle.phase_moves.proofs.Words.{without_guard, reader, writes_cell, found_counts, guard_kept, List, ◌≤◌, ◌==◌, ◌⊎◌, CellRow, Standing, seen_by, guarded, KeepsDraft}
+use Rattle.phase_moves.proofs.Words.{draft_of}
 use Rattle.phase_moves.proofs.Guards.{count_less, writes_here}
 
 -- where no guard writes the cell none is found that does

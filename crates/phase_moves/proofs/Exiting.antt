@@ -1,18 +1,7 @@
 -- The exit alone moves.
-use Rattle.std.proofs.Common.{◌≡◌, ◌<◌, ◌∙◌, ℕ, List, [], ◌∷◌, ◌++◌, length, ap, sym, subst, refl, arith, Some}
-use Rattle.std.specs.Prelude.{All}
-use Rattle.std.specs.declared.option.Option.{Option}
-use Rattle.phase_bits.specs.declared.holders.Holders.{Holders}
-use Rattle.exit_registry.specs.declared.registry.Look.{Look}
-use Rattle.exit_registry.specs.declared.turns.Turned.{Turned}
-use Rattle.exit_registry.specs.declared.turns.Turn.TheVariants as turn
-use Rattle.exit_registry.specs.Registry.{Registry, IsSound, cells_of, first_of, look_at, looked, after_turn}
-use Rattle.phase_locker.specs.declared.ways.LockerKind.{LockerKind}
-use Rattle.phase_moves.specs.declared.rows.Exit.{Exit}
-use Rattle.phase_moves.specs.declared.rows.Rows.{Rows}
-use Rattle.phase_moves.specs.Standing.{Standing, owned, round_looked, turn_ended}
-use Rattle.phase_moves.specs.Stands.{Stands, IsExit}
-use Rattle.phase_moves.specs.Exits.{IsTurn}
+use Rattle.phase_moves.proofs.Words.{◌≡◌, ◌<◌, ◌∙◌, ℕ, List, [], ◌∷◌, ◌++◌, length, ap, sym, subst, refl, arith, Some, All, Option, Holders, Look, Turned, Registry}
+use Rattle.phase_moves.proofs.Words.{IsSound_of_registry as IsSound, cells_of, first_of, look_at, looked, after_turn, LockerKind, Exit, Rows, Standing, owned, round_looked}
+use Rattle.phase_moves.proofs.Words.{turn_ended, Stands, IsExit, IsTurn, Turn}
 
 -- the first cell that is left is one of the cells
 first_below : (P : ℕ → Type 0) (xs ys : List ℕ) (c : ℕ) → All P (xs ++ ys) → first_of xs ≡ Some c → P c
@@ -42,6 +31,6 @@ module _ {L : Type 0} (held : L → Holders) (place : L → LockerKind) (hand : 
   pub looks : (o : Look) (r : Registry) → o ≡ look_at v.exit.registry.pending → r ≡ looked v.exit.registry → (o ≡ look_at m.registry.pending) × Stands held place hand (round_looked m) (record v { exit = record v.exit { registry = r } })
   looks o r first e = (first ∙ ap (λ (r : Registry). look_at r.pending) t.exit.registry_is, registered looked (λ r. refl) r e)
 
-  pub skips : (c : ℕ) (x : Exit) → x.registry ≡ v.exit.registry → x.owner ≡ v.exit.owner → x.turns.items ≡ v.exit.turns.items ++ record { cell = c; turn = turn.Skipped } ∷ [] → Stands held place hand (turn_ended c turn.Skipped m) (record v { exit = x })
+  pub skips : (c : ℕ) (x : Exit) → x.registry ≡ v.exit.registry → x.owner ≡ v.exit.owner → x.turns.items ≡ v.exit.turns.items ++ record { cell = c; turn = Turn.Skipped } ∷ [] → Stands held place hand (turn_ended c Turn.Skipped m) (record v { exit = x })
   skips c x registry owner turns =
-      exited m.registry m.owner (m.turns ++ record { cell = c; turn = turn.Skipped } ∷ []) x (record { registry_is = registry ∙ t.exit.registry_is; owner_is = owner ∙ t.exit.owner_is; turns_are = turns ∙ ap (λ ts. ts ++ record { cell = c; turn = turn.Skipped } ∷ []) t.exit.turns_are; cells_are = t.exit.cells_are })
+      exited m.registry m.owner (m.turns ++ record { cell = c; turn = Turn.Skipped } ∷ []) x (record { registry_is = registry ∙ t.exit.registry_is; owner_is = owner ∙ t.exit.owner_is; turns_are = turns ∙ ap (λ ts. ts ++ record { cell = c; turn = Turn.Skipped } ∷ []) t.exit.turns_are; cells_are = t.exit.cells_are })

@@ -1,19 +1,8 @@
 -- The rows of guards, after one is taken off or opened.
-use Rattle.std.proofs.Common.{◌≡◌, ◌≢◌, ◌==◌, ◌≤◌, ◌+◌, ◌∙◌, ℕ, List, ◌∷◌, ap, sym, refl, arith, Bool, true, false, cond, None, Some, inl, inr}
-use Rattle.std.proofs.lemmas.Bool.{cases_eq}
-use Rattle.std.specs.declared.option.Option.{Option}
-use Rattle.schedule_rules.specs.History.{count}
-use Rattle.schedule_rules.specs.Guards.{Guard, numbered, without_guard}
-use Rattle.schedule_rules.specs.Holds.{reads_cell, writes_cell}
-use Rattle.schedule_rules.specs.Waits.{Wait, wait_of, wake_reader, wake_writer, wait_woken}
-use Rattle.schedule_rules.proofs.Found.{found_passes, none_found, none_counted}
-use Rattle.schedule_rules.proofs.Opened.{count_removed, guard_kept}
-use Rattle.phase_locker.specs.declared.ways.Given.{Given}
-use Rattle.phase_locker.specs.declared.ways.Given.TheVariants as given
-use Rattle.waiting_rows.specs.Given.{given_on}
-use Rattle.waiting_rows.proofs.Finding.{changed, wait_readers, wait_writer}
-use Rattle.phase_moves.specs.Standing.{Standing}
-use Rattle.phase_moves.specs.Stands.{guard_row, slot_row, target_of}
+use Rattle.phase_moves.proofs.Words.{◌≡◌, ◌≢◌, ◌==◌, ◌≤◌, ◌+◌, ◌∙◌, ℕ, List, ◌∷◌, ap, sym, refl, arith, Bool, true, false, cond, None, Some, inl, inr, cases_eq, Option, count}
+use Rattle.phase_moves.proofs.Words.{Guard, numbered, without_guard, reads_cell, writes_cell, Wait, wait_of, wake_reader, wake_writer, wait_woken, found_passes, none_found}
+use Rattle.phase_moves.proofs.Words.{none_counted, count_removed, guard_kept, Given, given_on, changed_of_finding as changed, wait_readers, wait_writer, Standing, guard_row}
+use Rattle.phase_moves.proofs.Words.{slot_row, target_of}
 
 -- a guard has its number
 pub its_number : (g : ℕ) (gs : List Guard) (x : Guard) → numbered g gs ≡ Some x → x.number ≡ g
@@ -88,6 +77,6 @@ target_woken true w = refl
 target_woken false w = refl
 
 pub target_given : (c : ℕ) (g : Given) (ws : List Wait) (p : ℕ) → target_of (wait_of p (given_on c g ws)) ≡ target_of (wait_of p ws)
-target_given c given.Nobody ws p = refl
-target_given c (given.Writer q) ws p = rw (wait_writer q p ws) (target_changed (wake_writer q) (λ w. target_woken _ w) (wait_of p ws))
-target_given c given.Readers ws p = rw (wait_readers c p ws) (target_changed (wake_reader c) (λ w. target_woken _ w) (wait_of p ws))
+target_given c Given.Nobody ws p = refl
+target_given c (Given.Writer q) ws p = rw (wait_writer q p ws) (target_changed (wake_writer q) (λ w. target_woken _ w) (wait_of p ws))
+target_given c Given.Readers ws p = rw (wait_readers c p ws) (target_changed (wake_reader c) (λ w. target_woken _ w) (wait_of p ws))

@@ -1,24 +1,8 @@
 -- What the row of a guard in hand tells, and when the hand is empty.
-use Rattle.std.proofs.Common.{◌≡◌, ◌≤◌, ◌∙◌, ℕ, length, ap, sym, refl, arith, Bool, true, false, None, Some, inl, inr, ◌==◌, ◌<◌, set, subst}
-use Rattle.std.proofs.lemmas.Bool.{cases_eq}
-use Rattle.std.specs.declared.option.Option.{Option}
-use Rattle.phase_bits.specs.declared.holders.Holders.{Holders}
-use Rattle.phase_locker.specs.declared.ways.Given.{Given}
-use Rattle.phase_locker.specs.declared.ways.LockerKind.{LockerKind}
-use Rattle.phase_locker.specs.declared.tickets.ReadTicket.{ReadTicket}
-use Rattle.phase_locker.specs.declared.tickets.WriteTicket.{WriteTicket}
-use Rattle.phase_locker.specs.Natures.{read_ticket, write_ticket}
-use Rattle.schedule_rules.specs.Guards.{Guard, numbered, without_guard, guard_of, own}
-use Rattle.phase_moves.specs.declared.rows.GuardRow.TheVariants as guard
-use Rattle.phase_moves.specs.declared.rows.Rows.{Rows}
-use Rattle.phase_moves.specs.Standing.{Standing, left}
-use Rattle.phase_moves.specs.Stands.{Stands, guard_row, slot_row}
-use Rattle.phase_moves.specs.Moves.{Rests, Pushes, IsTaken, TakenAs}
-use Rattle.phase_moves.proofs.Guards.{gone, its_number, found_itself}
-use Rattle.phase_moves.proofs.Opening.{rehand, taken}
-use Rattle.std.specs.Prelude.{slice_get, if◌then◌else◌}
-use Rattle.phase_moves.specs.declared.rows.GuardRow.{GuardRow}
-use Rattle.phase_moves.specs.Reading.{is_row_of}
+use Rattle.phase_moves.proofs.Words.{◌≡◌, ◌≤◌, ◌∙◌, ℕ, length, ap, sym, refl, arith, Bool, true, false, None, Some, inl, inr, ◌==◌, ◌<◌, set, subst, cases_eq, Option, Holders}
+use Rattle.phase_moves.proofs.Words.{Given, LockerKind, ReadTicket, WriteTicket, read_ticket, write_ticket, Guard, numbered, without_guard, guard_of, own, Rows, Standing}
+use Rattle.phase_moves.proofs.Words.{left_of_standing as left, Stands, guard_row, slot_row, Rests, Pushes, IsTaken, TakenAs, slice_get, if◌then◌else◌, GuardRow, is_row_of}
+use Rattle.phase_moves.proofs.{Guards.gone, Guards.its_number, Guards.found_itself, Opening.rehand, Opening.taken}
 
 -- the row of a read guard, and of a write guard
 pub record ReadRow (c : ℕ) (o : Option Guard) : Type 0 where
@@ -27,13 +11,13 @@ pub record ReadRow (c : ℕ) (o : Option Guard) : Type 0 where
   pub reads : x.writes ≡ false
   pub at : x.cell ≡ c
 
-pub read_row : (q c : ℕ) (l : ReadTicket) (o : Option Guard) → guard.Read q c l ≡ guard_row o → ReadRow c o
+pub read_row : (q c : ℕ) (l : ReadTicket) (o : Option Guard) → GuardRow.Read q c l ≡ guard_row o → ReadRow c o
 read_row q c l None e = absurd (cc)
 read_row q c l (Some x) e = by x.writes refl
   where
     by : (b : Bool) → x.writes ≡ b → ReadRow c (Some x)
-    by true w = absurd (let f : guard.Read q c l ≡ guard.Write x.party x.cell write_ticket = e ∙ (rw w refl) in cc)
-    by false w = let f : guard.Read q c l ≡ guard.Read x.party x.cell read_ticket = e ∙ (rw w refl) in record { x = x; is = refl; reads = w; at = cc }
+    by true w = absurd (let f : GuardRow.Read q c l ≡ GuardRow.Write x.party x.cell write_ticket = e ∙ (rw w refl) in cc)
+    by false w = let f : GuardRow.Read q c l ≡ GuardRow.Read x.party x.cell read_ticket = e ∙ (rw w refl) in record { x = x; is = refl; reads = w; at = cc }
 
 pub record WriteRow (c : ℕ) (o : Option Guard) : Type 0 where
   pub x : Guard
@@ -41,13 +25,13 @@ pub record WriteRow (c : ℕ) (o : Option Guard) : Type 0 where
   pub writes : x.writes ≡ true
   pub at : x.cell ≡ c
 
-pub write_row : (q c : ℕ) (l : WriteTicket) (o : Option Guard) → guard.Write q c l ≡ guard_row o → WriteRow c o
+pub write_row : (q c : ℕ) (l : WriteTicket) (o : Option Guard) → GuardRow.Write q c l ≡ guard_row o → WriteRow c o
 write_row q c l None e = absurd (cc)
 write_row q c l (Some x) e = by x.writes refl
   where
     by : (b : Bool) → x.writes ≡ b → WriteRow c (Some x)
-    by true w = let f : guard.Write q c l ≡ guard.Write x.party x.cell write_ticket = e ∙ (rw w refl) in record { x = x; is = refl; writes = w; at = cc }
-    by false w = absurd (let f : guard.Write q c l ≡ guard.Read x.party x.cell read_ticket = e ∙ (rw w refl) in cc)
+    by true w = let f : GuardRow.Write q c l ≡ GuardRow.Write x.party x.cell write_ticket = e ∙ (rw w refl) in record { x = x; is = refl; writes = w; at = cc }
+    by false w = absurd (let f : GuardRow.Write q c l ≡ GuardRow.Read x.party x.cell read_ticket = e ∙ (rw w refl) in cc)
 
 module _ {L : Type 0} (held : L → Holders) (place : L → LockerKind) where
   -- beyond the rows there is no guard but the one in hand
@@ -63,7 +47,7 @@ module _ {L : Type 0} (held : L → Holders) (place : L → LockerKind) where
           ]
 
   -- the row of a step that holds no guard is pushed
-  pub pushed_free : (hand : ℕ) (m : Standing) (v new : Rows L) → Stands held place hand m v → numbered hand m.guards ≡ None → Pushes held place v guard.Free new → Rests held place m new
+  pub pushed_free : (hand : ℕ) (m : Standing) (v new : Rows L) → Stands held place hand m v → numbered hand m.guards ≡ None → Pushes held place v GuardRow.Free new → Rests held place m new
   pushed_free hand m v new t none push =
       push m (rehand held place hand (length v.guards.items) m v t none (omega arith)) (ap guard_row (sym (beyond hand (length v.guards.items) m v t none (omega arith))))
 
@@ -97,13 +81,13 @@ module _ {L : Type 0} (held : L → Holders) (place : L → LockerKind) (m : Sta
       q ∙ rw no refl
 
   -- it is not the party's
-  pub not_taken : (row : GuardRow) → slice_get v.guards.items g ≡ Some row → g < length v.guards.items → is_row_of p row ≡ false → IsTaken held place v p g guard.Free v m
+  pub not_taken : (row : GuardRow) → slice_get v.guards.items g ≡ Some row → g < length v.guards.items → is_row_of p row ≡ false → IsTaken held place v p g GuardRow.Free v m
   not_taken row e lt f =
       let none : guard_of g p m.guards ≡ None = owner p (numbered g m.guards) false (ap (is_row_of p) (sym (row_shown row e lt)) ∙ f) in
       record { row_is = ap guard_row (sym none); taken = subst (λ o. TakenAs held place v g o m v) (sym none) r.stands }
 
   -- it is
-  pub is_taken : (row : GuardRow) → slice_get v.guards.items g ≡ Some row → g < length v.guards.items → is_row_of p row ≡ true → v'.guards.items ≡ set v.guards.items g guard.Free → v'.cells ≡ v.cells → v'.parties ≡ v.parties → v'.parks ≡ v.parks → v'.exit ≡ v.exit → IsTaken held place v p g row v' m
+  pub is_taken : (row : GuardRow) → slice_get v.guards.items g ≡ Some row → g < length v.guards.items → is_row_of p row ≡ true → v'.guards.items ≡ set v.guards.items g GuardRow.Free → v'.cells ≡ v.cells → v'.parties ≡ v.parties → v'.parks ≡ v.parks → v'.exit ≡ v.exit → IsTaken held place v p g row v' m
   is_taken row e lt f guards cells parties parks exit =
       let its : guard_of g p m.guards ≡ numbered g m.guards = owner p (numbered g m.guards) true (ap (is_row_of p) (sym (row_shown row e lt)) ∙ f) in
       record { row_is = row_shown row e lt ∙ ap guard_row (sym its); taken = subst (λ o. TakenAs held place v g o m v') (sym its) (by (numbered g m.guards) refl) }
@@ -114,6 +98,6 @@ module _ {L : Type 0} (held : L → Holders) (place : L → LockerKind) (m : Sta
       by : (o : Option Guard) → numbered g m.guards ≡ o → TakenAs held place v g o m v'
       by None q = absurd (never (row_shown row e lt ∙ ap guard_row q) f)
         where
-          never : row ≡ guard.Free → is_row_of p row ≡ true → ⊥
+          never : row ≡ GuardRow.Free → is_row_of p row ≡ true → ⊥
           never s t = let n : false ≡ true = ap (is_row_of p) (sym s) ∙ t in cc
       by (Some x) q = (all, q)

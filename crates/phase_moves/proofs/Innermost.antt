@@ -1,38 +1,11 @@
 -- The innermost section of a party, and what is left when it is given back.
-use Rattle.std.proofs.Common.{◌≡◌, ◌≢◌, ◌==◌, ◌<◌, ◌≤◌, ◌+◌, ◌∙◌, ℕ, List, length, set, get_or, ap, sym, subst, refl, arith, true, false, cond, None, Some}
-use Rattle.phase_bits.specs.declared.holders.Holders.{Holders}
-use Rattle.phase_bits.specs.Number.{phase_of, IsKnown}
-use Rattle.exit_registry.specs.declared.turns.Turned.{Turned}
-use Rattle.phase_locker.specs.declared.ways.Given.{Given}
-use Rattle.phase_locker.specs.declared.ways.LockerKind.{LockerKind}
-use Rattle.phase_locker.specs.Rows.{Rows as Parking}
-use Rattle.phase_locker.specs.Fits.{Fits, IsWriteOpen}
-use Rattle.phase_locker.specs.Gifts.{rows_handed}
-use Rattle.phase_locker.specs.Left.{Left}
-use Rattle.schedule_rules.specs.Kinds.{cell_at}
-use Rattle.schedule_rules.specs.Changes.{Content, Change, effect}
-use Rattle.schedule_rules.specs.History.{count}
-use Rattle.schedule_rules.specs.Sections.{Section, innermost, without_innermost, runs_in}
-use Rattle.schedule_rules.specs.Holds.{writes_cell}
-use Rattle.schedule_rules.specs.Waits.{wait_of, cell_of_section}
-use Rattle.schedule_rules.proofs.Found.{found_counts, found_passes}
-use Rattle.schedule_rules.proofs.Opened.{count_ended, innermost_kept}
-use Rattle.waiting_rows.specs.Shown.{Shows}
-use Rattle.waiting_rows.specs.Given.{given_on, IsListed}
-use Rattle.waiting_rows.proofs.GivenOn.{shows_on, single_on, within_on}
-use Rattle.phase_moves.specs.declared.rows.CellRow.{CellRow}
-use Rattle.phase_moves.specs.declared.rows.OpenRun.{OpenRun}
-use Rattle.phase_moves.specs.declared.rows.PartyRow.{PartyRow}
-use Rattle.phase_moves.specs.declared.rows.Rows.{Rows}
-use Rattle.phase_moves.specs.Standing.{Standing, Run, run_in, reads_in, closed}
-use Rattle.phase_moves.specs.Stands.{CountsWaits, seen_at, IsCell, IsLocked, IsExit, AreShown, party_row, open_run, section_of, target_of}
-use Rattle.phase_moves.specs.Ends.{IsInnermost}
-use Rattle.phase_moves.proofs.Lockers.{writing_alone}
-use Rattle.phase_moves.proofs.Leaving.{sound}
+use Rattle.phase_moves.proofs.Words.{◌≡◌, ◌≢◌, ◌==◌, ◌<◌, ◌≤◌, ◌+◌, ◌∙◌, ℕ, List, length, set, get_or, ap, sym, subst, refl, arith, true, false, cond, None, Some, Holders}
+use Rattle.phase_moves.proofs.Words.{phase_of, IsKnown, Turned, Given, LockerKind, Parking, Fits, IsWriteOpen, rows_handed, Left, cell_at, Content, Change, effect, count}
+use Rattle.phase_moves.proofs.Words.{Section, innermost, without_innermost, runs_in, writes_cell, wait_of, cell_of_section, found_counts, found_passes, count_ended}
+use Rattle.phase_moves.proofs.Words.{innermost_kept, Shows, given_on, IsListed, shows_on, single_on, within_on, CellRow, OpenRun, PartyRow, Rows, Standing, Run, run_in}
+use Rattle.phase_moves.proofs.Words.{reads_in, closed, CountsWaits, seen_at, IsCell, IsLocked, IsExit, AreShown, party_row, open_run, section_of, target_of, IsInnermost}
 use Rattle.phase_moves.proofs.Runs.{none_runs, run_kept, run_top, inside_ended, inside_found}
-use Rattle.phase_moves.proofs.Moved.{IsMoved, HasParties, exit_kept, parties_set}
-use Rattle.phase_moves.proofs.Places.{read_at}
-use Rattle.phase_moves.proofs.Waiting.{count_given}
+use Rattle.phase_moves.proofs.{Lockers.writing_alone, Leaving.sound, Moved.IsMoved, Moved.HasParties, Moved.exit_kept, Moved.parties_set, Places.read_at, Waiting.count_given}
 
 module _ {L : Type 0} (held : L → Holders) (place : L → LockerKind) (m : Standing) (v : Rows L) (p c : ℕ) (s : Section) (is : IsInnermost held place m v p c s) (row : CellRow L) (row_is : row ≡ get_or v.cells.items c row) where
   abbrev n : ℕ

@@ -1,83 +1,45 @@
 -- How a call was judged that was not turned back: it keeps what it has, or gives it up, and is barred or admitted by the
 -- record that this leaves.
-use Rattle.std.proofs.Common.{◌≡◌, ◌<◌, ◌≤◌, ◌+◌, ◌∙◌, ℕ, length, ap, sym, subst, refl, arith, Bool, true, false, None, Some, inl, inr}
-use Rattle.std.specs.Prelude.{◌⊎◌, MatchBool, ◌||◌, ◌&&◌, ◌==◌, not, if◌then◌else◌}
-use Rattle.std.specs.declared.option.Option.{Option}
-use Rattle.phase_bits.specs.declared.holders.Holders.{Holders}
-use Rattle.phase_bits.specs.Records.{most_readers}
-use Rattle.phase_locker.specs.declared.ways.Given.{Given}
-use Rattle.phase_locker.specs.declared.ways.Given.TheVariants as given
-use Rattle.phase_locker.specs.declared.ways.How.{How}
-use Rattle.phase_locker.specs.declared.ways.How.TheVariants as how
-use Rattle.phase_locker.specs.declared.ways.Who.{Who}
-use Rattle.phase_locker.specs.declared.ways.Waiting.{Waiting}
-use Rattle.phase_locker.specs.declared.ways.Waiting.TheVariants as waiting
-use Rattle.phase_locker.specs.declared.ways.LockerKind.{LockerKind}
-use Rattle.phase_locker.specs.declared.ways.Row.{Row}
-use Rattle.phase_locker.specs.declared.tickets.LockNature.{LockNature}
-use Rattle.phase_locker.specs.declared.tickets.LockNature.TheVariants as nature
-use Rattle.phase_locker.specs.declared.tickets.Attempt.{Attempt}
-use Rattle.phase_locker.specs.Natures.{bars, admitted, got}
-use Rattle.phase_locker.specs.Rows.{Rows as Parking, IsSound, claims, row_of, free_row, freed, left, is_drain, readers_of, shares}
-use Rattle.phase_locker.specs.Fits.{Fits, IsWriteOpen, flagged, open_reads}
-use Rattle.phase_locker.specs.Gifts.{MayHand, rows_handed}
-use Rattle.phase_locker.specs.Attempts.{Judged, Waits, Gets, Keeps, GivesUp, MayWait, held_waiting, given_up, keeps}
-use Rattle.phase_locker.proofs.Holding.{hands_fit}
-use Rattle.phase_locker.proofs.Judging.{by_bool}
-use Rattle.phase_locker.proofs.Keeping.{freed_size, gives_up_freed, keeps_fit}
-use Rattle.phase_locker.proofs.Leaving.{write_has_no_reader}
-use Rattle.phase_locker.proofs.Opening.{between_only}
-use Rattle.phase_locker.proofs.Standing.{given_up_reads, hands_reads, hands_writes, kept_open, kept_writes, left_writes}
-use Rattle.phase_seq.specs.declared.ask.Ask.{Ask}
-use Rattle.phase_seq.specs.declared.section.Begun.{Begun}
-use Rattle.phase_seq.specs.declared.section.Begun.TheVariants as begun
-use Rattle.phase_seq.specs.Asks.{nature_of, wake_of}
-use Rattle.phase_seq.specs.Begins.{Begins, Resumes, TurnsBack, MakesAttempt, MakesAnother, TriesLock, begun_by, begun_of, begun_tried, is_cyclic}
-use Rattle.phase_moves.specs.Calls.{Enters}
-use Rattle.phase_moves.proofs.Attempts.{free_same, got_to, unlocked, writes_begun}
-use Rattle.phase_moves.proofs.Lockers.{handed_few, hands_phase}
+use Rattle.phase_moves.proofs.Words.{◌≡◌, ◌<◌, ◌≤◌, ◌+◌, ◌∙◌, ℕ, length, ap, sym, subst, refl, arith, Bool, true, false, None, Some, inl, inr, ◌⊎◌, MatchBool, ◌||◌, ◌&&◌}
+use Rattle.phase_moves.proofs.Words.{◌==◌, not, if◌then◌else◌, Option, Holders, most_readers, Given, How, Who, Waiting, LockerKind, Row, LockNature, Attempt, bars, admitted}
+use Rattle.phase_moves.proofs.Words.{got, Parking, IsSound, claims, row_of, free_row, freed, left, is_drain_of_rows as is_drain, readers_of, shares, Fits, IsWriteOpen}
+use Rattle.phase_moves.proofs.Words.{flagged, open_reads, MayHand, rows_handed, Judged, Waits, Gets, Keeps, GivesUp, MayWait, held_waiting, given_up, keeps, hands_fit}
+use Rattle.phase_moves.proofs.Words.{by_bool, freed_size, gives_up_freed, keeps_fit, write_has_no_reader, between_only, given_up_reads, hands_reads, hands_writes, kept_open}
+use Rattle.phase_moves.proofs.Words.{kept_writes, left_writes, Ask, Begun, nature_of, wake_of, Begins, Resumes, TurnsBack, MakesAttempt, MakesAnother, TriesLock, begun_by}
+use Rattle.phase_moves.proofs.Words.{begun_of, begun_tried, is_cyclic, Enters}
+use Rattle.phase_moves.proofs.{Attempts.free_same, Attempts.got_to, Attempts.unlocked, Attempts.writes_begun, Lockers.handed_few, Lockers.hands_phase}
 
 -- ---- how many read then
 
 waiting_readers : (way : How) (h : Holders) → (held_waiting way h).readers ≡ h.readers
-waiting_readers how.Spin h = refl
-waiting_readers how.ParkedRead h = refl
-waiting_readers how.ParkedWrite h = refl
-waiting_readers how.Drain h = refl
+waiting_readers How.Spin h = refl
+waiting_readers _ h = refl
 
 admitted_few : (n : LockNature) (h : Holders) → bars h n ≡ false → h.readers ≤ most_readers → (admitted h n).readers ≤ most_readers
-admitted_few nature.Read h e le = by (h.locked && (h.readers == 0)) (h.readers == most_readers) refl e
+admitted_few LockNature.Read h e le = by (h.locked && (h.readers == 0)) (h.readers == most_readers) refl e
   where
     by : (a b : Bool) → (h.readers == most_readers) ≡ b → (a || b) ≡ false → h.readers + 1 ≤ most_readers
-    by true b f e = absurd (cc)
-    by false true f e = absurd (cc)
     by false false f e = grind (arith, f, le)
-admitted_few nature.Write h e le = le
-admitted_few nature.None h e le = le
+    by _ _ f e = absurd (cc)
+admitted_few LockNature.Write h e le = le
+admitted_few LockNature.None h e le = le
 
 given_up_few : (w : Waiting) (h : Holders) → h.readers ≤ most_readers → (given_up w h).readers ≤ most_readers
-given_up_few waiting.ShareRead h le = omega (arith, le)
-given_up_few waiting.ShareWrite h le = le
-given_up_few waiting.Drain h le = le
-given_up_few waiting.Free h le = le
-given_up_few waiting.Spin h le = le
-given_up_few waiting.ParkedRead h le = le
-given_up_few waiting.ParkedWrite h le = le
+given_up_few Waiting.ShareRead h le = omega (arith, le)
+given_up_few _ h le = le
 
 -- a lock to write is given beside no reader
-unread : (h : Holders) → bars h nature.Write ≡ false → h.readers ≡ 0
+unread : (h : Holders) → bars h LockNature.Write ≡ false → h.readers ≡ 0
 unread h e = by h.locked (h.readers == 0) refl e
   where
     by : (a z : Bool) → (h.readers == 0) ≡ z → (a || not z) ≡ false → h.readers ≡ 0
-    by true z f e = absurd (cc)
     by false true f e = grind (arith, f)
-    by false false f e = absurd (cc)
+    by _ _ f e = absurd (cc)
 
 -- nobody keeps what it has not
-none_kept : (n : LockNature) (h : Holders) → keeps waiting.Free n h ≡ false
-none_kept nature.Read h = refl
-none_kept nature.Write h = refl
-none_kept nature.None h = refl
+none_kept : (n : LockNature) (h : Holders) → keeps Waiting.Free n h ≡ false
+none_kept LockNature.Read h = refl
+none_kept _ h = refl
 
 module _ (k : LockerKind) (who : Who) (ask : Ask) (h : Holders) (s : Parking) where
   -- the lock that it wants
@@ -91,18 +53,18 @@ module _ (k : LockerKind) (who : Who) (ask : Ask) (h : Holders) (s : Parking) wh
   -- it keeps what it has
   pub record IsKept (b : Begun) (g : Given) : Type 0 where
     pub kept : keeps (row_of s who.party).waiting wanted h ≡ true
-    pub quiet : g ≡ given.Nobody
+    pub quiet : g ≡ Given.Nobody
     pub begins : b ≡ begun_admitted
 
   -- it waits so
   pub record IsWaiting (fresh : Bool) (mid : Holders) (b : Begun) : Type 0 where
     pub way : How
     pub may : MayWait k fresh (wake_of ask.want) wanted mid way
-    pub begins : b ≡ begun.Wait way
+    pub begins : b ≡ Begun.Wait way
 
   -- it is barred: it waits so, or does not wait
   abbrev pub IsBarred : Bool → Holders → Begun → Type 0
-  IsBarred fresh mid b = MatchBool ask.fast (b ≡ begun.Missed) (IsWaiting fresh mid b)
+  IsBarred fresh mid b = MatchBool ask.fast (b ≡ Begun.Missed) (IsWaiting fresh mid b)
 
   -- it gives up what it has, and is judged by the record that this leaves
   pub record IsJudged (b : Begun) (g : Given) : Type 0 where
@@ -165,10 +127,10 @@ module _ (k : LockerKind) (who : Who) (ask : Ask) (h : Holders) (s : Parking) wh
     where
       by : (c : Bool) → bars mid wanted ≡ c → MatchBool c (Waits k fresh who (wake_of ask.want) wanted mid rows a h' s') (Gets who wanted mid rows a h' s') → JudgedSo fresh mid (begun_by who ask h.phase a) h'
       by true e w =
-          let is : begun_by who ask h.phase a ≡ begun.Wait w.how = ap (begun_by who ask h.phase) w.answer in
+          let is : begun_by who ask h.phase a ≡ Begun.Wait w.how = ap (begun_by who ask h.phase) w.answer in
           record {
             judged = subst (λ c. MatchBool c (IsBarred fresh mid (begun_by who ask h.phase a)) (begun_by who ask h.phase a ≡ begun_admitted)) (sym e)
-                (subst (λ f. MatchBool f (begun_by who ask h.phase a ≡ begun.Missed) (IsWaiting fresh mid (begun_by who ask h.phase a))) (sym slow) (record { way = w.how; may = w.may; begins = is }));
+                (subst (λ f. MatchBool f (begun_by who ask h.phase a ≡ Begun.Missed) (IsWaiting fresh mid (begun_by who ask h.phase a))) (sym slow) (record { way = w.how; may = w.may; begins = is }));
             few = λ le. subst (λ i. i ≤ most_readers) (sym (ap (λ (x : Holders). x.readers) w.held ∙ waiting_readers w.how mid)) le;
             free = λ z. absurd (let y : 0 ≡ 1 = sym (ap writes_begun is) ∙ z in omega (arith, y));
           }
@@ -187,7 +149,7 @@ module _ (k : LockerKind) (who : Who) (ask : Ask) (h : Holders) (s : Parking) wh
       by : (c : Bool) → bars h wanted ≡ c → JudgedSo true h r.0 h'
       by true e =
           record {
-            judged = subst (λ c. MatchBool c (IsBarred true h r.0) (r.0 ≡ begun_admitted)) (sym e) (subst (λ f. MatchBool f (r.0 ≡ begun.Missed) (IsWaiting true h r.0)) (sym fast) (told true e));
+            judged = subst (λ c. MatchBool c (IsBarred true h r.0) (r.0 ≡ begun_admitted)) (sym e) (subst (λ f. MatchBool f (r.0 ≡ Begun.Missed) (IsWaiting true h r.0)) (sym fast) (told true e));
             few = λ le. subst (λ i. i ≤ most_readers) (sym (held true e)) le;
             free = λ z. absurd (let y : 0 ≡ 1 = sym (ap writes_begun (told true e)) ∙ z in omega (arith, y));
           }
@@ -216,7 +178,7 @@ module _ (k : LockerKind) (who : Who) (ask : Ask) (h : Holders) (s : Parking) wh
     first_met free d = by (is_cyclic ask.want who.party running) ask.fast refl calm d
       where
         -- nothing was given up
-        as_judged : (b : Begun) → JudgedSo true h b h' → IsMetBy b given.Nobody h'
+        as_judged : (b : Begun) → JudgedSo true h b h' → IsMetBy b Given.Nobody h'
         as_judged b j =
             record {
               how = inr (record {
@@ -233,7 +195,7 @@ module _ (k : LockerKind) (who : Who) (ask : Ask) (h : Holders) (s : Parking) wh
                 judged = j.judged;
               });
               few = j.few;
-              apart = λ z. apart_so given.Nobody h h' s (sym (free_same who.party s free)) fits refl (λ o. o) (j.free z);
+              apart = λ z. apart_so Given.Nobody h h' s (sym (free_same who.party s free)) fits refl (λ o. o) (j.free z);
             }
 
         tried : ask.fast ≡ true → TriesLock who ask h s r h' s' → IsMetBy r.0 r.1 h'
@@ -268,16 +230,16 @@ module _ (k : LockerKind) (who : Who) (ask : Ask) (h : Holders) (s : Parking) wh
             apart = λ z. subst (λ y. IsApart y h') (sym j.given) (none ((got_to who ask h.phase wanted s refl).wrote (sym (ap writes_begun is) ∙ z)));
           }
         where
-          none : wanted ≡ nature.Write → IsApart given.Nobody h'
+          none : wanted ≡ LockNature.Write → IsApart Given.Nobody h'
           none w =
-              let keep : keeps v nature.Write h ≡ true = ap (λ x. keeps v x h) (sym (ruled ∙ w)) ∙ e in
-              let fits_then = keeps_fit nature.Write k h s who.cell who.party party here fits keep in
-              let opened : IsWriteOpen (flagged who.cell (freed who.party s) h) (freed who.party s) who.cell = subst (λ y. IsWriteOpen (flagged who.cell y h) y who.cell) there (kept_open v nature.Write k h s who.cell who.party party row fits keep) in
+              let keep : keeps v LockNature.Write h ≡ true = ap (λ x. keeps v x h) (sym (ruled ∙ w)) ∙ e in
+              let fits_then = keeps_fit LockNature.Write k h s who.cell who.party party here fits keep in
+              let opened : IsWriteOpen (flagged who.cell (freed who.party s) h) (freed who.party s) who.cell = subst (λ y. IsWriteOpen (flagged who.cell y h) y who.cell) there (kept_open v LockNature.Write k h s who.cell who.party party row fits keep) in
               let none : h.readers ≡ 0 = write_has_no_reader k (flagged who.cell (freed who.party s) h) (freed who.party s) who.cell fits_then opened in
               let most = fits_then.shared in
               record {
                 readers = ap (λ (x : Holders). x.readers) j.held ∙ none;
-                clear = record { shares_none = omega (arith, most, none); claims_none = opened.unclaimed; reads_none = omega (arith, none); closed = λ o. kept_writes v nature.Write k h s who.cell who.party party row fits keep o };
+                clear = record { shares_none = omega (arith, most, none); claims_none = opened.unclaimed; reads_none = omega (arith, none); closed = λ o. kept_writes v LockNature.Write k h s who.cell who.party party row fits keep o };
               }
 
       gives_met : (n : LockNature) (a : Attempt) → n ≡ wanted → r.0 ≡ begun_by who ask h.phase a → keeps v n h ≡ false → GivesUp k who (wake_of ask.want) n h s (a, r.1) h' s' → IsMetBy r.0 r.1 h'
@@ -309,13 +271,8 @@ module _ (k : LockerKind) (who : Who) (ask : Ask) (h : Holders) (s : Parking) wh
           })
         where
           given_phase : (w : Waiting) → (given_up w h).phase ≡ h.phase
-          given_phase waiting.ShareRead = refl
-          given_phase waiting.ShareWrite = refl
-          given_phase waiting.Drain = refl
-          given_phase waiting.Free = refl
-          given_phase waiting.Spin = refl
-          given_phase waiting.ParkedRead = refl
-          given_phase waiting.ParkedWrite = refl
+          given_phase Waiting.ShareRead = refl
+          given_phase _ = refl
 
       -- a call of a party that waits at the cell
       again_met : Resumes k who ask running h s r h' s' → IsMetBy r.0 r.1 h'

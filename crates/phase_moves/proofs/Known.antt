@@ -1,19 +1,8 @@
 -- The phases that a cell can have are known: they have no bit above the eight flags.
-use Rattle.std.proofs.Common.{ℕ, ◌<◌, List, [], ◌∷◌, arith, Bool, true, false, None, Some}
-use Rattle.lazy_cells.specs.Kinds.{is_finalizable}
-use Rattle.schedule_rules.specs.Kinds.{tolerance_of}
-use Rattle.std.specs.declared.option.Option.{Option}
-use Rattle.std.proofs.lemmas.Nat.{and_le_l, or_of_8}
-use Rattle.std.specs.Prelude.{◌==◌, ◌^◌, ◌-◌, if◌then◌else◌}
-use Rattle.phase_bits.specs.Flags.{without_flags}
-use Rattle.phase_bits.specs.Number.{IsKnown, phase_of}
-use Rattle.phase_seq.specs.Phases.{final_outcome, flags_finalized, flags_reached, flags_staying, initialization_flags, outcome, registration}
-use Rattle.schedule_rules.specs.declared.plan.CellPlan.{CellPlan}
-use Rattle.schedule_rules.specs.declared.step.Want.{Want}
-use Rattle.schedule_rules.specs.declared.step.Want.TheVariants.{Calls, Turns}
-use Rattle.schedule_rules.specs.Phases.{flags_kept, phase_reached, NoRun}
-use Rattle.schedule_rules.specs.Changes.{Content, Change, Ran, Asked, Put, RanIfAsked, Ended, asks_to_lend, content_after, content_of_run, effect, is_declined}
-use Rattle.phase_moves.specs.Stands.{stays_in}
+use Rattle.phase_moves.proofs.Words.{ℕ, ◌<◌, List, [], ◌∷◌, arith, Bool, true, false, None, Some, is_finalizable, tolerance_of, Option, and_le_l, or_of_8, ◌==◌, ◌^◌, ◌-◌}
+use Rattle.phase_moves.proofs.Words.{if◌then◌else◌, without_flags, IsKnown, phase_of, final_outcome, flags_finalized, flags_reached, flags_staying, initialization_flags}
+use Rattle.phase_moves.proofs.Words.{outcome, registration, CellPlan, Want, Calls, Turns, flags_kept, phase_reached, NoRun, Content, Change, Ran, Asked, Put, RanIfAsked}
+use Rattle.phase_moves.proofs.Words.{Ended, asks_to_lend, content_after, content_of_run, effect, is_declined, stays_in}
 
 -- the flags that stay beside those of a run
 staying_known : (is_open : Bool) (p : ℕ) → p < 256 → flags_staying is_open p < 256

@@ -1,44 +1,17 @@
 -- A guard in hand is given back.
-use Rattle.std.proofs.Common.{◌≡◌, ◌≢◌, ◌==◌, ◌<◌, ◌≤◌, ◌+◌, ◌∙◌, ℕ, length, get_or, ap, sym, subst, refl, arith, Bool, true, false, cond, None, Some}
-use Rattle.std.specs.Prelude.{slice_get}
-use Rattle.phase_bits.specs.declared.holders.Holders.{Holders}
-use Rattle.phase_bits.specs.declared.phase.Phase.{Phase}
-use Rattle.phase_bits.specs.Number.{phase_of, IsKnown}
-use Rattle.phase_bits.specs.Records.{leave_read, leave_write, most_readers}
-use Rattle.phase_locker.specs.declared.ways.Given.{Given}
-use Rattle.phase_locker.specs.declared.ways.LockerKind.{LockerKind}
-use Rattle.phase_locker.specs.Rows.{Rows as Parking, IsSound, HasFree, readers_of}
-use Rattle.phase_locker.specs.Fits.{Fits, IsWriteOpen, open_reads}
-use Rattle.phase_locker.specs.Gifts.{Hands, Downgrades, rows_handed}
-use Rattle.schedule_rules.specs.Replay.{content_after_back}
-use Rattle.schedule_rules.specs.Kinds.{cell_at}
-use Rattle.schedule_rules.specs.History.{count}
-use Rattle.schedule_rules.specs.Sections.{runs_in}
-use Rattle.schedule_rules.specs.Guards.{Guard, numbered, without_guard, reader}
-use Rattle.schedule_rules.specs.Holds.{reads_cell, writes_cell}
-use Rattle.schedule_rules.proofs.Found.{found_counts}
-use Rattle.schedule_rules.proofs.Opened.{guard_kept}
-use Rattle.waiting_rows.specs.Shown.{Shows}
-use Rattle.waiting_rows.specs.Given.{given_on, IsListed}
-use Rattle.waiting_rows.proofs.GivenOn.{shows_on, single_on, within_on, listed_hand, listed_share}
-use Rattle.waiting_rows.proofs.Sound.{sound_of}
-use Rattle.phase_moves.specs.declared.rows.CellRow.{CellRow}
-use Rattle.phase_moves.specs.declared.rows.Draft.{Draft}
-use Rattle.phase_moves.specs.declared.rows.Rows.{Rows}
-use Rattle.phase_moves.specs.Standing.{Standing, left, downgraded, reads_in, writes_in, seen_by, run_in, runner_of}
-use Rattle.phase_moves.specs.Stands.{CountsWaits, draft_of, Seen, seen_at, IsCell, IsLocked, Stands, slot_row, party_row, open_run}
-use Rattle.phase_locker.specs.Left.{Left}
-use Rattle.phase_moves.specs.Moves.{IsReader, IsWriter}
-use Rattle.phase_moves.proofs.Drafts.{keeps_none, keeps_still}
-use Rattle.phase_moves.proofs.Guards.{its_number, found_itself, gone, once_without, left_there, reads_elsewhere, writes_elsewhere, writes_here, reads_here, never_reads, never_writes, count_same, count_less, slots_same, target_given}
+use Rattle.phase_moves.proofs.Words.{◌≡◌, ◌≢◌, ◌==◌, ◌<◌, ◌≤◌, ◌+◌, ◌∙◌, ℕ, length, get_or, ap, sym, subst, refl, arith, Bool, true, false, cond, None, Some, slice_get}
+use Rattle.phase_moves.proofs.Words.{Holders, Phase, phase_of, IsKnown, leave_read, leave_write, most_readers, Given, LockerKind, Parking, IsSound, HasFree, readers_of, Fits}
+use Rattle.phase_moves.proofs.Words.{IsWriteOpen, open_reads, Hands, Downgrades, rows_handed, content_after_back, cell_at, count, runs_in, Guard, numbered, without_guard}
+use Rattle.phase_moves.proofs.Words.{reader, reads_cell, writes_cell, found_counts, guard_kept, Shows, given_on, IsListed, shows_on, single_on, within_on, listed_hand}
+use Rattle.phase_moves.proofs.Words.{listed_share, sound_of, CellRow, Draft, Rows, Standing, left_of_standing as left, downgraded, reads_in, writes_in, seen_by, run_in}
+use Rattle.phase_moves.proofs.Words.{runner_of, CountsWaits, draft_of, Seen, seen_at, IsCell, IsLocked, Stands, slot_row, party_row, open_run, Left, IsReader, IsWriter}
+use Rattle.phase_moves.proofs.Words.{write_has_no_reader}
+use Rattle.phase_moves.proofs.Guards.{its_number, found_itself, gone, once_without, left_there, reads_elsewhere, writes_elsewhere, writes_here, reads_here, never_reads}
+use Rattle.phase_moves.proofs.Guards.{never_writes, count_same, count_less, slots_same, target_given}
 use Rattle.phase_moves.proofs.Lockers.{locked_read, locked_write, locked_down, writing_alone, hands_writers, downgrades_writers}
-use Rattle.phase_moves.proofs.Opening.{guard_opened, seen_reader}
-use Rattle.phase_locker.proofs.Leaving.{write_has_no_reader}
-use Rattle.phase_moves.proofs.Waiting.{few_readers, fewer_readers, count_given}
-use Rattle.phase_moves.proofs.Known.{effect_known}
-use Rattle.phase_moves.proofs.Runs.{none_runs}
 use Rattle.phase_moves.proofs.Moved.{IsCalled, IsMoved, HasParties, exit_kept, parties_same, moved}
-use Rattle.phase_moves.proofs.Places.{read_at}
+use Rattle.phase_moves.proofs.{Drafts.keeps_none, Drafts.keeps_still, Opening.guard_opened, Opening.seen_reader, Waiting.few_readers, Waiting.fewer_readers}
+use Rattle.phase_moves.proofs.{Waiting.count_given, Known.effect_known, Runs.none_runs, Places.read_at}
 
 -- rows that stand for something are sound
 pub sound : {L : Type 0} (held : L → Holders) (place : L → LockerKind) (hand : ℕ) (m : Standing) (v : Rows L) → Stands held place hand m v → IsSound v.parks

@@ -1,44 +1,13 @@
 -- The value of a cell is lent.
-use Rattle.std.proofs.Common.{◌≡◌, ◌≢◌, ◌==◌, ◌<◌, ◌≤◌, ◌+◌, ◌∙◌, ℕ, List, [], ◌∷◌, length, set, get_or, ap, sym, subst, refl, arith, Bool, true, false, Some, inl, inr}
-use Rattle.std.proofs.lemmas.Bool.{cases_eq, cases_lt}
-use Rattle.std.specs.Prelude.{slice_get, ◌⊎◌, not, if◌then◌else◌}
-use Rattle.phase_bits.specs.declared.holders.Holders.{Holders}
-use Rattle.phase_bits.specs.Number.{IsKnown, number, phase_of}
-use Rattle.phase_bits.specs.Records.{admit_write, bars_write, leave_write, most_readers}
-use Rattle.phase_locker.specs.declared.ways.Given.{Given}
-use Rattle.phase_locker.specs.declared.ways.Given.TheVariants as given
-use Rattle.phase_locker.specs.declared.ways.LockerKind.{LockerKind}
-use Rattle.phase_locker.specs.Fits.{Fits, IsWriteOpen, KeepsFit, NobodyParked, open_reads}
-use Rattle.phase_locker.specs.Gifts.{Hands, MayHand, rows_handed}
-use Rattle.phase_locker.specs.Left.{Left}
-use Rattle.phase_locker.specs.Others.{OthersStay}
-use Rattle.phase_locker.specs.Rows.{Rows as Parking, SameSize, claims, is_empty, occurs, readers_of, writers_of}
-use Rattle.phase_locker.proofs.Others.{others_refl}
-use Rattle.lazy_cells.specs.Kinds.{lends_value}
-use Rattle.schedule_rules.specs.declared.plan.CellPlan.{CellPlan}
-use Rattle.schedule_rules.specs.Changes.{Content, Change, effect}
-use Rattle.schedule_rules.specs.Guards.{Guard, numbered}
-use Rattle.schedule_rules.specs.History.{count}
-use Rattle.schedule_rules.specs.Kinds.{cell_at}
-use Rattle.schedule_rules.specs.Waits.{Wait, drains_on, shares_read, shares_write, waits_at}
-use Rattle.waiting_rows.proofs.RowCounts.{claims_shown, shares_shown}
-use Rattle.phase_moves.specs.declared.lend.Lent.{Lent}
-use Rattle.phase_moves.specs.declared.lend.Lent.TheVariants as lent
-use Rattle.phase_moves.specs.declared.lend.Loan.{Loan}
-use Rattle.phase_moves.specs.declared.lend.Published.{Published}
-use Rattle.phase_moves.specs.declared.rows.CellRow.{CellRow}
-use Rattle.phase_moves.specs.declared.rows.Rows.{Rows}
-use Rattle.phase_moves.specs.Lends.{Finds, IsFound, IsLending, IsLent, changed, changes_lent, content_of, in_use, lent_in}
-use Rattle.phase_moves.specs.Standing.{Standing, reads_in, writes_in, run_in}
-use Rattle.phase_moves.specs.Stands.{seen_at, IsCell, IsLocked, AreShown, Stands, open_run}
-use Rattle.phase_moves.proofs.Calling.{answered_moved}
-use Rattle.phase_moves.proofs.Drafts.{keeps_still, none_writes}
-use Rattle.phase_moves.proofs.Leaving.{parked_few}
-use Rattle.phase_moves.proofs.Lockers.{locked_write}
-use Rattle.phase_moves.proofs.Moved.{exit_kept, moved, parties_same}
-use Rattle.phase_moves.proofs.Places.{itself_eq, read_at}
-use Rattle.phase_moves.proofs.Opening.{no_more}
-use Rattle.phase_moves.proofs.Runs.{none_runs}
+use Rattle.phase_moves.proofs.Words.{◌≡◌, ◌≢◌, ◌==◌, ◌<◌, ◌≤◌, ◌+◌, ◌∙◌, ℕ, List, [], ◌∷◌, length, set, get_or, ap, sym, subst, refl, arith, Bool, true, false, Some, inl, inr}
+use Rattle.phase_moves.proofs.Words.{cases_eq, cases_lt, slice_get, ◌⊎◌, not, if◌then◌else◌, Holders, IsKnown, number, phase_of, admit_write, bars_write, leave_write}
+use Rattle.phase_moves.proofs.Words.{most_readers, Given, LockerKind, Fits, IsWriteOpen, KeepsFit, NobodyParked, open_reads, Hands, MayHand, rows_handed, Left, OthersStay}
+use Rattle.phase_moves.proofs.Words.{Parking, SameSize, claims, is_empty, occurs, readers_of, writers_of, others_refl, lends_value, CellPlan, Content, Change, effect, Guard}
+use Rattle.phase_moves.proofs.Words.{numbered, count, cell_at, Wait, drains_on, shares_read, shares_write, waits_at, claims_shown, shares_shown, Lent, Loan, Published}
+use Rattle.phase_moves.proofs.Words.{CellRow, Rows, Finds, IsFound, IsLending, IsLent, changed, changes_lent, content_of, in_use, lent_in, Standing, reads_in, writes_in}
+use Rattle.phase_moves.proofs.Words.{run_in, seen_at, IsCell, IsLocked, AreShown, Stands, open_run}
+use Rattle.phase_moves.proofs.{Calling.answered_moved, Drafts.keeps_still, Drafts.none_writes, Leaving.parked_few, Lockers.locked_write, Moved.exit_kept, Moved.moved}
+use Rattle.phase_moves.proofs.{Moved.parties_same, Places.itself_eq, Places.read_at, Opening.no_more, Runs.none_runs}
 
 -- ---- what waits at a cell has its shares and claims
 
@@ -47,10 +16,9 @@ fewer t u all [] = omega arith
 fewer t u all (w ∷ ws) = by (t w) (u w) (all w) (fewer t u all ws)
   where
     by : (a b : Bool) → (a ≡ true → b ≡ true) → count t ws ≤ count u ws → (if a then count t ws + 1 else count t ws) ≤ (if b then count u ws + 1 else count u ws)
-    by true true f e = omega (arith, e)
     by true false f e = absurd (let q = f refl in cc)
-    by false true f e = omega (arith, e)
     by false false f e = e
+    by _ true f e = omega (arith, e)
 
 share_waits : (c : ℕ) (ws : List Wait) → count (shares_read c) ws ≤ count (waits_at c) ws
 share_waits c = fewer (shares_read c) (waits_at c) (λ w e. grind (arith, e))
@@ -82,10 +50,10 @@ none_occurs [] p e f = absurd (omega (arith, f))
 none_occurs (x ∷ xs) p e f = absurd (cc)
 
 -- nothing is given where nobody is parked
-gives_none : (c : ℕ) (h : Holders) (s : Parking) (g : Given) → NobodyParked s c → MayHand c h s g → g ≡ given.Nobody
-gives_none c h s given.Nobody none may = refl
-gives_none c h s (given.Writer q) none may = absurd (none_occurs (writers_of s c) q none.1 may.1)
-gives_none c h s given.Readers none may = absurd (let e = none.0 in let f = may.1 in let q : true ≡ false = sym e ∙ f in cc)
+gives_none : (c : ℕ) (h : Holders) (s : Parking) (g : Given) → NobodyParked s c → MayHand c h s g → g ≡ Given.Nobody
+gives_none c h s Given.Nobody none may = refl
+gives_none c h s (Given.Writer q) none may = absurd (none_occurs (writers_of s c) q none.1 may.1)
+gives_none c h s Given.Readers none may = absurd (let e = none.0 in let f = may.1 in let q : true ≡ false = sym e ∙ f in cc)
 
 module _ {L : Type 0} (held : L → Holders) (place : L → LockerKind) (hand : ℕ) (m : Standing) (v : Rows L) (c : ℕ) (is : IsLending held place hand m v c) (row : CellRow L) (row_is : row ≡ get_or v.cells.items c row) where
   row_at : slice_get v.cells.items c ≡ Some row
@@ -164,7 +132,7 @@ module _ {L : Type 0} (held : L → Holders) (place : L → LockerKind) (hand : 
         (parties_same held place hand m (record m { content = f }) v v' is.stands parties (λ p. refl))
 
     -- it is held
-    pub stays_held : row.waiting ≡ 0 → row'.value ≡ row.value → (bars_write (held row.seq.locker) ≡ true) × (held row'.seq.locker ≡ held row.seq.locker) → (l : Loan) → IsLent held place hand m c l lent.InUse v'
+    pub stays_held : row.waiting ≡ 0 → row'.value ≡ row.value → (bars_write (held row.seq.locker) ≡ true) × (held row'.seq.locker ≡ held row.seq.locker) → (l : Loan) → IsLent held place hand m c l Lent.InUse v'
     stays_held none value barred l =
         record {
           used = held_on none barred.0;
@@ -192,7 +160,7 @@ module _ {L : Type 0} (held : L → Holders) (place : L → LockerKind) (hand : 
 
     module _ (v' : Rows L) (row' : CellRow L) (cells : v'.cells.items ≡ set v.cells.items c row') (guards : v'.guards ≡ v.guards) (parties : v'.parties ≡ v.parties) (exit : v'.exit ≡ v.exit) (plan : row'.plan ≡ row.plan) (calm : row'.waiting ≡ row.waiting) (draft : row'.draft ≡ row.draft) (run : row'.run ≡ row.run) (running : row'.seq.running ≡ row.seq.running)
         (p : Published) (value : row'.value ≡ p.value) (known : IsKnown p.phase) (g : Given) (hands : Hands c (leave_write p.phase (held l₁)) s₁ g (held row'.seq.locker) v'.parks) (reads : open_reads (held row'.seq.locker) v'.parks c ≡ 0) (closed : IsWriteOpen (held row'.seq.locker) v'.parks c → ⊥) (k : Left held place c l₁ row'.seq.locker s₁ v'.parks) where
-      nobody : g ≡ given.Nobody
+      nobody : g ≡ Given.Nobody
       nobody = gives_none c (leave_write p.phase (held l₁)) s₁ g (subst (λ (s : Parking). NobodyParked s c) (sym parks₁) (parked none tried.0)) hands.may
 
       parks : v'.parks ≡ v.parks
@@ -240,7 +208,7 @@ module _ {L : Type 0} (held : L → Holders) (place : L → LockerKind) (hand : 
           found = subst (λ (y : Content). IsFound (cell_at m.plans c) l m.registry.is_open y r (content_of p)) (was_is was phase_is value_is) (subst (λ (x : CellPlan). IsFound x l m.registry.is_open (content_of was) r (content_of p)) here.planned (finds m.registry.is_open))
 
           by : (z : Lent) → IsFound (cell_at m.plans c) l m.registry.is_open (m.content c) z (content_of p) → Stands held place hand (lent_in c l z m) v'
-          by lent.InUse z = absurd (let e = z.free in cc)
-          by (lent.Denied q) z = left_now m.content (λ d ne. refl) (sym z.content)
-          by lent.Failed z = changed_now (changes_lent l m.registry.is_open lent.Failed) z.content
-          by (lent.Found u) z = changed_now (changes_lent l m.registry.is_open (lent.Found u)) z.content
+          by Lent.InUse z = absurd (let e = z.free in cc)
+          by (Lent.Denied q) z = left_now m.content (λ d ne. refl) (sym z.content)
+          by Lent.Failed z = changed_now (changes_lent l m.registry.is_open Lent.Failed) z.content
+          by (Lent.Found u) z = changed_now (changes_lent l m.registry.is_open (Lent.Found u)) z.content

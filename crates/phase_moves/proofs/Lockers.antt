@@ -1,32 +1,17 @@
 -- What the calls of a locker leave of a cell's record.
-use Rattle.std.proofs.Common.{◌≡◌, ◌<◌, ◌≤◌, ◌+◌, ◌∙◌, ℕ, length, ap, sym, subst, refl, arith, length-set, inl, inr}
-use Rattle.std.proofs.lemmas.Bool.{cases_lt}
-use Rattle.phase_bits.specs.declared.phase.Phase.{Phase}
-use Rattle.phase_bits.specs.declared.holders.Holders.{Holders}
-use Rattle.phase_bits.specs.Number.{phase_of}
-use Rattle.phase_bits.specs.Records.{leave_read, leave_write, downgrade, most_readers}
-use Rattle.phase_locker.specs.declared.ways.Given.{Given}
-use Rattle.phase_locker.specs.declared.ways.Given.TheVariants as given
-use Rattle.phase_locker.specs.declared.ways.LockerKind.{LockerKind}
-use Rattle.phase_locker.specs.Rows.{Rows as Parking, readers_of}
-use Rattle.phase_locker.specs.Fits.{Fits, IsWriteOpen, open_reads}
-use Rattle.phase_locker.specs.Gifts.{Hands, Downgrades, MayHand, MayShare, rows_handed, held_handed}
-use Rattle.phase_locker.specs.Others.{SameAt}
-use Rattle.phase_locker.proofs.Leaving.{write_has_no_reader}
-use Rattle.phase_locker.proofs.Others.{fits_same}
-use Rattle.phase_moves.specs.Stands.{IsLocked}
+use Rattle.phase_moves.proofs.Words.{◌≡◌, ◌<◌, ◌≤◌, ◌+◌, ◌∙◌, ℕ, length, ap, sym, subst, refl, arith, length-set, inl, inr, cases_lt, Phase, Holders, phase_of, leave_read}
+use Rattle.phase_moves.proofs.Words.{leave_write, downgrade, most_readers, Given, LockerKind, Parking, readers_of, Fits, IsWriteOpen, open_reads, Hands, Downgrades, MayHand}
+use Rattle.phase_moves.proofs.Words.{MayShare, rows_handed, held_handed, SameAt, write_has_no_reader, fits_same, IsLocked}
 
 -- a gift leaves the phase
 pub handed_phase : (g : Given) (c : ℕ) (s : Parking) (h : Holders) → (held_handed c g s h).phase ≡ h.phase
-handed_phase given.Nobody c s h = refl
-handed_phase (given.Writer q) c s h = refl
-handed_phase given.Readers c s h = refl
+handed_phase Given.Nobody c s h = refl
+handed_phase _ c s h = refl
 
 -- and the number of the lists of writers
 pub handed_writers : (g : Given) (c : ℕ) (s : Parking) → length (rows_handed c g s).writers ≡ length s.writers
-handed_writers given.Nobody c s = refl
-handed_writers (given.Writer q) c s = length-set s.writers c _
-handed_writers given.Readers c s = refl
+handed_writers (Given.Writer q) c s = length-set s.writers c _
+handed_writers _ c s = refl
 
 pub hands_phase : (c : ℕ) (h : Holders) (s : Parking) (g : Given) (h' : Holders) (s' : Parking) → Hands c h s g h' s' → h'.phase ≡ h.phase
 hands_phase c h s g h' s' k = ap (λ (x : Holders). x.phase) k.held ∙ handed_phase g c s h
@@ -43,9 +28,8 @@ downgrades_writers c q h s g h' s' k = ap (λ (x : Parking). length x.writers) k
 -- ---- how many read then
 
 pub handed_few : (g : Given) (c : ℕ) (h : Holders) (s : Parking) → MayHand c h s g → h.readers ≤ most_readers → length (readers_of s c) ≤ most_readers → (held_handed c g s h).readers ≤ most_readers
-handed_few given.Nobody c h s may le room = le
-handed_few (given.Writer q) c h s may le room = le
-handed_few given.Readers c h s may le room = let none = may.0.readers in omega (arith, none, room)
+handed_few Given.Readers c h s may le room = let none = may.0.readers in omega (arith, none, room)
+handed_few _ c h s may le room = le
 
 pub hands_few : (c : ℕ) (h : Holders) (s : Parking) (g : Given) (h' : Holders) (s' : Parking) → Hands c h s g h' s' → h.readers ≤ most_readers → length (readers_of s c) ≤ most_readers → h'.readers ≤ most_readers
 hands_few c h s g h' s' k le parked = subst (λ n. n ≤ most_readers) (sym (ap (λ (x : Holders). x.readers) k.held)) (handed_few g c h s k.may le parked)
@@ -54,9 +38,9 @@ pub downgrades_few : (c : ℕ) (q : Phase) (h : Holders) (s : Parking) (g : Give
 downgrades_few c q h s g h' s' k none room = subst (λ n. n ≤ most_readers) (sym (ap (λ (x : Holders). x.readers) k.held)) (shared g k.may)
   where
     shared : (g : Given) → MayShare c s g → (held_handed c g s (downgrade q h)).readers ≤ most_readers
-    shared given.Nobody may = omega (arith, none)
-    shared (given.Writer p) may = absurd may
-    shared given.Readers may = omega (arith, none, room)
+    shared Given.Nobody may = omega (arith, none)
+    shared (Given.Writer p) may = absurd may
+    shared Given.Readers may = omega (arith, none, room)
 
 -- what is said of a cell stays where the rows say the same of it
 pub locked_same : (k : LockerKind) (h : Holders) (s s' : Parking) (d r w p : ℕ) → SameAt d s s' → IsLocked k h s d r w p → IsLocked k h s' d r w p

@@ -1,55 +1,15 @@
 -- What the rows tell of what stands open.
-use Rattle.std.proofs.Common.{◌≡◌, ◌==◌, ◌<◌, ◌∙◌, ℕ, List, length, get_or, ap, sym, subst, refl, arith, Bool, true, false, None, Some, [], ◌∷◌, ◌&&◌}
-use Rattle.std.proofs.lemmas.Option.{gets}
-use Rattle.std.proofs.lemmas.Grind.{common_steps}
-use Rattle.std.specs.Prelude.{slice_get, ◌<◌, MatchBool, if◌then◌else◌, is_some, not}
-use Rattle.std.specs.declared.option.Option.{Option}
-use Rattle.phase_bits.specs.declared.holders.Holders.{Holders}
-use Rattle.phase_locker.specs.declared.ways.LockerKind.{LockerKind}
-use Rattle.schedule_rules.specs.declared.plan.CellPlan.{CellPlan}
-use Rattle.schedule_rules.specs.Guards.{Guard, guard_of, numbered, own}
-use Rattle.schedule_rules.specs.Kinds.{cell_at, tolerance_of}
-use Rattle.schedule_rules.specs.Sections.{Section, innermost, generates_for, runs_in}
-use Rattle.schedule_rules.specs.Waits.{cell_of_section, wait_of, without_wait}
-use Rattle.phase_moves.specs.declared.look_up.Running.{Running}
-use Rattle.phase_moves.specs.declared.rows.CellRow.{CellRow}
-use Rattle.phase_moves.specs.declared.rows.Draft.{Draft}
-use Rattle.phase_moves.specs.declared.rows.GuardRow.{GuardRow}
-use Rattle.phase_moves.specs.declared.rows.PartyRow.{PartyRow}
-use Rattle.phase_moves.specs.declared.rows.Rows.{Rows}
-use Rattle.phase_moves.specs.Standing.{Standing, answered, changes_at, content_back, run_in, runner_of, seen_by}
-use Rattle.phase_moves.specs.Stands.{guard_row, party_row, CountsWaits, KeepsDraft, AreInside, AreNumbered, AreShown, AreSized, IsCell, IsExit, Stands, seen_at}
-use Rattle.phase_moves.specs.Reading.{held_of, run_kept, running_kept, running_of, shown_by, value_drafted, value_kept}
-use Rattle.phase_moves.specs.Moves.{Rests}
-use Rattle.phase_moves.proofs.Innermost.{row_run}
-use Rattle.phase_moves.proofs.Places.{read_at}
-use Rattle.phase_moves.proofs.Runs.{inside_found}
-use Rattle.phase_moves.proofs.Hand.{row_shown}
-use Rattle.std.specs.List.{find}
-use Rattle.phase_bits.specs.declared.phase.Phase.{Phase}
-use Rattle.phase_bits.specs.Number.{phase_of}
-use Rattle.phase_locker.specs.declared.tickets.LockNature.TheVariants as nature
-use Rattle.phase_locker.specs.declared.ways.Given.TheVariants as given
-use Rattle.phase_seq.specs.Begins.{runs}
-use Rattle.lazy_cells.specs.Calls.{asking}
-use Rattle.schedule_rules.specs.declared.line.Answer.TheVariants as answer
-use Rattle.schedule_rules.specs.declared.step.Want.{Want}
-use Rattle.schedule_rules.specs.declared.step.Want.TheVariants.{Calls, Turns}
-use Rattle.schedule_rules.specs.Answers.{answer_admitted, answer_barred, drains_by, way_parked}
-use Rattle.schedule_rules.specs.Calls.{initializes, is_fast, lock_asked, run_asked, seeks, seeks_run}
-use Rattle.schedule_rules.specs.Changes.{Asked, Change, Content, effect}
-use Rattle.schedule_rules.specs.Forms.{form_of}
-use Rattle.schedule_rules.specs.Holds.{is_barred, keeps}
-use Rattle.schedule_rules.specs.Legal.{Last}
-use Rattle.schedule_rules.specs.Phases.{runs_generator}
-use Rattle.waiting_rows.proofs.Counted.{none_without}
-use Rattle.phase_moves.specs.declared.rows.Taken.TheVariants as taken
-use Rattle.phase_moves.specs.declared.rows.Target.{Target}
-use Rattle.phase_moves.specs.Meets.{IsMet, IsUnlocked, holding_in, keeps_in, readers_in, wanted_in}
-use Rattle.phase_moves.specs.Tries.{IsAttempting, IsTook, MayWait, WaitsAt, ask_of}
-use Rattle.phase_moves.proofs.Admitting.{judged_no, looked_due, runs_same, turned_so}
-use Rattle.phase_moves.proofs.Seeking.{seeks_as, sought_as}
-use Rattle.phase_moves.proofs.Asked.{none_sought}
+use Rattle.phase_moves.proofs.Words.{◌≡◌, ◌==◌, ◌<◌, ◌∙◌, ℕ, List, length, get_or, ap, sym, subst, refl, arith, Bool, true, false, None, Some, [], ◌∷◌, ◌&&◌, gets}
+use Rattle.phase_moves.proofs.Words.{common_steps, slice_get, MatchBool, if◌then◌else◌, is_some, not, Option, Holders, LockerKind, CellPlan, Guard, guard_of, numbered, own}
+use Rattle.phase_moves.proofs.Words.{cell_at, tolerance_of, Section, innermost, generates_for, runs_in, cell_of_section, wait_of, without_wait, Running, CellRow, Draft}
+use Rattle.phase_moves.proofs.Words.{GuardRow, PartyRow, Rows, Standing, answered, changes_at, content_back, run_in, runner_of, seen_by, guard_row, party_row, CountsWaits}
+use Rattle.phase_moves.proofs.Words.{KeepsDraft, AreInside, AreNumbered, AreShown, AreSized, IsCell, IsExit, Stands, seen_at, held_of, run_kept, running_kept, running_of}
+use Rattle.phase_moves.proofs.Words.{shown_by, value_drafted, value_kept, Rests, find, Phase, phase_of, runs, asking, Want, Calls, Turns, answer_admitted, answer_barred}
+use Rattle.phase_moves.proofs.Words.{drains_by, way_parked, initializes, is_fast, lock_asked, run_asked, seeks, seeks_run, Asked, Change, Content, effect, form_of, is_barred}
+use Rattle.phase_moves.proofs.Words.{keeps_of_holds as keeps, Last, runs_generator, none_without, Target, IsMet, IsUnlocked, holding_in, keeps_in, readers_in, wanted_in}
+use Rattle.phase_moves.proofs.Words.{IsAttempting, IsTook, MayWait_of_tries as MayWait, WaitsAt, ask_of, LockNature, Given, Answer, Taken}
+use Rattle.phase_moves.proofs.{Innermost.row_run, Places.read_at, Runs.inside_found, Hand.row_shown, Admitting.judged_no, Admitting.looked_due, Admitting.runs_same}
+use Rattle.phase_moves.proofs.{Admitting.turned_so, Seeking.seeks_as, Seeking.sought_as, Asked.none_sought}
 
 is_there : {X : Type 0} (xs : List X) (i : ℕ) → i < length xs → slice_get xs i ≡ None → ⊥
 is_there xs i lt e = grind (arith, common_steps, gets, lt, e)
@@ -100,31 +60,30 @@ module _ {L : Type 0} (held : L → Holders) (place : L → LockerKind) (m : Sta
 
           at : (w : Bool) → x.writes ≡ w → (b : Bool) → (x.party == p) ≡ b → shown_by v p (guard_row (Some x)) ≡ held_of m (own p (Some x))
           at true w true b = rw (w, b) (ap (λ z. Some (record { cell = x.cell; writes = true; value = z })) (drafted w (slice_get v.cells.items x.cell) refl))
-          at true w false b = rw (w, b) refl
           at false w true b = rw (w, b) (ap (λ z. Some (record { cell = x.cell; writes = false; value = z })) (value (slice_get v.cells.items x.cell) refl))
-          at false w false b = rw (w, b) refl
+          at _ w false b = rw (w, b) refl
 
 -- ---- an attempt that is turned back, and one that looks at the cell as it is: it takes no lock
 
 -- one that was turned back
-pub met_turned : (m : Standing) (p : ℕ) (t : Target) → (initializes (cell_at m.plans t.cell).kind t.want && runs p (runner_of (run_in t.cell m.sections))) ≡ true → IsMet p t taken.Cyclic given.Nobody m
+pub met_turned : (m : Standing) (p : ℕ) (t : Target) → (initializes (cell_at m.plans t.cell).kind t.want && runs p (runner_of (run_in t.cell m.sections))) ≡ true → IsMet p t Taken.Cyclic Given.Nobody m
 met_turned m p t turned =
     record {
       moment = Last;
       chosen = false;
-      answered = sym (turned_so (initializes (cell_at m.plans t.cell).kind t.want && generates_for p (find (runs_in t.cell) m.sections)) answer.Cyclic _ (ap (λ b. initializes (cell_at m.plans t.cell).kind t.want && b) (sym (runs_same p t.cell m.sections)) ∙ turned));
+      answered = sym (turned_so (initializes (cell_at m.plans t.cell).kind t.want && generates_for p (find (runs_in t.cell) m.sections)) Answer.Cyclic _ (ap (λ b. initializes (cell_at m.plans t.cell).kind t.want && b) (sym (runs_same p t.cell m.sections)) ∙ turned));
       gives = refl;
       wanted = refl;
     }
 
 -- it is answered by what the cell holds
-pub met_looked : (m : Standing) (p : ℕ) (t : Target) → seeks (cell_at m.plans t.cell).kind t.want ≡ None → wait_of p m.waits ≡ None → IsMet p t (taken.Nothing (phase_of (m.content t.cell).phase)) given.Nobody m
+pub met_looked : (m : Standing) (p : ℕ) (t : Target) → seeks (cell_at m.plans t.cell).kind t.want ≡ None → wait_of p m.waits ≡ None → IsMet p t (Taken.Nothing (phase_of (m.content t.cell).phase)) Given.Nobody m
 met_looked m p t none free =
     record {
       moment = Last;
       chosen = false;
       answered = looked_due x t.cell p m.registry y t.want none
-          ∙ sym (judged_no (initializes x.kind t.want && generates_for p (find (runs_in t.cell) m.sections)) (keeps_in p t.cell t.want m) (is_barred (wanted_in t.cell t.want m) (holding_in t.cell (without_wait p m.waits) m)) false answer.Cyclic
+          ∙ sym (judged_no (initializes x.kind t.want && generates_for p (find (runs_in t.cell) m.sections)) (keeps_in p t.cell t.want m) (is_barred (wanted_in t.cell t.want m) (holding_in t.cell (without_wait p m.waits) m)) false Answer.Cyclic
           (answer_barred (is_fast t.want) x.place (way_parked x.kind t.want (drains_by (wanted_in t.cell t.want m) (holding_in t.cell (without_wait p m.waits) m) false))) (answer_admitted x.kind (tolerance_of x) t.cell m.registry.is_open t.want y)
           (ap (λ s. seeks_run s && generates_for p (find (runs_in t.cell) m.sections)) none) (ap (λ w. keeps w (wanted_in t.cell t.want m) (readers_in t.cell m.waits m)) free) (ap (λ n. is_barred n (holding_in t.cell (without_wait p m.waits) m)) unwanted));
       gives = tt;
@@ -137,7 +96,7 @@ met_looked m p t none free =
     y : Content
     y = m.content t.cell
 
-    unwanted : wanted_in t.cell t.want m ≡ nature.None
+    unwanted : wanted_in t.cell t.want m ≡ LockNature.None
     unwanted = ap (λ s. lock_asked (asking s (is_fast t.want) (tolerance_of (cell_at m.plans t.cell))) (m.content t.cell).phase) none
 
     by : (w : Want) → seeks (cell_at m.plans t.cell).kind w ≡ None → IsUnlocked (cell_at m.plans t.cell).kind w
@@ -201,13 +160,13 @@ module _ {L : Type 0} (held : L → Holders) (place : L → LockerKind) (m : Sta
       by true k so = let sought = (so refl).sought in absurd (let f : false ≡ true = sym (ap is_some nothing) ∙ sought in cc)
       by false k so = k
 
-  same : m ≡ answered p t.cell given.Nobody (changes_at t.cell t.want m) m
+  same : m ≡ answered p t.cell Given.Nobody (changes_at t.cell t.want m) m
   same = λ i. record m { waits = sym (none_without p m.waits free) i; content = λ d. sym (still m t.cell d (changes_at t.cell t.want m) (unchanged m t.cell t.want nothing)) i }
 
   -- the rows are as they were
   module _ (v' : Rows L) (cells : v'.cells.items ≡ v.cells.items) (guards : v'.guards ≡ v.guards) (parties : v'.parties ≡ v.parties) (parks : v'.parks ≡ v.parks) (exit : v'.exit ≡ v.exit) where
-    pub looks : (q : Phase) → q ≡ (held row.seq.locker).phase → IsTook held place m v p t (taken.Nothing q) given.Nobody v'
-    looks q q_is = subst (λ z. IsTook held place m v p t (taken.Nothing z) given.Nobody v') (sym (q_is ∙ here.locked.phase_is))
+    pub looks : (q : Phase) → q ≡ (held row.seq.locker).phase → IsTook held place m v p t (Taken.Nothing q) Given.Nobody v'
+    looks q q_is = subst (λ z. IsTook held place m v p t (Taken.Nothing z) Given.Nobody v') (sym (q_is ∙ here.locked.phase_is))
         (record {
           stands = subst (λ z. Stands held place (length v.guards.items) z v') same (stays held place (length v.guards.items) m v v' cells guards parties parks exit is.rests.stands);
           told = ap (λ (chs : List Change). phase_of (effect (cell_at m.plans t.cell) chs (m.content t.cell)).phase) (sym (unchanged m t.cell t.want nothing));

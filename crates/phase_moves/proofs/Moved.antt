@@ -1,26 +1,9 @@
 -- Rows stand for what is open after one cell was called: the one lemma that every move ends in.
-use Rattle.std.proofs.Common.{◌≡◌, ◌≢◌, ◌<◌, ◌∙◌, ℕ, List, length, set, ap, sym, subst, true, Some, inl, inr, length-set}
-use Rattle.std.proofs.lemmas.Bool.{cases_eq}
-use Rattle.std.specs.Prelude.{slice_get, ◌⊎◌}
-use Rattle.phase_bits.specs.declared.holders.Holders.{Holders}
-use Rattle.exit_registry.specs.Registry.{cells_of}
-use Rattle.phase_locker.specs.declared.ways.LockerKind.{LockerKind}
-use Rattle.phase_locker.specs.Rows.{Rows as Parking, SameSize}
-use Rattle.phase_locker.specs.Others.{SameAt, OthersStay}
-use Rattle.phase_moves.specs.declared.rows.CellRow.{CellRow}
-use Rattle.phase_moves.specs.declared.rows.Exit.{Exit}
-use Rattle.phase_moves.specs.declared.rows.PartyRow.{PartyRow}
-use Rattle.phase_moves.specs.declared.rows.Rows.{Rows}
-use Rattle.phase_moves.specs.Standing.{Standing, seen_by}
-use Rattle.schedule_rules.specs.Changes.{effect}
-use Rattle.schedule_rules.specs.Guards.{Guard, numbered}
-use Rattle.schedule_rules.specs.History.{count}
-use Rattle.schedule_rules.specs.Waits.{waits_at}
-use Rattle.schedule_rules.specs.Transcripts.{most_parties}
-use Rattle.phase_moves.specs.Stands.{CountsWaits, KeepsDraft, draft_of, Seen, seen_at, IsCell, Stands, IsExit, AreShown, AreNumbered, slot_row, party_row, AreInside}
-use Rattle.phase_locker.specs.Left.{Left}
-use Rattle.phase_moves.proofs.Lockers.{locked_same}
-use Rattle.phase_moves.proofs.Places.{slice_get_set_same, slice_get_set_other}
+use Rattle.phase_moves.proofs.Words.{◌≡◌, ◌≢◌, ◌<◌, ◌∙◌, ℕ, List, length, set, ap, sym, subst, true, Some, inl, inr, length-set, cases_eq, slice_get, ◌⊎◌, Holders, cells_of}
+use Rattle.phase_moves.proofs.Words.{LockerKind, Parking, SameSize, SameAt, OthersStay, CellRow, Exit, PartyRow, Rows, Standing, seen_by, effect, Guard, numbered, count}
+use Rattle.phase_moves.proofs.Words.{waits_at, most_parties, CountsWaits, KeepsDraft, draft_of, Seen, seen_at, IsCell, Stands, IsExit, AreShown, AreNumbered, slot_row}
+use Rattle.phase_moves.proofs.Words.{party_row, AreInside, Left}
+use Rattle.phase_moves.proofs.{Lockers.locked_same, Places.slice_get_set_same, Places.slice_get_set_other}
 
 -- an exit that is not touched, where it stands as it did
 pub exit_kept : (n : ℕ) (m m' : Standing) (x x' : Exit) → x' ≡ x → m'.registry ≡ m.registry → m'.owner ≡ m.owner → m'.turns ≡ m.turns → IsExit n m x → IsExit n m' x'

@@ -1,35 +1,11 @@
 -- A guard is opened, put into its row, and taken out of it.
-use Rattle.std.proofs.Common.{◌≡◌, ◌≢◌, ◌==◌, ◌<◌, ◌≤◌, ◌+◌, ◌∙◌, ℕ, List, [], ◌∷◌, ◌++◌, length, set, ap, sym, subst, refl, arith, Bool, true, false, cond, None, Some, inl, inr, length-set}
-use Rattle.std.proofs.lemmas.Bool.{cases_eq, cases_lt}
-use Rattle.std.proofs.lemmas.Grind.{common_steps}
-use Rattle.std.proofs.lemmas.Option.{gets}
-use Rattle.std.specs.Prelude.{slice_get, ◌⊎◌, if◌then◌else◌}
-use Rattle.std.specs.declared.option.Option.{Option}
-use Rattle.phase_bits.specs.declared.holders.Holders.{Holders}
-use Rattle.phase_locker.specs.declared.ways.LockerKind.{LockerKind}
-use Rattle.schedule_rules.specs.History.{count}
-use Rattle.schedule_rules.specs.Sections.{runs_in, Section}
-use Rattle.schedule_rules.specs.Guards.{Guard, numbered, reader}
-use Rattle.schedule_rules.specs.Changes.{Change}
-use Rattle.schedule_rules.specs.Kinds.{cell_at}
-use Rattle.schedule_rules.specs.Holds.{writes_cell}
-use Rattle.phase_moves.specs.declared.rows.GuardRow.{GuardRow}
-use Rattle.phase_moves.specs.declared.rows.GuardRow.TheVariants as guard
-use Rattle.phase_moves.specs.declared.rows.Rows.{Rows}
-use Rattle.phase_moves.specs.Standing.{Standing, guarded, run_in, reads_in, writes_in, writer_asked, opened}
-use Rattle.phase_moves.specs.Stands.{Stands, IsCell, IsExit, AreShown, AreSized, AreInside, seen_at, slot_row, guard_row}
-use Rattle.phase_locker.specs.Rows.{Rows as Parking}
-use Rattle.phase_moves.specs.Moves.{Rests}
-use Rattle.phase_moves.proofs.Drafts.{found_beside}
-use Rattle.phase_moves.proofs.Guards.{once_with, reads_elsewhere, writes_elsewhere}
-use Rattle.phase_moves.proofs.Moved.{IsMoved}
-use Rattle.phase_moves.proofs.Places.{slice_get_set_same, slice_get_set_other}
-use Rattle.phase_locker.specs.declared.ways.Who.{Who}
-use Rattle.phase_locker.specs.Fits.{IsWriteOpen}
-use Rattle.phase_seq.specs.declared.section.Begun.{Begun}
-use Rattle.phase_seq.specs.declared.section.Begun.TheVariants as begun
-use Rattle.phase_seq.specs.Stands.{BegunStands, begins_write}
-use Rattle.phase_moves.proofs.Attempts.{writes_begun, wrote}
+use Rattle.phase_moves.proofs.Words.{◌≡◌, ◌≢◌, ◌==◌, ◌<◌, ◌≤◌, ◌+◌, ◌∙◌, ℕ, List, [], ◌∷◌, ◌++◌, length, set, ap, sym, subst, refl, arith, Bool, true, false, cond, None, Some}
+use Rattle.phase_moves.proofs.Words.{inl, inr, length-set, cases_eq, cases_lt, common_steps, gets, slice_get, ◌⊎◌, if◌then◌else◌, Option, Holders, LockerKind, count, runs_in}
+use Rattle.phase_moves.proofs.Words.{Section, Guard, numbered, reader, Change, cell_at, writes_cell, GuardRow, Rows, Standing, guarded, run_in, reads_in, writes_in}
+use Rattle.phase_moves.proofs.Words.{writer_asked, opened, Stands, IsCell, IsExit, AreShown, AreSized, AreInside, seen_at, slot_row, guard_row, Parking, Rests, Who}
+use Rattle.phase_moves.proofs.Words.{IsWriteOpen, Begun, BegunStands, begins_write}
+use Rattle.phase_moves.proofs.{Drafts.found_beside, Guards.once_with, Guards.reads_elsewhere, Guards.writes_elsewhere, Moved.IsMoved, Places.slice_get_set_same}
+use Rattle.phase_moves.proofs.{Places.slice_get_set_other, Attempts.writes_begun, Attempts.wrote}
 
 -- the guards with one more
 numbered_with : (y : Guard) (g : ℕ) (gs : List Guard) → g ≢ y.number → numbered g (y ∷ gs) ≡ numbered g gs
@@ -90,7 +66,7 @@ module _ {L : Type 0} (held : L → Holders) (place : L → LockerKind) where
       slots : (g : ℕ) → g < length v.guards.items → slot_row n (guarded y m') g ≡ slot_row hand' m' g
       slots g l =
           let ne : g ≢ n = λ e. absurd (omega (arith, l, room, e)) in
-          ap (λ o. cond (g == n) guard.Free (guard_row o)) (numbered_with y g m'.guards (λ q. ne (q ∙ number))) ∙ empty_hand m' hand' n g empty ne
+          ap (λ o. cond (g == n) GuardRow.Free (guard_row o)) (numbered_with y g m'.guards (λ q. ne (q ∙ number))) ∙ empty_hand m' hand' n g empty ne
 
       drafts : (g : ℕ) (x : Guard) → numbered g (y ∷ m'.guards) ≡ Some x → x.writes ≡ true → x.cell ≢ c → numbered g m.guards ≡ Some x
       drafts g x e w ne = elim (found_beside y g m'.guards x e) [
@@ -166,23 +142,23 @@ module _ {L : Type 0} (held : L → Holders) (place : L → LockerKind) where
           ]
 
   -- the row of a guard is taken
-  pub taken : (m : Standing) (v v' : Rows L) (g : ℕ) → Stands held place (length v.guards.items) m v → numbered (length v.guards.items) m.guards ≡ None → g < length v.guards.items → v'.guards.items ≡ set v.guards.items g guard.Free → v'.cells ≡ v.cells → v'.parties ≡ v.parties → v'.parks ≡ v.parks → v'.exit ≡ v.exit
+  pub taken : (m : Standing) (v v' : Rows L) (g : ℕ) → Stands held place (length v.guards.items) m v → numbered (length v.guards.items) m.guards ≡ None → g < length v.guards.items → v'.guards.items ≡ set v.guards.items g GuardRow.Free → v'.cells ≡ v.cells → v'.parties ≡ v.parties → v'.parks ≡ v.parks → v'.exit ≡ v.exit
       → Stands held place g m v'
   taken m v v' g t none lt guards cells parties parks exit =
       reslotted (length v.guards.items) g m v v' t cells parties parks exit (λ j l. ap (λ (xs : List GuardRow). slice_get xs j) guards ∙ by j (cases_eq j g) (subst (λ i. j < i) size l)) in_rows
     where
       size : length v'.guards.items ≡ length v.guards.items
-      size = ap (λ (xs : List GuardRow). length xs) guards ∙ length-set v.guards.items g guard.Free
+      size = ap (λ (xs : List GuardRow). length xs) guards ∙ length-set v.guards.items g GuardRow.Free
 
       slots : (j : ℕ) → j ≢ g → j < length v.guards.items → slot_row (length v.guards.items) m j ≡ slot_row g m j
       slots j ne l = let a : (j == g) ≡ false = grind (arith, ne) in let b : (j == length v.guards.items) ≡ false = grind (arith, l) in rw (a, b) refl
 
-      itself : slot_row g m g ≡ guard.Free
+      itself : slot_row g m g ≡ GuardRow.Free
       itself = let a : (g == g) ≡ true = grind arith in rw a refl
 
-      by : (j : ℕ) → (j ≡ g) ⊎ (j ≢ g) → j < length v.guards.items → slice_get (set v.guards.items g guard.Free) j ≡ Some (slot_row g m j)
-      by j (inl q) l = rw q (slice_get_set_same v.guards.items g guard.Free lt ∙ ap (λ x. Some x) (sym itself))
-      by j (inr ne) l = slice_get_set_other v.guards.items g j guard.Free ne ∙ t.slot j l ∙ ap (λ x. Some x) (slots j ne l)
+      by : (j : ℕ) → (j ≡ g) ⊎ (j ≢ g) → j < length v.guards.items → slice_get (set v.guards.items g GuardRow.Free) j ≡ Some (slot_row g m j)
+      by j (inl q) l = rw q (slice_get_set_same v.guards.items g GuardRow.Free lt ∙ ap (λ x. Some x) (sym itself))
+      by j (inr ne) l = slice_get_set_other v.guards.items g j GuardRow.Free ne ∙ t.slot j l ∙ ap (λ x. Some x) (slots j ne l)
 
       in_rows : (j : ℕ) (x : Guard) → numbered j m.guards ≡ Some x → j ≢ g → j < length v'.guards.items
       in_rows j x e ne =
@@ -211,35 +187,26 @@ no_more j f = elim (cases_lt 0 j) [ inl lt ↦ absurd (f lt) | inr le ↦ omega 
 
 -- what opens a write hold leaves it open
 pub opens : (who : Who) (b : Begun) (running : Option ℕ) (h : Holders) (s : Parking) → begins_write b ≡ true → BegunStands who b running h s → IsWriteOpen h s who.cell
-opens who (begun.Wait way) running h s e k = absurd (cc)
-opens who begun.Missed running h s e k = absurd (cc)
-opens who begun.Cyclic running h s e k = absurd (cc)
-opens who (begun.Nothing q) running h s e k = absurd (cc)
-opens who (begun.Read t q) running h s e k = absurd (cc)
-opens who (begun.Write t q) running h s e k = k.1
-opens who (begun.Run o) running h s e k = subst (λ (w : Who). IsWriteOpen h s w.cell) k.1 k.2.locked
-opens who (begun.Final o) running h s e k = subst (λ (w : Who). IsWriteOpen h s w.cell) k.1 k.2.locked
+opens who (Begun.Write t q) running h s e k = k.1
+opens who (Begun.Run o) running h s e k = subst (λ (w : Who). IsWriteOpen h s w.cell) k.1 k.2.locked
+opens who (Begun.Final o) running h s e k = subst (λ (w : Who). IsWriteOpen h s w.cell) k.1 k.2.locked
+opens who _ running h s e k = absurd (cc)
 
 -- as many are opened as this says
 pub as_many : (b : Begun) (o : Bool) → begins_write b ≡ o → writes_begun b ≡ (if o then 1 else 0)
-as_many (begun.Wait way) o e = ap (λ x. if x then 1 else 0) e
-as_many begun.Missed o e = ap (λ x. if x then 1 else 0) e
-as_many begun.Cyclic o e = ap (λ x. if x then 1 else 0) e
-as_many (begun.Nothing q) o e = ap (λ x. if x then 1 else 0) e
-as_many (begun.Read t q) o e = ap (λ x. if x then 1 else 0) e
-as_many (begun.Write t q) o e = ap (λ x. if x then 1 else 0) e
-as_many (begun.Run x) o e = ap (λ x. if x then 1 else 0) e
-as_many (begun.Final x) o e = ap (λ x. if x then 1 else 0) e
+as_many (Begun.Wait way) o e = ap (λ x. if x then 1 else 0) e
+as_many Begun.Missed o e = ap (λ x. if x then 1 else 0) e
+as_many Begun.Cyclic o e = ap (λ x. if x then 1 else 0) e
+as_many (Begun.Nothing q) o e = ap (λ x. if x then 1 else 0) e
+as_many (Begun.Read t q) o e = ap (λ x. if x then 1 else 0) e
+as_many (Begun.Write t q) o e = ap (λ x. if x then 1 else 0) e
+as_many (Begun.Run x) o e = ap (λ x. if x then 1 else 0) e
+as_many (Begun.Final x) o e = ap (λ x. if x then 1 else 0) e
 
 pub wrote_all : (d : Bool) (b : Begun) → begins_write b ≡ true → wrote d b ≡ true
-wrote_all d (begun.Wait way) e = e
-wrote_all d begun.Missed e = e
-wrote_all d begun.Cyclic e = e
-wrote_all d (begun.Nothing q) e = absurd (cc)
-wrote_all d (begun.Read t q) e = absurd (cc)
-wrote_all d (begun.Write t q) e = e
-wrote_all d (begun.Run o) e = e
-wrote_all d (begun.Final o) e = e
+wrote_all d (Begun.Nothing q) e = absurd (cc)
+wrote_all d (Begun.Read t q) e = absurd (cc)
+wrote_all d _ e = e
 
 module _ {L : Type 0} (held : L → Holders) (place : L → LockerKind) where
   -- a section more

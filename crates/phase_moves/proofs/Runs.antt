@@ -1,12 +1,6 @@
 -- The sections that run.
-use Rattle.std.proofs.Common.{◌≡◌, ◌≢◌, ◌==◌, ◌<◌, ◌≤◌, ℕ, List, [], ◌∷◌, refl, subst, arith, Bool, true, false, cond, None, Some}
-use Rattle.schedule_rules.specs.History.{count}
-use Rattle.schedule_rules.specs.Sections.{Section, innermost, without_innermost, runs_in}
-use Rattle.schedule_rules.specs.Waits.{cell_of_section}
-use Rattle.schedule_rules.proofs.Found.{found_counts}
-use Rattle.schedule_rules.proofs.Opened.{innermost_kept}
-use Rattle.phase_moves.specs.Standing.{run_in}
-use Rattle.phase_moves.specs.Stands.{AreInside}
+use Rattle.phase_moves.proofs.Words.{◌≡◌, ◌≢◌, ◌==◌, ◌<◌, ◌≤◌, ℕ, List, [], ◌∷◌, refl, subst, arith, Bool, true, false, cond, None, Some, count, Section, innermost}
+use Rattle.phase_moves.proofs.Words.{without_innermost, runs_in, cell_of_section, found_counts, innermost_kept, run_in, AreInside}
 
 -- where no section is counted none runs
 pub none_runs : (c : ℕ) (ss : List Section) → count (runs_in c) ss ≡ 0 → run_in c ss ≡ None

@@ -1,28 +1,9 @@
 -- The holder of a write guard sets a value.
-use Rattle.std.proofs.Common.{◌≡◌, ◌≢◌, ◌==◌, ◌<◌, ◌≤◌, ◌+◌, ◌∙◌, ℕ, List, [], ◌∷◌, length, set, get_or, ap, sym, subst, refl, arith, None, Some, inl, inr}
-use Rattle.std.proofs.lemmas.Bool.{cases_eq}
-use Rattle.std.specs.Prelude.{slice_get, ◌⊎◌, if◌then◌else◌}
-use Rattle.phase_bits.specs.declared.holders.Holders.{Holders}
-use Rattle.phase_locker.specs.declared.ways.LockerKind.{LockerKind}
-use Rattle.phase_locker.specs.Rows.{Rows as Parking}
-use Rattle.phase_locker.specs.Others.{OthersStay}
-use Rattle.phase_locker.proofs.Others.{others_refl}
-use Rattle.schedule_rules.specs.History.{count}
-use Rattle.schedule_rules.specs.Kinds.{cell_at}
-use Rattle.schedule_rules.specs.Sections.{runs_in}
-use Rattle.schedule_rules.specs.Guards.{Guard, numbered, put_in}
-use Rattle.schedule_rules.specs.Holds.{writes_cell}
-use Rattle.schedule_rules.proofs.Opened.{put as with_value, numbered_put, numbered_put_other, reads_put, writes_put}
-use Rattle.phase_moves.specs.declared.rows.CellRow.{CellRow}
-use Rattle.phase_moves.specs.declared.rows.Draft.{Draft}
-use Rattle.phase_moves.specs.declared.rows.GuardRow.TheVariants as guard
-use Rattle.phase_moves.specs.declared.rows.Rows.{Rows}
-use Rattle.phase_moves.specs.Standing.{Standing, put, run_in, seen_by}
-use Rattle.phase_moves.specs.Stands.{KeepsDraft, draft_of, guard_row, Seen, seen_at, slot_row, AreShown, IsCell, Stands}
-use Rattle.phase_moves.specs.Moves.{Rests, IsOpenWriter}
-use Rattle.phase_moves.proofs.Drafts.{alone}
-use Rattle.phase_moves.proofs.Guards.{found_itself, its_number, slots_same}
-use Rattle.phase_moves.proofs.Moved.{IsMoved, moved, exit_kept, parties_same}
+use Rattle.phase_moves.proofs.Words.{◌≡◌, ◌≢◌, ◌==◌, ◌<◌, ◌≤◌, ◌+◌, ◌∙◌, ℕ, List, [], ◌∷◌, length, set, get_or, ap, sym, subst, refl, arith, None, Some, inl, inr, cases_eq}
+use Rattle.phase_moves.proofs.Words.{slice_get, ◌⊎◌, if◌then◌else◌, Holders, LockerKind, Parking, OthersStay, others_refl, count, cell_at, runs_in, Guard, numbered, put_in}
+use Rattle.phase_moves.proofs.Words.{writes_cell, with_value, numbered_put, numbered_put_other, reads_put, writes_put, CellRow, Draft, Rows, Standing, put, run_in, seen_by}
+use Rattle.phase_moves.proofs.Words.{KeepsDraft, draft_of, guard_row, Seen, seen_at, slot_row, AreShown, IsCell, Stands, Rests, IsOpenWriter, GuardRow}
+use Rattle.phase_moves.proofs.{Drafts.alone, Guards.found_itself, Guards.its_number, Guards.slots_same, Moved.IsMoved, Moved.moved, Moved.exit_kept, Moved.parties_same}
 use Rattle.phase_moves.proofs.Places.{read_at}
 
 -- no number is more often a guard's
@@ -64,7 +45,7 @@ module _ {L : Type 0} (held : L → Holders) (place : L → LockerKind) (m : Sta
 
     slot_put : (j : ℕ) → slot_row n (put g value m) j ≡ slot_row n m j
     slot_put j = elim (cases_eq j g) [
-      | inl q ↦ ap (λ o. if j == n then guard.Free else guard_row o) (ap (λ i. numbered i (put_in g value m.guards)) q ∙ numbered_put g value m.guards x is.found) ∙ ap (λ o. if j == n then guard.Free else guard_row o) (sym is.found ∙ ap (λ i. numbered i m.guards) (sym q))
+      | inl q ↦ ap (λ o. if j == n then GuardRow.Free else guard_row o) (ap (λ i. numbered i (put_in g value m.guards)) q ∙ numbered_put g value m.guards x is.found) ∙ ap (λ o. if j == n then GuardRow.Free else guard_row o) (sym is.found ∙ ap (λ i. numbered i m.guards) (sym q))
       | inr ne ↦ slots_same m (put g value m) n j (λ e. numbered_put_other g j value m.guards ne)
     ]
 

@@ -1,27 +1,8 @@
 -- The rows before the first step stand for the empty history.
-use Rattle.std.proofs.Common.{◌≡◌, ◌<◌, ◌≤◌, ◌+◌, ◌∙◌, ℕ, List, [], ◌∷◌, ◌++◌, length, get_or, replicate, ap, sym, subst, refl, arith, None, Some, inl, inr}
-use Rattle.std.proofs.Math.ListN.{length-replicate}
-use Rattle.std.proofs.lemmas.Bool.{cases_lt}
-use Rattle.std.proofs.lemmas.Option.{gets}
-use Rattle.std.proofs.lemmas.Grind.{common_steps}
-use Rattle.std.specs.Prelude.{slice_get, vec_capacity, ◌⊎◌}
-use Rattle.phase_bits.specs.declared.holders.Holders.{Holders}
-use Rattle.phase_bits.specs.Number.{phase_of}
-use Rattle.exit_registry.specs.Registry.{new_registry}
-use Rattle.phase_locker.specs.declared.ways.LockerKind.{LockerKind}
-use Rattle.phase_locker.specs.Rows.{Rows as Parking, no_rows}
-use Rattle.phase_locker.specs.Fits.{Fits}
-use Rattle.phase_locker.proofs.Fresh.{new_fits}
-use Rattle.schedule_rules.specs.declared.plan.CellPlan.{CellPlan}
-use Rattle.schedule_rules.specs.declared.plan.Plan.{Plan}
-use Rattle.schedule_rules.specs.Kinds.{cell_at}
-use Rattle.schedule_rules.specs.Transcripts.{most_parties}
-use Rattle.waiting_rows.proofs.Within.{shows_fresh}
-use Rattle.phase_moves.specs.declared.rows.CellRow.{CellRow}
-use Rattle.phase_moves.specs.declared.rows.Rows.{Rows}
-use Rattle.phase_moves.specs.Fresh.{AreFresh, AreFreshCells, IsFreshCell, idle_party}
-use Rattle.phase_moves.specs.Histories.{standing}
-use Rattle.phase_moves.specs.Stands.{AreShown, IsCell, Stands, seen_at}
+use Rattle.phase_moves.proofs.Words.{◌≡◌, ◌<◌, ◌≤◌, ◌+◌, ◌∙◌, ℕ, List, [], ◌∷◌, ◌++◌, length, get_or, replicate, ap, sym, subst, refl, arith, None, Some, inl, inr}
+use Rattle.phase_moves.proofs.Words.{length-replicate, cases_lt, gets, common_steps, slice_get, vec_capacity, ◌⊎◌, Holders, phase_of, new_registry, LockerKind, Parking}
+use Rattle.phase_moves.proofs.Words.{no_rows, Fits, new_fits, CellPlan, Plan, cell_at, most_parties, shows_fresh, CellRow, Rows, AreFresh, AreFreshCells, IsFreshCell}
+use Rattle.phase_moves.proofs.Words.{idle_party, standing, AreShown, IsCell, Stands, seen_at}
 
 all_same : {X : Type 0} (n j : ℕ) (x : X) → j < n → slice_get (replicate n x) j ≡ Some x
 all_same n j x lt = grind (arith, common_steps, gets)

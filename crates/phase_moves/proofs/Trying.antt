@@ -1,33 +1,9 @@
 -- What the code reads of the cell before an attempt.
-use Rattle.std.proofs.Common.{◌≡◌, ◌≢◌, ◌<◌, ◌∙◌, ℕ, length, get_or, ap, sym, subst, arith, Bool, true, false, None, Some, inl, inr}
-use Rattle.std.specs.Prelude.{MatchBool}
-use Rattle.std.proofs.lemmas.Bool.{cases_lt}
-use Rattle.std.specs.declared.option.Option.{Option}
-use Rattle.phase_bits.specs.declared.holders.Holders.{Holders}
-use Rattle.phase_bits.specs.Number.{number}
-use Rattle.phase_locker.specs.declared.ways.LockerKind.{LockerKind}
-use Rattle.phase_locker.specs.declared.ways.Row.{Row}
-use Rattle.phase_locker.specs.declared.ways.Waiting.TheVariants as waiting_as
-use Rattle.phase_locker.specs.Rows.{row_of}
-use Rattle.phase_locker.specs.Fits.{Fits, IsWriteOpen}
-use Rattle.phase_locker.specs.Stands.{MayCall, MayCallAgain}
-use Rattle.phase_seq.specs.declared.ask.Ask.{Ask}
-use Rattle.phase_seq.specs.Registers.{MayRegister}
-use Rattle.schedule_rules.specs.declared.plan.CellPlan.{CellPlan}
-use Rattle.lazy_cells.specs.Kinds.{is_finalizable}
-use Rattle.schedule_rules.specs.Kinds.{cell_at}
-use Rattle.schedule_rules.specs.Waits.{Wait, wait_of}
-use Rattle.waiting_rows.specs.Shown.{wait_row}
-use Rattle.waiting_rows.proofs.RowCounts.{never_free}
-use Rattle.phase_moves.specs.declared.rows.CellRow.{CellRow}
-use Rattle.phase_moves.specs.declared.rows.Target.{Target}
-use Rattle.phase_moves.specs.declared.rows.Rows.{Rows}
-use Rattle.phase_moves.specs.Calls.{Calling}
-use Rattle.phase_moves.specs.Standing.{Standing, writes_in}
-use Rattle.phase_moves.specs.Stands.{seen_at, IsCell}
-use Rattle.phase_moves.specs.Tries.{IsAttempting, WaitsAt, ask_of, has_want, is_quick}
-use Rattle.phase_moves.proofs.Asked.{is_asked}
-use Rattle.phase_moves.proofs.Places.{read_at}
+use Rattle.phase_moves.proofs.Words.{◌≡◌, ◌≢◌, ◌<◌, ◌∙◌, ℕ, length, get_or, ap, sym, subst, arith, Bool, true, false, None, Some, inl, inr, MatchBool, cases_lt, Option}
+use Rattle.phase_moves.proofs.Words.{Holders, number, LockerKind, Row, row_of, Fits, IsWriteOpen, MayCall, MayCallAgain, Ask, MayRegister, CellPlan, is_finalizable, cell_at}
+use Rattle.phase_moves.proofs.Words.{Wait, wait_of, wait_row, never_free, CellRow, Target, Rows, Calling, Standing, writes_in, seen_at, IsCell, IsAttempting, WaitsAt, ask_of}
+use Rattle.phase_moves.proofs.Words.{has_want, is_quick, Waiting}
+use Rattle.phase_moves.proofs.{Asked.is_asked, Places.read_at}
 
 module _ {L : Type 0} (held : L → Holders) (place : L → LockerKind) (m : Standing) (v : Rows L) (p : ℕ) (t : Target) (waits : Bool) (is : IsAttempting held place m v p t waits) (row : CellRow L) (row_is : row ≡ get_or v.cells.items t.cell row) where
   here : IsCell held place (seen_at t.cell m) v.parks t.cell row
@@ -53,7 +29,7 @@ module _ {L : Type 0} (held : L → Holders) (place : L → LockerKind) (m : Sta
       party_in : p < length v.parks.rows
       party_in = let a = is.party in let d = is.rests.stands.sizes.rows in omega (arith, a, d)
 
-      waiting_at : (o : Option Wait) → row_of v.parks p ≡ wait_row o → WaitsAt t.cell o → ((row_of v.parks p).waiting ≢ waiting_as.Free) × ((row_of v.parks p).cell ≡ t.cell)
+      waiting_at : (o : Option Wait) → row_of v.parks p ≡ wait_row o → WaitsAt t.cell o → ((row_of v.parks p).waiting ≢ Waiting.Free) × ((row_of v.parks p).cell ≡ t.cell)
       waiting_at None e w = absurd w
       waiting_at (Some x) e w = (λ f. never_free x.way x.woken (sym (ap (λ (r : Row). r.waiting) e) ∙ f), ap (λ (r : Row). r.cell) e ∙ w)
 

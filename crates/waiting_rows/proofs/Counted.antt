@@ -1,9 +1,6 @@
 -- How many waiting calls pass a test, after a wait is taken off or given a share.
-use Rattle.std.proofs.Common.{◌≡◌, ◌==◌, ℕ, ◌+◌, ◌≤◌, List, [], ◌∷◌, refl, arith, Bool, true, false, cond, None, Some, not, map}
-use Rattle.std.specs.declared.option.Option.{Option}
-use Rattle.schedule_rules.specs.History.{count}
-use Rattle.schedule_rules.specs.Waits.{Wait, wait_of, without_wait}
-use Rattle.waiting_rows.specs.Shown.{IsSingle}
+use Rattle.waiting_rows.proofs.Words.{◌≡◌, ◌==◌, ℕ, ◌+◌, ◌≤◌, List, [], ◌∷◌, refl, arith, Bool, true, false, cond, None, Some, not, map, Option, count, Wait, wait_of}
+use Rattle.waiting_rows.proofs.Words.{without_wait, IsSingle}
 
 -- one, where there is such a call
 abbrev pub one_of : (Wait → Bool) → Option Wait → ℕ

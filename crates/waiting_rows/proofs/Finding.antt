@@ -1,9 +1,6 @@
 -- What the wait of a party becomes, where the waits change one by one or one more begins.
-use Rattle.std.proofs.Common.{◌≡◌, ◌≢◌, ℕ, List, [], ◌∷◌, refl, arith, Bool, true, false, cond, None, Some, ap, map}
-use Rattle.std.specs.Prelude.{◌==◌}
-use Rattle.std.specs.declared.option.Option.{Option}
-use Rattle.phase_locker.specs.declared.ways.How.{How}
-use Rattle.schedule_rules.specs.Waits.{Wait, Attempt, wait_of, with_wait, wake_reader, wake_writer}
+use Rattle.waiting_rows.proofs.Words.{◌≡◌, ◌≢◌, ℕ, List, [], ◌∷◌, refl, arith, Bool, true, false, cond, None, Some, ap, map, ◌==◌, Option, How, Wait, Attempt, wait_of}
+use Rattle.waiting_rows.proofs.Words.{with_wait, wake_reader, wake_writer}
 use Rattle.waiting_rows.proofs.Each.{reader_party, writer_party}
 
 -- a call that waits, changed

@@ -1,16 +1,7 @@
 -- What a gift leaves on its cell: a share, and the drains that were there.
-use Rattle.std.proofs.Common.{◌≡◌, ◌≢◌, ◌<◌, ◌+◌, ℕ, List, [], ◌∷◌, refl, arith, Bool, true, false, ◌&&◌, ◌||◌, cond}
-use Rattle.std.specs.Prelude.{◌==◌, map, if◌then◌else◌}
-use Rattle.std.specs.List.{list_any}
-use Rattle.phase_locker.specs.declared.ways.Given.{Given}
-use Rattle.phase_locker.specs.declared.ways.Given.TheVariants as given
-use Rattle.phase_locker.specs.declared.ways.How.{How}
-use Rattle.phase_locker.specs.declared.ways.How.TheVariants as how
-use Rattle.schedule_rules.specs.declared.step.Want.{Want}
-use Rattle.schedule_rules.specs.History.{count}
-use Rattle.schedule_rules.specs.Waits.{Wait, wait_woken, wake_writer, wake_reader, is_parked_writer, parks_to_read, parks_to_write, shares_read, shares_write}
-use Rattle.schedule_rules.specs.Gifts.{reaches}
-use Rattle.waiting_rows.specs.Given.{given_on}
+use Rattle.waiting_rows.proofs.Words.{◌≡◌, ◌≢◌, ◌<◌, ◌+◌, ℕ, List, [], ◌∷◌, refl, arith, Bool, true, false, ◌&&◌, ◌||◌, cond, ◌==◌, map, if◌then◌else◌, list_any, Given, How}
+use Rattle.waiting_rows.proofs.Words.{Want, count, Wait, wait_woken, wake_writer, wake_reader, is_parked_writer, parks_to_read, parks_to_write, shares_read, shares_write}
+use Rattle.waiting_rows.proofs.Words.{reaches, given_on}
 
 module _ (c : ℕ) where
   -- a call that is parked to write and is given its share, has it
@@ -23,8 +14,8 @@ module _ (c : ℕ) where
 
       by : (m : Bool) (p x : ℕ) (v : Want) (y : How) (b : Bool) → (m && parks_to_write c (record { party = p; cell = x; want = v; way = y; woken = b })) ≡ true
           → shares_write c (if m && is_parked_writer y b then wait_woken (record { party = p; cell = x; want = v; way = y; woken = b }) else record { party = p; cell = x; want = v; way = y; woken = b }) ≡ true
-      by true p x v how.ParkedWrite false f = f
-      by false p x v how.ParkedWrite false f = absurd (cc)
+      by true p x v How.ParkedWrite false f = f
+      by false p x v How.ParkedWrite false f = absurd (cc)
       by m p x v _ _ f = absurd (never m f)
 
   -- so has one that is parked to read
@@ -37,7 +28,7 @@ module _ (c : ℕ) where
 
       by : (p x : ℕ) (v : Want) (y : How) (b : Bool) → parks_to_read c (record { party = p; cell = x; want = v; way = y; woken = b }) ≡ true
           → shares_read c (wake_reader c (record { party = p; cell = x; want = v; way = y; woken = b })) ≡ true
-      by p x v how.ParkedRead false f = here (x == c) (record { party = p; cell = x; want = v; way = how.ParkedRead; woken = false }) f f
+      by p x v How.ParkedRead false f = here (x == c) (record { party = p; cell = x; want = v; way = How.ParkedRead; woken = false }) f f
       by p x v _ _ f = absurd (cc)
 
   -- where one passes a test, and so has a share afterwards, a share is counted
@@ -54,11 +45,11 @@ module _ (c : ℕ) where
       by false false k is e rest = rest e
 
   -- a gift that reaches those that it is for leaves a share on the cell
-  pub gave_share : (g : Given) (ws : List Wait) → reaches c g ws ≡ true → g ≢ given.Nobody → 0 < count (shares_read c) (given_on c g ws) + count (shares_write c) (given_on c g ws)
-  gave_share given.Nobody ws e some = absurd (some refl)
-  gave_share (given.Writer q) ws e some =
+  pub gave_share : (g : Given) (ws : List Wait) → reaches c g ws ≡ true → g ≢ Given.Nobody → 0 < count (shares_read c) (given_on c g ws) + count (shares_write c) (given_on c g ws)
+  gave_share Given.Nobody ws e some = absurd (some refl)
+  gave_share (Given.Writer q) ws e some =
       let one : 0 < count (shares_write c) (map (wake_writer q) ws) = one_shares (λ w. (w.party == q) && parks_to_write c w) (shares_write c) (wake_writer q) (wakes_writer q) ws e in
       omega (arith, one)
-  gave_share given.Readers ws e some =
+  gave_share Given.Readers ws e some =
       let one : 0 < count (shares_read c) (map (wake_reader c) ws) = one_shares (parks_to_read c) (shares_read c) (wake_reader c) wakes_reader ws e in
       omega (arith, one)

@@ -1,11 +1,7 @@
 -- The lists of the parked calls, and how they change.
-use Rattle.std.proofs.Common.{◌≡◌, ◌≢◌, ◌==◌, ℕ, ◌+◌, ◌<◌, List, [], ◌∷◌, ◌++◌, refl, arith, Bool, true, false, cond, ◌∙◌, ap, sym, not, map, ◌||◌, ◌&&◌}
-use Rattle.std.proofs.lemmas.List.{append-nil}
-use Rattle.std.proofs.lemmas.List.Elements.{filter-append}
-use Rattle.std.specs.List.{list_any}
-use Rattle.phase_locker.specs.Rows.{is_empty, occurs, without}
-use Rattle.phase_locker.proofs.Filters.{occurs-append}
-use Rattle.schedule_rules.specs.Waits.{Wait, party_if, parks_to_read, parks_to_write, parked_readers, parked_writers, without_wait, wake_reader, wake_writer}
+use Rattle.waiting_rows.proofs.Words.{◌≡◌, ◌≢◌, ◌==◌, ℕ, ◌+◌, ◌<◌, List, [], ◌∷◌, ◌++◌, refl, arith, Bool, true, false, cond, ◌∙◌, ap, sym, not, map, ◌||◌, ◌&&◌, append-nil}
+use Rattle.waiting_rows.proofs.Words.{filter-append, list_any, is_empty, occurs, without, occurs-append, Wait, party_if, parks_to_read, parks_to_write, parked_readers}
+use Rattle.waiting_rows.proofs.Words.{parked_writers, without_wait, wake_reader, wake_writer}
 use Rattle.waiting_rows.proofs.Each.{woken_to_read, reader_party, writer_party, writer_gone, writer_reads, writer_other}
 
 -- ---- the parties of the calls that pass a test, in order of parking

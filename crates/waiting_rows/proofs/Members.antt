@@ -1,13 +1,7 @@
 -- Who is in the lists of parked calls, where each party waits at most once.
-use Rattle.std.proofs.Common.{◌≡◌, ◌==◌, ℕ, ◌+◌, ◌≤◌, List, [], ◌∷◌, refl, arith, Bool, true, false, cond, None, Some, ◌∙◌, ap}
-use Rattle.phase_locker.specs.Rows.{occurs}
-use Rattle.phase_locker.proofs.Filters.{occurs-append}
-use Rattle.schedule_rules.specs.History.{count}
-use Rattle.schedule_rules.specs.Waits.{Wait, party_if, parks_to_read, parks_to_write, parked_readers, parked_writers, wait_of}
-use Rattle.schedule_rules.proofs.Found.{none_found}
-use Rattle.waiting_rows.specs.Shown.{IsSingle}
-use Rattle.waiting_rows.proofs.Lists.{listed, listed_readers, listed_writers}
-use Rattle.waiting_rows.proofs.Counted.{one_of}
+use Rattle.waiting_rows.proofs.Words.{◌≡◌, ◌==◌, ℕ, ◌+◌, ◌≤◌, List, [], ◌∷◌, refl, arith, Bool, true, false, cond, None, Some, ◌∙◌, ap, occurs, occurs-append, count, Wait}
+use Rattle.waiting_rows.proofs.Words.{party_if, parks_to_read, parks_to_write, parked_readers, parked_writers, wait_of, none_found, IsSingle}
+use Rattle.waiting_rows.proofs.{Lists.listed, Lists.listed_readers, Lists.listed_writers, Counted.one_of}
 
 -- a party is in a list as often as it has a call that passes
 pub occurs_listed : (t : Wait → Bool) (q : ℕ) (ws : List Wait) → count (λ (w : Wait). w.party == q) ws ≤ 1 → occurs q (listed t ws) ≡ one_of t (wait_of q ws)

@@ -1,29 +1,16 @@
 -- How many rows have a share or a claim of a cell is how many waiting calls have it; and which holds are open then.
-use Rattle.std.proofs.Common.{◌≡◌, ◌≢◌, ◌==◌, ℕ, ◌+◌, ◌<◌, ◌≤◌, List, [], ◌∷◌, length, refl, arith, Bool, true, false, cond, None, Some, ◌∙◌, ap, sym, inl, inr}
-use Rattle.std.proofs.Math.ListN.{get_or, set}
-use Rattle.std.proofs.lemmas.List.{get_or_past}
-use Rattle.std.proofs.lemmas.Bool.{cases_lt}
-use Rattle.std.specs.Prelude.{count_by}
-use Rattle.phase_locker.specs.declared.ways.How.{How}
-use Rattle.phase_locker.specs.declared.ways.How.TheVariants as how
-use Rattle.phase_locker.specs.declared.ways.Waiting.TheVariants as waiting
-use Rattle.phase_locker.specs.declared.ways.Row.{Row}
-use Rattle.phase_locker.specs.Rows.{Rows, row_of, free_row, shares_at, claims_at, shares, claims, HasFree}
-use Rattle.schedule_rules.specs.declared.step.Want.{Want}
-use Rattle.schedule_rules.specs.History.{count}
-use Rattle.schedule_rules.specs.Waits.{Wait, wait_of, shares_read, shares_write, drains_on}
-use Rattle.schedule_rules.proofs.Found.{none_found}
-use Rattle.waiting_rows.specs.Shown.{Shows, IsSingle, waiting_of, wait_row}
-use Rattle.waiting_rows.proofs.Slots.{set_shows}
-use Rattle.waiting_rows.proofs.Passing.{count_set, count_before, count_free, count_test}
+use Rattle.waiting_rows.proofs.Words.{◌≡◌, ◌≢◌, ◌==◌, ℕ, ◌+◌, ◌<◌, ◌≤◌, List, [], ◌∷◌, length, refl, arith, Bool, true, false, cond, None, Some, ◌∙◌, ap, sym, inl, inr}
+use Rattle.waiting_rows.proofs.Words.{get_or, set, get_or_past, cases_lt, count_by, How, Row, Rows, row_of, free_row, shares_at, claims_at, shares, claims, HasFree, Want}
+use Rattle.waiting_rows.proofs.Words.{count, Wait, wait_of, shares_read, shares_write, drains_on, none_found, Shows, IsSingle, waiting_of, wait_row, Waiting}
+use Rattle.waiting_rows.proofs.{Slots.set_shows, Passing.count_set, Passing.count_before, Passing.count_free, Passing.count_test}
 
 -- ---- a party that does not wait has a free row, and no other
 
 -- a waiting call has no free row
-pub never_free : (way : How) (woken : Bool) → waiting_of way woken ≡ waiting.Free → ⊥
-never_free how.Spin woken e = cc
-never_free how.ParkedRead true e = cc
-never_free how.ParkedWrite true e = cc
+pub never_free : (way : How) (woken : Bool) → waiting_of way woken ≡ Waiting.Free → ⊥
+never_free How.Spin woken e = cc
+never_free How.ParkedRead true e = cc
+never_free How.ParkedWrite true e = cc
 never_free _ _ e = cc
 
 -- a party that does not wait
@@ -75,21 +62,21 @@ pub row_shares : (c : ℕ) (w : Wait) → shares_at c (wait_row (Some w)) ≡ sh
 row_shares c w = by w.party w.cell w.want w.way w.woken
   where
     by : (p x : ℕ) (want : Want) (way : How) (woken : Bool) → shares_at c (wait_row (Some (record { party = p; cell = x; want = want; way = way; woken = woken }))) ≡ shares_read c (record { party = p; cell = x; want = want; way = way; woken = woken })
-    by p x want how.Spin woken = refl
-    by p x want how.ParkedRead true = refl
-    by p x want how.ParkedRead false = refl
-    by p x want how.ParkedWrite true = refl
-    by p x want how.ParkedWrite false = refl
-    by p x want how.Drain woken = refl
+    by p x want How.Spin woken = refl
+    by p x want How.ParkedRead true = refl
+    by p x want How.ParkedRead false = refl
+    by p x want How.ParkedWrite true = refl
+    by p x want How.ParkedWrite false = refl
+    by p x want How.Drain woken = refl
 
 pub row_claims : (c : ℕ) (w : Wait) → cond {A = ℕ} (claims_at c (wait_row (Some w))) 1 0 ≡ cond {A = ℕ} (shares_write c w) 1 0 + cond {A = ℕ} (drains_on c w) 1 0
 row_claims c w = by w.party w.cell w.want w.way w.woken
   where
     by : (p x : ℕ) (want : Want) (way : How) (woken : Bool) → cond {A = ℕ} (claims_at c (wait_row (Some (record { party = p; cell = x; want = want; way = way; woken = woken })))) 1 0
         ≡ cond {A = ℕ} (shares_write c (record { party = p; cell = x; want = want; way = way; woken = woken })) 1 0 + cond {A = ℕ} (drains_on c (record { party = p; cell = x; want = want; way = way; woken = woken })) 1 0
-    by p x want how.ParkedWrite true = omega arith
-    by p x want how.Drain woken = omega arith
-    by p x want how.ParkedRead true = refl
+    by p x want How.ParkedWrite true = omega arith
+    by p x want How.Drain woken = omega arith
+    by p x want How.ParkedRead true = refl
     by p x want _ _ = refl
 
 module _ (c : ℕ) (ws : List Wait) (s : Rows) (single : IsSingle ws) (shows : Shows ws s) where

@@ -1,40 +1,25 @@
 -- The rows show who waits after parked calls are given shares.
-use Rattle.std.proofs.Common.{◌≡◌, ◌≢◌, ◌==◌, ℕ, ◌<◌, List, [], length, refl, arith, Bool, true, false, None, Some, ◌∙◌, ap, sym, map}
-use Rattle.std.specs.declared.option.Option.{Option}
-use Rattle.phase_locker.specs.declared.ways.How.{How}
-use Rattle.phase_locker.specs.declared.ways.How.TheVariants as how
-use Rattle.phase_locker.specs.declared.ways.Given.TheVariants as given
-use Rattle.phase_locker.specs.declared.ways.Waiting.{Waiting}
-use Rattle.phase_locker.specs.declared.ways.Waiting.TheVariants as waiting
-use Rattle.phase_locker.specs.Rows.{Rows, row_of, free_row, readers_of, writers_of, reads_at, writes_at, occurs, without, rows_to_readers, IsSound}
-use Rattle.phase_locker.specs.Gifts.{rows_handed}
-use Rattle.phase_locker.proofs.Counts.{is_one-if, write_inside}
-use Rattle.phase_locker.proofs.Shares.{row-shared_other}
-use Rattle.phase_locker.proofs.Handed.{row-shared_same}
-use Rattle.phase_locker.proofs.Holding.{all_read}
-use Rattle.schedule_rules.specs.declared.step.Want.{Want}
-use Rattle.schedule_rules.specs.Waits.{Wait, wait_of, parks_to_read, parks_to_write, parked_readers, parked_writers, wake_reader, wake_writer}
-use Rattle.waiting_rows.specs.Shown.{Shows, wait_row}
-use Rattle.waiting_rows.proofs.Each.{writer_other}
-use Rattle.waiting_rows.proofs.Finding.{changed, wait_readers, wait_writer, wait_party}
+use Rattle.waiting_rows.proofs.Words.{◌≡◌, ◌≢◌, ◌==◌, ℕ, ◌<◌, List, [], length, refl, arith, Bool, true, false, None, Some, ◌∙◌, ap, sym, map, Option, How, Waiting, Rows}
+use Rattle.waiting_rows.proofs.Words.{row_of, free_row, readers_of, writers_of, reads_at, writes_at, occurs, without, rows_to_readers, IsSound, rows_handed, is_one-if}
+use Rattle.waiting_rows.proofs.Words.{write_inside, row-shared_other, row-shared_same, all_read, Want, Wait, wait_of, parks_to_read, parks_to_write, parked_readers}
+use Rattle.waiting_rows.proofs.Words.{parked_writers, wake_reader, wake_writer, Shows, wait_row, Given}
 use Rattle.waiting_rows.proofs.Lists.{readers_woken, readers_woken_other, writers_beside_readers, readers_beside_writer, writer_woken}
-use Rattle.waiting_rows.proofs.Reaching.{parked_writer, row_reads}
-use Rattle.waiting_rows.proofs.ShowsFreed.{unlisted_writer}
-use Rattle.waiting_rows.proofs.Slots.{set_shows}
+use Rattle.waiting_rows.proofs.{Each.writer_other, Finding.changed, Finding.wait_readers, Finding.wait_writer, Finding.wait_party, Reaching.parked_writer, Reaching.row_reads}
+use Rattle.waiting_rows.proofs.{ShowsFreed.unlisted_writer, Slots.set_shows}
 
 -- the row of a reader with its share
-pub row_woken : (c : ℕ) (w : Wait) → parks_to_read c w ≡ true → wait_row (Some (wake_reader c w)) ≡ record { waiting = waiting.ShareRead; cell = c }
+pub row_woken : (c : ℕ) (w : Wait) → parks_to_read c w ≡ true → wait_row (Some (wake_reader c w)) ≡ record { waiting = Waiting.ShareRead; cell = c }
 row_woken c w e = by w.party w.cell w.want w.way w.woken e
   where
     same : (x : ℕ) → (x == c) ≡ true → x ≡ c
     same x e = grind (arith, e)
 
-    by : (p x : ℕ) (want : Want) (way : How) (woken : Bool) → parks_to_read c (record { party = p; cell = x; want = want; way = way; woken = woken }) ≡ true → wait_row (Some (wake_reader c (record { party = p; cell = x; want = want; way = way; woken = woken }))) ≡ record { waiting = waiting.ShareRead; cell = c }
-    by p x want how.Spin woken e = absurd (cc)
-    by p x want how.ParkedWrite woken e = absurd (cc)
-    by p x want how.Drain woken e = absurd (cc)
-    by p x want how.ParkedRead true e = absurd (cc)
-    by p x want how.ParkedRead false e = let s : x ≡ c = same x e in rw e (λ i. record { waiting = waiting.ShareRead; cell = s i })
+    by : (p x : ℕ) (want : Want) (way : How) (woken : Bool) → parks_to_read c (record { party = p; cell = x; want = want; way = way; woken = woken }) ≡ true → wait_row (Some (wake_reader c (record { party = p; cell = x; want = want; way = way; woken = woken }))) ≡ record { waiting = Waiting.ShareRead; cell = c }
+    by p x want How.Spin woken e = absurd (cc)
+    by p x want How.ParkedWrite woken e = absurd (cc)
+    by p x want How.Drain woken e = absurd (cc)
+    by p x want How.ParkedRead true e = absurd (cc)
+    by p x want How.ParkedRead false e = let s : x ≡ c = same x e in rw e (λ i. record { waiting = Waiting.ShareRead; cell = s i })
 
 -- the row of a call that is not parked to read stays
 pub row_asleep : (c : ℕ) (w : Wait) → parks_to_read c w ≡ false → wake_reader c w ≡ w
@@ -59,7 +44,7 @@ row_readers c p ws s inside sound shows = by (wait_of p ws) (shows.row p) ∙ ap
     by (Some w) row = call w (parks_to_read c w) refl row
 
 -- the parked readers of the cell are given shares
-pub shows_handed_readers : (c : ℕ) (ws : List Wait) (s : Rows) → c < length s.readers → IsSound s → Shows ws s → Shows (map (wake_reader c) ws) (rows_handed c given.Readers s)
+pub shows_handed_readers : (c : ℕ) (ws : List Wait) (s : Rows) → c < length s.readers → IsSound s → Shows ws s → Shows (map (wake_reader c) ws) (rows_handed c Given.Readers s)
 shows_handed_readers c ws s inside sound shows = record {
   row = λ p. row_readers c p ws s inside sound shows;
   readers = λ d. set_shows s.readers c [] [] (λ d. parked_readers d ws) (λ d. parked_readers d (map (wake_reader c) ws)) shows.readers (λ d ne. readers_woken_other c d ws ne) inside (sym (readers_woken c ws)) d;
@@ -77,30 +62,30 @@ changed_other q p ws ne = by (wait_of p ws) refl
         ap Some (writer_other q w (grind (arith, own, ne)))
 
 -- the row of a writer with its share
-pub row_writer : (q c : ℕ) (w : Wait) → w.party ≡ q → parks_to_write c w ≡ true → wait_row (Some (wake_writer q w)) ≡ record { waiting = waiting.ShareWrite; cell = c }
+pub row_writer : (q c : ℕ) (w : Wait) → w.party ≡ q → parks_to_write c w ≡ true → wait_row (Some (wake_writer q w)) ≡ record { waiting = Waiting.ShareWrite; cell = c }
 row_writer q c w own e = by w.party w.cell w.want w.way w.woken own e
   where
     same : (x : ℕ) → (x == c) ≡ true → x ≡ c
     same x e = grind (arith, e)
 
-    by : (p x : ℕ) (want : Want) (way : How) (woken : Bool) → p ≡ q → parks_to_write c (record { party = p; cell = x; want = want; way = way; woken = woken }) ≡ true → wait_row (Some (wake_writer q (record { party = p; cell = x; want = want; way = way; woken = woken }))) ≡ record { waiting = waiting.ShareWrite; cell = c }
-    by p x want how.Spin woken own e = absurd (cc)
-    by p x want how.ParkedRead woken own e = absurd (cc)
-    by p x want how.Drain woken own e = absurd (cc)
-    by p x want how.ParkedWrite true own e = absurd (cc)
-    by p x want how.ParkedWrite false own e =
+    by : (p x : ℕ) (want : Want) (way : How) (woken : Bool) → p ≡ q → parks_to_write c (record { party = p; cell = x; want = want; way = way; woken = woken }) ≡ true → wait_row (Some (wake_writer q (record { party = p; cell = x; want = want; way = way; woken = woken }))) ≡ record { waiting = Waiting.ShareWrite; cell = c }
+    by p x want How.Spin woken own e = absurd (cc)
+    by p x want How.ParkedRead woken own e = absurd (cc)
+    by p x want How.Drain woken own e = absurd (cc)
+    by p x want How.ParkedWrite true own e = absurd (cc)
+    by p x want How.ParkedWrite false own e =
         let s : x ≡ c = same x e in
         let o : (p == q) ≡ true = grind (arith, own) in
-        rw o (λ i. record { waiting = waiting.ShareWrite; cell = s i })
+        rw o (λ i. record { waiting = Waiting.ShareWrite; cell = s i })
 
 -- a writer that is parked on the cell is given a share
-pub shows_handed_writer : (q c : ℕ) (ws : List Wait) (s : Rows) → c < length s.readers → IsSound s → Shows ws s → occurs q (writers_of s c) ≡ 1 → Shows (map (wake_writer q) ws) (rows_handed c (given.Writer q) s)
+pub shows_handed_writer : (q c : ℕ) (ws : List Wait) (s : Rows) → c < length s.readers → IsSound s → Shows ws s → occurs q (writers_of s c) ≡ 1 → Shows (map (wake_writer q) ws) (rows_handed c (Given.Writer q) s)
 shows_handed_writer q c ws s inside sound shows one =
     let parked = parked_writer q c ws s inside sound shows one in
     let writes : writes_at c (row_of s q) ≡ true = is_one-if _ (sym (sound.writers c q inside) ∙ one) in
     let own : parked.wait.party ≡ q = wait_party q ws parked.wait parked.is in
     record {
-      row = λ p. set_shows s.rows q (record { waiting = waiting.ShareWrite; cell = c }) free_row (λ p. wait_row (wait_of p ws)) (λ p. wait_row (wait_of p (map (wake_writer q) ws))) shows.row
+      row = λ p. set_shows s.rows q (record { waiting = Waiting.ShareWrite; cell = c }) free_row (λ p. wait_row (wait_of p ws)) (λ p. wait_row (wait_of p (map (wake_writer q) ws))) shows.row
           (λ p ne. ap wait_row (wait_writer q p ws ∙ changed_other q p ws ne)) (write_inside c s.rows q writes)
           (sym (ap wait_row (wait_writer q q ws ∙ ap (changed (wake_writer q)) parked.is) ∙ row_writer q c parked.wait own parked.parks)) p;
       readers = λ d. shows.readers d ∙ sym (readers_beside_writer q d ws);
@@ -110,10 +95,10 @@ shows_handed_writer q c ws s inside sound shows one =
     }
   where
     elsewhere : (v : Waiting) (x c d : ℕ) → writes_at c (record { waiting = v; cell = x }) ≡ true → d ≢ c → writes_at d (record { waiting = v; cell = x }) ≡ false
-    elsewhere waiting.ParkedWrite x c d e ne = grind (arith, e, ne)
-    elsewhere waiting.Free x c d e ne = refl
-    elsewhere waiting.Spin x c d e ne = refl
-    elsewhere waiting.ParkedRead x c d e ne = refl
-    elsewhere waiting.Drain x c d e ne = refl
-    elsewhere waiting.ShareRead x c d e ne = refl
-    elsewhere waiting.ShareWrite x c d e ne = refl
+    elsewhere Waiting.ParkedWrite x c d e ne = grind (arith, e, ne)
+    elsewhere Waiting.Free x c d e ne = refl
+    elsewhere Waiting.Spin x c d e ne = refl
+    elsewhere Waiting.ParkedRead x c d e ne = refl
+    elsewhere Waiting.Drain x c d e ne = refl
+    elsewhere Waiting.ShareRead x c d e ne = refl
+    elsewhere Waiting.ShareWrite x c d e ne = refl

@@ -1,12 +1,6 @@
 -- Each party waits at most once.
-use Rattle.std.proofs.Common.{◌≡◌, ℕ, ◌+◌, ◌≤◌, List, [], ◌∷◌, refl, arith, cond, None, Some, map}
-use Rattle.std.specs.Prelude.{◌==◌}
-use Rattle.std.specs.declared.option.Option.{Option}
-use Rattle.phase_locker.specs.declared.ways.How.{How}
-use Rattle.phase_locker.specs.declared.ways.Given.TheVariants as given
-use Rattle.schedule_rules.specs.History.{count}
-use Rattle.schedule_rules.specs.Waits.{Wait, Attempt, wait_of, without_wait, with_wait, wake_reader, wake_writer}
-use Rattle.waiting_rows.specs.Shown.{IsSingle}
+use Rattle.waiting_rows.proofs.Words.{◌≡◌, ℕ, ◌+◌, ◌≤◌, List, [], ◌∷◌, refl, arith, cond, None, Some, map, ◌==◌, Option, How, count, Wait, Attempt, wait_of, without_wait}
+use Rattle.waiting_rows.proofs.Words.{with_wait, wake_reader, wake_writer, IsSingle, Given}
 use Rattle.waiting_rows.proofs.Each.{reader_party, writer_party}
 
 -- a party without a call that waits is in no wait

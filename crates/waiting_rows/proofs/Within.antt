@@ -1,16 +1,9 @@
 -- The calls wait at known cells, whatever happens to them; and where nobody waits, new rows show it.
-use Rattle.std.proofs.Common.{suc, ◌≡◌, ◌≢◌, ℕ, ◌<◌, List, [], refl, None, Some, ◌∙◌, sym, subst, map, inl, inr, false, ◌⊎◌}
-use Rattle.std.specs.Prelude.{replicate, slice_index_or}
-use Rattle.std.proofs.lemmas.Bool.{cases_eq}
-use Rattle.std.specs.declared.option.Option.{Option}
-use Rattle.phase_locker.specs.declared.ways.How.{How}
-use Rattle.phase_locker.specs.Rows.{no_rows}
-use Rattle.phase_locker.proofs.Handed.{at_free}
-use Rattle.schedule_rules.specs.Waits.{Wait, Attempt, wait_of, without_wait, with_wait, wake_reader, wake_writer}
-use Rattle.schedule_rules.proofs.Opened.{wait_removed, wait_kept}
-use Rattle.waiting_rows.specs.Shown.{Shows, AreWithin}
-use Rattle.waiting_rows.proofs.Each.{reader_party, reader_cell, writer_party, writer_cell}
-use Rattle.waiting_rows.proofs.Finding.{changed, wait_map, wait_added, wait_beside}
+use Rattle.waiting_rows.proofs.Words.{suc, ◌≡◌, ◌≢◌, ℕ, ◌<◌, List, [], refl, None, Some, ◌∙◌, sym, subst, map, inl, inr, false, ◌⊎◌, replicate, slice_index_or, cases_eq}
+use Rattle.waiting_rows.proofs.Words.{Option, How, no_rows, at_free, Wait, Attempt, wait_of, without_wait, with_wait, wake_reader, wake_writer, wait_removed, wait_kept, Shows}
+use Rattle.waiting_rows.proofs.Words.{AreWithin}
+use Rattle.waiting_rows.proofs.{Each.reader_party, Each.reader_cell, Each.writer_party, Each.writer_cell, Finding.changed, Finding.wait_map, Finding.wait_added}
+use Rattle.waiting_rows.proofs.Finding.{wait_beside}
 
 -- without a party's wait
 pub within_without : (n p : ℕ) (ws : List Wait) → AreWithin n ws → AreWithin n (without_wait p ws)

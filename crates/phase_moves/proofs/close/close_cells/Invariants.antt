@@ -1,5 +1,4 @@
-use Rattle.std.proofs.Common.{◌<◌, ◌^◌, length}
-use Rattle.phase_moves.specs.Closing.{AreClosing}
+use Rattle.phase_moves.proofs.Words.{◌<◌, ◌^◌, length, AreClosing}
 use Rattle.phase_moves.proofs.close.close_cells.Given as goal
 
 abbrev pub invariant-loop-row : goal.invariant-loop-row

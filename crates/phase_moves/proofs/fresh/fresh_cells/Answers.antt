@@ -1,5 +1,4 @@
-use Rattle.std.proofs.Common.{◌∙◌, ◌≤◌, ap, length, subst, sym}
-use Rattle.phase_moves.specs.Fresh.{IsFreshCell}
+use Rattle.phase_moves.proofs.Words.{◌∙◌, ◌≤◌, ap, length, subst, sym, IsFreshCell}
 use Rattle.phase_moves.proofs.Starting.{planned_at, row_more, size_more}
 use Rattle.phase_moves.proofs.fresh.fresh_cells.Goals as goal
 
