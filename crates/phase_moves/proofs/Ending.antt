@@ -54,7 +54,7 @@ seeks_init None e = absurd (cc)
 seeks_init (Some w) e = e
 
 form_init : (f : Form) → initializes (form_as f) ≡ true
-form_init (Told tests) = refl
+form_init (Held true _) = refl
 form_init _ = refl
 
 either_init : (b : Bool) (x y : SeqWant) → (b ≡ true → initializes x ≡ true) → initializes y ≡ true → initializes (if b then x else y) ≡ true

@@ -61,7 +61,8 @@ module _ {L : Type 0} (held : L → Holders) (place : L → LockerKind) (m : Sta
           at : (w : Bool) → x.writes ≡ w → (b : Bool) → (x.party == p) ≡ b → shown_by v p (guard_row (Some x)) ≡ held_of m (own p (Some x))
           at true w true b = rw (w, b) (ap (λ z. Some (record { cell = x.cell; writes = true; value = z })) (drafted w (slice_get v.cells.items x.cell) refl))
           at false w true b = rw (w, b) (ap (λ z. Some (record { cell = x.cell; writes = false; value = z })) (value (slice_get v.cells.items x.cell) refl))
-          at _ w false b = rw (w, b) refl
+          at true w false b = rw (w, b) refl
+          at false w false b = rw (w, b) refl
 
 -- ---- an attempt that is turned back, and one that looks at the cell as it is: it takes no lock
 
