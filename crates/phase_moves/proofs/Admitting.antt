@@ -85,13 +85,9 @@ module _ (who : Who) (o : Option Registry) (q : Phase) where
   by_cases Sought.Init f t true there = refl
   by_cases Sought.Init f t false there = refl
   by_cases Sought.Read f t true there = refl
-  by_cases Sought.Read f t false there = refl
   by_cases Sought.Write f t true there = refl
-  by_cases Sought.Write f t false there = refl
-  by_cases Sought.ReadOnly f t due there = refl
-  by_cases Sought.WriteOnly f t due there = refl
   by_cases Sought.Finalize f t due true = refl
-  by_cases Sought.Finalize f t due false = refl
+  by_cases _ f t _ _ = refl
 
   pub met_is : (ask : Ask) → begun_met ask ≡ met_as ask ask.want (shall_init ask.tol q) (has (number q) initialized)
   met_is ask = ap (begun_settled ask o q) (got_is ask (nature_of ask q)) ∙ by_cases ask.want ask.fast ask.tol (shall_init ask.tol q) (has (number q) initialized)
@@ -188,13 +184,7 @@ module _ (x : CellPlan) (c p : ℕ) (reg : Registry) (y : Content) where
 
       running : (b : Begun) → is_run b ≡ true → answer_taken x.kind (record { cell = c; want = Calls k }) (y_then (Calls k)) (taken_of b) ≡ Answer.Running
       running (Begun.Run s) e = refl
-      running (Begun.Wait way) e = absurd (cc)
-      running Begun.Missed e = absurd (cc)
-      running Begun.Cyclic e = absurd (cc)
-      running (Begun.Nothing z) e = absurd (cc)
-      running (Begun.Read l z) e = absurd (cc)
-      running (Begun.Write l z) e = absurd (cc)
-      running (Begun.Final s) e = absurd (cc)
+      running _ e = absurd (cc)
   called_due k b false e is = left b is ∙ ap (λ (z : Content). answer_at (form_of x.kind k) (is_accessible x.kind z.phase) z) (call_left x k reg.is_open y) ∙ sym (ap (λ r. if r then Answer.Running else left_so) e)
     where
       left_so : Answer
@@ -204,11 +194,7 @@ module _ (x : CellPlan) (c p : ℕ) (reg : Registry) (y : Content) where
       left (Begun.Nothing z) e = refl
       left (Begun.Read l z) e = refl
       left (Begun.Write l z) e = refl
-      left (Begun.Run s) e = absurd (cc)
-      left (Begun.Wait way) e = absurd (cc)
-      left Begun.Missed e = absurd (cc)
-      left Begun.Cyclic e = absurd (cc)
-      left (Begun.Final s) e = absurd (cc)
+      left _ e = absurd (cc)
 
   -- what looks at the cell as it is
   pub looked_due : (w : Want) → seeks x.kind w ≡ None → answer_taken x.kind (record { cell = c; want = w }) (y_then w) (Taken.Nothing q) ≡ answer_admitted x.kind (tolerance_of x) c reg.is_open w y

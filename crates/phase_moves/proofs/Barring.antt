@@ -50,10 +50,8 @@ row_drains c w = by w.party w.cell w.want w.way w.woken
     by : (p x : ℕ) (want : Want) (way : How) (woken : Bool) → drains_at c (wait_row (Some (record { party = p; cell = x; want = want; way = way; woken = woken }))) ≡ drains_on c (record { party = p; cell = x; want = want; way = way; woken = woken })
     by p x want How.Spin woken = refl
     by p x want How.ParkedRead true = refl
-    by p x want How.ParkedRead false = refl
     by p x want How.ParkedWrite true = refl
-    by p x want How.ParkedWrite false = refl
-    by p x want How.Drain woken = refl
+    by p x want _ _ = refl
 
 -- the rows of who is parked tell the drains
 pub drains_shown : (c : ℕ) (ws : List Wait) (s : Parking) → IsSingle ws → Shows ws s → drains s c ≡ count (drains_on c) ws

@@ -31,10 +31,8 @@ row_waits c w = by w.party w.cell w.want w.way w.woken
     by : (p x : ℕ) (want : Want) (way : How) (woken : Bool) → stands_at c (wait_row (Some (record { party = p; cell = x; want = want; way = way; woken = woken }))) ≡ waits_at c (record { party = p; cell = x; want = want; way = way; woken = woken })
     by p x want How.Spin woken = refl
     by p x want How.ParkedRead true = refl
-    by p x want How.ParkedRead false = refl
     by p x want How.ParkedWrite true = refl
-    by p x want How.ParkedWrite false = refl
-    by p x want How.Drain woken = refl
+    by p x want _ _ = refl
 
 pub few_wait : (c : ℕ) (ws : List Wait) (s : Parking) → IsSingle ws → Shows ws s → count (waits_at c) ws ≤ length s.rows
 few_wait c ws s single shows =

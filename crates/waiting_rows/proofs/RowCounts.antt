@@ -64,10 +64,8 @@ row_shares c w = by w.party w.cell w.want w.way w.woken
     by : (p x : ℕ) (want : Want) (way : How) (woken : Bool) → shares_at c (wait_row (Some (record { party = p; cell = x; want = want; way = way; woken = woken }))) ≡ shares_read c (record { party = p; cell = x; want = want; way = way; woken = woken })
     by p x want How.Spin woken = refl
     by p x want How.ParkedRead true = refl
-    by p x want How.ParkedRead false = refl
     by p x want How.ParkedWrite true = refl
-    by p x want How.ParkedWrite false = refl
-    by p x want How.Drain woken = refl
+    by p x want _ _ = refl
 
 pub row_claims : (c : ℕ) (w : Wait) → cond {A = ℕ} (claims_at c (wait_row (Some w))) 1 0 ≡ cond {A = ℕ} (shares_write c w) 1 0 + cond {A = ℕ} (drains_on c w) 1 0
 row_claims c w = by w.party w.cell w.want w.way w.woken

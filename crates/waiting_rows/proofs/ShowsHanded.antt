@@ -15,11 +15,9 @@ row_woken c w e = by w.party w.cell w.want w.way w.woken e
     same x e = grind (arith, e)
 
     by : (p x : ℕ) (want : Want) (way : How) (woken : Bool) → parks_to_read c (record { party = p; cell = x; want = want; way = way; woken = woken }) ≡ true → wait_row (Some (wake_reader c (record { party = p; cell = x; want = want; way = way; woken = woken }))) ≡ record { waiting = Waiting.ShareRead; cell = c }
-    by p x want How.Spin woken e = absurd (cc)
-    by p x want How.ParkedWrite woken e = absurd (cc)
-    by p x want How.Drain woken e = absurd (cc)
-    by p x want How.ParkedRead true e = absurd (cc)
     by p x want How.ParkedRead false e = let s : x ≡ c = same x e in rw e (λ i. record { waiting = Waiting.ShareRead; cell = s i })
+    by p x want How.ParkedRead true e = absurd (cc)
+    by p x want _ _ e = absurd (cc)
 
 -- the row of a call that is not parked to read stays
 pub row_asleep : (c : ℕ) (w : Wait) → parks_to_read c w ≡ false → wake_reader c w ≡ w
@@ -96,9 +94,4 @@ shows_handed_writer q c ws s inside sound shows one =
   where
     elsewhere : (v : Waiting) (x c d : ℕ) → writes_at c (record { waiting = v; cell = x }) ≡ true → d ≢ c → writes_at d (record { waiting = v; cell = x }) ≡ false
     elsewhere Waiting.ParkedWrite x c d e ne = grind (arith, e, ne)
-    elsewhere Waiting.Free x c d e ne = refl
-    elsewhere Waiting.Spin x c d e ne = refl
-    elsewhere Waiting.ParkedRead x c d e ne = refl
-    elsewhere Waiting.Drain x c d e ne = refl
-    elsewhere Waiting.ShareRead x c d e ne = refl
-    elsewhere Waiting.ShareWrite x c d e ne = refl
+    elsewhere _ x c d e ne = refl
