@@ -26,15 +26,14 @@ turned_so false x y e = absurd (cc)
 
 pub runs_same : (p c : ℕ) (ss : List Section) → runs p (runner_of (run_in c ss)) ≡ generates_for p (find (runs_in c) ss)
 runs_same p c [] = refl
-runs_same p c (s ∷ ss) = by (s.cell == c) refl (runs_same p c ss)
-  where
-    turn : (b : Bool) → runs p (if b then None else Some s.party) ≡ (if b then false else (s.party == p))
-    turn true = refl
-    turn false = refl
+runs_same p c (s ∷ ss) = by (s.cell == c) refl (runs_same p c ss) where
+  turn : (b : Bool) → runs p (if b then None else Some s.party) ≡ (if b then false else (s.party == p))
+  turn true = refl
+  turn false = refl
 
-    by : (b : Bool) → (s.cell == c) ≡ b → runs p (runner_of (run_in c ss)) ≡ generates_for p (find (runs_in c) ss) → runs p (runner_of (run_in c (s ∷ ss))) ≡ generates_for p (find (runs_in c) (s ∷ ss))
-    by true e rest = rw e (turn (is_turn s.want))
-    by false e rest = rw e rest
+  by : (b : Bool) → (s.cell == c) ≡ b → runs p (runner_of (run_in c ss)) ≡ generates_for p (find (runs_in c) ss) → runs p (runner_of (run_in c (s ∷ ss))) ≡ generates_for p (find (runs_in c) (s ∷ ss))
+  by true e rest = rw e (turn (is_turn s.want))
+  by false e rest = rw e rest
 
 -- ---- what an admitted attempt begins
 
@@ -101,17 +100,16 @@ module _ (who : Who) (o : Option Registry) (q : Phase) where
   fits_declined true _ x e = refl
 
   pub met_fits : (ask : Ask) → FitsSought ask.want (begun_met ask)
-  met_fits ask = subst (FitsSought ask.want) (sym (met_is ask)) (by ask.want refl (shall_init ask.tol q) (has (number q) initialized))
-    where
-      run : (s : Sought) → ask.want ≡ s → run_sought s ≡ true → FitsSought s (run_or_not ask)
-      run s e is = subst (λ z. FitsSought s (if is_refused ask.tol.leak o q then begun_declined z else Begun.Run (section_by who ask.want (stays_asked o q) write_ticket))) (sym e) (fits_declined (is_refused ask.tol.leak o q) s (section_by who ask.want (stays_asked o q) write_ticket) is)
+  met_fits ask = subst (FitsSought ask.want) (sym (met_is ask)) (by ask.want refl (shall_init ask.tol q) (has (number q) initialized)) where
+    run : (s : Sought) → ask.want ≡ s → run_sought s ≡ true → FitsSought s (run_or_not ask)
+    run s e is = subst (λ z. FitsSought s (if is_refused ask.tol.leak o q then begun_declined z else Begun.Run (section_by who ask.want (stays_asked o q) write_ticket))) (sym e) (fits_declined (is_refused ask.tol.leak o q) s (section_by who ask.want (stays_asked o q) write_ticket) is)
 
-      by : (s : Sought) → ask.want ≡ s → (due there : Bool) → FitsSought s (met_as ask s due there)
-      by Sought.Init e true there = run Sought.Init e refl
-      by Sought.Read e true there = run Sought.Read e refl
-      by Sought.Write e true there = run Sought.Write e refl
-      by Sought.Finalize e due true = tt
-      by _ e _ _ = refl
+    by : (s : Sought) → ask.want ≡ s → (due there : Bool) → FitsSought s (met_as ask s due there)
+    by Sought.Init e true there = run Sought.Init e refl
+    by Sought.Read e true there = run Sought.Read e refl
+    by Sought.Write e true there = run Sought.Write e refl
+    by Sought.Finalize e due true = tt
+    by _ e _ _ = refl
 
   -- a call has its section run, or not
   abbrev pub RunsOr : Bool → Begun → Type 0
@@ -124,24 +122,21 @@ module _ (who : Who) (o : Option Registry) (q : Phase) where
   runs_declined _ _ x e = refl
 
   pub met_runs : (ask : Ask) → (ask.want ≡ Sought.Finalize → ⊥) → RunsOr (asks_run ask q && not (is_refused ask.tol.leak o q)) (begun_met ask)
-  met_runs ask ne = subst (RunsOr (asks_run ask q && not (is_refused ask.tol.leak o q))) (sym (met_is ask)) (by ask.want refl (shall_init ask.tol q) refl (has (number q) initialized))
-    where
-      by_want : (s : Sought) (due : Bool) (b : Begun) → ask.want ≡ s → shall_init ask.tol q ≡ due → RunsOr ((run_sought s && due) && not (is_refused ask.tol.leak o q)) b → RunsOr (asks_run ask q && not (is_refused ask.tol.leak o q)) b
-      by_want s due b e f is = subst (λ z. RunsOr ((run_sought z && shall_init ask.tol q) && not (is_refused ask.tol.leak o q)) b) (sym e) (subst (λ z. RunsOr ((run_sought s && z) && not (is_refused ask.tol.leak o q)) b) (sym f) is)
+  met_runs ask ne = subst (RunsOr (asks_run ask q && not (is_refused ask.tol.leak o q))) (sym (met_is ask)) (by ask.want refl (shall_init ask.tol q) refl (has (number q) initialized)) where
+    by_want : (s : Sought) (due : Bool) (b : Begun) → ask.want ≡ s → shall_init ask.tol q ≡ due → RunsOr ((run_sought s && due) && not (is_refused ask.tol.leak o q)) b → RunsOr (asks_run ask q && not (is_refused ask.tol.leak o q)) b
+    by_want s due b e f is = subst (λ z. RunsOr ((run_sought z && shall_init ask.tol q) && not (is_refused ask.tol.leak o q)) b) (sym e) (subst (λ z. RunsOr ((run_sought s && z) && not (is_refused ask.tol.leak o q)) b) (sym f) is)
 
-      run : (s : Sought) → ask.want ≡ s → run_sought s ≡ true → RunsOr (not (is_refused ask.tol.leak o q)) (run_or_not ask)
-      run s e is = subst (λ z. RunsOr (not (is_refused ask.tol.leak o q)) (if is_refused ask.tol.leak o q then begun_declined z else Begun.Run (section_by who ask.want (stays_asked o q) write_ticket))) (sym e) (runs_declined (is_refused ask.tol.leak o q) s (section_by who ask.want (stays_asked o q) write_ticket) is)
+    run : (s : Sought) → ask.want ≡ s → run_sought s ≡ true → RunsOr (not (is_refused ask.tol.leak o q)) (run_or_not ask)
+    run s e is = subst (λ z. RunsOr (not (is_refused ask.tol.leak o q)) (if is_refused ask.tol.leak o q then begun_declined z else Begun.Run (section_by who ask.want (stays_asked o q) write_ticket))) (sym e) (runs_declined (is_refused ask.tol.leak o q) s (section_by who ask.want (stays_asked o q) write_ticket) is)
 
-      by : (s : Sought) → ask.want ≡ s → (due : Bool) → shall_init ask.tol q ≡ due → (there : Bool) → RunsOr (asks_run ask q && not (is_refused ask.tol.leak o q)) (met_as ask s due there)
-      by Sought.Init e true f there = by_want Sought.Init true (run_or_not ask) e f (run Sought.Init e refl)
-      by Sought.Init e false f there = by_want Sought.Init false (Begun.Nothing q) e f refl
-      by Sought.Read e true f there = by_want Sought.Read true (run_or_not ask) e f (run Sought.Read e refl)
-      by Sought.Read e false f there = by_want Sought.Read false (Begun.Read read_ticket q) e f refl
-      by Sought.Write e true f there = by_want Sought.Write true (run_or_not ask) e f (run Sought.Write e refl)
-      by Sought.Write e false f there = by_want Sought.Write false (Begun.Write write_ticket q) e f refl
-      by Sought.ReadOnly e due f there = by_want Sought.ReadOnly due (Begun.Read read_ticket q) e f refl
-      by Sought.WriteOnly e due f there = by_want Sought.WriteOnly due (Begun.Write write_ticket q) e f refl
-      by Sought.Finalize e due f there = absurd (ne e)
+    by : (s : Sought) → ask.want ≡ s → (due : Bool) → shall_init ask.tol q ≡ due → (there : Bool) → RunsOr (asks_run ask q && not (is_refused ask.tol.leak o q)) (met_as ask s due there)
+    by Sought.Init e false f there = by_want Sought.Init false (Begun.Nothing q) e f refl
+    by Sought.Read e false f there = by_want Sought.Read false (Begun.Read read_ticket q) e f refl
+    by Sought.Write e false f there = by_want Sought.Write false (Begun.Write write_ticket q) e f refl
+    by Sought.ReadOnly e due f there = by_want Sought.ReadOnly due (Begun.Read read_ticket q) e f refl
+    by Sought.WriteOnly e due f there = by_want Sought.WriteOnly due (Begun.Write write_ticket q) e f refl
+    by Sought.Finalize e due f there = absurd (ne e)
+    by b e true f there = by_want b true (run_or_not ask) e f (run b e refl)
 
 -- ---- the answer of an attempt that is admitted
 
@@ -151,11 +146,10 @@ calls_no_turn x k ask is e = let f : seeks_as (form_of x.kind k) (Some Sought.Fi
 
 -- only a turn does
 pub final_turns : (x : CellPlan) (w : Want) (ask : Ask) → IsAsked x w ask → finalizes ask.want ≡ true → w ≡ Turns
-final_turns x (Calls k) ask is e = absurd (calls_no_turn x k ask is (sought_final ask.want e))
-  where
-    sought_final : (s : Sought) → finalizes s ≡ true → s ≡ Sought.Finalize
-    sought_final Sought.Finalize e = refl
-    sought_final _ e = absurd (cc)
+final_turns x (Calls k) ask is e = absurd (calls_no_turn x k ask is (sought_final ask.want e)) where
+  sought_final : (s : Sought) → finalizes s ≡ true → s ≡ Sought.Finalize
+  sought_final Sought.Finalize e = refl
+  sought_final _ e = absurd (cc)
 final_turns x Turns ask is e = refl
 
 module _ (x : CellPlan) (c p : ℕ) (reg : Registry) (y : Content) where
@@ -177,24 +171,22 @@ module _ (x : CellPlan) (c p : ℕ) (reg : Registry) (y : Content) where
 
   -- a call: its generator runs, or it is answered by what the cell holds then
   called_due : (k : Call) (b : Begun) (runs : Bool) → begins_run x.kind (tolerance_of x) reg.is_open k y.phase ≡ runs → RunsOr who o q runs b → Due (Calls k) b
-  called_due k b true e is = running b is ∙ sym (ap (λ r. if r then Answer.Running else left_so) e)
-    where
-      left_so : Answer
-      left_so = answer_at (form_of x.kind k) (is_accessible x.kind (content_asked x.kind (tolerance_of x) reg.is_open k y).phase) (content_asked x.kind (tolerance_of x) reg.is_open k y)
+  called_due k b true e is = running b is ∙ sym (ap (λ r. if r then Answer.Running else left_so) e) where
+    left_so : Answer
+    left_so = answer_at (form_of x.kind k) (is_accessible x.kind (content_asked x.kind (tolerance_of x) reg.is_open k y).phase) (content_asked x.kind (tolerance_of x) reg.is_open k y)
 
-      running : (b : Begun) → is_run b ≡ true → answer_taken x.kind (record { cell = c; want = Calls k }) (y_then (Calls k)) (taken_of b) ≡ Answer.Running
-      running (Begun.Run s) e = refl
-      running _ e = absurd (cc)
-  called_due k b false e is = left b is ∙ ap (λ (z : Content). answer_at (form_of x.kind k) (is_accessible x.kind z.phase) z) (call_left x k reg.is_open y) ∙ sym (ap (λ r. if r then Answer.Running else left_so) e)
-    where
-      left_so : Answer
-      left_so = answer_at (form_of x.kind k) (is_accessible x.kind (content_asked x.kind (tolerance_of x) reg.is_open k y).phase) (content_asked x.kind (tolerance_of x) reg.is_open k y)
+    running : (b : Begun) → is_run b ≡ true → answer_taken x.kind (record { cell = c; want = Calls k }) (y_then (Calls k)) (taken_of b) ≡ Answer.Running
+    running (Begun.Run s) e = refl
+    running _ e = absurd (cc)
+  called_due k b false e is = left b is ∙ ap (λ (z : Content). answer_at (form_of x.kind k) (is_accessible x.kind z.phase) z) (call_left x k reg.is_open y) ∙ sym (ap (λ r. if r then Answer.Running else left_so) e) where
+    left_so : Answer
+    left_so = answer_at (form_of x.kind k) (is_accessible x.kind (content_asked x.kind (tolerance_of x) reg.is_open k y).phase) (content_asked x.kind (tolerance_of x) reg.is_open k y)
 
-      left : (b : Begun) → is_left b ≡ true → answer_taken x.kind (record { cell = c; want = Calls k }) (y_then (Calls k)) (taken_of b) ≡ answer_at (form_of x.kind k) (is_accessible x.kind (y_then (Calls k)).phase) (y_then (Calls k))
-      left (Begun.Nothing z) e = refl
-      left (Begun.Read l z) e = refl
-      left (Begun.Write l z) e = refl
-      left _ e = absurd (cc)
+    left : (b : Begun) → is_left b ≡ true → answer_taken x.kind (record { cell = c; want = Calls k }) (y_then (Calls k)) (taken_of b) ≡ answer_at (form_of x.kind k) (is_accessible x.kind (y_then (Calls k)).phase) (y_then (Calls k))
+    left (Begun.Nothing z) e = refl
+    left (Begun.Read l z) e = refl
+    left (Begun.Write l z) e = refl
+    left _ e = absurd (cc)
 
   -- what looks at the cell as it is
   pub looked_due : (w : Want) → seeks x.kind w ≡ None → answer_taken x.kind (record { cell = c; want = w }) (y_then w) (Taken.Nothing q) ≡ answer_admitted x.kind (tolerance_of x) c reg.is_open w y
@@ -202,25 +194,23 @@ module _ (x : CellPlan) (c p : ℕ) (reg : Registry) (y : Content) where
   looked_due Turns e = absurd (cc)
 
   pub admitted_due : (w : Want) (ask : Ask) → IsAsked x w ask → Due w (begun_met who o q ask)
-  admitted_due (Calls k) ask is = called_due k (begun_met who o q ask) (asks_run ask q && not (is_refused ask.tol.leak o q)) (sym begins) (met_runs who o q ask (calls_no_turn x k ask is))
-    where
-      twice : (b : Bool) → not (not b) ≡ b
-      twice true = refl
-      twice false = refl
+  admitted_due (Calls k) ask is = called_due k (begun_met who o q ask) (asks_run ask q && not (is_refused ask.tol.leak o q)) (sym begins) (met_runs who o q ask (calls_no_turn x k ask is)) where
+    twice : (b : Bool) → not (not b) ≡ b
+    twice true = refl
+    twice false = refl
 
-      begins : (asks_run ask q && not (is_refused ask.tol.leak o q)) ≡ begins_run x.kind (tolerance_of x) reg.is_open k y.phase
-      begins =
-          ap (λ (t : Tolerance). asks_run ask q && not (is_refused t.leak o q)) is.tol
-          ∙ (λ i. asks_same x (Calls k) ask is q i && not (refuses_same x reg y.phase i))
-          ∙ ap (λ b. asks x.kind (tolerance_of x) (Calls k) y.phase && b) (twice (runs_generator x.kind (tolerance_of x) reg.is_open y.phase))
+    begins : (asks_run ask q && not (is_refused ask.tol.leak o q)) ≡ begins_run x.kind (tolerance_of x) reg.is_open k y.phase
+    begins =
+        ap (λ (t : Tolerance). asks_run ask q && not (is_refused t.leak o q)) is.tol
+        ∙ (λ i. asks_same x (Calls k) ask is q i && not (refuses_same x reg y.phase i))
+        ∙ ap (λ b. asks x.kind (tolerance_of x) (Calls k) y.phase && b) (twice (runs_generator x.kind (tolerance_of x) reg.is_open y.phase))
   admitted_due Turns ask is =
       ap (λ b. answer_taken x.kind (record { cell = c; want = Turns }) (y_then Turns) (taken_of b)) (met_is who o q ask)
       ∙ ap (λ s. answer_taken x.kind (record { cell = c; want = Turns }) (y_then Turns) (taken_of (met_as who o q ask s (shall_init ask.tol q) (has y.phase initialized)))) final
-      ∙ by (has y.phase initialized)
-    where
-      final : ask.want ≡ Sought.Finalize
-      final = let sought = is.sought in cc
+      ∙ by (has y.phase initialized) where
+        final : ask.want ≡ Sought.Finalize
+        final = let sought = is.sought in cc
 
-      by : (b : Bool) → answer_taken x.kind (record { cell = c; want = Turns }) (y_then Turns) (taken_of (met_as who o q ask Sought.Finalize (shall_init ask.tol q) b)) ≡ turn_answer_admitted (if b then LockNature.Write else LockNature.None) c
-      by true = refl
-      by false = refl
+        by : (b : Bool) → answer_taken x.kind (record { cell = c; want = Turns }) (y_then Turns) (taken_of (met_as who o q ask Sought.Finalize (shall_init ask.tol q) b)) ≡ turn_answer_admitted (if b then LockNature.Write else LockNature.None) c
+        by true = refl
+        by false = refl

@@ -39,46 +39,38 @@ module _ (k : LockerKind) (who : Who) (ask : Ask) (h : Holders) (s : Parking) wh
 
   -- or it has a section at once
   at_once : (m : Registry) (x : SeqSection) (h1 : Holders) (s1 : Parking) (r : Begun × Given) (h' : Holders) (s' : Parking) → IsEntered who ask h s (Begun.Run x) Given.Nobody h1 s1 → is_refused ask.tol.leak (Some m) h.phase ≡ true → HasSectionAtOnce x h1 s1 r h' s' → IsBegun who ask (Some m) h s r.0 r.1 h' s'
-  at_once m x h1 s1 r h' s' d refuses so = subst (λ b. IsBegun who ask (Some m) h s b r.1 h' s') (sym so.answer) (by x.want so.finished so.goes_on)
-    where
-      declined : declines ask (Some m) h.phase ≡ true
-      declined = ap (λ b. b && is_refused ask.tol.leak (Some m) h.phase) d.told.1 ∙ refuses
+  at_once m x h1 s1 r h' s' d refuses so = subst (λ b. IsBegun who ask (Some m) h s b r.1 h' s') (sym so.answer) (by x.want so.finished so.goes_on) where
+    declined : declines ask (Some m) h.phase ≡ true
+    declined = ap (λ b. b && is_refused ask.tol.leak (Some m) h.phase) d.told.1 ∙ refuses
 
-      at : x.who.cell ≡ who.cell
-      at = ap (λ (y : SeqSection). y.who.cell) d.told.0
+    at : x.who.cell ≡ who.cell
+    at = ap (λ (y : SeqSection). y.who.cell) d.told.0
 
-      by : (w : Want) (f : Finished) → GoesOn w x.who.cell refused h1 s1 (f, r.1) h' s' → IsBegun who ask (Some m) h s (begun_at_once f) r.1 h' s'
-      by Want.Init f k =
-          let hands = subst (λ c. Hands c (leave_write refused h1) s1 r.1 h' s') at k.hands in
-          subst (λ y. IsBegun who ask (Some m) h s (begun_at_once y) r.1 h' s') (sym k.finished)
-          (record {
-            phase = rw declined (hands_phase who.cell (leave_write refused h1) s1 r.1 h' s' hands);
-            listed = subst (λ y. IsListed who.cell y r.1) d.rows (listed_hand who.cell (leave_write refused h1) s1 r.1 hands.may);
-            rows = hands.rows ∙ ap (λ y. rows_handed who.cell r.1 y) d.rows;
-            alone = λ f. d.alone refl;
-            told = rw declined refl;
-          })
-      by Want.Read f k =
-          let down = subst (λ c. Downgrades c refused h1 s1 r.1 h' s') at k.downgrades in
-          subst (λ y. IsBegun who ask (Some m) h s (begun_at_once y) r.1 h' s') (sym k.finished)
-          (record {
-            phase = rw declined (downgrades_phase who.cell refused h1 s1 r.1 h' s' down);
-            listed = subst (λ y. IsListed who.cell y r.1) d.rows (listed_share who.cell s1 r.1 down.may);
-            rows = down.rows ∙ ap (λ y. rows_handed who.cell r.1 y) d.rows;
-            alone = λ f. d.alone refl;
-            told = rw declined refl;
-          })
-      by Want.Write f k =
-          subst (λ (y : Finished × Given). IsBegun who ask (Some m) h s (begun_at_once y.0) y.1 h' s') (sym k.finished)
-          (record {
-            phase = ap (λ (y : Holders). y.phase) k.held ∙ d.phase;
-            listed = tt;
-            rows = k.rows ∙ d.rows;
-            alone = λ f. d.alone refl;
-            told = rw declined refl;
-          })
-      by Want.ReadOnly f k = absurd k
-      by _ f k = absurd k
+    by : (w : Want) (f : Finished) → GoesOn w x.who.cell refused h1 s1 (f, r.1) h' s' → IsBegun who ask (Some m) h s (begun_at_once f) r.1 h' s'
+    by Want.Init f k =
+        let hands = subst (λ c. Hands c (leave_write refused h1) s1 r.1 h' s') at k.hands in
+        subst (λ y. IsBegun who ask (Some m) h s (begun_at_once y) r.1 h' s') (sym k.finished)
+        (record {
+          phase = rw declined (hands_phase who.cell (leave_write refused h1) s1 r.1 h' s' hands);
+          listed = subst (λ y. IsListed who.cell y r.1) d.rows (listed_hand who.cell (leave_write refused h1) s1 r.1 hands.may);
+          rows = hands.rows ∙ ap (λ y. rows_handed who.cell r.1 y) d.rows;
+          alone = λ f. d.alone refl;
+          told = rw declined refl;
+        })
+    by Want.Read f k =
+        let down = subst (λ c. Downgrades c refused h1 s1 r.1 h' s') at k.downgrades in
+        subst (λ y. IsBegun who ask (Some m) h s (begun_at_once y) r.1 h' s') (sym k.finished)
+        (record {
+          phase = rw declined (downgrades_phase who.cell refused h1 s1 r.1 h' s' down);
+          listed = subst (λ y. IsListed who.cell y r.1) d.rows (listed_share who.cell s1 r.1 down.may);
+          rows = down.rows ∙ ap (λ y. rows_handed who.cell r.1 y) d.rows;
+          alone = λ f. d.alone refl;
+          told = rw declined refl;
+        })
+    by Want.Write f k =
+        subst (λ (y : Finished × Given). IsBegun who ask (Some m) h s (begun_at_once y.0) y.1 h' s') (sym k.finished)
+        (record { phase = ap (λ (y : Holders). y.phase) k.held ∙ d.phase; listed = tt; rows = k.rows ∙ d.rows; alone = λ f. d.alone refl; told = rw declined refl })
+    by _ f k = absurd k
 
   -- what was entered, settled
   stays : (o : Option Registry) (b : Begun) (g : Given) (h1 : Holders) (s1 : Parking) (r : Begun × Given) (h' : Holders) (s' : Parking) → is_run b ≡ false → IsEntered who ask h s b g h1 s1 → Stays (b, g) h1 s1 r h' s' → IsBegun who ask o h s r.0 r.1 h' s'
@@ -86,15 +78,14 @@ module _ (k : LockerKind) (who : Who) (ask : Ask) (h : Holders) (s : Parking) wh
       subst (λ (q : Begun × Given). IsBegun who ask o h s q.0 q.1 h' s') (sym st.same) (subst (λ z. IsBegun who ask o h s b g z s') (sym st.held) (subst (λ z. IsBegun who ask o h s b g h1 z) (sym st.rows) (plain o b g h1 s1 e d)))
 
   settled : (m : Registry) (b : Begun) (g : Given) (h1 : Holders) (s1 : Parking) (r : Begun × Given) (h' : Holders) (s' : Parking) → IsEntered who ask h s b g h1 s1 → Settles ask.tol.leak m h.phase (b, g) h1 s1 r h' s' → IsBegun who ask (Some m) h s r.0 r.1 h' s'
-  settled m (Begun.Run x) g h1 s1 r h' s' d st = by (is_refused ask.tol.leak (Some m) h.phase) refl st.1
-    where
-      quiet : IsEntered who ask h s (Begun.Run x) Given.Nobody h1 s1
-      quiet = subst (λ y. IsEntered who ask h s (Begun.Run x) y h1 s1) st.0 d
+  settled m (Begun.Run x) g h1 s1 r h' s' d st = by (is_refused ask.tol.leak (Some m) h.phase) refl st.1 where
+    quiet : IsEntered who ask h s (Begun.Run x) Given.Nobody h1 s1
+    quiet = subst (λ y. IsEntered who ask h s (Begun.Run x) y h1 s1) st.0 d
 
-      by : (b : Bool) → is_refused ask.tol.leak (Some m) h.phase ≡ b → MatchBool b (HasSectionAtOnce x h1 s1 r h' s') (Generates x (staying m.is_open h.phase) h1 s1 r h' s') → IsBegun who ask (Some m) h s r.0 r.1 h' s'
-      by true e k = at_once m x h1 s1 r h' s' quiet e k
-      by false e k =
-          subst (λ (q : Begun × Given). IsBegun who ask (Some m) h s q.0 q.1 h' s') (sym k.answer) (subst (λ z. IsBegun who ask (Some m) h s (Begun.Run (section_by x.who x.want (staying m.is_open h.phase) x.ticket)) Given.Nobody z s') (sym k.held) (subst (λ z. IsBegun who ask (Some m) h s (Begun.Run (section_by x.who x.want (staying m.is_open h.phase) x.ticket)) Given.Nobody h1 z) (sym k.rows) (runs (Some m) x Given.Nobody h1 s1 quiet)))
+    by : (b : Bool) → is_refused ask.tol.leak (Some m) h.phase ≡ b → MatchBool b (HasSectionAtOnce x h1 s1 r h' s') (Generates x (staying m.is_open h.phase) h1 s1 r h' s') → IsBegun who ask (Some m) h s r.0 r.1 h' s'
+    by true e k = at_once m x h1 s1 r h' s' quiet e k
+    by false e k =
+        subst (λ (q : Begun × Given). IsBegun who ask (Some m) h s q.0 q.1 h' s') (sym k.answer) (subst (λ z. IsBegun who ask (Some m) h s (Begun.Run (section_by x.who x.want (staying m.is_open h.phase) x.ticket)) Given.Nobody z s') (sym k.held) (subst (λ z. IsBegun who ask (Some m) h s (Begun.Run (section_by x.who x.want (staying m.is_open h.phase) x.ticket)) Given.Nobody h1 z) (sym k.rows) (runs (Some m) x Given.Nobody h1 s1 quiet)))
   settled m (Begun.Wait how) g h1 s1 r h' s' d st = stays (Some m) (Begun.Wait how) g h1 s1 r h' s' refl d st
   settled m (Begun.Nothing p) g h1 s1 r h' s' d st = stays (Some m) (Begun.Nothing p) g h1 s1 r h' s' refl d st
   settled m (Begun.Read t p) g h1 s1 r h' s' d st = stays (Some m) (Begun.Read t p) g h1 s1 r h' s' refl d st
@@ -121,18 +112,13 @@ module _ (k : LockerKind) (who : Who) (ask : Ask) (h : Holders) (s : Parking) wh
   -- a call of a party that waits at the cell, or does not wait
   module _ (running : Option ℕ) (r : Begun × Given) (h' : Holders) (s' : Parking) where
     pub answered : (o : Option Registry) (waits : Bool) → MatchBool waits ((row_of s who.party).cell ≡ who.cell) (row_of s who.party ≡ free_row) → who.party < length s.rows → Fits k h s who.cell → Calls waits o k who ask running h s r h' s' → IsTurned h s r.0 r.1 h' s' ⊎ IsBegun who ask o h s r.0 r.1 h' s'
-    answered None waits row inside fits d =
-        elim (entered k who ask running h s r h' s' waits row inside fits d) [
-          | inl t ↦ inl t
-          | inr e ↦ inr (unsettled r.0 r.1 h' s' e)
-        ]
+    answered None waits row inside fits d = elim (entered k who ask running h s r h' s' waits row inside fits d) [ inl t ↦ inl t | inr e ↦ inr (unsettled r.0 r.1 h' s' e) ]
     answered (Some m) waits row inside fits d =
         elim (entered k who ask running h s d.entered d.held d.rows waits row inside fits d.enters) [
           | inl t ↦ inl (back d t)
           | inr e ↦ inr (settled m d.entered.0 d.entered.1 d.held d.rows r h' s' e d.settles)
-        ]
-      where
-        back : (d : Calls waits (Some m) k who ask running h s r h' s') → IsTurned h s d.entered.0 d.entered.1 d.held d.rows → IsTurned h s r.0 r.1 h' s'
-        back d t =
-            let st = still m d.entered.0 d.entered.1 d.held d.rows r h' s' t.away d.settles in
-            record { away = ap (λ (q : Begun × Given). is_away q.0) st.same ∙ t.away; given = ap (λ (q : Begun × Given). q.1) st.same ∙ t.given; held = st.held ∙ t.held; rows = st.rows ∙ t.rows }
+        ] where
+          back : (d : Calls waits (Some m) k who ask running h s r h' s') → IsTurned h s d.entered.0 d.entered.1 d.held d.rows → IsTurned h s r.0 r.1 h' s'
+          back d t =
+              let st = still m d.entered.0 d.entered.1 d.held d.rows r h' s' t.away d.settles in
+              record { away = ap (λ (q : Begun × Given). is_away q.0) st.same ∙ t.away; given = ap (λ (q : Begun × Given). q.1) st.same ∙ t.given; held = st.held ∙ t.held; rows = st.rows ∙ t.rows }

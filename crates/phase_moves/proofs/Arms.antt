@@ -145,11 +145,10 @@ module _ {L : Type 0} (held : L → Holders) (place : L → LockerKind) where
     -- ---- what the locker requires
 
     calling : (waits : Bool) → MatchBool waits (WaitsAt t.cell (wait_of p m.waits)) (wait_of p m.waits ≡ None) → MatchBool waits ((row_of v.parks p).cell ≡ t.cell) (row_of v.parks p ≡ free_row)
-    calling true w = by (wait_of p m.waits) (is.rests.stands.waits.shows.row p) w
-      where
-        by : (o : Option Wait) → row_of v.parks p ≡ wait_row o → WaitsAt t.cell o → (row_of v.parks p).cell ≡ t.cell
-        by None e w = absurd w
-        by (Some x) e w = ap (λ (r : _). r.cell) e ∙ w
+    calling true w = by (wait_of p m.waits) (is.rests.stands.waits.shows.row p) w where
+      by : (o : Option Wait) → row_of v.parks p ≡ wait_row o → WaitsAt t.cell o → (row_of v.parks p).cell ≡ t.cell
+      by None e w = absurd w
+      by (Some x) e w = ap (λ (r : _). r.cell) e ∙ w
     calling false w = is.rests.stands.waits.shows.row p ∙ ap wait_row w
 
     waits_here : (waits : Bool) → MatchBool waits (WaitsAt t.cell (wait_of p m.waits)) (wait_of p m.waits ≡ None) → (w : Wait) → wait_of p m.waits ≡ Some w → w.cell ≡ t.cell
@@ -199,10 +198,7 @@ module _ {L : Type 0} (held : L → Holders) (place : L → LockerKind) where
           (subst (λ (y : CellPlan). IsSettled (place row.seq.locker) who ask (registry_for y.kind v.exit.registry) (held row.seq.locker) v.parks b g (held row'.seq.locker)) cell_here.planned (settled e))))
 
       did : is_away b ≡ false → Begun_
-      did e = elim all [
-        | inl d ↦ absurd (let f : false ≡ true = sym e ∙ d.away in cc)
-        | inr d ↦ d
-      ]
+      did e = elim all [ inl d ↦ absurd (let f : false ≡ true = sym e ∙ d.away in cc) | inr d ↦ d ]
 
       -- ---- the arms of the code
 
@@ -220,15 +216,11 @@ module _ {L : Type 0} (held : L → Holders) (place : L → LockerKind) where
 
       -- what is turned away
       turned : is_away b ≡ true → Turned
-      turned e = elim all [
-        | inl d ↦ d
-        | inr d ↦ absurd (stayed b refl e d)
-      ]
-        where
-          stayed : (z : Begun) → b ≡ z → is_away z ≡ true → Begun_ → ⊥
-          stayed Begun.Missed f e d = told_as d Begun.Missed f
-          stayed Begun.Cyclic f e d = told_as d Begun.Cyclic f
-          stayed _ f e d = absurd (cc)
+      turned e = elim all [ inl d ↦ d | inr d ↦ absurd (stayed b refl e d) ] where
+        stayed : (z : Begun) → b ≡ z → is_away z ≡ true → Begun_ → ⊥
+        stayed Begun.Missed f e d = told_as d Begun.Missed f
+        stayed Begun.Cyclic f e d = told_as d Begun.Cyclic f
+        stayed _ f e d = absurd (cc)
 
       does_cyclic : b ≡ Begun.Cyclic → of' ≡ of → row'.run ≡ row.run → row'.waiting ≡ row.waiting → row'.draft ≡ row.draft → IsTook held place m v p t Taken.Cyclic g v'
       does_cyclic e o run many draft =
@@ -267,11 +259,9 @@ module _ {L : Type 0} (held : L → Holders) (place : L → LockerKind) where
           let here = cell_here in
           took_run d (few_now (ap is_turned_back e)) (told_met (ap is_turned_back e)) s (ap reads_begun e) (ap writes_begun e) (phase_as d (Begun.Run s) e) (rows_as d (Begun.Run s) e) (exit_run e call)
           (running ∙ ap (λ x. running_after x row.seq.running) e ∙ ap (λ (z : SeqSection). Some z.who.party) tells.0 ∙ (rw call refl))
-          (tells.0 ∙ (λ i. section_by who ask.want (stays_asked (registry_for (here.planned i).kind (is.rests.stands.exit.registry_is i)) (here.locked.phase_is i)) write_ticket) ∙ ap (λ q. section_by who ask.want q write_ticket) (stays_same x t.want m.registry y.phase call) ∙ ap (λ w. section_by who w (stays_in x t.want m.registry.is_open y.phase) write_ticket) (asked_as x t.want ask asked_here _ tells.1)) (cyclic_as (Begun.Run s) e) (told_met (ap is_turned_back e) Taken.Runs (ap taken_of e)) o run many draft
-        where
-          exit_run : b ≡ Begun.Run s → is_turn t.want ≡ false → IsExit (length v.cells.items) (record m { registry = registry_asked t.cell t.want m }) v'.exit
-          exit_run e call = by t.want refl call
-            where
+          (tells.0 ∙ (λ i. section_by who ask.want (stays_asked (registry_for (here.planned i).kind (is.rests.stands.exit.registry_is i)) (here.locked.phase_is i)) write_ticket) ∙ ap (λ q. section_by who ask.want q write_ticket) (stays_same x t.want m.registry y.phase call) ∙ ap (λ w. section_by who w (stays_in x t.want m.registry.is_open y.phase) write_ticket) (asked_as x t.want ask asked_here _ tells.1)) (cyclic_as (Begun.Run s) e) (told_met (ap is_turned_back e) Taken.Runs (ap taken_of e)) o run many draft where
+            exit_run : b ≡ Begun.Run s → is_turn t.want ≡ false → IsExit (length v.cells.items) (record m { registry = registry_asked t.cell t.want m }) v'.exit
+            exit_run e call = by t.want refl call where
               here : IsCell held place (seen_at t.cell m) v.parks t.cell row
               here = cell_here
 
@@ -291,30 +281,27 @@ module _ {L : Type 0} (held : L → Holders) (place : L → LockerKind) where
           took_run d (few_now (ap is_turned_back e)) (told_met (ap is_turned_back e)) s (ap reads_begun e) (ap writes_begun e) (phase_as d (Begun.Final s) e) (rows_as d (Begun.Final s) e)
           (subst (λ w. IsExit (length v.cells.items) (record m { registry = registry_asked t.cell w m }) v'.exit) (sym turn) (exit_still (ap is_run e)))
           (running ∙ ap (λ x. running_after x row.seq.running) e ∙ here.runner ∙ ap runner_of (none_runs t.cell m.sections (let z = was_none d (ap (wrote _) e) in omega (arith, z))) ∙ sym (ap (λ w. if is_turn w then None else Some p) turn))
-          (tells.0 ∙ (λ i. section_by who ask.want (here.locked.phase_is i) write_ticket) ∙ ap (λ w. section_by who w (phase_of y.phase) write_ticket) (final_as turn) ∙ ap (λ w. section_by who (run_as x.kind w) (stays_in x w m.registry.is_open y.phase) write_ticket) (sym turn)) (cyclic_as (Begun.Final s) e) (told_met (ap is_turned_back e) Taken.Runs (ap taken_of e)) o run many draft
-        where
-          final_as : t.want ≡ Turns → ask.want ≡ Sought.Finalize
-          final_as turn = let sought : Some Sought.Finalize ≡ Some ask.want = ap (seeks x.kind) (sym turn) ∙ asked_here.sought in cc
+          (tells.0 ∙ (λ i. section_by who ask.want (here.locked.phase_is i) write_ticket) ∙ ap (λ w. section_by who w (phase_of y.phase) write_ticket) (final_as turn) ∙ ap (λ w. section_by who (run_as x.kind w) (stays_in x w m.registry.is_open y.phase) write_ticket) (sym turn)) (cyclic_as (Begun.Final s) e) (told_met (ap is_turned_back e) Taken.Runs (ap taken_of e)) o run many draft where
+            final_as : t.want ≡ Turns → ask.want ≡ Sought.Finalize
+            final_as turn = let sought : Some Sought.Finalize ≡ Some ask.want = ap (seeks x.kind) (sym turn) ∙ asked_here.sought in cc
 
       -- no section ran where one is opened
       pub none_before : opens_section b ≡ true → row.run ≡ None
-      none_before e = by b refl e
-        where
-          by : (z : Begun) → b ≡ z → opens_section z ≡ true → row.run ≡ None
-          by (Begun.Run s) f e = none_before_run s f
-          by (Begun.Final s) f e = none_before_final s f
-          by _ f e = absurd (cc)
+      none_before e = by b refl e where
+        by : (z : Begun) → b ≡ z → opens_section z ≡ true → row.run ≡ None
+        by (Begun.Run s) f e = none_before_run s f
+        by (Begun.Final s) f e = none_before_final s f
+        by _ f e = absurd (cc)
 
       -- all of it
       pub does : of' ≡ party_after t b of → row'.run ≡ run_after p t of b row.run → row'.waiting ≡ waiting_after b (is_some of.waiting) row.waiting → row'.draft ≡ draft_after b row.value row.draft → IsTook held place m v p t (taken_of b) g v'
-      does o run many draft = by b refl o run many draft
-        where
-          by : (z : Begun) → b ≡ z → of' ≡ party_after t z of → row'.run ≡ run_after p t of z row.run → row'.waiting ≡ waiting_after z (is_some of.waiting) row.waiting → row'.draft ≡ draft_after z row.value row.draft → IsTook held place m v p t (taken_of z) g v'
-          by (Begun.Wait way) e o run many draft = does_wait way e o run (many_more many) draft
-          by Begun.Missed e o run many draft = does_missed e o run many draft
-          by Begun.Cyclic e o run many draft = does_cyclic e o run many draft
-          by (Begun.Nothing q) e o run many draft = does_nothing q e o run (many_less many) draft
-          by (Begun.Read l q) e o run many draft = does_read l q e o run (many_less many) draft
-          by (Begun.Write l q) e o run many draft = does_write l q e o run (many_less many) draft
-          by (Begun.Run s) e o run many draft = does_run s e o run (many_less many) draft
-          by (Begun.Final s) e o run many draft = does_final s e o run (many_less many) draft
+      does o run many draft = by b refl o run many draft where
+        by : (z : Begun) → b ≡ z → of' ≡ party_after t z of → row'.run ≡ run_after p t of z row.run → row'.waiting ≡ waiting_after z (is_some of.waiting) row.waiting → row'.draft ≡ draft_after z row.value row.draft → IsTook held place m v p t (taken_of z) g v'
+        by (Begun.Wait way) e o run many draft = does_wait way e o run (many_more many) draft
+        by Begun.Missed e o run many draft = does_missed e o run many draft
+        by Begun.Cyclic e o run many draft = does_cyclic e o run many draft
+        by (Begun.Nothing q) e o run many draft = does_nothing q e o run (many_less many) draft
+        by (Begun.Read l q) e o run many draft = does_read l q e o run (many_less many) draft
+        by (Begun.Write l q) e o run many draft = does_write l q e o run (many_less many) draft
+        by (Begun.Run s) e o run many draft = does_run s e o run (many_less many) draft
+        by (Begun.Final s) e o run many draft = does_final s e o run (many_less many) draft

@@ -15,21 +15,16 @@ pub record IsAsked (x : CellPlan) (w : Want) (ask : Ask) : Type 0 where
   pub tol : ask.tol ≡ tolerance_of x
 
 pub is_asked : (x : CellPlan) (w : Want) (ask : Ask) → ask_of x w ≡ Some ask → IsAsked x w ask
-is_asked x w ask e = by (seeks x.kind w) refl e
-  where
-    by : (s : Option Sought) → seeks x.kind w ≡ s → asking s (is_quick x w) (tolerance_of x) ≡ Some ask → IsAsked x w ask
-    by None f e = absurd (cc)
-    by (Some s) f e =
-        let is : record { want = s; fast = is_quick x w; tol = tolerance_of x } ≡ ask = cc in
-        record { sought = f ∙ ap (λ (z : Ask). Some z.want) is; fast = sym (ap (λ (z : Ask). z.fast) is); tol = sym (ap (λ (z : Ask). z.tol) is) }
+is_asked x w ask e = by (seeks x.kind w) refl e where
+  by : (s : Option Sought) → seeks x.kind w ≡ s → asking s (is_quick x w) (tolerance_of x) ≡ Some ask → IsAsked x w ask
+  by None f e = absurd (cc)
+  by (Some s) f e =
+      let is : record { want = s; fast = is_quick x w; tol = tolerance_of x } ≡ ask = cc in
+      record { sought = f ∙ ap (λ (z : Ask). Some z.want) is; fast = sym (ap (λ (z : Ask). z.fast) is); tol = sym (ap (λ (z : Ask). z.tol) is) }
 
 -- nothing is sought by what asks nothing
 pub none_sought : (x : CellPlan) (w : Want) → ask_of x w ≡ None → seeks x.kind w ≡ None
-none_sought x w e = by (seeks x.kind w) e
-  where
-    by : (s : Option Sought) → asking s (is_quick x w) (tolerance_of x) ≡ None → s ≡ None
-    by None e = refl
-    by (Some s) e = absurd (cc)
+none_sought x w e = (elim (seeks x.kind w) as (λ (s : Option Sought). asking s (is_quick x w) (tolerance_of x) ≡ None → s ≡ None) [ None ↦ λ e. refl | Some s ↦ λ e. absurd (cc) ]) e
 
 module _ (x : CellPlan) (w : Want) (ask : Ask) (is : IsAsked x w ask) where
   -- a run is asked where the rules ask it
@@ -49,34 +44,27 @@ module _ (x : CellPlan) (w : Want) (ask : Ask) (is : IsAsked x w ask) where
 
   -- only a call asks a run
   pub run_calls : (p : Phase) → seq_asks_run ask p ≡ true → is_turn w ≡ false
-  run_calls p e = by w is.sought
-    where
-      by : (v : Want) → seeks x.kind v ≡ Some ask.want → is_turn v ≡ false
-      by (Calls k) f = refl
-      by Turns f = absurd (let g : Sought.Finalize ≡ ask.want = cc in let h : false ≡ true = ap (λ s. run_sought s && shall_init ask.tol p) g ∙ e in cc)
+  run_calls p e = by w is.sought where
+    by : (v : Want) → seeks x.kind v ≡ Some ask.want → is_turn v ≡ false
+    by (Calls k) f = refl
+    by Turns f = absurd (let g : Sought.Finalize ≡ ask.want = cc in let h : false ≡ true = ap (λ s. run_sought s && shall_init ask.tol p) g ∙ e in cc)
 
   -- what asks for a run has its section run as it seeks
   pub asked_as : (p : Phase) → seq_asks_run ask p ≡ true → ask.want ≡ run_as x.kind w
-  asked_as p e = by w is.sought
-    where
-      runs : run_sought ask.want ≡ true
-      runs = first (run_sought ask.want) (shall_init ask.tol p) e
-        where
-          first : (a b : Bool) → (a && b) ≡ true → a ≡ true
-          first true b e = refl
-          first false b e = absurd (cc)
+  asked_as p e = by w is.sought where
+    runs : run_sought ask.want ≡ true
+    runs = (elim (run_sought ask.want) as (λ a. (b : Bool) → (a && b) ≡ true → a ≡ true) [ true ↦ λ b e. refl | false ↦ λ b e. absurd (cc) ]) (shall_init ask.tol p) e
 
-      by : (v : Want) → seeks x.kind v ≡ Some ask.want → ask.want ≡ run_as x.kind v
-      by (Calls k) f = sym (ap (λ s. if seeks_run s then unwrap_or s Sought.Write else form_as (form_of x.kind k)) f ∙ ap (λ b. if b then ask.want else form_as (form_of x.kind k)) runs)
-      by Turns f = cc
+    by : (v : Want) → seeks x.kind v ≡ Some ask.want → ask.want ≡ run_as x.kind v
+    by (Calls k) f = sym (ap (λ s. if seeks_run s then unwrap_or s Sought.Write else form_as (form_of x.kind k)) f ∙ ap (λ b. if b then ask.want else form_as (form_of x.kind k)) runs)
+    by Turns f = cc
 
 -- the flags that stay beside those of a section
 pub stays_same : (x : CellPlan) (w : Want) (m : Registry) (p : ℕ) → is_turn w ≡ false → stays_asked (registry_for x.kind m) (phase_of p) ≡ stays_in x w m.is_open p
-stays_same x (Calls k) m p e = by (is_finalizable x.kind)
-  where
-    by : (b : Bool) → stays_asked (if b then Some m else None) (phase_of p) ≡ phase_of (if b then flags_staying m.is_open p else 0)
-    by true = refl
-    by false = refl
+stays_same x (Calls k) m p e = by (is_finalizable x.kind) where
+  by : (b : Bool) → stays_asked (if b then Some m else None) (phase_of p) ≡ phase_of (if b then flags_staying m.is_open p else 0)
+  by true = refl
+  by false = refl
 stays_same x Turns m p e = absurd (cc)
 
 -- whether it is declined
@@ -85,11 +73,10 @@ declined x (Calls k) is_open p = is_declined x.kind (tolerance_of x) k is_open p
 declined x Turns is_open p = false
 
 pub refuses_same : (x : CellPlan) (m : Registry) (p : ℕ) → is_refused x.leak (registry_for x.kind m) (phase_of p) ≡ not (runs_generator x.kind (tolerance_of x) m.is_open p)
-refuses_same x m p = by (is_finalizable x.kind)
-  where
-    by : (b : Bool) → is_refused x.leak (if b then Some m else None) (phase_of p) ≡ not (if b then flags_generate x.leak (if b then flags_staying m.is_open p else 0) else true)
-    by true = refl
-    by false = refl
+refuses_same x m p = by (is_finalizable x.kind) where
+  by : (b : Bool) → is_refused x.leak (if b then Some m else None) (phase_of p) ≡ not (if b then flags_generate x.leak (if b then flags_staying m.is_open p else 0) else true)
+  by true = refl
+  by false = refl
 
 pub declines_same : (x : CellPlan) (w : Want) (ask : Ask) → IsAsked x w ask → (m : Registry) (p : ℕ) → declines ask (registry_for x.kind m) (phase_of p) ≡ declined x w m.is_open p
 declines_same x (Calls k) ask is m p =
@@ -98,20 +85,18 @@ declines_same x Turns ask is m p = let sought = is.sought in let g : ask.want �
 
 -- what it leaves
 pub asked_left : (x : CellPlan) (w : Want) (o : Bool) (y : Content) → effect x (changes_asked x w o y) y ≡ record { phase = if declined x w o y.phase then flags_refused else y.phase; value = y.value }
-asked_left x (Calls k) o y = by (is_declined x.kind (tolerance_of x) k o y.phase) refl
-  where
-    by : (b : Bool) → is_declined x.kind (tolerance_of x) k o y.phase ≡ b → effect x (if b then Asked o k ∷ [] else []) y ≡ record { phase = if b then flags_refused else y.phase; value = y.value }
-    by true e = ap (λ b. if b then record { phase = phase_reached x.kind o y.phase NoRun; value = y.value } else y) e
-    by false e = refl
+asked_left x (Calls k) o y = by (is_declined x.kind (tolerance_of x) k o y.phase) refl where
+  by : (b : Bool) → is_declined x.kind (tolerance_of x) k o y.phase ≡ b → effect x (if b then Asked o k ∷ [] else []) y ≡ record { phase = if b then flags_refused else y.phase; value = y.value }
+  by true e = ap (λ b. if b then record { phase = phase_reached x.kind o y.phase NoRun; value = y.value } else y) e
+  by false e = refl
 asked_left x Turns o y = refl
 
 -- of a call, that is what it leaves as the rules say it
 pub call_left : (x : CellPlan) (k : Call) (o : Bool) (y : Content) → effect x (changes_asked x (Calls k) o y) y ≡ content_asked x.kind (tolerance_of x) o k y
-call_left x k o y = by (is_declined x.kind (tolerance_of x) k o y.phase) refl
-  where
-    by : (b : Bool) → is_declined x.kind (tolerance_of x) k o y.phase ≡ b → effect x (if b then Asked o k ∷ [] else []) y ≡ content_asked x.kind (tolerance_of x) o k y
-    by true e = refl
-    by false e = sym (ap (λ b. if b then record { phase = phase_reached x.kind o y.phase NoRun; value = y.value } else y) e)
+call_left x k o y = by (is_declined x.kind (tolerance_of x) k o y.phase) refl where
+  by : (b : Bool) → is_declined x.kind (tolerance_of x) k o y.phase ≡ b → effect x (if b then Asked o k ∷ [] else []) y ≡ content_asked x.kind (tolerance_of x) o k y
+  by true e = refl
+  by false e = sym (ap (λ b. if b then record { phase = phase_reached x.kind o y.phase NoRun; value = y.value } else y) e)
 
 -- the phase that it tells
 pub told_same : (d : Bool) (p : ℕ) → phase_told d (phase_of p) ≡ phase_of (if d then flags_refused else p)
@@ -122,25 +107,16 @@ told_same false p = refl
 
 -- a call that begins no run leaves it
 pub registry_still : (k : Kind) (c : ℕ) (p : Phase) (b : Begun) (m : Registry) → is_run b ≡ false → registry_begun k c p b m ≡ m
-registry_still k c p b m e = by (is_finalizable k)
-  where
-    by : (f : Bool) → (if f then after_asking (is_run b) c p m else m) ≡ m
-    by true = ap (λ r. after_asking r c p m) e
-    by false = refl
+registry_still k c p b m e = elim (is_finalizable k) as (λ f. (if f then after_asking (is_run b) c p m else m) ≡ m) [ true ↦ ap (λ r. after_asking r c p m) e | false ↦ refl ]
 
 -- a run registers its cell as the rules do
 pub registry_run : (x : CellPlan) (c p : ℕ) (b : Begun) (m : Registry) → is_run b ≡ true → registry_begun x.kind c (phase_of p) b m ≡ (if tries_registration x.kind p then after_register c m else m)
-registry_run x c p b m e = by (is_finalizable x.kind)
-  where
-    by : (f : Bool) → (if f then after_asking (is_run b) c (phase_of p) m else m) ≡ (if f && (p == 0) then after_register c m else m)
-    by true = ap (λ r. after_asking r c (phase_of p) m) e
-    by false = refl
+registry_run x c p b m e = by (is_finalizable x.kind) where
+  by : (f : Bool) → (if f then after_asking (is_run b) c (phase_of p) m else m) ≡ (if f && (p == 0) then after_register c m else m)
+  by true = ap (λ r. after_asking r c (phase_of p) m) e
+  by false = refl
 
 -- it stays for as many cells
 pub cells_stay : (c : ℕ) (b : Bool) (m : Registry) → cells_of (if b then after_register c m else m) ≡ cells_of m
 cells_stay c false m = refl
-cells_stay c true m = by m.is_open
-  where
-    by : (o : Bool) → cells_of (if o then registered c m else m) ≡ cells_of m
-    by true = length-set m.known c true
-    by false = refl
+cells_stay c true m = elim m.is_open as (λ o. cells_of (if o then registered c m else m) ≡ cells_of m) [ true ↦ length-set m.known c true | false ↦ refl ]

@@ -133,11 +133,10 @@ run_writes Want.Write due there e = refl
 run_writes _ _ there e = absurd (cc)
 
 no_run : (ask : Ask) (p : Phase) (n : LockNature) → n ≡ nature_of ask p → n ≢ LockNature.Write → asks_run ask p ≡ false
-no_run ask p n e ne = by (asks_run ask p) refl
-  where
-    by : (b : Bool) → asks_run ask p ≡ b → b ≡ false
-    by true q = absurd (ne (e ∙ run_writes ask.want (seq_shall_init ask.tol p) (has (number p) initialized) q))
-    by false q = refl
+no_run ask p n e ne = by (asks_run ask p) refl where
+  by : (b : Bool) → asks_run ask p ≡ b → b ≡ false
+  by true q = absurd (ne (e ∙ run_writes ask.want (seq_shall_init ask.tol p) (has (number p) initialized) q))
+  by false q = refl
 
 got_write : (who : Who) (ask : Ask) (p : Phase) (s : Parking) (run final : Bool) → asks_run ask p ≡ run → finalizes ask.want ≡ final → GotTo who ask p LockNature.Write s (if run then Begun.Run (section_by who ask.want unregistered write_ticket) else (if final then Begun.Final (section_by who ask.want p write_ticket) else Begun.Write write_ticket p))
 got_write who ask p s false true r e = record { rows = refl; wrote = λ k. refl; told = (refl, e) }
@@ -150,126 +149,119 @@ got_to who ask p LockNature.Write s e = got_write who ask p s (asks_run ask p) (
 
 -- where the lock to write is not barred nothing is locked
 pub unlocked : (h : Holders) (n : LockNature) → n ≡ LockNature.Write → bars h n ≡ false → h.locked ≡ false
-unlocked h n e b = first h.locked (let f : bars_write h ≡ false = ap (bars h) (sym e) ∙ b in f)
-  where
-    first : (x : Bool) → (x || not (h.readers == 0)) ≡ false → x ≡ false
-    first true e = absurd (cc)
-    first false e = refl
+unlocked h n e b = first h.locked (let f : bars_write h ≡ false = ap (bars h) (sym e) ∙ b in f) where
+  first : (x : Bool) → (x || not (h.readers == 0)) ≡ false → x ≡ false
+  first true e = absurd (cc)
+  first false e = refl
 
 judged_to : (k : LockerKind) (fresh : Bool) (who : Who) (wake n : LockNature) (h : Holders) (s : Parking) (a : Attempt) (h' : Holders) (s' : Parking) (ask : Ask) → n ≡ nature_of ask h.phase → Judged k fresh who wake n h s a h' s' → JudgedTo who ask h s (begun_by who ask h.phase a) h' s'
-judged_to k fresh who wake n h s a h' s' ask ruled judged = by (bars h n) refl judged
-  where
-    by : (b : Bool) → bars h n ≡ b → MatchBool b (Waits k fresh who wake n h s a h' s') (Gets who n h s a h' s') → JudgedTo who ask h s (begun_by who ask h.phase a) h' s'
-    by true e j =
-        subst (λ x. JudgedTo who ask h s (begun_by who ask h.phase x) h' s') (sym j.answer)
-        (record { phase = ap (λ (x : Holders). x.phase) j.held ∙ waiting_phase j.how h; rows = j.rows; alone = λ z. absurd (omega (arith, z)); told = tt })
-    by false e j =
-        let t = got_to who ask h.phase n s ruled in
-        subst (λ x. JudgedTo who ask h s (begun_by who ask h.phase x) h' s') (sym j.answer)
-        (record { phase = ap (λ (x : Holders). x.phase) j.held ∙ admitted_phase n h; rows = j.rows ∙ t.rows; alone = λ z. unlocked h n (t.wrote z) e; told = t.told })
+judged_to k fresh who wake n h s a h' s' ask ruled judged = by (bars h n) refl judged where
+  by : (b : Bool) → bars h n ≡ b → MatchBool b (Waits k fresh who wake n h s a h' s') (Gets who n h s a h' s') → JudgedTo who ask h s (begun_by who ask h.phase a) h' s'
+  by true e j =
+      subst (λ x. JudgedTo who ask h s (begun_by who ask h.phase x) h' s') (sym j.answer)
+      (record { phase = ap (λ (x : Holders). x.phase) j.held ∙ waiting_phase j.how h; rows = j.rows; alone = λ z. absurd (omega (arith, z)); told = tt })
+  by false e j =
+      let t = got_to who ask h.phase n s ruled in
+      subst (λ x. JudgedTo who ask h s (begun_by who ask h.phase x) h' s') (sym j.answer)
+      (record { phase = ap (λ (x : Holders). x.phase) j.held ∙ admitted_phase n h; rows = j.rows ∙ t.rows; alone = λ z. unlocked h n (t.wrote z) e; told = t.told })
 
 -- ---- the calls
 
 -- the row of a party that does not wait is free already
 pub free_same : (p : ℕ) (s : Parking) → row_of s p ≡ free_row → freed p s ≡ s
-free_same p s e = ap (λ (r : Row). left r.waiting r.cell p s) e ∙ (λ i. record { rows = same i; readers = s.readers; writers = s.writers })
-  where
-    same : set s.rows p free_row ≡ s.rows
-    same = ap (λ r. set s.rows p r) (sym e) ∙ set-get_or s.rows p free_row
+free_same p s e = ap (λ (r : Row). left r.waiting r.cell p s) e ∙ (λ i. record { rows = same i; readers = s.readers; writers = s.writers }) where
+  same : set s.rows p free_row ≡ s.rows
+  same = ap (λ r. set s.rows p r) (sym e) ∙ set-get_or s.rows p free_row
 
 module _ (k : LockerKind) (who : Who) (ask : Ask) (running : Option ℕ) (h : Holders) (s : Parking) (r : Begun × Given) (h' : Holders) (s' : Parking) where
   turned : TurnsBack h s r h' s' → IsTurned h s r.0 r.1 h' s'
   turned t = record { away = ap (λ (x : Begun × Given). is_away x.0) t.answer; given = ap (λ (x : Begun × Given). x.1) t.answer; held = t.held; rows = t.rows }
 
   begins : row_of s who.party ≡ free_row → Begins k who ask running h s r h' s' → IsTurned h s r.0 r.1 h' s' ⊎ IsEntered who ask h s r.0 r.1 h' s'
-  begins free d = by (is_cyclic ask.want who.party running) ask.fast d
-    where
-      -- a call that does not wait
-      tried : TriesLock who ask h s r h' s' → IsTurned h s r.0 r.1 h' s' ⊎ IsEntered who ask h s r.0 r.1 h' s'
-      tried a = to (bars h a.tries.nature) refl
-        where
-          to : (c : Bool) → bars h a.tries.nature ≡ c → IsTurned h s r.0 r.1 h' s' ⊎ IsEntered who ask h s r.0 r.1 h' s'
-          to true e =
-              inl (record {
-                away = ap (λ (x : Begun × Given). is_away x.0) a.answer ∙ ap (λ x. is_away (begun_tried who ask h.phase x)) (a.tries.answer ∙ ap (λ c. if c then None else Some (got a.tries.nature h.phase)) e);
-                given = ap (λ (x : Begun × Given). x.1) a.answer;
-                held = a.tries.held ∙ ap (λ c. if c then h else admitted h a.tries.nature) e;
-                rows = a.rows;
-              })
-          to false e =
-              let t = got_to who ask h.phase a.tries.nature s a.tries.allowed in
-              let is : r ≡ (begun_by who ask h.phase (Attempt.Got (got a.tries.nature h.phase)), Given.Nobody) = a.answer ∙ ap (λ x. (begun_tried who ask h.phase x, Given.Nobody)) (a.tries.answer ∙ ap (λ c. if c then None else Some (got a.tries.nature h.phase)) e) in
-              inr (subst (λ (x : Begun × Given). IsEntered who ask h s x.0 x.1 h' s') (sym is)
-              (record {
-                phase = ap (λ (x : Holders). x.phase) (a.tries.held ∙ ap (λ c. if c then h else admitted h a.tries.nature) e) ∙ admitted_phase a.tries.nature h;
-                listed = tt;
-                rows = a.rows ∙ t.rows ∙ ap (rows_begun (begun_by who ask h.phase (Attempt.Got (got a.tries.nature h.phase))) who) (sym (free_same who.party s free));
-                alone = λ z o. (let l = unlocked h a.tries.nature (t.wrote z) e in let m = o.locked in cc);
-                told = t.told;
-              }))
-
-      made : MakesAttempt k who ask h s r h' s' → IsEntered who ask h s r.0 r.1 h' s'
-      made a =
-          let j = judged_to k true who (wake_of ask.want) a.locks.nature h s a.attempt h' s' ask a.locks.allowed a.locks.judged in
-          subst (λ b. IsEntered who ask h s b r.1 h' s') (sym a.answer)
-          (subst (λ g. IsEntered who ask h s (begun_by who ask h.phase a.attempt) g h' s') (sym a.locks.given)
+  begins free d = by (is_cyclic ask.want who.party running) ask.fast d where
+    -- a call that does not wait
+    tried : TriesLock who ask h s r h' s' → IsTurned h s r.0 r.1 h' s' ⊎ IsEntered who ask h s r.0 r.1 h' s'
+    tried a = to (bars h a.tries.nature) refl where
+      to : (c : Bool) → bars h a.tries.nature ≡ c → IsTurned h s r.0 r.1 h' s' ⊎ IsEntered who ask h s r.0 r.1 h' s'
+      to true e =
+          inl (record {
+            away = ap (λ (x : Begun × Given). is_away x.0) a.answer ∙ ap (λ x. is_away (begun_tried who ask h.phase x)) (a.tries.answer ∙ ap (λ c. if c then None else Some (got a.tries.nature h.phase)) e);
+            given = ap (λ (x : Begun × Given). x.1) a.answer;
+            held = a.tries.held ∙ ap (λ c. if c then h else admitted h a.tries.nature) e;
+            rows = a.rows;
+          })
+      to false e =
+          let t = got_to who ask h.phase a.tries.nature s a.tries.allowed in
+          let is : r ≡ (begun_by who ask h.phase (Attempt.Got (got a.tries.nature h.phase)), Given.Nobody) = a.answer ∙ ap (λ x. (begun_tried who ask h.phase x, Given.Nobody)) (a.tries.answer ∙ ap (λ c. if c then None else Some (got a.tries.nature h.phase)) e) in
+          inr (subst (λ (x : Begun × Given). IsEntered who ask h s x.0 x.1 h' s') (sym is)
           (record {
-            phase = j.phase;
+            phase = ap (λ (x : Holders). x.phase) (a.tries.held ∙ ap (λ c. if c then h else admitted h a.tries.nature) e) ∙ admitted_phase a.tries.nature h;
             listed = tt;
-            rows = j.rows ∙ ap (rows_begun (begun_by who ask h.phase a.attempt) who) (sym (free_same who.party s free));
-            alone = λ z o. (let l = j.alone z in let m = o.locked in cc);
-            told = j.told;
-          }))
-
-      by : (c f : Bool) → MatchBool c (TurnsBack h s r h' s') (MatchBool f (TriesLock who ask h s r h' s') (MakesAttempt k who ask h s r h' s')) → IsTurned h s r.0 r.1 h' s' ⊎ IsEntered who ask h s r.0 r.1 h' s'
-      by true f d = inl (turned d)
-      by false true d = tried d
-      by false false d = inr (made d)
-
-  resumes : (row_of s who.party).cell ≡ who.cell → who.party < length s.rows → Fits k h s who.cell → Resumes k who ask running h s r h' s' → IsTurned h s r.0 r.1 h' s' ⊎ IsEntered who ask h s r.0 r.1 h' s'
-  resumes here inside fits d = by (is_cyclic ask.want who.party running) d
-    where
-      row : row_of s who.party ≡ record { waiting = (row_of s who.party).waiting; cell = who.cell }
-      row = λ i. record { waiting = (row_of s who.party).waiting; cell = here i }
-
-      given_phase : (w : Waiting) → (given_up w h).phase ≡ h.phase
-      given_phase Waiting.ShareRead = refl
-      given_phase _ = refl
-
-      kept : (n : LockNature) (a : Attempt) → n ≡ nature_of ask h.phase → r.0 ≡ begun_by who ask h.phase a → keeps (row_of s who.party).waiting n h ≡ true → Keeps who n h s (a, r.1) h' s' → IsEntered who ask h s r.0 r.1 h' s'
-      kept n a ruled answer e j =
-          let t = got_to who ask h.phase n (freed who.party s) ruled in
-          subst (λ b. IsEntered who ask h s b r.1 h' s') (sym (answer ∙ ap (begun_by who ask h.phase) j.answer))
-          (subst (λ g. IsEntered who ask h s (begun_by who ask h.phase (Attempt.Got (got n h.phase))) g h' s') (sym j.given)
-          (record {
-            phase = ap (λ (x : Holders). x.phase) j.held;
-            listed = tt;
-            rows = j.rows ∙ t.rows;
-            alone = λ z o. kept_writes (row_of s who.party).waiting n k h s who.cell who.party inside row fits e o;
+            rows = a.rows ∙ t.rows ∙ ap (rows_begun (begun_by who ask h.phase (Attempt.Got (got a.tries.nature h.phase))) who) (sym (free_same who.party s free));
+            alone = λ z o. (let l = unlocked h a.tries.nature (t.wrote z) e in let m = o.locked in cc);
             told = t.told;
           }))
 
-      gave : (n : LockNature) (a : Attempt) → n ≡ nature_of ask h.phase → r.0 ≡ begun_by who ask h.phase a → GivesUp k who (wake_of ask.want) n h s (a, r.1) h' s' → IsEntered who ask h s r.0 r.1 h' s'
-      gave n a ruled answer j =
-          let phase : j.between.phase ≡ h.phase = hands_phase who.cell (given_up (row_of s who.party).waiting h) (freed who.party s) r.1 j.between j.rows j.hands ∙ given_phase (row_of s who.party).waiting in
-          let t = judged_to k (not (is_drain (row_of s who.party).waiting)) who (wake_of ask.want) n j.between j.rows a h' s' ask (ruled ∙ ap (nature_of ask) (sym phase)) j.judged in
-          subst (λ b. IsEntered who ask h s b r.1 h' s') (sym answer)
-          (record {
-            phase = t.phase ∙ phase;
-            listed = listed_hand who.cell (given_up (row_of s who.party).waiting h) (freed who.party s) r.1 j.hands.may;
-            rows = subst (λ p. s' ≡ rows_begun (begun_by who ask p a) who j.rows) phase t.rows ∙ ap (rows_begun (begun_by who ask h.phase a) who) j.hands.rows;
-            alone = λ z o. (let l = t.alone (subst (λ p. writes_begun (begun_by who ask p a) ≡ 1) (sym phase) z) in
-                let m = (hands_writes r.1 who.cell (given_up (row_of s who.party).waiting h) (freed who.party s) j.between j.rows j.hands (subst (λ c. IsWriteOpen (given_up (row_of s who.party).waiting h) (left (row_of s who.party).waiting c who.party s) who.cell) (sym here) (left_writes (row_of s who.party).waiting k h s who.cell who.party inside row fits o))).locked in cc);
-            told = subst (λ p. TellsFirst who ask p (begun_by who ask p a)) phase t.told;
-          })
+    made : MakesAttempt k who ask h s r h' s' → IsEntered who ask h s r.0 r.1 h' s'
+    made a =
+        let j = judged_to k true who (wake_of ask.want) a.locks.nature h s a.attempt h' s' ask a.locks.allowed a.locks.judged in
+        subst (λ b. IsEntered who ask h s b r.1 h' s') (sym a.answer)
+        (subst (λ g. IsEntered who ask h s (begun_by who ask h.phase a.attempt) g h' s') (sym a.locks.given)
+        (record {
+          phase = j.phase;
+          listed = tt;
+          rows = j.rows ∙ ap (rows_begun (begun_by who ask h.phase a.attempt) who) (sym (free_same who.party s free));
+          alone = λ z o. (let l = j.alone z in let m = o.locked in cc);
+          told = j.told;
+        }))
 
-      by : (c : Bool) → MatchBool c (TurnsBack h s r h' s') (MakesAnother k who ask h s r h' s') → IsTurned h s r.0 r.1 h' s' ⊎ IsEntered who ask h s r.0 r.1 h' s'
-      by true d = inl (turned d)
-      by false d = inr (either (keeps (row_of s who.party).waiting d.again.nature h) refl d.again.steps)
-        where
-          either : (b : Bool) → keeps (row_of s who.party).waiting d.again.nature h ≡ b → MatchBool b (Keeps who d.again.nature h s (d.attempt, r.1) h' s') (GivesUp k who (wake_of ask.want) d.again.nature h s (d.attempt, r.1) h' s') → IsEntered who ask h s r.0 r.1 h' s'
-          either true e j = kept d.again.nature d.attempt d.again.allowed d.answer e j
-          either false e j = gave d.again.nature d.attempt d.again.allowed d.answer j
+    by : (c f : Bool) → MatchBool c (TurnsBack h s r h' s') (MatchBool f (TriesLock who ask h s r h' s') (MakesAttempt k who ask h s r h' s')) → IsTurned h s r.0 r.1 h' s' ⊎ IsEntered who ask h s r.0 r.1 h' s'
+    by true f d = inl (turned d)
+    by false true d = tried d
+    by false false d = inr (made d)
+
+  resumes : (row_of s who.party).cell ≡ who.cell → who.party < length s.rows → Fits k h s who.cell → Resumes k who ask running h s r h' s' → IsTurned h s r.0 r.1 h' s' ⊎ IsEntered who ask h s r.0 r.1 h' s'
+  resumes here inside fits d = by (is_cyclic ask.want who.party running) d where
+    row : row_of s who.party ≡ record { waiting = (row_of s who.party).waiting; cell = who.cell }
+    row = λ i. record { waiting = (row_of s who.party).waiting; cell = here i }
+
+    given_phase : (w : Waiting) → (given_up w h).phase ≡ h.phase
+    given_phase Waiting.ShareRead = refl
+    given_phase _ = refl
+
+    kept : (n : LockNature) (a : Attempt) → n ≡ nature_of ask h.phase → r.0 ≡ begun_by who ask h.phase a → keeps (row_of s who.party).waiting n h ≡ true → Keeps who n h s (a, r.1) h' s' → IsEntered who ask h s r.0 r.1 h' s'
+    kept n a ruled answer e j =
+        let t = got_to who ask h.phase n (freed who.party s) ruled in
+        subst (λ b. IsEntered who ask h s b r.1 h' s') (sym (answer ∙ ap (begun_by who ask h.phase) j.answer))
+        (subst (λ g. IsEntered who ask h s (begun_by who ask h.phase (Attempt.Got (got n h.phase))) g h' s') (sym j.given)
+        (record {
+          phase = ap (λ (x : Holders). x.phase) j.held;
+          listed = tt;
+          rows = j.rows ∙ t.rows;
+          alone = λ z o. kept_writes (row_of s who.party).waiting n k h s who.cell who.party inside row fits e o;
+          told = t.told;
+        }))
+
+    gave : (n : LockNature) (a : Attempt) → n ≡ nature_of ask h.phase → r.0 ≡ begun_by who ask h.phase a → GivesUp k who (wake_of ask.want) n h s (a, r.1) h' s' → IsEntered who ask h s r.0 r.1 h' s'
+    gave n a ruled answer j =
+        let phase : j.between.phase ≡ h.phase = hands_phase who.cell (given_up (row_of s who.party).waiting h) (freed who.party s) r.1 j.between j.rows j.hands ∙ given_phase (row_of s who.party).waiting in
+        let t = judged_to k (not (is_drain (row_of s who.party).waiting)) who (wake_of ask.want) n j.between j.rows a h' s' ask (ruled ∙ ap (nature_of ask) (sym phase)) j.judged in
+        subst (λ b. IsEntered who ask h s b r.1 h' s') (sym answer)
+        (record {
+          phase = t.phase ∙ phase;
+          listed = listed_hand who.cell (given_up (row_of s who.party).waiting h) (freed who.party s) r.1 j.hands.may;
+          rows = subst (λ p. s' ≡ rows_begun (begun_by who ask p a) who j.rows) phase t.rows ∙ ap (rows_begun (begun_by who ask h.phase a) who) j.hands.rows;
+          alone = λ z o. (let l = t.alone (subst (λ p. writes_begun (begun_by who ask p a) ≡ 1) (sym phase) z) in
+              let m = (hands_writes r.1 who.cell (given_up (row_of s who.party).waiting h) (freed who.party s) j.between j.rows j.hands (subst (λ c. IsWriteOpen (given_up (row_of s who.party).waiting h) (left (row_of s who.party).waiting c who.party s) who.cell) (sym here) (left_writes (row_of s who.party).waiting k h s who.cell who.party inside row fits o))).locked in cc);
+          told = subst (λ p. TellsFirst who ask p (begun_by who ask p a)) phase t.told;
+        })
+
+    by : (c : Bool) → MatchBool c (TurnsBack h s r h' s') (MakesAnother k who ask h s r h' s') → IsTurned h s r.0 r.1 h' s' ⊎ IsEntered who ask h s r.0 r.1 h' s'
+    by true d = inl (turned d)
+    by false d = inr (either (keeps (row_of s who.party).waiting d.again.nature h) refl d.again.steps) where
+      either : (b : Bool) → keeps (row_of s who.party).waiting d.again.nature h ≡ b → MatchBool b (Keeps who d.again.nature h s (d.attempt, r.1) h' s') (GivesUp k who (wake_of ask.want) d.again.nature h s (d.attempt, r.1) h' s') → IsEntered who ask h s r.0 r.1 h' s'
+      either true e j = kept d.again.nature d.attempt d.again.allowed d.answer e j
+      either false e j = gave d.again.nature d.attempt d.again.allowed d.answer j
 
   -- a call of a party that waits at the cell, or does not wait
   pub entered : (waits : Bool) → MatchBool waits ((row_of s who.party).cell ≡ who.cell) (row_of s who.party ≡ free_row) → who.party < length s.rows → Fits k h s who.cell → Enters waits k who ask running h s r h' s' → IsTurned h s r.0 r.1 h' s' ⊎ IsEntered who ask h s r.0 r.1 h' s'

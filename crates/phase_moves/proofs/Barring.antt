@@ -27,11 +27,7 @@ some_not n = elim (cases_lt 0 n) [
 ]
 
 read_same : (w d e m : Bool) → (w ≡ true → e ≡ true) → (((w || d) && e) || m) ≡ (w || ((d && e) || m))
-read_same true d e m f = by e (f refl)
-  where
-    by : (e : Bool) → e ≡ true → (e || m) ≡ true
-    by true p = refl
-    by false p = absurd (cc)
+read_same true d e m f = (elim e as (λ e. e ≡ true → (e || m) ≡ true) [ true ↦ λ p. refl | false ↦ λ p. absurd (cc) ]) (f refl)
 read_same false d e m f = refl
 
 write_same : (w d z l : Bool) → l ≡ not z → ((w || d) || not z) ≡ (w || (d || l))
@@ -45,13 +41,12 @@ counted t u [] same = refl
 counted t u (w ∷ ws) same = let e = same w in let f = counted t u ws same in grind (arith, e, f)
 
 row_drains : (c : ℕ) (w : Wait) → drains_at c (wait_row (Some w)) ≡ drains_on c w
-row_drains c w = by w.party w.cell w.want w.way w.woken
-  where
-    by : (p x : ℕ) (want : Want) (way : How) (woken : Bool) → drains_at c (wait_row (Some (record { party = p; cell = x; want = want; way = way; woken = woken }))) ≡ drains_on c (record { party = p; cell = x; want = want; way = way; woken = woken })
-    by p x want How.Spin woken = refl
-    by p x want How.ParkedRead true = refl
-    by p x want How.ParkedWrite true = refl
-    by p x want _ _ = refl
+row_drains c w = by w.party w.cell w.want w.way w.woken where
+  by : (p x : ℕ) (want : Want) (way : How) (woken : Bool) → drains_at c (wait_row (Some (record { party = p; cell = x; want = want; way = way; woken = woken }))) ≡ drains_on c (record { party = p; cell = x; want = want; way = way; woken = woken })
+  by p x want How.Spin woken = refl
+  by p x want How.ParkedRead true = refl
+  by p x want How.ParkedWrite true = refl
+  by p x want _ _ = refl
 
 -- the rows of who is parked tell the drains
 pub drains_shown : (c : ℕ) (ws : List Wait) (s : Parking) → IsSingle ws → Shows ws s → drains s c ≡ count (drains_on c) ws
@@ -75,47 +70,40 @@ module _ (k : LockerKind) (h : Holders) (s : Parking) (c reads writes : ℕ) (ws
 
   -- it is locked for a write or a drain
   pub locked_same : h.locked ≡ (nat_lt 0 writers || nat_lt 0 drainers)
-  locked_same = by h.locked refl
-    where
-      by : (b : Bool) → h.locked ≡ b → b ≡ (nat_lt 0 writers || nat_lt 0 drainers)
-      by false e =
-          let none = fits.locked e in
-          let shown = claims_shown c ws s single shows in
-          let closed : writes ≡ 0 = elim (cases_lt 0 writes) [ inl lt ↦ (let o = (write_is lt).locked in absurd (cc)) | inr le ↦ omega (arith, le) ] in
-          let w = not_less writers (omega (arith, none, shown, closed)) in
-          let d = not_less drainers (omega (arith, none, shown)) in
-          rw (w, d) refl
-      by true e = elim (cases_lt 0 writers) [
-        | inl lt ↦ (let w = less writers lt in rw w refl)
-        | inr le ↦ (let lt : 0 < drainers = drains_then le in let d = less drainers lt in let w = not_less writers (omega (arith, le)) in rw (w, d) refl)
+  locked_same = by h.locked refl where
+    by : (b : Bool) → h.locked ≡ b → b ≡ (nat_lt 0 writers || nat_lt 0 drainers)
+    by false e =
+        let none = fits.locked e in
+        let shown = claims_shown c ws s single shows in
+        let closed : writes ≡ 0 = elim (cases_lt 0 writes) [ inl lt ↦ (let o = (write_is lt).locked in absurd (cc)) | inr le ↦ omega (arith, le) ] in
+        let w = not_less writers (omega (arith, none, shown, closed)) in
+        let d = not_less drainers (omega (arith, none, shown)) in
+        rw (w, d) refl
+    by true e = elim (cases_lt 0 writers) [
+      | inl lt ↦ (let w = less writers lt in rw w refl)
+      | inr le ↦ (let lt : 0 < drainers = drains_then le in let d = less drainers lt in let w = not_less writers (omega (arith, le)) in rw (w, d) refl)
+    ] where
+      drains_then : writers ≤ 0 → 0 < drainers
+      drains_then le = elim (cases_lt 0 (claims s c)) [
+        | inl lt ↦ (let shown = claims_shown c ws s single shows in omega (arith, lt, shown, le))
+        | inr none ↦ (let some = write_was (record { locked = e; unclaimed = omega (arith, none) }) in absurd (omega (arith, some, le)))
       ]
-        where
-          drains_then : writers ≤ 0 → 0 < drainers
-          drains_then le = elim (cases_lt 0 (claims s c)) [
-            | inl lt ↦ (let shown = claims_shown c ws s single shows in omega (arith, lt, shown, le))
-            | inr none ↦ (let some = write_was (record { locked = e; unclaimed = omega (arith, none) }) in absurd (omega (arith, some, le)))
-          ]
 
   -- beside a write nobody reads
   pub unread_written : 0 < writers → readers ≡ 0
-  unread_written lt = sym readers_same ∙ elim (cases_lt 0 writes) [
-    | inl writing ↦ write_has_no_reader k h s c fits (write_is writing)
-    | inr le ↦ shared (omega (arith, lt, le))
-  ]
-    where
-      shared : 0 < count (shares_write c) ws → h.readers ≡ 0
-      shared some = elim (cases_lt 0 h.readers) [
-        | inr le ↦ omega (arith, le)
-        | inl read ↦ (let shown = claims_shown c ws s single shows in
-            let one = fits.one in
-            let drained = fits.drained (locks h.locked refl) read in
-            let drains_are = drains_shown c ws s single shows in
-            absurd (omega (arith, shown, one, drained, drains_are, some)))
-      ]
-        where
-          locks : (b : Bool) → h.locked ≡ b → b ≡ true
-          locks true e = refl
-          locks false e = let none = fits.locked e in let shown = claims_shown c ws s single shows in absurd (omega (arith, none, shown, some))
+  unread_written lt = sym readers_same ∙ elim (cases_lt 0 writes) [ inl writing ↦ write_has_no_reader k h s c fits (write_is writing) | inr le ↦ shared (omega (arith, lt, le)) ] where
+    shared : 0 < count (shares_write c) ws → h.readers ≡ 0
+    shared some = elim (cases_lt 0 h.readers) [
+      | inr le ↦ omega (arith, le)
+      | inl read ↦ (let shown = claims_shown c ws s single shows in
+          let one = fits.one in
+          let drained = fits.drained (locks h.locked refl) read in
+          let drains_are = drains_shown c ws s single shows in
+          absurd (omega (arith, shown, one, drained, drains_are, some)))
+    ] where
+      locks : (b : Bool) → h.locked ≡ b → b ≡ true
+      locks true e = refl
+      locks false e = let none = fits.locked e in let shown = claims_shown c ws s single shows in absurd (omega (arith, none, shown, some))
 
   -- it bars as the rules do
   pub barred_same : (n : LockNature) → bars h n ≡ is_barred n (record { readers = readers; written = nat_lt 0 writers; drained = nat_lt 0 drainers })
@@ -174,20 +162,18 @@ way_due p q w n o fresh h slow locks is How.Drain may = park_way p How.Drain may
 -- so is the answer of what waits
 pub waits_due : (x : CellPlan) (w : Want) (n : LockNature) (o : Holding) (fresh : Bool) (h : Holders) → is_quick x w ≡ false → h.locked ≡ (o.written || o.drained) → is_barred n o ≡ true → (way : How) → MayWait (kind_at x.place) fresh (wakes_as x.kind w) n h way
     → Answer.Waiting way ≡ answer_barred (is_fast w) x.place (way_parked x.kind w (drains_by n o (is_drain way)))
-waits_due x w n o fresh h slow locks is way may = way_due x.place x.kind w n o fresh h (neither (is_fast w) (is_owned x.place) slow).1 locks is way may ∙ sym (ap (λ f. answer_barred f x.place (way_parked x.kind w (drains_by n o (is_drain way)))) (neither (is_fast w) (is_owned x.place) slow).0)
-  where
-    neither : (a b : Bool) → (a || b) ≡ false → (a ≡ false) × (b ≡ false)
-    neither true b e = absurd (cc)
-    neither false b e = (refl, e)
+waits_due x w n o fresh h slow locks is way may = way_due x.place x.kind w n o fresh h (neither (is_fast w) (is_owned x.place) slow).1 locks is way may ∙ sym (ap (λ f. answer_barred f x.place (way_parked x.kind w (drains_by n o (is_drain way)))) (neither (is_fast w) (is_owned x.place) slow).0) where
+  neither : (a b : Bool) → (a || b) ≡ false → (a ≡ false) × (b ≡ false)
+  neither true b e = absurd (cc)
+  neither false b e = (refl, e)
 
 -- and of what does not wait
 pub misses_due : (x : CellPlan) (w : Want) (way : How) → is_quick x w ≡ true → answer_missed w ≡ answer_barred (is_fast w) x.place way
-misses_due x w way quick = by (is_fast w) quick
-  where
-    owned : (p : Place) → is_owned p ≡ true → Answer.Borrowed ≡ answer_barred_at p way
-    owned (Place.Own q) e = refl
-    owned _ e = absurd (cc)
+misses_due x w way quick = by (is_fast w) quick where
+  owned : (p : Place) → is_owned p ≡ true → Answer.Borrowed ≡ answer_barred_at p way
+  owned (Place.Own q) e = refl
+  owned _ e = absurd (cc)
 
-    by : (f : Bool) → (f || is_owned x.place) ≡ true → (if f then Answer.Missed else Answer.Borrowed) ≡ answer_barred f x.place way
-    by true e = refl
-    by false e = owned x.place e
+  by : (f : Bool) → (f || is_owned x.place) ≡ true → (if f then Answer.Missed else Answer.Borrowed) ≡ answer_barred f x.place way
+  by true e = refl
+  by false e = owned x.place e

@@ -81,34 +81,33 @@ module _ {L : Type 0} (held : L → Holders) (place : L → LockerKind) where
         (guard_opened held place c n n n m m v v' (reader n x.party x.cell)
         (nothing_moved c n m v v' is.rests.stands guards exit parks)
         refl at (omega arith) is.rests.empty is.rests.empty clone_in)
-        (parties_same held place n m (cloned n x m) v v' is.rests.stands parties (λ p. refl))
-      where
-        n : ℕ
-        n = length v.guards.items
+        (parties_same held place n m (cloned n x m) v v' is.rests.stands parties (λ p. refl)) where
+          n : ℕ
+          n = length v.guards.items
 
-        now : IsLocked (place row'.seq.locker) (held row'.seq.locker) v'.parks c (reads_in c m + 1) (writes_in c m) (m.content c).phase
-        now =
-            let l = clone_row.locked in
-            let some = clone_some in
-            let none = reading_alone (place row.seq.locker) (held row.seq.locker) v.parks c _ _ _ l some in
-            let readers : (held row'.seq.locker).readers ≡ (held row.seq.locker).readers + 1 = ap (λ (h : Holders). h.readers) more in
-            let same : open_reads (held row'.seq.locker) v'.parks c ≡ open_reads (held row'.seq.locker) v.parks c = ap (λ (s : Parking). open_reads (held row'.seq.locker) s c) parks in
-            record {
-              fits = subst (λ (s : Parking). Fits (place row'.seq.locker) (held row'.seq.locker) s c) (sym parks) (subst (λ k. Fits k (held row'.seq.locker) v.parks c) (sym stays) (keeps v.parks c l.fits));
-              phase_is = ap (λ (h : Holders). h.phase) more ∙ l.phase_is;
-              reads_are = same ∙ (let are = l.reads_are in let most = l.fits.shared in omega (arith, are, most, readers));
-              write_is = λ lt. absurd (omega (arith, none, lt));
-              write_was = λ o. l.write_was (record { locked = sym (ap (λ (h : Holders). h.locked) more) ∙ o.locked; unclaimed = ap (λ (s : Parking). claims s c) (sym parks) ∙ o.unclaimed });
-              one = l.one;
-              limit = let le = l.limit in omega (arith, readers, le, fewer);
-            }
+          now : IsLocked (place row'.seq.locker) (held row'.seq.locker) v'.parks c (reads_in c m + 1) (writes_in c m) (m.content c).phase
+          now =
+              let l = clone_row.locked in
+              let some = clone_some in
+              let none = reading_alone (place row.seq.locker) (held row.seq.locker) v.parks c _ _ _ l some in
+              let readers : (held row'.seq.locker).readers ≡ (held row.seq.locker).readers + 1 = ap (λ (h : Holders). h.readers) more in
+              let same : open_reads (held row'.seq.locker) v'.parks c ≡ open_reads (held row'.seq.locker) v.parks c = ap (λ (s : Parking). open_reads (held row'.seq.locker) s c) parks in
+              record {
+                fits = subst (λ (s : Parking). Fits (place row'.seq.locker) (held row'.seq.locker) s c) (sym parks) (subst (λ k. Fits k (held row'.seq.locker) v.parks c) (sym stays) (keeps v.parks c l.fits));
+                phase_is = ap (λ (h : Holders). h.phase) more ∙ l.phase_is;
+                reads_are = same ∙ (let are = l.reads_are in let most = l.fits.shared in omega (arith, are, most, readers));
+                write_is = λ lt. absurd (omega (arith, none, lt));
+                write_was = λ o. l.write_was (record { locked = sym (ap (λ (h : Holders). h.locked) more) ∙ o.locked; unclaimed = ap (λ (s : Parking). claims s c) (sym parks) ∙ o.unclaimed });
+                one = l.one;
+                limit = let le = l.limit in omega (arith, readers, le, fewer);
+              }
 
-        here : IsCell held place (seen_at c (cloned n x m)) v'.parks c row'
-        here =
-            let k0 = clone_row in
-            subst (λ d. IsCell held place (seen_at c (cloned n (record x { cell = d }) m)) v'.parks c row') (sym at)
-            (subst (λ (z : Seen). IsCell held place z v'.parks c row') (sym (seen_reader n x.party c m))
-            (record { planned = plan ∙ k0.planned; valued = value ∙ k0.valued; known = k0.known; locked = now; placed = stays ∙ k0.placed; runner = running ∙ k0.runner; runs = run ∙ k0.runs }))
+          here : IsCell held place (seen_at c (cloned n x m)) v'.parks c row'
+          here =
+              let k0 = clone_row in
+              subst (λ d. IsCell held place (seen_at c (cloned n (record x { cell = d }) m)) v'.parks c row') (sym at)
+              (subst (λ (z : Seen). IsCell held place z v'.parks c row') (sym (seen_reader n x.party c m))
+              (record { planned = plan ∙ k0.planned; valued = value ∙ k0.valued; known = k0.known; locked = now; placed = stays ∙ k0.placed; runner = running ∙ k0.runner; runs = run ∙ k0.runs }))
 
     -- as many do
     clone_none : v'.cells.items ≡ set v.cells.items c row' → v'.guards ≡ v.guards → v'.parties ≡ v.parties → v'.parks ≡ v.parks → v'.exit ≡ v.exit → row'.plan ≡ row.plan → row'.waiting ≡ row.waiting → row'.value ≡ row.value → row'.draft ≡ row.draft → row'.run ≡ row.run → row'.seq.running ≡ row.seq.running → place row'.seq.locker ≡ place row.seq.locker
@@ -117,20 +116,19 @@ module _ {L : Type 0} (held : L → Holders) (place : L → LockerKind) where
         moved held place c (length v.guards.items) (length v.guards.items) m m v v' row' is.rests.stands clone_in cells here (clone_calm many)
         (clone_draft m refl refl (λ j y e w. e) draft)
         (nothing_moved c (length v.guards.items) m v v' is.rests.stands guards exit parks)
-        (parties_same held place (length v.guards.items) m m v v' is.rests.stands parties (λ p. refl))
-      where
-        here : IsCell held place (seen_at c m) v'.parks c row'
-        here =
-            let k0 = clone_row in
-            record {
-              planned = plan ∙ k0.planned;
-              valued = value ∙ k0.valued;
-              known = k0.known;
-              locked = subst (λ (s : Parking). IsLocked (place row'.seq.locker) (held row'.seq.locker) s c (reads_in c m) (writes_in c m) (m.content c).phase) (sym parks) (subst (λ (h : Holders). IsLocked (place row'.seq.locker) h v.parks c (reads_in c m) (writes_in c m) (m.content c).phase) (sym more) (subst (λ k. IsLocked k (held row.seq.locker) v.parks c (reads_in c m) (writes_in c m) (m.content c).phase) (sym stays) k0.locked));
-              placed = stays ∙ k0.placed;
-              runner = running ∙ k0.runner;
-              runs = run ∙ k0.runs;
-            }
+        (parties_same held place (length v.guards.items) m m v v' is.rests.stands parties (λ p. refl)) where
+          here : IsCell held place (seen_at c m) v'.parks c row'
+          here =
+              let k0 = clone_row in
+              record {
+                planned = plan ∙ k0.planned;
+                valued = value ∙ k0.valued;
+                known = k0.known;
+                locked = subst (λ (s : Parking). IsLocked (place row'.seq.locker) (held row'.seq.locker) s c (reads_in c m) (writes_in c m) (m.content c).phase) (sym parks) (subst (λ (h : Holders). IsLocked (place row'.seq.locker) h v.parks c (reads_in c m) (writes_in c m) (m.content c).phase) (sym more) (subst (λ k. IsLocked k (held row.seq.locker) v.parks c (reads_in c m) (writes_in c m) (m.content c).phase) (sym stays) k0.locked));
+                placed = stays ∙ k0.placed;
+                runner = running ∙ k0.runner;
+                runs = run ∙ k0.runs;
+              }
 
     -- what the locker answers
     pub clones : (o : Option ReadTicket) → v'.cells.items ≡ set v.cells.items c row' → v'.guards ≡ v.guards → v'.parties ≡ v.parties → v'.parks ≡ v.parks → v'.exit ≡ v.exit → row'.plan ≡ row.plan → row'.waiting ≡ row.waiting → row'.value ≡ row.value → row'.draft ≡ row.draft → row'.run ≡ row.run → row'.seq.running ≡ row.seq.running → place row'.seq.locker ≡ place row.seq.locker

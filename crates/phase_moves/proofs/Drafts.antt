@@ -25,17 +25,11 @@ shown_still c m f beside here g x e w = elim (cases_eq x.cell c) [
 
 -- a write guard that is found beside one more is that one, or was there
 pub found_beside : (y : Guard) (g : ℕ) (gs : List Guard) (x : Guard) → numbered g (y ∷ gs) ≡ Some x → (y ≡ x) ⊎ (numbered g gs ≡ Some x)
-found_beside y g gs x e = elim (cases_eq g y.number) [
-  | inl q ↦ inl (grind (arith, e, q))
-  | inr ne ↦ inr (grind (arith, e, ne))
-]
+found_beside y g gs x e = elim (cases_eq g y.number) [ inl q ↦ inl (grind (arith, e, q)) | inr ne ↦ inr (grind (arith, e, ne)) ]
 
 -- beside a read guard it was there
 pub beside_reader : (n p c g : ℕ) (gs : List Guard) (x : Guard) → numbered g (reader n p c ∷ gs) ≡ Some x → x.writes ≡ true → numbered g gs ≡ Some x
-beside_reader n p c g gs x e w = elim (found_beside (reader n p c) g gs x e) [
-  | inl q ↦ absurd (let f : false ≡ true = ap (λ (z : Guard). z.writes) q ∙ w in cc)
-  | inr f ↦ f
-]
+beside_reader n p c g gs x e w = elim (found_beside (reader n p c) g gs x e) [ inl q ↦ absurd (let f : false ≡ true = ap (λ (z : Guard). z.writes) q ∙ w in cc) | inr f ↦ f ]
 
 module _ {L : Type 0} (c : ℕ) (m : Standing) (row : CellRow L) where
   -- no guard writes the cell

@@ -91,11 +91,10 @@ module _ {L : Type 0} (held : L → Holders) (place : L → LockerKind) (m : Sta
         })
 
     pub end_room : (b : Bool) → IsMadeAs made b → b ≡ true → HasFree v.parks
-    end_room b is_as so = by made refl is_as
-      where
-        by : (x : Option ℕ) → made ≡ x → IsMadeAs x b → HasFree v.parks
-        by None e q = absurd (let f : true ≡ false = sym so ∙ q in cc)
-        by (Some x) e q = free_party p m.waits v.parks is.inner.rests.stands.waits.shows (is.awake x e) (let a = is.inner.party in let r = is.inner.rests.stands.sizes.rows in omega (arith, a, r))
+    end_room b is_as so = by made refl is_as where
+      by : (x : Option ℕ) → made ≡ x → IsMadeAs x b → HasFree v.parks
+      by None e q = absurd (let f : true ≡ false = sym so ∙ q in cc)
+      by (Some x) e q = free_party p m.waits v.parks is.inner.rests.stands.waits.shows (is.awake x e) (let a = is.inner.party in let r = is.inner.rests.stands.sizes.rows in omega (arith, a, r))
 
   -- ---- the move
 
@@ -121,18 +120,16 @@ module _ {L : Type 0} (held : L → Holders) (place : L → LockerKind) (m : Sta
     phase_is d e = reached_as (cell_at m.plans c) s.want s.is_open (m.content c) made d is.calls (subst (IsMadeAs made) e made_is)
 
     made_value : b ≡ true → made ≡ made_as.value
-    made_value e = by made (subst (IsMadeAs made) e made_is)
-      where
-        by : (x : Option ℕ) → IsMadeAs x true → x ≡ (content_of_run (cell_at m.plans c).kind s.is_open x (m.content c)).value
-        by None q = absurd (cc)
-        by (Some x) q = refl
+    made_value e = by made (subst (IsMadeAs made) e made_is) where
+      by : (x : Option ℕ) → IsMadeAs x true → x ≡ (content_of_run (cell_at m.plans c).kind s.is_open x (m.content c)).value
+      by None q = absurd (cc)
+      by (Some x) q = refl
 
     kept_value : b ≡ false → (m.content c).value ≡ made_as.value
-    kept_value e = by made (subst (IsMadeAs made) e made_is)
-      where
-        by : (x : Option ℕ) → IsMadeAs x false → (m.content c).value ≡ (content_of_run (cell_at m.plans c).kind s.is_open x (m.content c)).value
-        by None q = refl
-        by (Some x) q = absurd (cc)
+    kept_value e = by made (subst (IsMadeAs made) e made_is) where
+      by : (x : Option ℕ) → IsMadeAs x false → (m.content c).value ≡ (content_of_run (cell_at m.plans c).kind s.is_open x (m.content c)).value
+      by None q = refl
+      by (Some x) q = absurd (cc)
 
     known_made : IsKnown (phase_of made_as.phase)
     known_made = change_known (cell_at m.plans c) (Ran s.is_open made) (m.content c) here.known
@@ -192,11 +189,10 @@ module _ {L : Type 0} (held : L → Holders) (place : L → LockerKind) (m : Sta
           stands = back_stands false d.0 d.2 (reads_here (Finished.Failed q) e) (stands_here (Finished.Failed q) e).0 (value ∙ here.valued ∙ kept_value d.0);
           told = failing made (subst (IsMadeAs made) d.0 made_is) (told_as q (d.1 ∙ phase_is false d.0));
           gave = back_gives false d.0 d.2 (reads_here (Finished.Failed q) e) (stands_here (Finished.Failed q) e).0;
-        }
-      where
-        failing : (x : Option ℕ) → IsMadeAs x false → q ≡ told_of x → GoesAs (run_as (cell_at m.plans s.cell).kind s.want) x (told_of x) (Finished.Failed q) r.1
-        failing None z f = f
-        failing (Some x) z f = absurd (cc)
+        } where
+          failing : (x : Option ℕ) → IsMadeAs x false → q ≡ told_of x → GoesAs (run_as (cell_at m.plans s.cell).kind s.want) x (told_of x) (Finished.Failed q) r.1
+          failing None z f = f
+          failing (Some x) z f = absurd (cc)
 
     -- its call has what it wants
     pub ends_phase : (q : Phase) → r.0 ≡ Finished.Phase q → row'.value ≡ made → EndsAs held place m v s made (Some (Finished.Phase q, r.1)) v'
@@ -206,11 +202,10 @@ module _ {L : Type 0} (held : L → Holders) (place : L → LockerKind) (m : Sta
           stands = back_stands true d.0 d.3 (reads_here (Finished.Phase q) e) (stands_here (Finished.Phase q) e).0 (value ∙ made_value d.0);
           told = going made (subst (IsMadeAs made) d.0 made_is) (runs_as SeqWant.Init d.1, told_as q (d.2 ∙ phase_is true d.0));
           gave = back_gives true d.0 d.3 (reads_here (Finished.Phase q) e) (stands_here (Finished.Phase q) e).0;
-        }
-      where
-        going : (x : Option ℕ) → IsMadeAs x true → (run_as (cell_at m.plans s.cell).kind s.want ≡ SeqWant.Init) × (q ≡ told_of x) → GoesAs (run_as (cell_at m.plans s.cell).kind s.want) x (told_of x) (Finished.Phase q) r.1
-        going None z f = absurd (cc)
-        going (Some x) z f = f
+        } where
+          going : (x : Option ℕ) → IsMadeAs x true → (run_as (cell_at m.plans s.cell).kind s.want ≡ SeqWant.Init) × (q ≡ told_of x) → GoesAs (run_as (cell_at m.plans s.cell).kind s.want) x (told_of x) (Finished.Phase q) r.1
+          going None z f = absurd (cc)
+          going (Some x) z f = f
 
     -- its call reads on
     pub ends_read : (l : ReadTicket) (q : Phase) → r.0 ≡ Finished.Read l q → row'.value ≡ made → EndsAs held place m v s made (Some (Finished.Read l q, r.1)) v'
@@ -228,17 +223,16 @@ module _ {L : Type 0} (held : L → Holders) (place : L → LockerKind) (m : Sta
               (parties_now (guarded (reader n s.party s.cell) (run_closed s made r.1 m)) refl (λ x. target_given s.cell r.1 m.waits x));
           told = going made (subst (IsMadeAs made) d.0 made_is) (runs_as SeqWant.Read d.1, told_as q (d.2 ∙ phase_is true d.0));
           gave = subst (λ z. MayGiveDown z m r.1) (sym is.inner.at) (gives_down held place m v p c s is.inner row row_is (reached its.stays true) r.1 _ v'.parks d.3);
-        }
-      where
-        seen : seen_at c (guarded (reader n s.party s.cell) (run_closed s made r.1 m)) ≡ record { plan = cell_at m.plans c; content = made_as; reads = 1; writes = 0; run = None }
-        seen =
-            ap (λ x. seen_at c (guarded (reader n s.party x) (run_closed s made r.1 m))) is.inner.at
-            ∙ seen_reader n s.party c (run_closed s made r.1 m)
-            ∙ ap (λ (w : Seen). record { plan = w.plan; content = w.content; reads = w.reads + 1; writes = w.writes; run = w.run }) (seen_closed held place m v p c s is.inner row row_is (Ran s.is_open made ∷ []) r.1)
+        } where
+          seen : seen_at c (guarded (reader n s.party s.cell) (run_closed s made r.1 m)) ≡ record { plan = cell_at m.plans c; content = made_as; reads = 1; writes = 0; run = None }
+          seen =
+              ap (λ x. seen_at c (guarded (reader n s.party x) (run_closed s made r.1 m))) is.inner.at
+              ∙ seen_reader n s.party c (run_closed s made r.1 m)
+              ∙ ap (λ (w : Seen). record { plan = w.plan; content = w.content; reads = w.reads + 1; writes = w.writes; run = w.run }) (seen_closed held place m v p c s is.inner row row_is (Ran s.is_open made ∷ []) r.1)
 
-        going : (x : Option ℕ) → IsMadeAs x true → (run_as (cell_at m.plans s.cell).kind s.want ≡ SeqWant.Read) × (q ≡ told_of x) → GoesAs (run_as (cell_at m.plans s.cell).kind s.want) x (told_of x) (Finished.Read l q) r.1
-        going None z f = absurd (cc)
-        going (Some x) z f = f
+          going : (x : Option ℕ) → IsMadeAs x true → (run_as (cell_at m.plans s.cell).kind s.want ≡ SeqWant.Read) × (q ≡ told_of x) → GoesAs (run_as (cell_at m.plans s.cell).kind s.want) x (told_of x) (Finished.Read l q) r.1
+          going None z f = absurd (cc)
+          going (Some x) z f = f
 
     -- its call writes on
     pub ends_write : (l : WriteTicket) (q : Phase) → r.0 ≡ Finished.Write l q → row'.value ≡ row.value → row'.draft ≡ record { phase = q; value = made } → EndsAs held place m v s made (Some (Finished.Write l q, r.1)) v'
@@ -263,25 +257,23 @@ module _ {L : Type 0} (held : L → Holders) (place : L → LockerKind) (m : Sta
               (parties_now (guarded (writer_of n s made) gone) refl (λ x. refl));
           told = going made (subst (IsMadeAs made) d.0 made_is) (runs_as SeqWant.Write d.1, told_as q (d.2 ∙ phase_is true d.0), d.5);
           gave = d.5;
-        }
-      where
-        gone : Standing
-        gone = without_it held place m v p c s is.inner row row_is
+        } where
+          gone : Standing
+          gone = without_it held place m v p c s is.inner row row_is
 
-        seen : seen_at c (guarded (writer_of n s made) gone) ≡ record { plan = cell_at m.plans c; content = m.content c; reads = 0; writes = 1; run = None }
-        seen =
-            let e : (s.cell == c) ≡ true = (let q = is.inner.at in grind (arith, q)) in
-            let more : count (writes_cell c) m.guards + 1 + count (runs_in c) (without_innermost s.party m.sections) ≡ writes_in c gone + 1 = omega arith in
-            rw e ((λ i. record { plan = cell_at m.plans c; content = m.content c; reads = reads_in c m; writes = more i; run = run_in c (without_innermost s.party m.sections) }) ∙ ap (λ (w : Seen). record { plan = w.plan; content = w.content; reads = w.reads; writes = w.writes + 1; run = w.run }) (seen_without held place m v p c s is.inner row row_is))
+          seen : seen_at c (guarded (writer_of n s made) gone) ≡ record { plan = cell_at m.plans c; content = m.content c; reads = 0; writes = 1; run = None }
+          seen =
+              let e : (s.cell == c) ≡ true = (let q = is.inner.at in grind (arith, q)) in
+              let more : count (writes_cell c) m.guards + 1 + count (runs_in c) (without_innermost s.party m.sections) ≡ writes_in c gone + 1 = omega arith in
+              rw e ((λ i. record { plan = cell_at m.plans c; content = m.content c; reads = reads_in c m; writes = more i; run = run_in c (without_innermost s.party m.sections) }) ∙ ap (λ (w : Seen). record { plan = w.plan; content = w.content; reads = w.reads; writes = w.writes + 1; run = w.run }) (seen_without held place m v p c s is.inner row row_is))
 
-        -- its holder sees what was made
-        drafted : q ≡ told_of made → IsMadeAs made true → record { phase = q; value = made } ≡ draft_of (seen_by gone (writer_of n s made))
-        drafted f = by made f
-          where
+          -- its holder sees what was made
+          drafted : q ≡ told_of made → IsMadeAs made true → record { phase = q; value = made } ≡ draft_of (seen_by gone (writer_of n s made))
+          drafted f = by made f where
             by : (x : Option ℕ) → q ≡ told_of x → IsMadeAs x true → record { phase = q; value = x } ≡ draft_of (seen_by gone (writer_of n s x))
             by None f k = absurd (cc)
             by (Some x) f k = ap (λ z. record { phase = z; value = Some x }) f
 
-        going : (x : Option ℕ) → IsMadeAs x true → (run_as (cell_at m.plans s.cell).kind s.want ≡ SeqWant.Write) × (q ≡ told_of x) × (r.1 ≡ Given.Nobody) → GoesAs (run_as (cell_at m.plans s.cell).kind s.want) x (told_of x) (Finished.Write l q) r.1
-        going None z f = absurd (cc)
-        going (Some x) z f = f
+          going : (x : Option ℕ) → IsMadeAs x true → (run_as (cell_at m.plans s.cell).kind s.want ≡ SeqWant.Write) × (q ≡ told_of x) × (r.1 ≡ Given.Nobody) → GoesAs (run_as (cell_at m.plans s.cell).kind s.want) x (told_of x) (Finished.Write l q) r.1
+          going None z f = absurd (cc)
+          going (Some x) z f = f

@@ -33,12 +33,11 @@ waits_by _ = false
 pub ran_asked : (who : Who) (ask : Ask) (p : Phase) (n : LockNature) → is_run (begun_of who ask p (got n p)) ≡ true → asks_run ask p ≡ true
 ran_asked who ask p LockNature.None e = absurd (cc)
 ran_asked who ask p LockNature.Read e = absurd (cc)
-ran_asked who ask p LockNature.Write e = by (asks_run ask p) refl e
-  where
-    final : (b : Bool) (s : SeqSection) → is_run (if b then Begun.Final s else Begun.Write write_ticket p) ≡ false
-    final true s = refl
-    final false s = refl
+ran_asked who ask p LockNature.Write e = by (asks_run ask p) refl e where
+  final : (b : Bool) (s : SeqSection) → is_run (if b then Begun.Final s else Begun.Write write_ticket p) ≡ false
+  final true s = refl
+  final false s = refl
 
-    by : (b : Bool) → asks_run ask p ≡ b → is_run (if b then Begun.Run (section_by who ask.want unregistered write_ticket) else begun_write who ask.want p write_ticket) ≡ true → b ≡ true
-    by true f g = refl
-    by false f g = absurd (let z : false ≡ true = sym (final (finalizes ask.want) (section_by who ask.want p write_ticket)) ∙ g in cc)
+  by : (b : Bool) → asks_run ask p ≡ b → is_run (if b then Begun.Run (section_by who ask.want unregistered write_ticket) else begun_write who ask.want p write_ticket) ≡ true → b ≡ true
+  by true f g = refl
+  by false f g = absurd (let z : false ≡ true = sym (final (finalizes ask.want) (section_by who ask.want p write_ticket)) ∙ g in cc)

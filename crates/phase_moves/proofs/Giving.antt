@@ -15,13 +15,12 @@ parks_as _ = refl
 
 -- where parked calls are listed, calls park
 pub parking : (k : LockerKind) (h : Holders) (s : Parking) (c : ℕ) (p : Place) (g : Given) → Fits k h s c → k ≡ kind_at p → IsListed c s g → g ≢ Given.Nobody → is_parking p ≡ true
-parking k h s c p g fits e l ne = by (is_parking p) refl g l ne
-  where
-    by : (b : Bool) → is_parking p ≡ b → (d : Given) → IsListed c s d → d ≢ Given.Nobody → is_parking p ≡ true
-    by true q d at some = q
-    by false q Given.Nobody at some = absurd (some refl)
-    by false q (Given.Writer r) at some = absurd (listed_in r (writers_of s c) at (fits.still (ap is_park e ∙ parks_as p ∙ q)).0.1)
-    by false q Given.Readers at some = absurd (let a = (fits.still (ap is_park e ∙ parks_as p ∙ q)).0.0 in let b : false ≡ true = sym at ∙ a in cc)
+parking k h s c p g fits e l ne = by (is_parking p) refl g l ne where
+  by : (b : Bool) → is_parking p ≡ b → (d : Given) → IsListed c s d → d ≢ Given.Nobody → is_parking p ≡ true
+  by true q d at some = q
+  by false q Given.Nobody at some = absurd (some refl)
+  by false q (Given.Writer r) at some = absurd (listed_in r (writers_of s c) at (fits.still (ap is_park e ∙ parks_as p ∙ q)).0.1)
+  by false q Given.Readers at some = absurd (let a = (fits.still (ap is_park e ∙ parks_as p ∙ q)).0.0 in let b : false ≡ true = sym at ∙ a in cc)
 
 pub idle_at : (c : ℕ) (h : Holders) (s : Parking) (g : Given) → MayHand c h s g → g ≢ Given.Nobody → IsIdle h
 idle_at c h s Given.Nobody may ne = absurd (ne refl)
@@ -65,28 +64,26 @@ module _ {L : Type 0} (held : L → Holders) (place : L → LockerKind) (hand : 
       omega (arith, reads, writes, readers, most, unclaimed, shown, claimed)
 
   pub gives_write : (q : Phase) → x.writes ≡ true → (h' : Holders) (s' : Parking) → Hands x.cell (leave_write q (held row.seq.locker)) v.parks g h' s' → MayGive x.cell (left x Given.Nobody m) g
-  gives_write q w h' s' hands = by g refl
-    where
-      by : (d : Given) → g ≡ d → MayGive x.cell (left x Given.Nobody m) d
-      by Given.Nobody e = tt
-      by (Given.Writer r) e =
-          let ne : g ≢ Given.Nobody = λ z. (let f : Given.Writer r ≡ Given.Nobody = sym e ∙ z in cc) in
-          subst (IsGift x.cell (left x Given.Nobody m)) e (gift ne (listed_hand x.cell _ v.parks g hands.may) (free_write q w (idle_at x.cell _ v.parks g hands.may ne)))
-      by Given.Readers e =
-          let ne : g ≢ Given.Nobody = λ z. (let f : Given.Readers ≡ Given.Nobody = sym e ∙ z in cc) in
-          subst (IsGift x.cell (left x Given.Nobody m)) e (gift ne (listed_hand x.cell _ v.parks g hands.may) (free_write q w (idle_at x.cell _ v.parks g hands.may ne)))
+  gives_write q w h' s' hands = by g refl where
+    by : (d : Given) → g ≡ d → MayGive x.cell (left x Given.Nobody m) d
+    by Given.Nobody e = tt
+    by (Given.Writer r) e =
+        let ne : g ≢ Given.Nobody = λ z. (let f : Given.Writer r ≡ Given.Nobody = sym e ∙ z in cc) in
+        subst (IsGift x.cell (left x Given.Nobody m)) e (gift ne (listed_hand x.cell _ v.parks g hands.may) (free_write q w (idle_at x.cell _ v.parks g hands.may ne)))
+    by Given.Readers e =
+        let ne : g ≢ Given.Nobody = λ z. (let f : Given.Readers ≡ Given.Nobody = sym e ∙ z in cc) in
+        subst (IsGift x.cell (left x Given.Nobody m)) e (gift ne (listed_hand x.cell _ v.parks g hands.may) (free_write q w (idle_at x.cell _ v.parks g hands.may ne)))
 
   pub gives_read : x.writes ≡ false → (h' : Holders) (s' : Parking) → Hands x.cell (leave_read (held row.seq.locker)) v.parks g h' s' → MayGive x.cell (left x Given.Nobody m) g
-  gives_read r h' s' hands = by g refl
-    where
-      by : (d : Given) → g ≡ d → MayGive x.cell (left x Given.Nobody m) d
-      by Given.Nobody e = tt
-      by (Given.Writer q) e =
-          let ne : g ≢ Given.Nobody = λ z. (let f : Given.Writer q ≡ Given.Nobody = sym e ∙ z in cc) in
-          subst (IsGift x.cell (left x Given.Nobody m)) e (gift ne (listed_hand x.cell _ v.parks g hands.may) (free_read r (idle_at x.cell _ v.parks g hands.may ne)))
-      by Given.Readers e =
-          let ne : g ≢ Given.Nobody = λ z. (let f : Given.Readers ≡ Given.Nobody = sym e ∙ z in cc) in
-          subst (IsGift x.cell (left x Given.Nobody m)) e (gift ne (listed_hand x.cell _ v.parks g hands.may) (free_read r (idle_at x.cell _ v.parks g hands.may ne)))
+  gives_read r h' s' hands = by g refl where
+    by : (d : Given) → g ≡ d → MayGive x.cell (left x Given.Nobody m) d
+    by Given.Nobody e = tt
+    by (Given.Writer q) e =
+        let ne : g ≢ Given.Nobody = λ z. (let f : Given.Writer q ≡ Given.Nobody = sym e ∙ z in cc) in
+        subst (IsGift x.cell (left x Given.Nobody m)) e (gift ne (listed_hand x.cell _ v.parks g hands.may) (free_read r (idle_at x.cell _ v.parks g hands.may ne)))
+    by Given.Readers e =
+        let ne : g ≢ Given.Nobody = λ z. (let f : Given.Readers ≡ Given.Nobody = sym e ∙ z in cc) in
+        subst (IsGift x.cell (left x Given.Nobody m)) e (gift ne (listed_hand x.cell _ v.parks g hands.may) (free_read r (idle_at x.cell _ v.parks g hands.may ne)))
 
 -- the same, at the cell that the code names
 pub gives_read_at : {L : Type 0} (held : L → Holders) (place : L → LockerKind) (hand : ℕ) (m : Standing) (v : Rows L) (x : Guard) (t : Stands held place hand m v) (found : numbered hand m.guards ≡ Some x) (c : ℕ) → x.cell ≡ c → (row : CellRow L) → slice_get v.cells.items c ≡ Some row → (g : Given) → x.writes ≡ false
@@ -102,14 +99,13 @@ gives_write_at held place hand m v x t found c at row row_is g q w h' s' hands =
 -- at a downgrade
 pub gives_down_at : {L : Type 0} (held : L → Holders) (place : L → LockerKind) (hand : ℕ) (m : Standing) (v : Rows L) (x : Guard) (t : Stands held place hand m v) (c : ℕ) → x.cell ≡ c → (row : CellRow L) → slice_get v.cells.items c ≡ Some row → (g : Given) (q : Phase)
     → (h' : Holders) (s' : Parking) → Downgrades c q (held row.seq.locker) v.parks g h' s' → MayGiveDown x.cell m g
-gives_down_at held place hand m v x t c at row row_is g q h' s' down = subst (λ d. MayGiveDown d m g) (sym at) (by g down.may)
-  where
-    by : (d : Given) → MayShare c v.parks d → MayGiveDown c m d
-    by Given.Nobody may = tt
-    by (Given.Writer p) may = absurd may
-    by Given.Readers may =
-        let k = t.cell c row row_is in
-        record { parks = parking _ _ v.parks c (cell_at m.plans c).place Given.Readers k.locked.fits k.placed may (λ e. (let f : Given.Readers ≡ Given.Nobody = e in cc)); reach = reaches_given c Given.Readers m.waits v.parks t.waits.shows may }
+gives_down_at held place hand m v x t c at row row_is g q h' s' down = subst (λ d. MayGiveDown d m g) (sym at) (by g down.may) where
+  by : (d : Given) → MayShare c v.parks d → MayGiveDown c m d
+  by Given.Nobody may = tt
+  by (Given.Writer p) may = absurd may
+  by Given.Readers may =
+      let k = t.cell c row row_is in
+      record { parks = parking _ _ v.parks c (cell_at m.plans c).place Given.Readers k.locked.fits k.placed may (λ e. (let f : Given.Readers ≡ Given.Nobody = e in cc)); reach = reaches_given c Given.Readers m.waits v.parks t.waits.shows may }
 
 -- ---- what is given as a section ends may be given
 
@@ -139,22 +135,20 @@ module _ {L : Type 0} (held : L → Holders) (place : L → LockerKind) (m : Sta
         }
 
     pub gives_closed : MayGive c n g
-    gives_closed = by g refl
-      where
-        by : (d : Given) → g ≡ d → MayGive c n d
-        by Given.Nobody e = tt
-        by (Given.Writer r) e = subst (IsGift c n) e (gift_closed (λ z. (let f : Given.Writer r ≡ Given.Nobody = sym e ∙ z in cc)))
-        by Given.Readers e = subst (IsGift c n) e (gift_closed (λ z. (let f : Given.Readers ≡ Given.Nobody = sym e ∙ z in cc)))
+    gives_closed = by g refl where
+      by : (d : Given) → g ≡ d → MayGive c n d
+      by Given.Nobody e = tt
+      by (Given.Writer r) e = subst (IsGift c n) e (gift_closed (λ z. (let f : Given.Writer r ≡ Given.Nobody = sym e ∙ z in cc)))
+      by Given.Readers e = subst (IsGift c n) e (gift_closed (λ z. (let f : Given.Readers ≡ Given.Nobody = sym e ∙ z in cc)))
 
   -- at a section that a reader goes on from
   pub gives_down : (q : Phase) (g : Given) (h' : Holders) (s' : Parking) → Downgrades c q (held row.seq.locker) v.parks g h' s' → MayGiveDown c m g
-  gives_down q g h' s' down = by g down.may
-    where
-      by : (d : Given) → MayShare c v.parks d → MayGiveDown c m d
-      by Given.Nobody may = tt
-      by (Given.Writer r) may = absurd may
-      by Given.Readers may =
-          record {
-            parks = parking _ _ v.parks c (cell_at m.plans c).place Given.Readers here.locked.fits here.placed may (λ e. (let f : Given.Readers ≡ Given.Nobody = e in cc));
-            reach = reaches_given c Given.Readers m.waits v.parks is.rests.stands.waits.shows may;
-          }
+  gives_down q g h' s' down = by g down.may where
+    by : (d : Given) → MayShare c v.parks d → MayGiveDown c m d
+    by Given.Nobody may = tt
+    by (Given.Writer r) may = absurd may
+    by Given.Readers may =
+        record {
+          parks = parking _ _ v.parks c (cell_at m.plans c).place Given.Readers here.locked.fits here.placed may (λ e. (let f : Given.Readers ≡ Given.Nobody = e in cc));
+          reach = reaches_given c Given.Readers m.waits v.parks is.rests.stands.waits.shows may;
+        }

@@ -61,11 +61,10 @@ count_less t g gs x e f = let all = count_removed t g gs x e in let yes = ap (λ
 
 -- all rows stay where the guards are the same but for the one in hand
 pub slots_same : (m m' : Standing) (hand g : ℕ) → (g ≢ hand → numbered g m'.guards ≡ numbered g m.guards) → slot_row hand m' g ≡ slot_row hand m g
-slots_same m m' hand g guards = by (g == hand) refl
-  where
-    by : (b : Bool) → (g == hand) ≡ b → slot_row hand m' g ≡ slot_row hand m g
-    by true e = rw e refl
-    by false e = let r : guard_row (numbered g m'.guards) ≡ guard_row (numbered g m.guards) = ap guard_row (guards (grind (arith, e))) in rw e r
+slots_same m m' hand g guards = by (g == hand) refl where
+  by : (b : Bool) → (g == hand) ≡ b → slot_row hand m' g ≡ slot_row hand m g
+  by true e = rw e refl
+  by false e = let r : guard_row (numbered g m'.guards) ≡ guard_row (numbered g m.guards) = ap guard_row (guards (grind (arith, e))) in rw e r
 
 -- what the calls that wait ask stays at a gift
 target_changed : (f : Wait → Wait) → ((w : Wait) → target_of (Some (f w)) ≡ target_of (Some w)) → (o : Option Wait) → target_of (changed f o) ≡ target_of o

@@ -13,11 +13,10 @@ pub record ReadRow (c : ℕ) (o : Option Guard) : Type 0 where
 
 pub read_row : (q c : ℕ) (l : ReadTicket) (o : Option Guard) → GuardRow.Read q c l ≡ guard_row o → ReadRow c o
 read_row q c l None e = absurd (cc)
-read_row q c l (Some x) e = by x.writes refl
-  where
-    by : (b : Bool) → x.writes ≡ b → ReadRow c (Some x)
-    by true w = absurd (let f : GuardRow.Read q c l ≡ GuardRow.Write x.party x.cell write_ticket = e ∙ (rw w refl) in cc)
-    by false w = let f : GuardRow.Read q c l ≡ GuardRow.Read x.party x.cell read_ticket = e ∙ (rw w refl) in record { x = x; is = refl; reads = w; at = cc }
+read_row q c l (Some x) e = by x.writes refl where
+  by : (b : Bool) → x.writes ≡ b → ReadRow c (Some x)
+  by true w = absurd (let f : GuardRow.Read q c l ≡ GuardRow.Write x.party x.cell write_ticket = e ∙ (rw w refl) in cc)
+  by false w = let f : GuardRow.Read q c l ≡ GuardRow.Read x.party x.cell read_ticket = e ∙ (rw w refl) in record { x = x; is = refl; reads = w; at = cc }
 
 pub record WriteRow (c : ℕ) (o : Option Guard) : Type 0 where
   pub x : Guard
@@ -27,24 +26,19 @@ pub record WriteRow (c : ℕ) (o : Option Guard) : Type 0 where
 
 pub write_row : (q c : ℕ) (l : WriteTicket) (o : Option Guard) → GuardRow.Write q c l ≡ guard_row o → WriteRow c o
 write_row q c l None e = absurd (cc)
-write_row q c l (Some x) e = by x.writes refl
-  where
-    by : (b : Bool) → x.writes ≡ b → WriteRow c (Some x)
-    by true w = let f : GuardRow.Write q c l ≡ GuardRow.Write x.party x.cell write_ticket = e ∙ (rw w refl) in record { x = x; is = refl; writes = w; at = cc }
-    by false w = absurd (let f : GuardRow.Write q c l ≡ GuardRow.Read x.party x.cell read_ticket = e ∙ (rw w refl) in cc)
+write_row q c l (Some x) e = by x.writes refl where
+  by : (b : Bool) → x.writes ≡ b → WriteRow c (Some x)
+  by true w = let f : GuardRow.Write q c l ≡ GuardRow.Write x.party x.cell write_ticket = e ∙ (rw w refl) in record { x = x; is = refl; writes = w; at = cc }
+  by false w = absurd (let f : GuardRow.Write q c l ≡ GuardRow.Read x.party x.cell read_ticket = e ∙ (rw w refl) in cc)
 
 module _ {L : Type 0} (held : L → Holders) (place : L → LockerKind) where
   -- beyond the rows there is no guard but the one in hand
   pub beyond : (hand n : ℕ) (m : Standing) (v : Rows L) → Stands held place hand m v → numbered hand m.guards ≡ None → length v.guards.items ≤ n → numbered n m.guards ≡ None
-  beyond hand n m v t none room = by (numbered n m.guards) refl
-    where
-      by : (o : Option Guard) → numbered n m.guards ≡ o → o ≡ None
-      by None e = refl
-      by (Some x) e =
-          elim (cases_eq n hand) [
-            | inl q ↦ sym e ∙ ap (λ i. numbered i m.guards) q ∙ none
-            | inr ne ↦ (let l = t.guards.in_rows n x e ne in absurd (omega (arith, l, room)))
-          ]
+  beyond hand n m v t none room = by (numbered n m.guards) refl where
+    by : (o : Option Guard) → numbered n m.guards ≡ o → o ≡ None
+    by None e = refl
+    by (Some x) e =
+        elim (cases_eq n hand) [ inl q ↦ sym e ∙ ap (λ i. numbered i m.guards) q ∙ none | inr ne ↦ (let l = t.guards.in_rows n x e ne in absurd (omega (arith, l, room))) ]
 
   -- the row of a step that holds no guard is pushed
   pub pushed_free : (hand : ℕ) (m : Standing) (v new : Rows L) → Stands held place hand m v → numbered hand m.guards ≡ None → Pushes held place v GuardRow.Free new → Rests held place m new
@@ -59,11 +53,7 @@ module _ {L : Type 0} (held : L → Holders) (place : L → LockerKind) where
 -- ---- what the row of a guard tells of the guard
 
 row_party : (p : ℕ) (x : Guard) → is_row_of p (guard_row (Some x)) ≡ (x.party == p)
-row_party p x = by x.writes refl
-  where
-    by : (b : Bool) → x.writes ≡ b → is_row_of p (guard_row (Some x)) ≡ (x.party == p)
-    by true e = rw e refl
-    by false e = rw e refl
+row_party p x = (elim x.writes as (λ b. x.writes ≡ b → is_row_of p (guard_row (Some x)) ≡ (x.party == p)) [ true ↦ λ e. rw e refl | false ↦ λ e. rw e refl ]) refl
 
 -- whose guard it is
 owner : (p : ℕ) (o : Option Guard) (b : Bool) → is_row_of p (guard_row o) ≡ b → own p o ≡ (if b then o else None)
@@ -90,14 +80,12 @@ module _ {L : Type 0} (held : L → Holders) (place : L → LockerKind) (m : Sta
   pub is_taken : (row : GuardRow) → slice_get v.guards.items g ≡ Some row → g < length v.guards.items → is_row_of p row ≡ true → v'.guards.items ≡ set v.guards.items g GuardRow.Free → v'.cells ≡ v.cells → v'.parties ≡ v.parties → v'.parks ≡ v.parks → v'.exit ≡ v.exit → IsTaken held place v p g row v' m
   is_taken row e lt f guards cells parties parks exit =
       let its : guard_of g p m.guards ≡ numbered g m.guards = owner p (numbered g m.guards) true (ap (is_row_of p) (sym (row_shown row e lt)) ∙ f) in
-      record { row_is = row_shown row e lt ∙ ap guard_row (sym its); taken = subst (λ o. TakenAs held place v g o m v') (sym its) (by (numbered g m.guards) refl) }
-    where
-      all : Stands held place g m v'
-      all = taken held place m v v' g r.stands r.empty lt guards cells parties parks exit
+      record { row_is = row_shown row e lt ∙ ap guard_row (sym its); taken = subst (λ o. TakenAs held place v g o m v') (sym its) (by (numbered g m.guards) refl) } where
+        all : Stands held place g m v'
+        all = taken held place m v v' g r.stands r.empty lt guards cells parties parks exit
 
-      by : (o : Option Guard) → numbered g m.guards ≡ o → TakenAs held place v g o m v'
-      by None q = absurd (never (row_shown row e lt ∙ ap guard_row q) f)
-        where
+        by : (o : Option Guard) → numbered g m.guards ≡ o → TakenAs held place v g o m v'
+        by None q = absurd (never (row_shown row e lt ∙ ap guard_row q) f) where
           never : row ≡ GuardRow.Free → is_row_of p row ≡ true → ⊥
           never s t = let n : false ≡ true = ap (is_row_of p) (sym s) ∙ t in cc
-      by (Some x) q = (all, q)
+        by (Some x) q = (all, q)

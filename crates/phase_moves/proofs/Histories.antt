@@ -11,11 +11,10 @@ use Rattle.phase_moves.proofs.Guards.{its_number}
 
 owned_by : (p : ℕ) (x : Guard) (o : Option Guard) → own p o ≡ Some x → (o ≡ Some x) × (x.party ≡ p)
 owned_by p x None e = absurd (cc)
-owned_by p x (Some y) e = by (y.party == p) refl e
-  where
-    by : (b : Bool) → (y.party == p) ≡ b → (if b then Some y else None) ≡ Some x → (Some y ≡ Some x) × (x.party ≡ p)
-    by true q e = let same : y ≡ x = cc in (e, sym (ap (λ (z : Guard). z.party) same) ∙ grind (arith, q))
-    by false q e = absurd (cc)
+owned_by p x (Some y) e = by (y.party == p) refl e where
+  by : (b : Bool) → (y.party == p) ≡ b → (if b then Some y else None) ≡ Some x → (Some y ≡ Some x) × (x.party ≡ p)
+  by true q e = let same : y ≡ x = cc in (e, sym (ap (λ (z : Guard). z.party) same) ∙ grind (arith, q))
+  by false q e = absurd (cc)
 
 -- the write guard that a run leaves is given back at once
 pub writer_left : (n : ℕ) (s : Section) (made : Option ℕ) (d : Given) (t : WriteTicket) (q : Phase) (m : Standing) → left (writer_of n s made) d (ended n s made Given.Nobody (Finished.Write t q) m) ≡ run_closed s made d m
@@ -48,27 +47,26 @@ module _ (cells : List CellPlan) (h : List Event) (p : ℕ) where
 
     -- what is lent is given back at once
     pub lent_at_once : (c : ℕ) (l : Loan) (r : Lent) → accepts h ≡ (registry cells h).is_open → was_used r ≡ false → (l.runs ≡ false → answer_of r ≢ Answer.Failed) → standing cells (event p (lending c l) (record { answer = answer_of r; given = Given.Nobody }) ∷ h) ≡ lent_in c l r (standing cells h)
-    lent_at_once c l r agrees used fine = by l.runs l.made l.left r used fine
-      where
-        published : (a : Act) → cell_concerned_with cells ws h p a ≡ Some c → (chs : Bool → List Change)
-            → record { plans = cells; waits = waits_given_with cells ws h (record { party = p; act = a }) Given.Nobody (without_wait p ws); sections = sections h; guards = guards h; content = λ d. content_after_back cells d (Some (record { cell = c; changes = chs (accepts h) })) (replay cells d h); registry = registry cells h; owner = owner h; turns = ended_turns h }
-            ≡ changed c (chs (registry cells h).is_open) (standing cells h)
-        published a e chs =
-            let given = given_awake a Given.Nobody c e in
-            λ i. record { plans = cells; waits = given i; sections = sections h; guards = guards h; content = λ d. content_after_back cells d (Some (record { cell = c; changes = chs (agrees i) })) (replay cells d h); registry = registry cells h; owner = owner h; turns = ended_turns h }
+    lent_at_once c l r agrees used fine = by l.runs l.made l.left r used fine where
+      published : (a : Act) → cell_concerned_with cells ws h p a ≡ Some c → (chs : Bool → List Change)
+          → record { plans = cells; waits = waits_given_with cells ws h (record { party = p; act = a }) Given.Nobody (without_wait p ws); sections = sections h; guards = guards h; content = λ d. content_after_back cells d (Some (record { cell = c; changes = chs (accepts h) })) (replay cells d h); registry = registry cells h; owner = owner h; turns = ended_turns h }
+          ≡ changed c (chs (registry cells h).is_open) (standing cells h)
+      published a e chs =
+          let given = given_awake a Given.Nobody c e in
+          λ i. record { plans = cells; waits = given i; sections = sections h; guards = guards h; content = λ d. content_after_back cells d (Some (record { cell = c; changes = chs (agrees i) })) (replay cells d h); registry = registry cells h; owner = owner h; turns = ended_turns h }
 
-        quiet : (a : Act) → cell_concerned_with cells ws h p a ≡ Some c → record (standing cells h) { waits = waits_given_with cells ws h (record { party = p; act = a }) Given.Nobody (without_wait p ws) } ≡ standing cells h
-        quiet a e = let given = given_awake a Given.Nobody c e in λ i. record (standing cells h) { waits = given i }
+      quiet : (a : Act) → cell_concerned_with cells ws h p a ≡ Some c → record (standing cells h) { waits = waits_given_with cells ws h (record { party = p; act = a }) Given.Nobody (without_wait p ws) } ≡ standing cells h
+      quiet a e = let given = given_awake a Given.Nobody c e in λ i. record (standing cells h) { waits = given i }
 
-        by : (b : Bool) (made : Option ℕ) (left : ℕ) (z : Lent) → was_used z ≡ false → (b ≡ false → answer_of z ≢ Answer.Failed)
-            → standing cells (event p (lending c (record { runs = b; made = made; left = left })) (record { answer = answer_of z; given = Given.Nobody }) ∷ h) ≡ lent_in c (record { runs = b; made = made; left = left }) z (standing cells h)
-        by b made left Lent.InUse used fine = absurd (cc)
-        by true made left (Lent.Denied q) used fine = quiet (Act.GetMut c made left) refl
-        by false made left (Lent.Denied q) used fine = quiet (Act.TryGetMut c left) refl
-        by true made left Lent.Failed used fine = published (Act.GetMut c made left) refl (λ o. Ran o None ∷ [])
-        by false made left Lent.Failed used fine = absurd (fine refl refl)
-        by true made left (Lent.Found v) used fine = published (Act.GetMut c made left) refl (λ o. Put left ∷ RanIfAsked o made ∷ [])
-        by false made left (Lent.Found v) used fine = published (Act.TryGetMut c left) refl (λ o. Put left ∷ [])
+      by : (b : Bool) (made : Option ℕ) (left : ℕ) (z : Lent) → was_used z ≡ false → (b ≡ false → answer_of z ≢ Answer.Failed)
+          → standing cells (event p (lending c (record { runs = b; made = made; left = left })) (record { answer = answer_of z; given = Given.Nobody }) ∷ h) ≡ lent_in c (record { runs = b; made = made; left = left }) z (standing cells h)
+      by b made left Lent.InUse used fine = absurd (cc)
+      by true made left (Lent.Denied q) used fine = quiet (Act.GetMut c made left) refl
+      by false made left (Lent.Denied q) used fine = quiet (Act.TryGetMut c left) refl
+      by true made left Lent.Failed used fine = published (Act.GetMut c made left) refl (λ o. Ran o None ∷ [])
+      by false made left Lent.Failed used fine = absurd (fine refl refl)
+      by true made left (Lent.Found v) used fine = published (Act.GetMut c made left) refl (λ o. Put left ∷ RanIfAsked o made ∷ [])
+      by false made left (Lent.Found v) used fine = published (Act.TryGetMut c left) refl (λ o. Put left ∷ [])
 
     -- ---- guards
 
@@ -157,15 +155,13 @@ module _ (cells : List CellPlan) (h : List Event) (p : ℕ) where
 
   module _ (free : is_other (owner h) p ≡ false) where
     owns : owner_by p true (owner h) ≡ Some p
-    owns = by (owner h) free
-      where
-        by : (o : Option ℕ) → is_other o p ≡ false → owner_by p true o ≡ Some p
-        by None e = refl
-        by (Some q) e = at (q == p) refl e
-          where
-            at : (b : Bool) → (q == p) ≡ b → not b ≡ false → Some q ≡ Some p
-            at true f g = ap (λ x. Some x) (grind (arith, f))
-            at false f g = absurd (cc)
+    owns = by (owner h) free where
+      by : (o : Option ℕ) → is_other o p ≡ false → owner_by p true o ≡ Some p
+      by None e = refl
+      by (Some q) e = at (q == p) refl e where
+        at : (b : Bool) → (q == p) ≡ b → not b ≡ false → Some q ≡ Some p
+        at true f g = ap (λ x. Some x) (grind (arith, f))
+        at false f g = absurd (cc)
 
     -- a look for the cells that were registered since the last one
     pub exit_looks : wait_of p ws ≡ None → (o : Look) → standing cells (event p Act.Exit (record { answer = answer_of_look o; given = Given.Nobody }) ∷ h) ≡ round_looked (owned p (standing cells h))

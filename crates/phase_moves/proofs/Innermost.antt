@@ -153,10 +153,9 @@ module _ {L : Type 0} (held : L → Holders) (place : L → LockerKind) (m : Sta
               };
           numbers = st.guards;
           sections = inside_ended (length v.cells.items) s.party m.sections st.sections;
-        }
-      where
-        in_parks : c < length v.parks.readers
-        in_parks = let a = in_cells in let b = is.rests.stands.sizes.readers in omega (arith, a, b)
+        } where
+          in_parks : c < length v.parks.readers
+          in_parks = let a = in_cells in let b = is.rests.stands.sizes.readers in omega (arith, a, b)
 
   -- ---- the rows
 
@@ -177,10 +176,9 @@ module _ {L : Type 0} (held : L → Holders) (place : L → LockerKind) (m : Sta
   parties_ended v' of of' of_is parties o taken of'_is m' ss ws =
       parties_set held place n m m' v v' p of' is.rests.stands parties
       (of'_is ∙ (λ i. record { waiting = (of_here i).waiting; innermost = (o_is o taken i).run.outer }) ∙ (λ i. record { waiting = sym (ws p) i; innermost = cell_of_section (innermost p (without_innermost (sym its_party i) m.sections)) }) ∙ (λ i. record { waiting = target_of (wait_of p m'.waits); innermost = cell_of_section (innermost p (sym ss i)) }))
-      (λ q ne. λ i. record { waiting = ws q i; innermost = cell_of_section ((ap (innermost q) ss ∙ innermost_kept s.party q m.sections (λ e. ne (e ∙ its_party))) i) })
-    where
-      of_here : of ≡ party_row m p
-      of_here = let e : Some of ≡ Some (party_row m p) = sym (read_at v.parties.items p of is.party of_is) ∙ is.rests.stands.party p is.party in cc
+      (λ q ne. λ i. record { waiting = ws q i; innermost = cell_of_section ((ap (innermost q) ss ∙ innermost_kept s.party q m.sections (λ e. ne (e ∙ its_party))) i) }) where
+        of_here : of ≡ party_row m p
+        of_here = let e : Some of ≡ Some (party_row m p) = sym (read_at v.parties.items p of is.party of_is) ∙ is.rests.stands.party p is.party in cc
 
 -- the section that ends is in a cell
 pub end_inside : {L : Type 0} (held : L → Holders) (place : L → LockerKind) (m : Standing) (v : Rows L) (p c : ℕ) (s : Section) → IsInnermost held place m v p c s → c < length v.cells.items

@@ -16,11 +16,10 @@ waiting_readers How.Spin h = refl
 waiting_readers _ h = refl
 
 admitted_few : (n : LockNature) (h : Holders) → bars h n ≡ false → h.readers ≤ most_readers → (admitted h n).readers ≤ most_readers
-admitted_few LockNature.Read h e le = by (h.locked && (h.readers == 0)) (h.readers == most_readers) refl e
-  where
-    by : (a b : Bool) → (h.readers == most_readers) ≡ b → (a || b) ≡ false → h.readers + 1 ≤ most_readers
-    by false false f e = grind (arith, f, le)
-    by _ _ f e = absurd (cc)
+admitted_few LockNature.Read h e le = by (h.locked && (h.readers == 0)) (h.readers == most_readers) refl e where
+  by : (a b : Bool) → (h.readers == most_readers) ≡ b → (a || b) ≡ false → h.readers + 1 ≤ most_readers
+  by false false f e = grind (arith, f, le)
+  by _ _ f e = absurd (cc)
 admitted_few LockNature.Write h e le = le
 admitted_few LockNature.None h e le = le
 
@@ -30,11 +29,10 @@ given_up_few _ h le = le
 
 -- a lock to write is given beside no reader
 unread : (h : Holders) → bars h LockNature.Write ≡ false → h.readers ≡ 0
-unread h e = by h.locked (h.readers == 0) refl e
-  where
-    by : (a z : Bool) → (h.readers == 0) ≡ z → (a || not z) ≡ false → h.readers ≡ 0
-    by false true f e = grind (arith, f)
-    by _ _ f e = absurd (cc)
+unread h e = by h.locked (h.readers == 0) refl e where
+  by : (a z : Bool) → (h.readers == 0) ≡ z → (a || not z) ≡ false → h.readers ≡ 0
+  by false true f e = grind (arith, f)
+  by _ _ f e = absurd (cc)
 
 -- nobody keeps what it has not
 none_kept : (n : LockNature) (h : Holders) → keeps Waiting.Free n h ≡ false
@@ -123,37 +121,35 @@ module _ (k : LockerKind) (who : Who) (ask : Ask) (h : Holders) (s : Parking) wh
       }
 
   judged_so : (fresh : Bool) (mid : Holders) (rows : Parking) (n : LockNature) (a : Attempt) (h' : Holders) (s' : Parking) → ask.fast ≡ false → n ≡ wanted → mid.phase ≡ h.phase → Judged k fresh who (wake_of ask.want) n mid rows a h' s' → JudgedSo fresh mid (begun_by who ask h.phase a) h'
-  judged_so fresh mid rows n a h' s' slow ruled phase j = by (bars mid wanted) refl (subst (λ x. Judged k fresh who (wake_of ask.want) x mid rows a h' s') ruled j)
-    where
-      by : (c : Bool) → bars mid wanted ≡ c → MatchBool c (Waits k fresh who (wake_of ask.want) wanted mid rows a h' s') (Gets who wanted mid rows a h' s') → JudgedSo fresh mid (begun_by who ask h.phase a) h'
-      by true e w =
-          let is : begun_by who ask h.phase a ≡ Begun.Wait w.how = ap (begun_by who ask h.phase) w.answer in
-          record {
-            judged = subst (λ c. MatchBool c (IsBarred fresh mid (begun_by who ask h.phase a)) (begun_by who ask h.phase a ≡ begun_admitted)) (sym e)
-                (subst (λ f. MatchBool f (begun_by who ask h.phase a ≡ Begun.Missed) (IsWaiting fresh mid (begun_by who ask h.phase a))) (sym slow) (record { way = w.how; may = w.may; begins = is }));
-            few = λ le. subst (λ i. i ≤ most_readers) (sym (ap (λ (x : Holders). x.readers) w.held ∙ waiting_readers w.how mid)) le;
-            free = λ z. absurd (let y : 0 ≡ 1 = sym (ap writes_begun is) ∙ z in omega (arith, y));
-          }
-      by false e w = admitted_so fresh mid rows (begun_by who ask h.phase a) h' e (ap (begun_by who ask h.phase) w.answer ∙ ap (λ q. begun_of who ask h.phase (got wanted q)) phase) (ap (λ (x : Holders). x.readers) w.held)
+  judged_so fresh mid rows n a h' s' slow ruled phase j = by (bars mid wanted) refl (subst (λ x. Judged k fresh who (wake_of ask.want) x mid rows a h' s') ruled j) where
+    by : (c : Bool) → bars mid wanted ≡ c → MatchBool c (Waits k fresh who (wake_of ask.want) wanted mid rows a h' s') (Gets who wanted mid rows a h' s') → JudgedSo fresh mid (begun_by who ask h.phase a) h'
+    by true e w =
+        let is : begun_by who ask h.phase a ≡ Begun.Wait w.how = ap (begun_by who ask h.phase) w.answer in
+        record {
+          judged = subst (λ c. MatchBool c (IsBarred fresh mid (begun_by who ask h.phase a)) (begun_by who ask h.phase a ≡ begun_admitted)) (sym e)
+              (subst (λ f. MatchBool f (begun_by who ask h.phase a ≡ Begun.Missed) (IsWaiting fresh mid (begun_by who ask h.phase a))) (sym slow) (record { way = w.how; may = w.may; begins = is }));
+          few = λ le. subst (λ i. i ≤ most_readers) (sym (ap (λ (x : Holders). x.readers) w.held ∙ waiting_readers w.how mid)) le;
+          free = λ z. absurd (let y : 0 ≡ 1 = sym (ap writes_begun is) ∙ z in omega (arith, y));
+        }
+    by false e w = admitted_so fresh mid rows (begun_by who ask h.phase a) h' e (ap (begun_by who ask h.phase) w.answer ∙ ap (λ q. begun_of who ask h.phase (got wanted q)) phase) (ap (λ (x : Holders). x.readers) w.held)
 
   -- a call that does not wait
   tried_so : (r : Begun × Given) (h' : Holders) (s' : Parking) → ask.fast ≡ true → TriesLock who ask h s r h' s' → JudgedSo true h r.0 h'
-  tried_so r h' s' fast a = by (bars h wanted) refl
-    where
-      told : (c : Bool) → bars h wanted ≡ c → r.0 ≡ begun_tried who ask h.phase (if c then None else Some (got wanted h.phase))
-      told c e = ap (λ (x : Begun × Given). x.0) a.answer ∙ ap (begun_tried who ask h.phase) (a.tries.answer ∙ ap (λ n. if bars h n then None else Some (got n h.phase)) a.tries.allowed ∙ ap (λ c. if c then None else Some (got wanted h.phase)) e)
+  tried_so r h' s' fast a = by (bars h wanted) refl where
+    told : (c : Bool) → bars h wanted ≡ c → r.0 ≡ begun_tried who ask h.phase (if c then None else Some (got wanted h.phase))
+    told c e = ap (λ (x : Begun × Given). x.0) a.answer ∙ ap (begun_tried who ask h.phase) (a.tries.answer ∙ ap (λ n. if bars h n then None else Some (got n h.phase)) a.tries.allowed ∙ ap (λ c. if c then None else Some (got wanted h.phase)) e)
 
-      held : (c : Bool) → bars h wanted ≡ c → h'.readers ≡ (if c then h else admitted h wanted).readers
-      held c e = ap (λ (x : Holders). x.readers) (a.tries.held ∙ ap (λ n. if bars h n then h else admitted h n) a.tries.allowed ∙ ap (λ c. if c then h else admitted h wanted) e)
+    held : (c : Bool) → bars h wanted ≡ c → h'.readers ≡ (if c then h else admitted h wanted).readers
+    held c e = ap (λ (x : Holders). x.readers) (a.tries.held ∙ ap (λ n. if bars h n then h else admitted h n) a.tries.allowed ∙ ap (λ c. if c then h else admitted h wanted) e)
 
-      by : (c : Bool) → bars h wanted ≡ c → JudgedSo true h r.0 h'
-      by true e =
-          record {
-            judged = subst (λ c. MatchBool c (IsBarred true h r.0) (r.0 ≡ begun_admitted)) (sym e) (subst (λ f. MatchBool f (r.0 ≡ Begun.Missed) (IsWaiting true h r.0)) (sym fast) (told true e));
-            few = λ le. subst (λ i. i ≤ most_readers) (sym (held true e)) le;
-            free = λ z. absurd (let y : 0 ≡ 1 = sym (ap writes_begun (told true e)) ∙ z in omega (arith, y));
-          }
-      by false e = admitted_so true h s r.0 h' e (told false e) (held false e)
+    by : (c : Bool) → bars h wanted ≡ c → JudgedSo true h r.0 h'
+    by true e =
+        record {
+          judged = subst (λ c. MatchBool c (IsBarred true h r.0) (r.0 ≡ begun_admitted)) (sym e) (subst (λ f. MatchBool f (r.0 ≡ Begun.Missed) (IsWaiting true h r.0)) (sym fast) (told true e));
+          few = λ le. subst (λ i. i ≤ most_readers) (sym (held true e)) le;
+          free = λ z. absurd (let y : 0 ≡ 1 = sym (ap writes_begun (told true e)) ∙ z in omega (arith, y));
+        }
+    by false e = admitted_so true h s r.0 h' e (told false e) (held false e)
 
   -- where the record that was judged was free, nothing stands beside the lock to write
   apart_so : (g : Given) (mid h' : Holders) (rows : Parking) → rows ≡ rows_handed who.cell g (freed who.party s) → Fits k mid rows who.cell → open_reads mid rows who.cell ≡ open_reads h s who.cell → (IsWriteOpen h s who.cell → IsWriteOpen mid rows who.cell) → IsFree mid h' → IsApart g h'
@@ -175,41 +171,40 @@ module _ (k : LockerKind) (who : Who) (ask : Ask) (h : Holders) (s : Parking) wh
   module _ (running : Option ℕ) (r : Begun × Given) (h' : Holders) (s' : Parking) (calm : is_cyclic ask.want who.party running ≡ false) (fits : Fits k h s who.cell) where
     -- a call of a party that does not wait
     first_met : row_of s who.party ≡ free_row → Begins k who ask running h s r h' s' → IsMetBy r.0 r.1 h'
-    first_met free d = by (is_cyclic ask.want who.party running) ask.fast refl calm d
-      where
-        -- nothing was given up
-        as_judged : (b : Begun) → JudgedSo true h b h' → IsMetBy b Given.Nobody h'
-        as_judged b j =
-            record {
-              how = inr (record {
-                dropped = ap (λ (x : Row). keeps x.waiting wanted h) free ∙ none_kept wanted h;
-                mid = h;
-                rows = s;
-                rows_are = sym (free_same who.party s free);
-                may = tt;
-                fits = fits;
-                reads = refl;
-                writes = λ o. o;
-                only = λ o. o;
-                fresh = true;
-                judged = j.judged;
-              });
-              few = j.few;
-              apart = λ z. apart_so Given.Nobody h h' s (sym (free_same who.party s free)) fits refl (λ o. o) (j.free z);
-            }
+    first_met free d = by (is_cyclic ask.want who.party running) ask.fast refl calm d where
+      -- nothing was given up
+      as_judged : (b : Begun) → JudgedSo true h b h' → IsMetBy b Given.Nobody h'
+      as_judged b j =
+          record {
+            how = inr (record {
+              dropped = ap (λ (x : Row). keeps x.waiting wanted h) free ∙ none_kept wanted h;
+              mid = h;
+              rows = s;
+              rows_are = sym (free_same who.party s free);
+              may = tt;
+              fits = fits;
+              reads = refl;
+              writes = λ o. o;
+              only = λ o. o;
+              fresh = true;
+              judged = j.judged;
+            });
+            few = j.few;
+            apart = λ z. apart_so Given.Nobody h h' s (sym (free_same who.party s free)) fits refl (λ o. o) (j.free z);
+          }
 
-        tried : ask.fast ≡ true → TriesLock who ask h s r h' s' → IsMetBy r.0 r.1 h'
-        tried fast a = subst (λ g. IsMetBy r.0 g h') (sym (ap (λ (x : Begun × Given). x.1) a.answer)) (as_judged r.0 (tried_so r h' s' fast a))
+      tried : ask.fast ≡ true → TriesLock who ask h s r h' s' → IsMetBy r.0 r.1 h'
+      tried fast a = subst (λ g. IsMetBy r.0 g h') (sym (ap (λ (x : Begun × Given). x.1) a.answer)) (as_judged r.0 (tried_so r h' s' fast a))
 
-        made : ask.fast ≡ false → MakesAttempt k who ask h s r h' s' → IsMetBy r.0 r.1 h'
-        made slow a =
-            subst (λ b. IsMetBy b r.1 h') (sym a.answer)
-            (subst (λ g. IsMetBy (begun_by who ask h.phase a.attempt) g h') (sym a.locks.given) (as_judged (begun_by who ask h.phase a.attempt) (judged_so true h s a.locks.nature a.attempt h' s' slow a.locks.allowed refl a.locks.judged)))
+      made : ask.fast ≡ false → MakesAttempt k who ask h s r h' s' → IsMetBy r.0 r.1 h'
+      made slow a =
+          subst (λ b. IsMetBy b r.1 h') (sym a.answer)
+          (subst (λ g. IsMetBy (begun_by who ask h.phase a.attempt) g h') (sym a.locks.given) (as_judged (begun_by who ask h.phase a.attempt) (judged_so true h s a.locks.nature a.attempt h' s' slow a.locks.allowed refl a.locks.judged)))
 
-        by : (c f : Bool) → ask.fast ≡ f → c ≡ false → MatchBool c (TurnsBack h s r h' s') (MatchBool f (TriesLock who ask h s r h' s') (MakesAttempt k who ask h s r h' s')) → IsMetBy r.0 r.1 h'
-        by true f q e d = absurd (cc)
-        by false true q e d = tried q d
-        by false false q e d = made q d
+      by : (c f : Bool) → ask.fast ≡ f → c ≡ false → MatchBool c (TurnsBack h s r h' s') (MatchBool f (TriesLock who ask h s r h' s') (MakesAttempt k who ask h s r h' s')) → IsMetBy r.0 r.1 h'
+      by true f q e d = absurd (cc)
+      by false true q e d = tried q d
+      by false false q e d = made q d
 
     module _ (cell : who.cell < length s.readers) (party : who.party < length s.rows) (sound : IsSound s) (sound_then : IsSound (freed who.party s)) (room : length (readers_of (freed who.party s) who.cell) ≤ most_readers) (here : (row_of s who.party).cell ≡ who.cell) (slow : ask.fast ≡ false) where
       abbrev v : Waiting
@@ -228,19 +223,18 @@ module _ (k : LockerKind) (who : Who) (ask : Ask) (h : Holders) (s : Parking) wh
             how = inl (record { kept = ap (λ x. keeps v x h) (sym ruled) ∙ e; quiet = j.given; begins = is });
             few = λ le. subst (λ i. i ≤ most_readers) (sym (ap (λ (x : Holders). x.readers) j.held)) le;
             apart = λ z. subst (λ y. IsApart y h') (sym j.given) (none ((got_to who ask h.phase wanted s refl).wrote (sym (ap writes_begun is) ∙ z)));
-          }
-        where
-          none : wanted ≡ LockNature.Write → IsApart Given.Nobody h'
-          none w =
-              let keep : keeps v LockNature.Write h ≡ true = ap (λ x. keeps v x h) (sym (ruled ∙ w)) ∙ e in
-              let fits_then = keeps_fit LockNature.Write k h s who.cell who.party party here fits keep in
-              let opened : IsWriteOpen (flagged who.cell (freed who.party s) h) (freed who.party s) who.cell = subst (λ y. IsWriteOpen (flagged who.cell y h) y who.cell) there (kept_open v LockNature.Write k h s who.cell who.party party row fits keep) in
-              let none : h.readers ≡ 0 = write_has_no_reader k (flagged who.cell (freed who.party s) h) (freed who.party s) who.cell fits_then opened in
-              let most = fits_then.shared in
-              record {
-                readers = ap (λ (x : Holders). x.readers) j.held ∙ none;
-                clear = record { shares_none = omega (arith, most, none); claims_none = opened.unclaimed; reads_none = omega (arith, none); closed = λ o. kept_writes v LockNature.Write k h s who.cell who.party party row fits keep o };
-              }
+          } where
+            none : wanted ≡ LockNature.Write → IsApart Given.Nobody h'
+            none w =
+                let keep : keeps v LockNature.Write h ≡ true = ap (λ x. keeps v x h) (sym (ruled ∙ w)) ∙ e in
+                let fits_then = keeps_fit LockNature.Write k h s who.cell who.party party here fits keep in
+                let opened : IsWriteOpen (flagged who.cell (freed who.party s) h) (freed who.party s) who.cell = subst (λ y. IsWriteOpen (flagged who.cell y h) y who.cell) there (kept_open v LockNature.Write k h s who.cell who.party party row fits keep) in
+                let none : h.readers ≡ 0 = write_has_no_reader k (flagged who.cell (freed who.party s) h) (freed who.party s) who.cell fits_then opened in
+                let most = fits_then.shared in
+                record {
+                  readers = ap (λ (x : Holders). x.readers) j.held ∙ none;
+                  clear = record { shares_none = omega (arith, most, none); claims_none = opened.unclaimed; reads_none = omega (arith, none); closed = λ o. kept_writes v LockNature.Write k h s who.cell who.party party row fits keep o };
+                }
 
       gives_met : (n : LockNature) (a : Attempt) → n ≡ wanted → r.0 ≡ begun_by who ask h.phase a → keeps v n h ≡ false → GivesUp k who (wake_of ask.want) n h s (a, r.1) h' s' → IsMetBy r.0 r.1 h'
       gives_met n a ruled answer e j =
@@ -268,25 +262,23 @@ module _ (k : LockerKind) (who : Who) (ask : Ask) (h : Holders) (s : Parking) wh
             });
             few = λ le. t.few (subst (λ i. i ≤ most_readers) (sym (ap (λ (x : Holders). x.readers) j.hands.held)) (handed_few r.1 who.cell (given_up v h) (freed who.party s) j.hands.may (given_up_few v h le) room));
             apart = λ z. apart_so r.1 j.between h' j.rows j.hands.rows fits_then reads_then writes_then (t.free z);
-          })
-        where
-          given_phase : (w : Waiting) → (given_up w h).phase ≡ h.phase
-          given_phase Waiting.ShareRead = refl
-          given_phase _ = refl
+          }) where
+            given_phase : (w : Waiting) → (given_up w h).phase ≡ h.phase
+            given_phase Waiting.ShareRead = refl
+            given_phase _ = refl
 
       -- a call of a party that waits at the cell
       again_met : Resumes k who ask running h s r h' s' → IsMetBy r.0 r.1 h'
-      again_met d = by (is_cyclic ask.want who.party running) calm d
-        where
-          made : MakesAnother k who ask h s r h' s' → IsMetBy r.0 r.1 h'
-          made a = elim (by_bool (keeps v a.again.nature h) a.again.steps) [
-            | inl j ↦ keeps_met a.again.nature a.attempt a.again.allowed a.answer j.0 j.1
-            | inr j ↦ gives_met a.again.nature a.attempt a.again.allowed a.answer j.0 j.1
-          ]
+      again_met d = by (is_cyclic ask.want who.party running) calm d where
+        made : MakesAnother k who ask h s r h' s' → IsMetBy r.0 r.1 h'
+        made a = elim (by_bool (keeps v a.again.nature h) a.again.steps) [
+          | inl j ↦ keeps_met a.again.nature a.attempt a.again.allowed a.answer j.0 j.1
+          | inr j ↦ gives_met a.again.nature a.attempt a.again.allowed a.answer j.0 j.1
+        ]
 
-          by : (c : Bool) → c ≡ false → MatchBool c (TurnsBack h s r h' s') (MakesAnother k who ask h s r h' s') → IsMetBy r.0 r.1 h'
-          by true e d = absurd (cc)
-          by false e d = made d
+        by : (c : Bool) → c ≡ false → MatchBool c (TurnsBack h s r h' s') (MakesAnother k who ask h s r h' s') → IsMetBy r.0 r.1 h'
+        by true e d = absurd (cc)
+        by false e d = made d
 
     -- a call of a party that waits at the cell, or does not wait
     pub met_by : (waits : Bool) → (waits ≡ true → ask.fast ≡ false) → MatchBool waits ((row_of s who.party).cell ≡ who.cell) (row_of s who.party ≡ free_row) → who.cell < length s.readers → who.party < length s.rows → IsSound s → IsSound (freed who.party s) → length (readers_of (freed who.party s) who.cell) ≤ most_readers

@@ -35,12 +35,11 @@ module _ {L : Type 0} (held : L → Holders) (place : L → LockerKind) (hand : 
 
   -- nothing else is published
   content_beside : (g : Given) (d : ℕ) → d ≢ x.cell → (left x g m).content d ≡ m.content d
-  content_beside g d ne = by x.writes (x.cell == d) refl
-    where
-      by : (w b : Bool) → (x.cell == d) ≡ b → content_after_back m.plans d (cond w (Some (record { cell = x.cell; changes = x.changes })) None) (m.content d) ≡ m.content d
-      by true true e = absurd (ne (grind (arith, e)))
-      by true false e = rw e refl
-      by false b e = refl
+  content_beside g d ne = by x.writes (x.cell == d) refl where
+    by : (w b : Bool) → (x.cell == d) ≡ b → content_after_back m.plans d (cond w (Some (record { cell = x.cell; changes = x.changes })) None) (m.content d) ≡ m.content d
+    by true true e = absurd (ne (grind (arith, e)))
+    by true false e = rw e refl
+    by false b e = refl
 
   -- other cells are as they were
   around : (g : Given) (d : ℕ) → d ≢ x.cell → seen_at d (left x g m) ≡ seen_at d m
@@ -85,10 +84,9 @@ module _ {L : Type 0} (held : L → Holders) (place : L → LockerKind) (hand : 
               in_cells = λ j y e. t.guards.in_cells j y (still_there g j y e).1;
             };
         sections = t.sections;
-      }
-    where
-      in_parks : x.cell < length v.parks.readers
-      in_parks = let a = inside in let b = t.sizes.readers in omega (arith, a, b)
+      } where
+        in_parks : x.cell < length v.parks.readers
+        in_parks = let a = inside in let b = t.sizes.readers in omega (arith, a, b)
 
 module _ {L : Type 0} (held : L → Holders) (place : L → LockerKind) (hand : ℕ) (m : Standing) (v : Rows L) (x : Guard) (t : Stands held place hand m v) (found : numbered hand m.guards ≡ Some x) (row : CellRow L) (row_is : slice_get v.cells.items x.cell ≡ Some row) where
   there : numbered x.number m.guards ≡ Some x
@@ -138,12 +136,11 @@ module _ {L : Type 0} (held : L → Holders) (place : L → LockerKind) (hand : 
 
   -- what is published after a write guard is given back
   seen_back : (g : Given) → x.writes ≡ true → (left x g m).content x.cell ≡ seen_by m x
-  seen_back g w = by x.writes w (x.cell == x.cell) refl (grind arith)
-    where
-      by : (b : Bool) → b ≡ true → (e : Bool) → (x.cell == x.cell) ≡ e → e ≡ true → content_after_back m.plans x.cell (cond b (Some (record { cell = x.cell; changes = x.changes })) None) (m.content x.cell) ≡ seen_by m x
-      by true p true e q = rw e refl
-      by true p false e q = absurd (cc)
-      by false p e q r = absurd (cc)
+  seen_back g w = by x.writes w (x.cell == x.cell) refl (grind arith) where
+    by : (b : Bool) → b ≡ true → (e : Bool) → (x.cell == x.cell) ≡ e → e ≡ true → content_after_back m.plans x.cell (cond b (Some (record { cell = x.cell; changes = x.changes })) None) (m.content x.cell) ≡ seen_by m x
+    by true p true e q = rw e refl
+    by true p false e q = absurd (cc)
+    by false p e q r = absurd (cc)
 
   -- nothing is left on the cell
   module _ (w : x.writes ≡ true) where
@@ -215,8 +212,7 @@ module _ {L : Type 0} (held : L → Holders) (place : L → LockerKind) (hand : 
   calm = k.waiting ∙ t.counted x.cell row k.row_at ∙ sym (count_given x.cell x.cell g m.waits)
 
   gone_back : length v'.parks.writers ≡ length v.parks.writers → IsListed x.cell v.parks g → v'.parks ≡ rows_handed x.cell g v.parks → IsMoved held place x.cell hand hand m (left x g m) v v'
-  gone_back lists listed rows =
-      left_moved held place hand m v x t found g v' k.guards k.exit lists k.left listed rows
+  gone_back lists listed rows = left_moved held place hand m v x t found g v' k.guards k.exit lists k.left listed rows
 
   -- a read guard
   pub leaves_read : x.writes ≡ false → row'.value ≡ row.value → Hands x.cell (leave_read (held row.seq.locker)) v.parks g (held row'.seq.locker) v'.parks → open_reads (held row'.seq.locker) v'.parks x.cell + 1 ≡ open_reads (held row.seq.locker) v.parks x.cell → (IsWriteOpen (held row'.seq.locker) v'.parks x.cell → ⊥) → Stands held place hand (left x g m) v'

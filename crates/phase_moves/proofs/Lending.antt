@@ -13,13 +13,12 @@ use Rattle.phase_moves.proofs.{Moved.parties_same, Places.itself_eq, Places.read
 
 fewer : (t u : Wait → Bool) → ((w : Wait) → t w ≡ true → u w ≡ true) → (ws : List Wait) → count t ws ≤ count u ws
 fewer t u all [] = omega arith
-fewer t u all (w ∷ ws) = by (t w) (u w) (all w) (fewer t u all ws)
-  where
-    by : (a b : Bool) → (a ≡ true → b ≡ true) → count t ws ≤ count u ws → (if a then count t ws + 1 else count t ws) ≤ (if b then count u ws + 1 else count u ws)
-    by true false f e = absurd (let q = f refl in cc)
-    by true true f e = omega (arith, e)
-    by false true f e = omega (arith, e)
-    by false false f e = e
+fewer t u all (w ∷ ws) = by (t w) (u w) (all w) (fewer t u all ws) where
+  by : (a b : Bool) → (a ≡ true → b ≡ true) → count t ws ≤ count u ws → (if a then count t ws + 1 else count t ws) ≤ (if b then count u ws + 1 else count u ws)
+  by true false f e = absurd (let q = f refl in cc)
+  by true true f e = omega (arith, e)
+  by false true f e = omega (arith, e)
+  by false false f e = e
 
 share_waits : (c : ℕ) (ws : List Wait) → count (shares_read c) ws ≤ count (waits_at c) ws
 share_waits c = fewer (shares_read c) (waits_at c) (λ w e. grind (arith, e))
@@ -79,23 +78,21 @@ module _ {L : Type 0} (held : L → Holders) (place : L → LockerKind) (hand : 
 
   -- somebody holds it
   pub held_on : row.waiting ≡ 0 → bars_write (held row.seq.locker) ≡ true → true ≡ in_use c m
-  held_on none barred =
-      used_by (reads_in c m + writes_in c m + count (waits_at c) m.waits) (by (cases_eq (held row.seq.locker).readers 0))
-    where
-      by : ((held row.seq.locker).readers ≡ 0) ⊎ ((held row.seq.locker).readers ≢ 0) → 0 < reads_in c m + writes_in c m + count (waits_at c) m.waits
-      by (inl e) =
-          let waits = many in
-          let writes = claim_waits c m.waits in
-          let drains = drain_waits c m.waits in
-          let shown = claims_shown c m.waits v.parks is.stands.waits.single is.stands.waits.shows in
-          let some : 0 < writes_in c m = here.locked.write_was (record { locked = barred_as (held row.seq.locker) barred e; unclaimed = omega (arith, waits, none, writes, drains, shown) }) in
-          omega (arith, some)
-      by (inr ne) =
-          let waits = many in
-          let reads = share_waits c m.waits in
-          let shown = shares_shown c m.waits v.parks is.stands.waits.single is.stands.waits.shows in
-          let are = here.locked.reads_are in
-          omega (arith, waits, none, reads, shown, are, ne)
+  held_on none barred = used_by (reads_in c m + writes_in c m + count (waits_at c) m.waits) (by (cases_eq (held row.seq.locker).readers 0)) where
+    by : ((held row.seq.locker).readers ≡ 0) ⊎ ((held row.seq.locker).readers ≢ 0) → 0 < reads_in c m + writes_in c m + count (waits_at c) m.waits
+    by (inl e) =
+        let waits = many in
+        let writes = claim_waits c m.waits in
+        let drains = drain_waits c m.waits in
+        let shown = claims_shown c m.waits v.parks is.stands.waits.single is.stands.waits.shows in
+        let some : 0 < writes_in c m = here.locked.write_was (record { locked = barred_as (held row.seq.locker) barred e; unclaimed = omega (arith, waits, none, writes, drains, shown) }) in
+        omega (arith, some)
+    by (inr ne) =
+        let waits = many in
+        let reads = share_waits c m.waits in
+        let shown = shares_shown c m.waits v.parks is.stands.waits.single is.stands.waits.shows in
+        let are = here.locked.reads_are in
+        omega (arith, waits, none, reads, shown, are, ne)
 
   -- nobody holds it
   module _ (none : row.waiting ≡ 0) (free : bars_write (held row.seq.locker) ≡ false) where
@@ -171,45 +168,41 @@ module _ {L : Type 0} (held : L → Holders) (place : L → LockerKind) (hand : 
       left_now : (f : ℕ → Content) → ((d : ℕ) → d ≢ c → f d ≡ m.content d) → f c ≡ content_of p → Stands held place hand (record m { content = f }) v'
       left_now f beside at =
           held_now v' row' cells guards parties exit plan calm draft run running (k.place ∙ stays) parks f beside drafts (value ∙ ap (λ (y : Content). y.value) (sym at)) (subst (λ (y : Content). IsKnown (phase_of y.phase)) (sym at) known)
-          locked runs
-        where
-          drafts : (j : ℕ) (x : Guard) → numbered j m.guards ≡ Some x → x.writes ≡ true → f x.cell ≡ m.content x.cell
-          drafts j x e w = beside x.cell (λ q. (let zero = no_writes none tried.0 in absurd (none_writes c j m.guards x (omega (arith, zero)) e w q)))
+          locked runs where
+            drafts : (j : ℕ) (x : Guard) → numbered j m.guards ≡ Some x → x.writes ≡ true → f x.cell ≡ m.content x.cell
+            drafts j x e w = beside x.cell (λ q. (let zero = no_writes none tried.0 in absurd (none_writes c j m.guards x (omega (arith, zero)) e w q)))
 
-          locked : IsLocked (place row'.seq.locker) (held row'.seq.locker) v'.parks c (reads_in c m) (writes_in c m) (f c).phase
-          locked =
-              let r = no_reads none tried.0 in
-              let w = no_writes none tried.0 in
-              let few : (held l₁).readers ≤ _ = subst (λ n. n ≤ most_readers) (sym (ap (λ (h : Holders). h.readers) tried.1)) here.locked.limit in
-              subst (λ n. IsLocked (place row'.seq.locker) (held row'.seq.locker) v'.parks c n (writes_in c m) (f c).phase) (sym r)
-              (subst (λ n. IsLocked (place row'.seq.locker) (held row'.seq.locker) v'.parks c 0 n (f c).phase) (sym w)
-              (locked_write (place l₁) (place row'.seq.locker) (held l₁) (held row'.seq.locker) s₁ v'.parks c (f c).phase p.phase g hands reads closed k.fits (ap (λ (y : Content). phase_of y.phase) (sym at)) few
-              (subst (λ (s : Parking). length (readers_of s c) ≤ most_readers) (sym parks₁) (parked_few held place hand m v is.stands c is.inside))))
+            locked : IsLocked (place row'.seq.locker) (held row'.seq.locker) v'.parks c (reads_in c m) (writes_in c m) (f c).phase
+            locked =
+                let r = no_reads none tried.0 in
+                let w = no_writes none tried.0 in
+                let few : (held l₁).readers ≤ _ = subst (λ n. n ≤ most_readers) (sym (ap (λ (h : Holders). h.readers) tried.1)) here.locked.limit in
+                subst (λ n. IsLocked (place row'.seq.locker) (held row'.seq.locker) v'.parks c n (writes_in c m) (f c).phase) (sym r)
+                (subst (λ n. IsLocked (place row'.seq.locker) (held row'.seq.locker) v'.parks c 0 n (f c).phase) (sym w)
+                (locked_write (place l₁) (place row'.seq.locker) (held l₁) (held row'.seq.locker) s₁ v'.parks c (f c).phase p.phase g hands reads closed k.fits (ap (λ (y : Content). phase_of y.phase) (sym at)) few
+                (subst (λ (s : Parking). length (readers_of s c) ≤ most_readers) (sym parks₁) (parked_few held place hand m v is.stands c is.inside))))
 
-          runs : row'.run ≡ open_run (cell_at m.plans c) c (f c).phase (run_in c m.sections)
-          runs =
-              let no_run = none_runs c m.sections (let zero = no_writes none tried.0 in omega (arith, zero)) in
-              run ∙ here.runs ∙ ap (open_run (cell_at m.plans c) c (m.content c).phase) no_run ∙ sym (ap (open_run (cell_at m.plans c) c (f c).phase) no_run)
+            runs : row'.run ≡ open_run (cell_at m.plans c) c (f c).phase (run_in c m.sections)
+            runs =
+                let no_run = none_runs c m.sections (let zero = no_writes none tried.0 in omega (arith, zero)) in
+                run ∙ here.runs ∙ ap (open_run (cell_at m.plans c) c (m.content c).phase) no_run ∙ sym (ap (open_run (cell_at m.plans c) c (f c).phase) no_run)
 
       changed_now : (chs : List Change) → content_of p ≡ effect (cell_at m.plans c) chs (m.content c) → Stands held place hand (changed c chs m) v'
-      changed_now chs e = left_now (changed c chs m).content beside (there ∙ sym e)
-        where
-          there : (changed c chs m).content c ≡ effect (cell_at m.plans c) chs (m.content c)
-          there = let q = itself_eq c in rw q refl
+      changed_now chs e = left_now (changed c chs m).content beside (there ∙ sym e) where
+        there : (changed c chs m).content c ≡ effect (cell_at m.plans c) chs (m.content c)
+        there = let q = itself_eq c in rw q refl
 
-          beside : (d : ℕ) → d ≢ c → (changed c chs m).content d ≡ m.content d
-          beside d ne = let q : (c == d) ≡ false = grind (arith, ne) in rw q refl
+        beside : (d : ℕ) → d ≢ c → (changed c chs m).content d ≡ m.content d
+        beside d ne = let q : (c == d) ≡ false = grind (arith, ne) in rw q refl
 
       -- the answer is due, and the rows stand for what is left
       pub lends : (was : Published) → was.phase ≡ (held l₁).phase → was.value ≡ row.value → (l : Loan) (r : Lent) → Finds row.plan l was (r, p) → IsLent held place hand m c l r v'
-      lends was phase_is value_is l r finds =
-          record { used = found.free ∙ unused none tried.0; due = λ e. found.due; stands = by r found }
-        where
-          found : IsFound (cell_at m.plans c) l m.registry.is_open (m.content c) r (content_of p)
-          found = subst (λ (y : Content). IsFound (cell_at m.plans c) l m.registry.is_open y r (content_of p)) (was_is was phase_is value_is) (subst (λ (x : CellPlan). IsFound x l m.registry.is_open (content_of was) r (content_of p)) here.planned (finds m.registry.is_open))
+      lends was phase_is value_is l r finds = record { used = found.free ∙ unused none tried.0; due = λ e. found.due; stands = by r found } where
+        found : IsFound (cell_at m.plans c) l m.registry.is_open (m.content c) r (content_of p)
+        found = subst (λ (y : Content). IsFound (cell_at m.plans c) l m.registry.is_open y r (content_of p)) (was_is was phase_is value_is) (subst (λ (x : CellPlan). IsFound x l m.registry.is_open (content_of was) r (content_of p)) here.planned (finds m.registry.is_open))
 
-          by : (z : Lent) → IsFound (cell_at m.plans c) l m.registry.is_open (m.content c) z (content_of p) → Stands held place hand (lent_in c l z m) v'
-          by Lent.InUse z = absurd (let e = z.free in cc)
-          by (Lent.Denied q) z = left_now m.content (λ d ne. refl) (sym z.content)
-          by Lent.Failed z = changed_now (changes_lent l m.registry.is_open Lent.Failed) z.content
-          by (Lent.Found u) z = changed_now (changes_lent l m.registry.is_open (Lent.Found u)) z.content
+        by : (z : Lent) → IsFound (cell_at m.plans c) l m.registry.is_open (m.content c) z (content_of p) → Stands held place hand (lent_in c l z m) v'
+        by Lent.InUse z = absurd (let e = z.free in cc)
+        by (Lent.Denied q) z = left_now m.content (λ d ne. refl) (sym z.content)
+        by Lent.Failed z = changed_now (changes_lent l m.registry.is_open Lent.Failed) z.content
+        by (Lent.Found u) z = changed_now (changes_lent l m.registry.is_open (Lent.Found u)) z.content

@@ -35,12 +35,11 @@ pub hands_few : (c : ℕ) (h : Holders) (s : Parking) (g : Given) (h' : Holders)
 hands_few c h s g h' s' k le parked = subst (λ n. n ≤ most_readers) (sym (ap (λ (x : Holders). x.readers) k.held)) (handed_few g c h s k.may le parked)
 
 pub downgrades_few : (c : ℕ) (q : Phase) (h : Holders) (s : Parking) (g : Given) (h' : Holders) (s' : Parking) → Downgrades c q h s g h' s' → h.readers ≡ 0 → 1 + length (readers_of s c) ≤ most_readers → h'.readers ≤ most_readers
-downgrades_few c q h s g h' s' k none room = subst (λ n. n ≤ most_readers) (sym (ap (λ (x : Holders). x.readers) k.held)) (shared g k.may)
-  where
-    shared : (g : Given) → MayShare c s g → (held_handed c g s (downgrade q h)).readers ≤ most_readers
-    shared Given.Nobody may = omega (arith, none)
-    shared (Given.Writer p) may = absurd may
-    shared Given.Readers may = omega (arith, none, room)
+downgrades_few c q h s g h' s' k none room = subst (λ n. n ≤ most_readers) (sym (ap (λ (x : Holders). x.readers) k.held)) (shared g k.may) where
+  shared : (g : Given) → MayShare c s g → (held_handed c g s (downgrade q h)).readers ≤ most_readers
+  shared Given.Nobody may = omega (arith, none)
+  shared (Given.Writer p) may = absurd may
+  shared Given.Readers may = omega (arith, none, room)
 
 -- what is said of a cell stays where the rows say the same of it
 pub locked_same : (k : LockerKind) (h : Holders) (s s' : Parking) (d r w p : ℕ) → SameAt d s s' → IsLocked k h s d r w p → IsLocked k h s' d r w p

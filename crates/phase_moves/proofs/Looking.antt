@@ -20,49 +20,45 @@ got_there xs i x e = grind (arith, common_steps, gets, e)
 module _ {L : Type 0} (held : L → Holders) (place : L → LockerKind) (m : Standing) (v : Rows L) (r : Rests held place m v) where
   -- the row of the cell of the party's innermost section tells that section
   pub runs_by : (p cell : ℕ) (of : PartyRow) (o : Option Running) → p < length v.parties.items → of ≡ get_or v.parties.items p of → of.innermost ≡ Some cell → o ≡ run_kept cell (slice_get v.cells.items cell) → o ≡ running_of m (innermost p m.sections)
-  runs_by p cell of o lt there inner told = by (innermost p m.sections) refl (sym (ap (λ (x : PartyRow). x.innermost) is_row) ∙ inner)
-    where
-      is_row : of ≡ party_row m p
-      is_row = let e : Some of ≡ Some (party_row m p) = sym (read_at v.parties.items p of lt there) ∙ r.stands.party p lt in cc
+  runs_by p cell of o lt there inner told = by (innermost p m.sections) refl (sym (ap (λ (x : PartyRow). x.innermost) is_row) ∙ inner) where
+    is_row : of ≡ party_row m p
+    is_row = let e : Some of ≡ Some (party_row m p) = sym (read_at v.parties.items p of lt there) ∙ r.stands.party p lt in cc
 
-      by : (i : Option Section) → innermost p m.sections ≡ i → cell_of_section i ≡ Some cell → o ≡ running_of m i
-      by None e f = absurd (cc)
-      by (Some s) e f = told ∙ at (slice_get v.cells.items cell) refl
-        where
-          same : s.cell ≡ cell
-          same = cc
+    by : (i : Option Section) → innermost p m.sections ≡ i → cell_of_section i ≡ Some cell → o ≡ running_of m i
+    by None e f = absurd (cc)
+    by (Some s) e f = told ∙ at (slice_get v.cells.items cell) refl where
+      same : s.cell ≡ cell
+      same = cc
 
-          inside : cell < length v.cells.items
-          inside = subst (λ d. d < length v.cells.items) same (inside_found (length v.cells.items) p m.sections s r.stands.sections e)
+      inside : cell < length v.cells.items
+      inside = subst (λ d. d < length v.cells.items) same (inside_found (length v.cells.items) p m.sections s r.stands.sections e)
 
-          at : (q : Option (CellRow L)) → slice_get v.cells.items cell ≡ q → run_kept cell q ≡ running_of m (Some s)
-          at None g = absurd (is_there v.cells.items cell inside g)
-          at (Some row) g =
-              let its : row.plan.kind ≡ (cell_at m.plans s.cell).kind = ap (λ (x : CellPlan). x.kind) (r.stands.cell cell row g).planned ∙ ap (λ d. (cell_at m.plans d).kind) (sym same) in
-              ap (running_kept row.plan.kind cell) (row_run held place m v p cell s (record { rests = r; party = lt; found = e; at = same }) row (got_there v.cells.items cell row g))
-              ∙ (λ i. Some (record { cell = sym same i; kind = its i; want = s.want }))
+      at : (q : Option (CellRow L)) → slice_get v.cells.items cell ≡ q → run_kept cell q ≡ running_of m (Some s)
+      at None g = absurd (is_there v.cells.items cell inside g)
+      at (Some row) g =
+          let its : row.plan.kind ≡ (cell_at m.plans s.cell).kind = ap (λ (x : CellPlan). x.kind) (r.stands.cell cell row g).planned ∙ ap (λ d. (cell_at m.plans d).kind) (sym same) in
+          ap (running_kept row.plan.kind cell) (row_run held place m v p cell s (record { rests = r; party = lt; found = e; at = same }) row (got_there v.cells.items cell row g))
+          ∙ (λ i. Some (record { cell = sym same i; kind = its i; want = s.want }))
 
   -- the row of a guard tells what its holder sees
   pub holds_by : (p g : ℕ) (row : GuardRow) → g < length v.guards.items → row ≡ get_or v.guards.items g row → shown_by v p row ≡ held_of m (guard_of g p m.guards)
-  holds_by p g row lt there = ap (shown_by v p) (row_shown held place m v v p g r row (read_at v.guards.items g row lt there) lt) ∙ by (numbered g m.guards) refl
-    where
-      by : (o : Option Guard) → numbered g m.guards ≡ o → shown_by v p (guard_row o) ≡ held_of m (own p o)
-      by None e = refl
-      by (Some x) e = at x.writes refl (x.party == p) refl
-        where
-          value : (q : Option (CellRow L)) → slice_get v.cells.items x.cell ≡ q → value_kept q ≡ (m.content x.cell).value
-          value None f = absurd (is_there v.cells.items x.cell (r.stands.guards.in_cells g x e) f)
-          value (Some c) f = (r.stands.cell x.cell c f).valued
+  holds_by p g row lt there = ap (shown_by v p) (row_shown held place m v v p g r row (read_at v.guards.items g row lt there) lt) ∙ by (numbered g m.guards) refl where
+    by : (o : Option Guard) → numbered g m.guards ≡ o → shown_by v p (guard_row o) ≡ held_of m (own p o)
+    by None e = refl
+    by (Some x) e = at x.writes refl (x.party == p) refl where
+      value : (q : Option (CellRow L)) → slice_get v.cells.items x.cell ≡ q → value_kept q ≡ (m.content x.cell).value
+      value None f = absurd (is_there v.cells.items x.cell (r.stands.guards.in_cells g x e) f)
+      value (Some c) f = (r.stands.cell x.cell c f).valued
 
-          drafted : x.writes ≡ true → (q : Option (CellRow L)) → slice_get v.cells.items x.cell ≡ q → value_drafted q ≡ (seen_by m x).value
-          drafted w None f = absurd (is_there v.cells.items x.cell (r.stands.guards.in_cells g x e) f)
-          drafted w (Some c) f = ap (λ (d : Draft). d.value) (r.stands.draft x.cell c f g x e w refl)
+      drafted : x.writes ≡ true → (q : Option (CellRow L)) → slice_get v.cells.items x.cell ≡ q → value_drafted q ≡ (seen_by m x).value
+      drafted w None f = absurd (is_there v.cells.items x.cell (r.stands.guards.in_cells g x e) f)
+      drafted w (Some c) f = ap (λ (d : Draft). d.value) (r.stands.draft x.cell c f g x e w refl)
 
-          at : (w : Bool) → x.writes ≡ w → (b : Bool) → (x.party == p) ≡ b → shown_by v p (guard_row (Some x)) ≡ held_of m (own p (Some x))
-          at true w true b = rw (w, b) (ap (λ z. Some (record { cell = x.cell; writes = true; value = z })) (drafted w (slice_get v.cells.items x.cell) refl))
-          at false w true b = rw (w, b) (ap (λ z. Some (record { cell = x.cell; writes = false; value = z })) (value (slice_get v.cells.items x.cell) refl))
-          at true w false b = rw (w, b) refl
-          at false w false b = rw (w, b) refl
+      at : (w : Bool) → x.writes ≡ w → (b : Bool) → (x.party == p) ≡ b → shown_by v p (guard_row (Some x)) ≡ held_of m (own p (Some x))
+      at true w true b = rw (w, b) (ap (λ z. Some (record { cell = x.cell; writes = true; value = z })) (drafted w (slice_get v.cells.items x.cell) refl))
+      at false w true b = rw (w, b) (ap (λ z. Some (record { cell = x.cell; writes = false; value = z })) (value (slice_get v.cells.items x.cell) refl))
+      at true w false b = rw (w, b) refl
+      at false w false b = rw (w, b) refl
 
 -- ---- an attempt that is turned back, and one that looks at the cell as it is: it takes no lock
 
@@ -89,20 +85,19 @@ met_looked m p t none free =
           (ap (λ s. seeks_run s && generates_for p (find (runs_in t.cell) m.sections)) none) (ap (λ w. keeps w (wanted_in t.cell t.want m) (readers_in t.cell m.waits m)) free) (ap (λ n. is_barred n (holding_in t.cell (without_wait p m.waits) m)) unwanted));
       gives = tt;
       wanted = by t.want none;
-    }
-  where
-    x : CellPlan
-    x = cell_at m.plans t.cell
+    } where
+      x : CellPlan
+      x = cell_at m.plans t.cell
 
-    y : Content
-    y = m.content t.cell
+      y : Content
+      y = m.content t.cell
 
-    unwanted : wanted_in t.cell t.want m ≡ LockNature.None
-    unwanted = ap (λ s. lock_asked (asking s (is_fast t.want) (tolerance_of (cell_at m.plans t.cell))) (m.content t.cell).phase) none
+      unwanted : wanted_in t.cell t.want m ≡ LockNature.None
+      unwanted = ap (λ s. lock_asked (asking s (is_fast t.want) (tolerance_of (cell_at m.plans t.cell))) (m.content t.cell).phase) none
 
-    by : (w : Want) → seeks (cell_at m.plans t.cell).kind w ≡ None → IsUnlocked (cell_at m.plans t.cell).kind w
-    by (Calls j) e = ap (seeks_as (form_of (cell_at m.plans t.cell).kind j)) (sym e) ∙ sought_as (cell_at m.plans t.cell).kind j
-    by Turns e = tt
+      by : (w : Want) → seeks (cell_at m.plans t.cell).kind w ≡ None → IsUnlocked (cell_at m.plans t.cell).kind w
+      by (Calls j) e = ap (seeks_as (form_of (cell_at m.plans t.cell).kind j)) (sym e) ∙ sought_as (cell_at m.plans t.cell).kind j
+      by Turns e = tt
 
 -- nothing happened in its section
 unchanged : (m : Standing) (c : ℕ) (w : Want) → seeks (cell_at m.plans c).kind w ≡ None → changes_at c w m ≡ []
@@ -112,11 +107,10 @@ unchanged m c Turns none = refl
 
 -- so nothing is published
 still : (m : Standing) (c d : ℕ) (chs : List Change) → chs ≡ [] → content_back (Some (record { cell = c; changes = chs })) m d ≡ m.content d
-still m c d chs e = ap (λ z. content_back (Some (record { cell = c; changes = z })) m d) e ∙ by (c == d)
-  where
-    by : (b : Bool) → (if b then m.content d else m.content d) ≡ m.content d
-    by true = refl
-    by false = refl
+still m c d chs e = ap (λ z. content_back (Some (record { cell = c; changes = z })) m d) e ∙ by (c == d) where
+  by : (b : Bool) → (if b then m.content d else m.content d) ≡ m.content d
+  by true = refl
+  by false = refl
 
 module _ {L : Type 0} (held : L → Holders) (place : L → LockerKind) (hand : ℕ) (m : Standing) (v : Rows L) where
   -- what rows of these cells stand for
@@ -155,11 +149,10 @@ module _ {L : Type 0} (held : L → Holders) (place : L → LockerKind) (m : Sta
   nothing = none_sought (cell_at m.plans t.cell) t.want (ap (λ (z : CellPlan). ask_of z t.want) (sym here.planned) ∙ none)
 
   free : wait_of p m.waits ≡ None
-  free = by waits is.waited is.waits_so
-    where
-      by : (w : Bool) → MatchBool w (WaitsAt t.cell (wait_of p m.waits)) (wait_of p m.waits ≡ None) → (w ≡ true → MayWait (cell_at m.plans t.cell) t.want) → wait_of p m.waits ≡ None
-      by true k so = let sought = (so refl).sought in absurd (let f : false ≡ true = sym (ap is_some nothing) ∙ sought in cc)
-      by false k so = k
+  free = by waits is.waited is.waits_so where
+    by : (w : Bool) → MatchBool w (WaitsAt t.cell (wait_of p m.waits)) (wait_of p m.waits ≡ None) → (w ≡ true → MayWait (cell_at m.plans t.cell) t.want) → wait_of p m.waits ≡ None
+    by true k so = let sought = (so refl).sought in absurd (let f : false ≡ true = sym (ap is_some nothing) ∙ sought in cc)
+    by false k so = k
 
   same : m ≡ answered p t.cell Given.Nobody (changes_at t.cell t.want m) m
   same = λ i. record m { waits = sym (none_without p m.waits free) i; content = λ d. sym (still m t.cell d (changes_at t.cell t.want m) (unchanged m t.cell t.want nothing)) i }

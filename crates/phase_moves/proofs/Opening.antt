@@ -13,14 +13,13 @@ numbered_with y g gs ne = grind (arith, ne)
 
 -- a hand that holds no guard shows what another shows
 empty_hand : (m : Standing) (hand n g : ℕ) → numbered hand m.guards ≡ None → g ≢ n → slot_row n m g ≡ slot_row hand m g
-empty_hand m hand n g none ne = by (g == hand) refl
-  where
-    no : (g == n) ≡ false
-    no = grind (arith, ne)
+empty_hand m hand n g none ne = by (g == hand) refl where
+  no : (g == n) ≡ false
+  no = grind (arith, ne)
 
-    by : (b : Bool) → (g == hand) ≡ b → slot_row n m g ≡ slot_row hand m g
-    by true e = let s : g ≡ hand = grind (arith, e) in let f : numbered g m.guards ≡ None = ap (λ i. numbered i m.guards) s ∙ none in rw (no, e, f) refl
-    by false e = rw (no, e) refl
+  by : (b : Bool) → (g == hand) ≡ b → slot_row n m g ≡ slot_row hand m g
+  by true e = let s : g ≡ hand = grind (arith, e) in let f : numbered g m.guards ≡ None = ap (λ i. numbered i m.guards) s ∙ none in rw (no, e, f) refl
+  by false e = rw (no, e) refl
 
 -- what is seen of a cell with a read guard more
 pub seen_reader : (n p c : ℕ) (m : Standing) → seen_at c (guarded (reader n p c) m) ≡ record { plan = cell_at m.plans c; content = m.content c; reads = reads_in c m + 1; writes = writes_in c m; run = run_in c m.sections }
@@ -55,31 +54,24 @@ module _ {L : Type 0} (held : L → Holders) (place : L → LockerKind) where
               in_cells = λ g x e. here g x e (cases_eq g y.number);
             };
         sections = k.sections;
-      }
-    where
-      around : (d : ℕ) → d ≢ c → seen_at d (guarded y m') ≡ seen_at d m'
-      around d ne =
-          let r = reads_elsewhere y d (λ e. ne (e ∙ at)) in
-          let w = writes_elsewhere y d (λ e. ne (e ∙ at)) in
-          rw (r, w) refl
+      } where
+        around : (d : ℕ) → d ≢ c → seen_at d (guarded y m') ≡ seen_at d m'
+        around d ne = let r = reads_elsewhere y d (λ e. ne (e ∙ at)) in let w = writes_elsewhere y d (λ e. ne (e ∙ at)) in rw (r, w) refl
 
-      slots : (g : ℕ) → g < length v.guards.items → slot_row n (guarded y m') g ≡ slot_row hand' m' g
-      slots g l =
-          let ne : g ≢ n = λ e. absurd (omega (arith, l, room, e)) in
-          ap (λ o. cond (g == n) GuardRow.Free (guard_row o)) (numbered_with y g m'.guards (λ q. ne (q ∙ number))) ∙ empty_hand m' hand' n g empty ne
+        slots : (g : ℕ) → g < length v.guards.items → slot_row n (guarded y m') g ≡ slot_row hand' m' g
+        slots g l =
+            let ne : g ≢ n = λ e. absurd (omega (arith, l, room, e)) in
+            ap (λ o. cond (g == n) GuardRow.Free (guard_row o)) (numbered_with y g m'.guards (λ q. ne (q ∙ number))) ∙ empty_hand m' hand' n g empty ne
 
-      drafts : (g : ℕ) (x : Guard) → numbered g (y ∷ m'.guards) ≡ Some x → x.writes ≡ true → x.cell ≢ c → numbered g m.guards ≡ Some x
-      drafts g x e w ne = elim (found_beside y g m'.guards x e) [
-        | inl q ↦ absurd (ne (ap (λ (z : Guard). z.cell) (sym q) ∙ at))
-        | inr f ↦ k.drafts g x f w ne
-      ]
+        drafts : (g : ℕ) (x : Guard) → numbered g (y ∷ m'.guards) ≡ Some x → x.writes ≡ true → x.cell ≢ c → numbered g m.guards ≡ Some x
+        drafts g x e w ne = elim (found_beside y g m'.guards x e) [ inl q ↦ absurd (ne (ap (λ (z : Guard). z.cell) (sym q) ∙ at)) | inr f ↦ k.drafts g x f w ne ]
 
-      other : (g : ℕ) (x : Guard) → numbered g m'.guards ≡ Some x → g ≢ hand'
-      other g x e = λ q. let n : None ≡ Some x = sym empty ∙ ap (λ i. numbered i m'.guards) (sym q) ∙ e in absurd (cc)
+        other : (g : ℕ) (x : Guard) → numbered g m'.guards ≡ Some x → g ≢ hand'
+        other g x e = λ q. let n : None ≡ Some x = sym empty ∙ ap (λ i. numbered i m'.guards) (sym q) ∙ e in absurd (cc)
 
-      here : (g : ℕ) (x : Guard) → numbered g (y ∷ m'.guards) ≡ Some x → (g ≡ y.number) ⊎ (g ≢ y.number) → x.cell < length v.cells.items
-      here g x e (inl q) = let is : y ≡ x = grind (arith, e, q) in subst (λ (z : Guard). z.cell < length v.cells.items) is (subst (λ i. i < length v.cells.items) (sym at) lt)
-      here g x e (inr ne) = k.numbers.in_cells g x (sym (numbered_with y g m'.guards ne) ∙ e)
+        here : (g : ℕ) (x : Guard) → numbered g (y ∷ m'.guards) ≡ Some x → (g ≡ y.number) ⊎ (g ≢ y.number) → x.cell < length v.cells.items
+        here g x e (inl q) = let is : y ≡ x = grind (arith, e, q) in subst (λ (z : Guard). z.cell < length v.cells.items) is (subst (λ i. i < length v.cells.items) (sym at) lt)
+        here g x e (inr ne) = k.numbers.in_cells g x (sym (numbered_with y g m'.guards ne) ∙ e)
 
   -- only the rows of guards change
   reslotted : (hand n : ℕ) (m : Standing) (v v' : Rows L) → Stands held place hand m v → v'.cells ≡ v.cells → v'.parties ≡ v.parties → v'.parks ≡ v.parks → v'.exit ≡ v.exit
@@ -108,76 +100,69 @@ module _ {L : Type 0} (held : L → Holders) (place : L → LockerKind) where
   pub pushed : (m : Standing) (v v' : Rows L) (row : GuardRow) → Stands held place (length v.guards.items) m v → row ≡ guard_row (numbered (length v.guards.items) m.guards) → v'.guards.items ≡ v.guards.items ++ row ∷ [] → v'.cells ≡ v.cells → v'.parties ≡ v.parties → v'.parks ≡ v.parks → v'.exit ≡ v.exit
       → Stands held place (length v.guards.items + 1) m v'
   pushed m v v' row t is guards cells parties parks exit =
-      reslotted n (n + 1) m v v' t cells parties parks exit (λ g l. ap (λ (xs : List GuardRow). slice_get xs g) guards ∙ by g (cases_lt g n) (subst (λ i. g < i) size l)) in_rows
-    where
-      n : ℕ
-      n = length v.guards.items
+      reslotted n (n + 1) m v v' t cells parties parks exit (λ g l. ap (λ (xs : List GuardRow). slice_get xs g) guards ∙ by g (cases_lt g n) (subst (λ i. g < i) size l)) in_rows where
+        n : ℕ
+        n = length v.guards.items
 
-      size : length v'.guards.items ≡ n + 1
-      size = ap (λ (xs : List GuardRow). length xs) guards ∙ grind (arith, common_steps)
+        size : length v'.guards.items ≡ n + 1
+        size = ap (λ (xs : List GuardRow). length xs) guards ∙ grind (arith, common_steps)
 
-      next : (g : ℕ) → g < n + 1 → slot_row (n + 1) m g ≡ guard_row (numbered g m.guards)
-      next g l = let no : (g == n + 1) ≡ false = grind (arith, l) in rw no refl
+        next : (g : ℕ) → g < n + 1 → slot_row (n + 1) m g ≡ guard_row (numbered g m.guards)
+        next g l = let no : (g == n + 1) ≡ false = grind (arith, l) in rw no refl
 
-      before : (g : ℕ) → g < n → slot_row n m g ≡ guard_row (numbered g m.guards)
-      before g l = let no : (g == n) ≡ false = grind (arith, l) in rw no refl
+        before : (g : ℕ) → g < n → slot_row n m g ≡ guard_row (numbered g m.guards)
+        before g l = let no : (g == n) ≡ false = grind (arith, l) in rw no refl
 
-      last : (xs : List GuardRow) (r : GuardRow) → slice_get (xs ++ r ∷ []) (length xs) ≡ Some r
-      last xs r = grind (arith, common_steps, gets)
+        last : (xs : List GuardRow) (r : GuardRow) → slice_get (xs ++ r ∷ []) (length xs) ≡ Some r
+        last xs r = grind (arith, common_steps, gets)
 
-      first : (xs : List GuardRow) (r : GuardRow) (g : ℕ) → g < length xs → slice_get (xs ++ r ∷ []) g ≡ slice_get xs g
-      first xs r g l = grind (arith, common_steps, gets)
+        first : (xs : List GuardRow) (r : GuardRow) (g : ℕ) → g < length xs → slice_get (xs ++ r ∷ []) g ≡ slice_get xs g
+        first xs r g l = grind (arith, common_steps, gets)
 
-      by : (g : ℕ) → (g < n) ⊎ (n ≤ g) → g < n + 1 → slice_get (v.guards.items ++ row ∷ []) g ≡ Some (slot_row (n + 1) m g)
-      by g (inl l) k = first v.guards.items row g l ∙ t.slot g l ∙ ap (λ x. Some x) (before g l ∙ sym (next g k))
-      by g (inr l) k =
-          let q : g ≡ n = omega (arith, l, k) in
-          ap (λ i. slice_get (v.guards.items ++ row ∷ []) i) q ∙ last v.guards.items row ∙ ap (λ x. Some x) (is ∙ ap (λ i. guard_row (numbered i m.guards)) (sym q) ∙ sym (next g k))
+        by : (g : ℕ) → (g < n) ⊎ (n ≤ g) → g < n + 1 → slice_get (v.guards.items ++ row ∷ []) g ≡ Some (slot_row (n + 1) m g)
+        by g (inl l) k = first v.guards.items row g l ∙ t.slot g l ∙ ap (λ x. Some x) (before g l ∙ sym (next g k))
+        by g (inr l) k =
+            let q : g ≡ n = omega (arith, l, k) in
+            ap (λ i. slice_get (v.guards.items ++ row ∷ []) i) q ∙ last v.guards.items row ∙ ap (λ x. Some x) (is ∙ ap (λ i. guard_row (numbered i m.guards)) (sym q) ∙ sym (next g k))
 
-      in_rows : (g : ℕ) (x : Guard) → numbered g m.guards ≡ Some x → g ≢ n + 1 → g < length v'.guards.items
-      in_rows g x e ne =
-          elim (cases_eq g n) [
-            | inl q ↦ omega (arith, q, size)
-            | inr ne2 ↦ (let l = t.guards.in_rows g x e ne2 in omega (arith, l, size))
-          ]
+        in_rows : (g : ℕ) (x : Guard) → numbered g m.guards ≡ Some x → g ≢ n + 1 → g < length v'.guards.items
+        in_rows g x e ne = elim (cases_eq g n) [ inl q ↦ omega (arith, q, size) | inr ne2 ↦ (let l = t.guards.in_rows g x e ne2 in omega (arith, l, size)) ]
 
   -- the row of a guard is taken
   pub taken : (m : Standing) (v v' : Rows L) (g : ℕ) → Stands held place (length v.guards.items) m v → numbered (length v.guards.items) m.guards ≡ None → g < length v.guards.items → v'.guards.items ≡ set v.guards.items g GuardRow.Free → v'.cells ≡ v.cells → v'.parties ≡ v.parties → v'.parks ≡ v.parks → v'.exit ≡ v.exit
       → Stands held place g m v'
   taken m v v' g t none lt guards cells parties parks exit =
-      reslotted (length v.guards.items) g m v v' t cells parties parks exit (λ j l. ap (λ (xs : List GuardRow). slice_get xs j) guards ∙ by j (cases_eq j g) (subst (λ i. j < i) size l)) in_rows
-    where
-      size : length v'.guards.items ≡ length v.guards.items
-      size = ap (λ (xs : List GuardRow). length xs) guards ∙ length-set v.guards.items g GuardRow.Free
+      reslotted (length v.guards.items) g m v v' t cells parties parks exit (λ j l. ap (λ (xs : List GuardRow). slice_get xs j) guards ∙ by j (cases_eq j g) (subst (λ i. j < i) size l)) in_rows where
+        size : length v'.guards.items ≡ length v.guards.items
+        size = ap (λ (xs : List GuardRow). length xs) guards ∙ length-set v.guards.items g GuardRow.Free
 
-      slots : (j : ℕ) → j ≢ g → j < length v.guards.items → slot_row (length v.guards.items) m j ≡ slot_row g m j
-      slots j ne l = let a : (j == g) ≡ false = grind (arith, ne) in let b : (j == length v.guards.items) ≡ false = grind (arith, l) in rw (a, b) refl
+        slots : (j : ℕ) → j ≢ g → j < length v.guards.items → slot_row (length v.guards.items) m j ≡ slot_row g m j
+        slots j ne l = let a : (j == g) ≡ false = grind (arith, ne) in let b : (j == length v.guards.items) ≡ false = grind (arith, l) in rw (a, b) refl
 
-      itself : slot_row g m g ≡ GuardRow.Free
-      itself = let a : (g == g) ≡ true = grind arith in rw a refl
+        itself : slot_row g m g ≡ GuardRow.Free
+        itself = let a : (g == g) ≡ true = grind arith in rw a refl
 
-      by : (j : ℕ) → (j ≡ g) ⊎ (j ≢ g) → j < length v.guards.items → slice_get (set v.guards.items g GuardRow.Free) j ≡ Some (slot_row g m j)
-      by j (inl q) l = rw q (slice_get_set_same v.guards.items g GuardRow.Free lt ∙ ap (λ x. Some x) (sym itself))
-      by j (inr ne) l = slice_get_set_other v.guards.items g j GuardRow.Free ne ∙ t.slot j l ∙ ap (λ x. Some x) (slots j ne l)
+        by : (j : ℕ) → (j ≡ g) ⊎ (j ≢ g) → j < length v.guards.items → slice_get (set v.guards.items g GuardRow.Free) j ≡ Some (slot_row g m j)
+        by j (inl q) l = rw q (slice_get_set_same v.guards.items g GuardRow.Free lt ∙ ap (λ x. Some x) (sym itself))
+        by j (inr ne) l = slice_get_set_other v.guards.items g j GuardRow.Free ne ∙ t.slot j l ∙ ap (λ x. Some x) (slots j ne l)
 
-      in_rows : (j : ℕ) (x : Guard) → numbered j m.guards ≡ Some x → j ≢ g → j < length v'.guards.items
-      in_rows j x e ne =
-          elim (cases_eq j (length v.guards.items)) [
-            | inl q ↦ (let f : None ≡ Some x = sym none ∙ ap (λ i. numbered i m.guards) (sym q) ∙ e in absurd (cc))
-            | inr ne2 ↦ (let l = t.guards.in_rows j x e ne2 in omega (arith, l, size))
-          ]
+        in_rows : (j : ℕ) (x : Guard) → numbered j m.guards ≡ Some x → j ≢ g → j < length v'.guards.items
+        in_rows j x e ne =
+            elim (cases_eq j (length v.guards.items)) [
+              | inl q ↦ (let f : None ≡ Some x = sym none ∙ ap (λ i. numbered i m.guards) (sym q) ∙ e in absurd (cc))
+              | inr ne2 ↦ (let l = t.guards.in_rows j x e ne2 in omega (arith, l, size))
+            ]
 
   -- so nothing is in hand
   pub pushed_rests : (m : Standing) (v v' : Rows L) (row : GuardRow) → Stands held place (length v.guards.items) m v → row ≡ guard_row (numbered (length v.guards.items) m.guards) → v'.guards.items ≡ v.guards.items ++ row ∷ [] → v'.cells ≡ v.cells → v'.parties ≡ v.parties → v'.parks ≡ v.parks → v'.exit ≡ v.exit → Rests held place m v'
   pushed_rests m v v' row t is guards cells parties parks exit =
-      record { stands = subst (λ i. Stands held place i m v') (sym size) (pushed m v v' row t is guards cells parties parks exit); empty = ap (λ i. numbered i m.guards) size ∙ by (numbered (length v.guards.items + 1) m.guards) refl }
-    where
-      size : length v'.guards.items ≡ length v.guards.items + 1
-      size = ap (λ (xs : List GuardRow). length xs) guards ∙ grind (arith, common_steps)
+      record { stands = subst (λ i. Stands held place i m v') (sym size) (pushed m v v' row t is guards cells parties parks exit); empty = ap (λ i. numbered i m.guards) size ∙ by (numbered (length v.guards.items + 1) m.guards) refl } where
+        size : length v'.guards.items ≡ length v.guards.items + 1
+        size = ap (λ (xs : List GuardRow). length xs) guards ∙ grind (arith, common_steps)
 
-      by : (o : Option Guard) → numbered (length v.guards.items + 1) m.guards ≡ o → o ≡ None
-      by None e = refl
-      by (Some x) e = let l = t.guards.in_rows (length v.guards.items + 1) x e (λ q. absurd (omega (arith, q))) in absurd (omega (arith, l))
+        by : (o : Option Guard) → numbered (length v.guards.items + 1) m.guards ≡ o → o ≡ None
+        by None e = refl
+        by (Some x) e = let l = t.guards.in_rows (length v.guards.items + 1) x e (λ q. absurd (omega (arith, q))) in absurd (omega (arith, l))
 
 -- ---- what is opened by what was begun, and a section more
 
@@ -225,7 +210,6 @@ module _ {L : Type 0} (held : L → Holders) (place : L → LockerKind) where
         waits = k.waits;
         numbers = k.numbers;
         sections = (subst (λ d. d < length v.cells.items) (sym at) lt, k.sections);
-      }
-    where
-      around : (d : ℕ) → d ≢ c → seen_at d (opened s m'.registry m') ≡ seen_at d m'
-      around d ne = let e : (s.cell == d) ≡ false = grind (arith, ne, at) in rw e refl
+      } where
+        around : (d : ℕ) → d ≢ c → seen_at d (opened s m'.registry m') ≡ seen_at d m'
+        around d ne = let e : (s.cell == d) ≡ false = grind (arith, ne, at) in rw e refl

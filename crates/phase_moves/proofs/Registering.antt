@@ -14,11 +14,10 @@ neither false b e = refl
 -- a call that is refused at an empty phase met a closed registry
 refused_closed : (leak o : Bool) (n : ℕ) → (n == 0) ≡ true → not (flags_generate leak (flags_staying o n)) ≡ true → o ≡ false
 refused_closed leak o n z e =
-    open_flag o (neither (has (registration o) registered) leak (ap (λ b. has (if b then registration o else without_flags n initialization_flags) registered || leak) (sym z) ∙ off (flags_generate leak (flags_staying o n)) e))
-  where
-    off : (b : Bool) → not b ≡ true → b ≡ false
-    off true f = absurd (cc)
-    off false f = refl
+    open_flag o (neither (has (registration o) registered) leak (ap (λ b. has (if b then registration o else without_flags n initialization_flags) registered || leak) (sym z) ∙ off (flags_generate leak (flags_staying o n)) e)) where
+      off : (b : Bool) → not b ≡ true → b ≡ false
+      off true f = absurd (cc)
+      off false f = refl
 
 closed_stays : (c : ℕ) (m : Registry) → m.is_open ≡ false → after_register c m ≡ m
 closed_stays c m e = ap (λ b. if b then registered_in c m else m) e
@@ -30,11 +29,10 @@ module _ (leak : Bool) (m : Registry) (c : ℕ) (p : Phase) where
 
   -- the registry is as after a run that begins
   pub asked_as_run : (runs b : Bool) → b ≡ (if is_refused leak (Some m) p then false else runs) → after_asking runs c p m ≡ after_asking b c p m
-  asked_as_run runs b e = by (is_refused leak (Some m) p) refl e
-    where
-      by : (r : Bool) → is_refused leak (Some m) p ≡ r → b ≡ (if r then false else runs) → after_asking runs c p m ≡ after_asking b c p m
-      by true is f = nothing runs (number p == 0) refl is ∙ sym (ap (λ d. if d && (number p == 0) then after_register c m else m) f)
-      by false is f = ap (λ d. if d && (number p == 0) then after_register c m else m) (sym f)
+  asked_as_run runs b e = by (is_refused leak (Some m) p) refl e where
+    by : (r : Bool) → is_refused leak (Some m) p ≡ r → b ≡ (if r then false else runs) → after_asking runs c p m ≡ after_asking b c p m
+    by true is f = nothing runs (number p == 0) refl is ∙ sym (ap (λ d. if d && (number p == 0) then after_register c m else m) f)
+    by false is f = ap (λ d. if d && (number p == 0) then after_register c m else m) (sym f)
 
 pub some_same : {X : Type 0} (x y : X) → Some x ≡ Some y → x ≡ y
 some_same x y e = cc

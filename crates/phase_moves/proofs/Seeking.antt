@@ -15,12 +15,7 @@ pub sought_as : (q : Kind) (k : Call) → seeks_as (form_of q k) (call_seeks q k
 sought_as q Call.Phase = refl
 sought_as q Call.TryGet = refl
 sought_as q Call.Get = refl
-sought_as q Call.Init = by (is_plain q)
-  where
-    by : (b : Bool) → seeks_as (Told (not b)) (Some (if b then Sought.Init else Sought.Write)) ≡ true
-    by true = refl
-    by false = refl
-sought_as q Call.Read = refl
+sought_as q Call.Init = elim (is_plain q) as (λ b. seeks_as (Told (not b)) (Some (if b then Sought.Init else Sought.Write)) ≡ true) [ true ↦ refl | false ↦ refl ]
 sought_as q _ = refl
 
 -- what is left to what seeks this: no lock, a lock to read, or the lock to write

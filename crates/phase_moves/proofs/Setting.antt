@@ -25,10 +25,7 @@ module _ {L : Type 0} (held : L → Holders) (place : L → LockerKind) (m : Sta
 
   -- it was there, on its cell
   number_put : (j : ℕ) (y : Guard) → numbered j (put_in g value m.guards) ≡ Some y → (P : ℕ → Type 0) → ((z : Guard) → numbered j m.guards ≡ Some z → P z.cell) → P y.cell
-  number_put j y e P k = elim (found_put j y e) [
-    | inl q ↦ subst (λ (z : Guard). P z.cell) q.1 (k x (ap (λ i. numbered i m.guards) q.0 ∙ is.found))
-    | inr q ↦ k y q.1
-  ]
+  number_put j y e P k = elim (found_put j y e) [ inl q ↦ subst (λ (z : Guard). P z.cell) q.1 (k x (ap (λ i. numbered i m.guards) q.0 ∙ is.found)) | inr q ↦ k y q.1 ]
 
   module _ (v' : Rows L) (row row' : CellRow L) (row_is : row ≡ get_or v.cells.items c row) (row'_is : row' ≡ record row { draft = record row.draft { value = Some value } }) (cells : v'.cells.items ≡ set v.cells.items c row') (guards : v'.guards ≡ v.guards) (parties : v'.parties ≡ v.parties) (parks : v'.parks ≡ v.parks) (exit : v'.exit ≡ v.exit) where
     abbrev n : ℕ
@@ -61,10 +58,9 @@ module _ {L : Type 0} (held : L → Holders) (place : L → LockerKind) (m : Sta
     draft_put j y e w there = elim (found_put j y e) [
       | inl q ↦ ap (λ (r : CellRow L). r.draft) row'_is ∙ ap (λ (d : Draft). record d { value = Some value }) (is.rests.stands.draft c row row_at g x is.found is.writes at) ∙ ap (λ z. draft_of (seen_by (put g value m) z)) q.1
       | inr q ↦ absurd (alone j m.guards x (found_itself g m.guards x is.found) is.writes one y (λ f. q.0 (f ∙ its_number g m.guards x is.found)) q.1 w (there ∙ sym at))
-    ]
-      where
-        one : count (writes_cell x.cell) m.guards ≤ 1
-        one = subst (λ d. count (writes_cell d) m.guards ≤ 1) (sym at) (let most = (is.rests.stands.cell c row row_at).locked.one in omega (arith, most))
+    ] where
+      one : count (writes_cell x.cell) m.guards ≤ 1
+      one = subst (λ d. count (writes_cell d) m.guards ≤ 1) (sym at) (let most = (is.rests.stands.cell c row row_at).locked.one in omega (arith, most))
 
     put_moved : IsMoved held place c n n m (put g value m) v v'
     put_moved =
@@ -72,10 +68,7 @@ module _ {L : Type 0} (held : L → Holders) (place : L → LockerKind) (m : Sta
         record {
           around = λ d ne. seen_put d;
           counts = λ d ne. refl;
-          drafts = λ j y e w ne. (elim (found_put j y e) [
-            | inl q ↦ absurd (ne (ap (λ (z : Guard). z.cell) (sym q.1) ∙ at))
-            | inr q ↦ q.1
-          ]);
+          drafts = λ j y e w ne. (elim (found_put j y e) [ inl q ↦ absurd (ne (ap (λ (z : Guard). z.cell) (sym q.1) ∙ at)) | inr q ↦ q.1 ]);
           others = subst (λ (s : Parking). OthersStay c v.parks s) (sym parks) (others_refl c v.parks);
           same = record { parties = ap (λ (s : Parking). length s.rows) parks; cells = ap (λ (s : Parking). length s.readers) parks };
           lists = ap (λ (s : Parking). length s.writers) parks;
@@ -99,7 +92,6 @@ module _ {L : Type 0} (held : L → Holders) (place : L → LockerKind) (m : Sta
           stands = subst (λ i. Stands held place i (put g value m) v') (sym size)
               (moved held place c n n m (put g value m) v v' row' is.rests.stands set_inside cells cell_put (ap (λ (r : CellRow L). r.waiting) row'_is ∙ is.rests.stands.counted c row row_at) draft_put put_moved (parties_same held place n m (put g value m) v v' is.rests.stands parties (λ p. refl)));
           empty = ap (λ i. numbered i (put_in g value m.guards)) size ∙ numbered_put_other g n value m.guards (λ e. (let f : None ≡ Some x = sym is.rests.empty ∙ ap (λ i. numbered i m.guards) e ∙ is.found in absurd (cc))) ∙ is.rests.empty;
-        }
-      where
-        size : length v'.guards.items ≡ n
-        size = ap (λ (xs : _). length xs.items) guards
+        } where
+          size : length v'.guards.items ≡ n
+          size = ap (λ (xs : _). length xs.items) guards

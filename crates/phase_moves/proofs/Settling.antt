@@ -57,11 +57,10 @@ module _ (k : LockerKind) (who : Who) (ask : Ask) (o : Option Registry) (h : Hol
 
   -- an answer that begins no run is as it was entered
   as_entered : (b : Begun) (g : Given) (h' : Holders) → is_run b ≡ false → IsMetBy k who ask h s b g h' → IsSettled b g h'
-  as_entered b g h' e d = record { entered = b; first = g; how = d.how; begins = same b e; gave = inl refl; few = d.few; alone = λ z. (d.apart z).clear }
-    where
-      same : (b : Begun) → is_run b ≡ false → b ≡ begun_settled ask o h.phase b
-      same (Begun.Run x) e = absurd (cc)
-      same _ e = refl
+  as_entered b g h' e d = record { entered = b; first = g; how = d.how; begins = same b e; gave = inl refl; few = d.few; alone = λ z. (d.apart z).clear } where
+    same : (b : Begun) → is_run b ≡ false → b ≡ begun_settled ask o h.phase b
+    same (Begun.Run x) e = absurd (cc)
+    same _ e = refl
 
   -- a run
   runs_on : (x : SeqSection) (g : Given) (h' : Holders) → is_refused ask.tol.leak o h.phase ≡ false → IsMetBy k who ask h s (Begun.Run x) g h' → IsSettled (Begun.Run (section_by x.who x.want (stays_asked o h.phase) x.ticket)) g h'
@@ -94,10 +93,9 @@ module _ (k : LockerKind) (who : Who) (ask : Ask) (o : Option Registry) (h : Hol
           gave = inr (is_declined Want.Init r.1 q (listed_hand who.cell (leave_write refused h1) (freed who.party s) r.1 hands_there.may));
           few = λ le. subst (λ n. n ≤ most_readers) (sym (ap (λ (y : Holders). y.readers) hands_there.held)) (handed_few r.1 who.cell (leave_write refused h1) (freed who.party s) hands_there.may none (omega (arith, room)));
           alone = λ z. absurd (omega (arith, sym (ap (λ y. writes_begun (begun_at_once y)) j.finished) ∙ z));
-        }
-      where
-        none : h1.readers ≤ most_readers
-        none = let a = (d.apart refl).readers in omega (arith, a)
+        } where
+          none : h1.readers ≤ most_readers
+          none = let a = (d.apart refl).readers in omega (arith, a)
     goes Want.Read f q j =
         let down = subst (λ c. Downgrades c refused h1 s1 r.1 h' s') at j.downgrades in
         let down_there : Downgrades who.cell refused h1 (freed who.party s) r.1 h' s' = subst (λ y. Downgrades who.cell refused h1 y r.1 h' s') e.rows down in
@@ -109,12 +107,11 @@ module _ (k : LockerKind) (who : Who) (ask : Ask) (o : Option Registry) (h : Hol
           gave = inr (is_declined Want.Read r.1 q down_there.may);
           few = λ le. subst (λ n. n ≤ most_readers) (sym (ap (λ (y : Holders). y.readers) down_there.held)) (shared r.1 down_there.may);
           alone = λ z. absurd (omega (arith, sym (ap (λ y. writes_begun (begun_at_once y)) j.finished) ∙ z));
-        }
-      where
-        shared : (g : Given) → MayShare who.cell (freed who.party s) g → (held_handed who.cell g (freed who.party s) (downgrade refused h1)).readers ≤ most_readers
-        shared Given.Nobody may = let none = (d.apart refl).readers in omega (arith, none)
-        shared (Given.Writer p) may = absurd may
-        shared Given.Readers may = let none = (d.apart refl).readers in omega (arith, none, room)
+        } where
+          shared : (g : Given) → MayShare who.cell (freed who.party s) g → (held_handed who.cell g (freed who.party s) (downgrade refused h1)).readers ≤ most_readers
+          shared Given.Nobody may = let none = (d.apart refl).readers in omega (arith, none)
+          shared (Given.Writer p) may = absurd may
+          shared Given.Readers may = let none = (d.apart refl).readers in omega (arith, none, room)
     goes Want.Write f q j =
         record {
           entered = Begun.Run x;
@@ -125,7 +122,6 @@ module _ (k : LockerKind) (who : Who) (ask : Ask) (o : Option Registry) (h : Hol
           few = λ le. subst (λ n. n ≤ most_readers) (sym (ap (λ (y : Holders). y.readers) j.held)) (d.few le);
           alone = λ z. subst (λ y. IsClear k who ask h s y) (sym (ap (λ (y : Finished × Given). y.1) j.finished)) (d.apart refl).clear;
         }
-    goes Want.ReadOnly f q j = absurd j
     goes _ f q j = absurd j
 
     at_once : HasSectionAtOnce x h1 s1 r h' s' → IsSettled r.0 r.1 h'
@@ -145,13 +141,7 @@ module _ (k : LockerKind) (who : Who) (ask : Ask) (o : Option Registry) (h : Hol
     settled : (m : Registry) → o ≡ Some m → (b : Begun) (g : Given) (h1 : Holders) (s1 : Parking) (r : Begun × Given) (h' : Holders) (s' : Parking) → IsMetBy k who ask h s b g h1 → IsTurned h s b g h1 s1 ⊎ IsEntered who ask h s b g h1 s1 → Settles ask.tol.leak m h.phase (b, g) h1 s1 r h' s' → IsSettled r.0 r.1 h'
     settled m q (Begun.Run x) g h1 s1 r h' s' d (inl t) st = absurd (let e = t.away in cc)
     settled m q (Begun.Run x) g h1 s1 r h' s' d (inr e) st = runs_or_not m q x h1 s1 r h' s' (subst (λ y. IsMetBy k who ask h s (Begun.Run x) y h1) st.0 d) (subst (λ y. IsEntered who ask h s (Begun.Run x) y h1 s1) st.0 e) (is_refused ask.tol.leak (Some m) h.phase) refl st.1
-    settled m q (Begun.Wait way) g h1 s1 r h' s' d e st = still (Begun.Wait way) g h1 s1 r h' s' refl d st
-    settled m q Begun.Missed g h1 s1 r h' s' d e st = still Begun.Missed g h1 s1 r h' s' refl d st
-    settled m q Begun.Cyclic g h1 s1 r h' s' d e st = still Begun.Cyclic g h1 s1 r h' s' refl d st
-    settled m q (Begun.Nothing p) g h1 s1 r h' s' d e st = still (Begun.Nothing p) g h1 s1 r h' s' refl d st
-    settled m q (Begun.Read t p) g h1 s1 r h' s' d e st = still (Begun.Read t p) g h1 s1 r h' s' refl d st
-    settled m q (Begun.Write t p) g h1 s1 r h' s' d e st = still (Begun.Write t p) g h1 s1 r h' s' refl d st
-    settled m q (Begun.Final x) g h1 s1 r h' s' d e st = still (Begun.Final x) g h1 s1 r h' s' refl d st
+    settled m q b g h1 s1 r h' s' d e st = still b g h1 s1 r h' s' refl d st
 
     -- on a cell without a registry
     unsettled : o ≡ None → (b : Begun) (g : Given) (h1 : Holders) (s1 : Parking) → IsMetBy k who ask h s b g h1 → IsTurned h s b g h1 s1 ⊎ IsEntered who ask h s b g h1 s1 → IsSettled b g h1
@@ -159,12 +149,7 @@ module _ (k : LockerKind) (who : Who) (ask : Ask) (o : Option Registry) (h : Hol
     unsettled q (Begun.Run x) g h1 s1 d (inr e) =
         subst (λ (y : SeqSection). IsSettled (Begun.Run y) g h1) ((λ i. section_by (e.told.0 i).who (e.told.0 i).want (stays_asked (q i) h.phase) (e.told.0 i).ticket) ∙ sym e.told.0) (runs_on x g h1 (ap (λ y. is_refused ask.tol.leak y h.phase) q) d)
     unsettled q (Begun.Wait way) g h1 s1 d e = as_entered (Begun.Wait way) g h1 refl d
-    unsettled q Begun.Missed g h1 s1 d e = as_entered Begun.Missed g h1 refl d
-    unsettled q Begun.Cyclic g h1 s1 d e = as_entered Begun.Cyclic g h1 refl d
-    unsettled q (Begun.Nothing p) g h1 s1 d e = as_entered (Begun.Nothing p) g h1 refl d
-    unsettled q (Begun.Read t p) g h1 s1 d e = as_entered (Begun.Read t p) g h1 refl d
-    unsettled q (Begun.Write t p) g h1 s1 d e = as_entered (Begun.Write t p) g h1 refl d
-    unsettled q (Begun.Final x) g h1 s1 d e = as_entered (Begun.Final x) g h1 refl d
+    unsettled q b g h1 s1 d e = as_entered b g h1 refl d
 
 -- a call of a party that waits at the cell, or does not wait
 module _ (k : LockerKind) (who : Who) (ask : Ask) (h : Holders) (s : Parking) (running : Option ℕ) (r : Begun × Given) (h' : Holders) (s' : Parking) (calm : is_cyclic ask.want who.party running ≡ false) (fits : Fits k h s who.cell)

@@ -36,47 +36,43 @@ module _ (n : ℕ) (k : LockerKind) (h : Holders) (s : Parking) (m : Standing) (
   -- ---- what is given
 
   nobody_freed : NobodyParked s t.cell → NobodyParked freed_p t.cell
-  nobody_freed e = by (wait_of p m.waits) refl (shown.shows.row p)
-    where
-      by : (o : Option Wait) → wait_of p m.waits ≡ o → row_of s p ≡ wait_row o → NobodyParked freed_p t.cell
-      by None f r = subst (λ (z : Row). NobodyParked (left z.waiting z.cell p s) t.cell) (sym r) e
-      by (Some w) f r = subst (λ (z : Row). NobodyParked (left z.waiting z.cell p s) t.cell) (sym r) (subst (λ d. NobodyParked (left (waiting_of w.way w.woken) d p s) t.cell) (sym (waited w f)) (nobody_left (waiting_of w.way w.woken) t.cell p s cell_in sizes e))
+  nobody_freed e = by (wait_of p m.waits) refl (shown.shows.row p) where
+    by : (o : Option Wait) → wait_of p m.waits ≡ o → row_of s p ≡ wait_row o → NobodyParked freed_p t.cell
+    by None f r = subst (λ (z : Row). NobodyParked (left z.waiting z.cell p s) t.cell) (sym r) e
+    by (Some w) f r = subst (λ (z : Row). NobodyParked (left z.waiting z.cell p s) t.cell) (sym r) (subst (λ d. NobodyParked (left (waiting_of w.way w.woken) d p s) t.cell) (sym (waited w f)) (nobody_left (waiting_of w.way w.woken) t.cell p s cell_in sizes e))
 
   parks : (g : Given) → IsListed t.cell freed_p g → g ≢ Given.Nobody → is_parking x.place ≡ true
-  parks g listed ne = by x.place placed
-    where
-      by : (z : Place) → k ≡ kind_at z → is_parking z ≡ true
-      by Place.Park e = refl
-      by _ e = absurd (not_listed t.cell freed_p g (nobody_freed (locked.fits.still (ap is_park e)).0) listed ne)
+  parks g listed ne = by x.place placed where
+    by : (z : Place) → k ≡ kind_at z → is_parking z ≡ true
+    by Place.Park e = refl
+    by _ e = absurd (not_listed t.cell freed_p g (nobody_freed (locked.fits.still (ap is_park e)).0) listed ne)
 
   pub reaching : (g : Given) → IsListed t.cell freed_p g → g ≢ Given.Nobody → IsReaching p t.cell g m
   reaching g listed ne = record { parks = parks g listed ne; reach = reaches_given t.cell g others freed_p shown_freed.shows listed }
 
   -- the share or the drain that is taken away was given on
   pub gives_first : (g : Given) → keeps_in p t.cell t.want m ≡ false → g ≢ Given.Nobody → MayHand t.cell (given_up (row_of s p).waiting h) freed_p g → GivesFirst p t g m
-  gives_first g dropped ne may = by (wait_of p m.waits) refl (shown.shows.row p)
-    where
-      listed : IsListed t.cell freed_p g
-      listed = listed_hand t.cell (given_up (row_of s p).waiting h) freed_p g may
+  gives_first g dropped ne may = by (wait_of p m.waits) refl (shown.shows.row p) where
+    listed : IsListed t.cell freed_p g
+    listed = listed_hand t.cell (given_up (row_of s p).waiting h) freed_p g may
 
-      idle : IsIdle (given_up (row_of s p).waiting h)
-      idle = idle_at t.cell (given_up (row_of s p).waiting h) freed_p g may ne
+    idle : IsIdle (given_up (row_of s p).waiting h)
+    idle = idle_at t.cell (given_up (row_of s p).waiting h) freed_p g may ne
 
-      not_idle : given_up (row_of s p).waiting h ≡ h → ⊥
-      not_idle e =
-          let none : IsIdle h = subst (λ (z : Holders). IsIdle z) e idle in
-          not_listed t.cell freed_p g (nobody_freed (locked.fits.idle none.locked none.readers)) listed ne
+    not_idle : given_up (row_of s p).waiting h ≡ h → ⊥
+    not_idle e =
+        let none : IsIdle h = subst (λ (z : Holders). IsIdle z) e idle in
+        not_listed t.cell freed_p g (nobody_freed (locked.fits.idle none.locked none.readers)) listed ne
 
-      by : (o : Option Wait) → wait_of p m.waits ≡ o → row_of s p ≡ wait_row o → GivesFirst p t g m
-      by None f r = absurd (not_idle (ap (λ (z : Row). given_up z.waiting h) r))
-      by (Some w) f r =
-          record {
-            reaching = reaching g listed ne;
-            own = ap has_own f ∙ elim (own_or_not w.way w.woken h) [ inl e ↦ e | inr e ↦ absurd (not_idle (ap (λ (z : Row). given_up z.waiting h) r ∙ e)) ];
-            dropped = dropped;
-            free = free;
-          }
-        where
+    by : (o : Option Wait) → wait_of p m.waits ≡ o → row_of s p ≡ wait_row o → GivesFirst p t g m
+    by None f r = absurd (not_idle (ap (λ (z : Row). given_up z.waiting h) r))
+    by (Some w) f r =
+        record {
+          reaching = reaching g listed ne;
+          own = ap has_own f ∙ elim (own_or_not w.way w.woken h) [ inl e ↦ e | inr e ↦ absurd (not_idle (ap (λ (z : Row). given_up z.waiting h) r ∙ e)) ];
+          dropped = dropped;
+          free = free;
+        } where
           here : (row_of s p).cell ≡ t.cell
           here = ap (λ (z : Row). z.cell) r ∙ waited w f
 
@@ -98,13 +94,12 @@ module _ (n : ℕ) (k : LockerKind) (h : Holders) (s : Parking) (m : Standing) (
               let claims_are = claims_shown t.cell others freed_p shown_freed.single shown_freed.shows in
               let reads = subst (λ z. open_reads (given_up (row_of s p).waiting h) z t.cell ≡ open_reads h s t.cell) there (given_up_reads (row_of s p).waiting h s t.cell p party_in row) ∙ locked.reads_are in
               let writes = closed in
-              omega (arith, none, shares, claims, shares_are, claims_are, reads, writes)
-            where
-              closed : writes_in t.cell m ≡ 0
-              closed = elim (cases_lt 0 (writes_in t.cell m)) [
-                | inr le ↦ omega (arith, le)
-                | inl lt ↦ (let open_freed = (left_writes (row_of s p).waiting k h s t.cell p party_in row locked.fits (locked.write_is lt)).locked in let unlocked = idle.locked in absurd (cc))
-              ]
+              omega (arith, none, shares, claims, shares_are, claims_are, reads, writes) where
+                closed : writes_in t.cell m ≡ 0
+                closed = elim (cases_lt 0 (writes_in t.cell m)) [
+                  | inr le ↦ omega (arith, le)
+                  | inl lt ↦ (let open_freed = (left_writes (row_of s p).waiting k h s t.cell p party_in row locked.fits (locked.write_is lt)).locked in let unlocked = idle.locked in absurd (cc))
+                ]
 
   -- a share that is given stands on the cell
   shared : (ask : Ask) (g : Given) → IsListed t.cell freed_p g → IsClear k who ask h s g → g ≢ Given.Nobody → ⊥

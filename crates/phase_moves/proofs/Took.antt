@@ -103,34 +103,33 @@ module _ {L : Type 0} (held : L → Holders) (place : L → LockerKind) where
       -- what holds of the number of readers, and what it met
       module _ (few : (held row'.seq.locker).readers ≤ most_readers) (tell : (z : Taken) → taken_of b ≡ z → IsMet p t z g m) where
         locked_called : (q : ℕ) → (held row'.seq.locker).phase ≡ phase_of q → IsLocked (place row'.seq.locker) (held row'.seq.locker) v'.parks t.cell (reads_in t.cell m + reads_begun b) (writes_in t.cell m + writes_begun b) q
-        locked_called q phase = by (begins_write b) refl
-          where
-            by : (o : Bool) → begins_write b ≡ o → IsLocked (place row'.seq.locker) (held row'.seq.locker) v'.parks t.cell (reads_in t.cell m + reads_begun b) (writes_in t.cell m + writes_begun b) q
-            by false e =
-                let l = cell_here.locked in
-                let z : writes_begun b ≡ 0 = as_many b false e in
-                record {
-                  fits = k.fits;
-                  phase_is = phase;
-                  reads_are = (let a = l.reads_are in let c = op.reads in omega (arith, a, c));
-                  write_is = λ lt. op.writes (l.write_is (omega (arith, z, lt)));
-                  write_was = λ w. (let lt = l.write_was (op.only e w) in omega (arith, lt));
-                  one = (let o = l.one in omega (arith, o, z));
-                  limit = few;
-                }
-            by true e =
-                let l = cell_here.locked in
-                let z : writes_begun b ≡ 1 = as_many b true e in
-                let none = was_none (wrote_all _ b e) in
-                record {
-                  fits = k.fits;
-                  phase_is = phase;
-                  reads_are = (let a = l.reads_are in let c = op.reads in omega (arith, a, c));
-                  write_is = λ lt. opens who b _ _ _ e stands;
-                  write_was = λ w. omega (arith, z);
-                  one = omega (arith, z, none);
-                  limit = few;
-                }
+        locked_called q phase = by (begins_write b) refl where
+          by : (o : Bool) → begins_write b ≡ o → IsLocked (place row'.seq.locker) (held row'.seq.locker) v'.parks t.cell (reads_in t.cell m + reads_begun b) (writes_in t.cell m + writes_begun b) q
+          by false e =
+              let l = cell_here.locked in
+              let z : writes_begun b ≡ 0 = as_many b false e in
+              record {
+                fits = k.fits;
+                phase_is = phase;
+                reads_are = (let a = l.reads_are in let c = op.reads in omega (arith, a, c));
+                write_is = λ lt. op.writes (l.write_is (omega (arith, z, lt)));
+                write_was = λ w. (let lt = l.write_was (op.only e w) in omega (arith, lt));
+                one = (let o = l.one in omega (arith, o, z));
+                limit = few;
+              }
+          by true e =
+              let l = cell_here.locked in
+              let z : writes_begun b ≡ 1 = as_many b true e in
+              let none = was_none (wrote_all _ b e) in
+              record {
+                fits = k.fits;
+                phase_is = phase;
+                reads_are = (let a = l.reads_are in let c = op.reads in omega (arith, a, c));
+                write_is = λ lt. opens who b _ _ _ e stands;
+                write_was = λ w. omega (arith, z);
+                one = omega (arith, z, none);
+                limit = few;
+              }
 
         -- the row of the cell
         cell_as : (m' : Standing) (z : Content) (o : Option Run) → seen_at t.cell m' ≡ record { plan = x; content = z; reads = reads_in t.cell m + reads_begun b; writes = writes_in t.cell m + writes_begun b; run = o }
@@ -185,11 +184,10 @@ module _ {L : Type 0} (held : L → Holders) (place : L → LockerKind) where
         kept_called same = keeps_still t.cell m row (called p t.cell g m) row' (is.rests.stands.draft t.cell row (read_at v.cells.items t.cell row is.cell row_is)) same refl (λ j z e w. e) (λ j z e w. refl)
 
         kept_answered : wrote true b ≡ true → row'.draft ≡ row.draft → KeepsDraft t.cell (answered p t.cell g chs m) row'
-        kept_answered had same = keeps_still t.cell m row (answered p t.cell g chs m) row' (is.rests.stands.draft t.cell row (read_at v.cells.items t.cell row is.cell row_is)) same refl (λ j z e w. e) (shown_still t.cell m now now_beside (λ some. by some (declined x t.want m.registry.is_open y.phase) refl))
-          where
-            by : count (writes_cell t.cell) m.guards ≢ 0 → (o : Bool) → declined x t.want m.registry.is_open y.phase ≡ o → now t.cell ≡ y
-            by some false f = now_calm f
-            by some true f = let none = was_none (ap (λ b'. wrote b' b) (d_is ∙ f) ∙ had) in absurd (some (omega (arith, none)))
+        kept_answered had same = keeps_still t.cell m row (answered p t.cell g chs m) row' (is.rests.stands.draft t.cell row (read_at v.cells.items t.cell row is.cell row_is)) same refl (λ j z e w. e) (shown_still t.cell m now now_beside (λ some. by some (declined x t.want m.registry.is_open y.phase) refl)) where
+          by : count (writes_cell t.cell) m.guards ≢ 0 → (o : Bool) → declined x t.want m.registry.is_open y.phase ≡ o → now t.cell ≡ y
+          by some false f = now_calm f
+          by some true f = let none = was_none (ap (λ b'. wrote b' b) (d_is ∙ f) ∙ had) in absurd (some (omega (arith, none)))
 
         -- ---- the rows of parties
 
@@ -219,14 +217,13 @@ module _ {L : Type 0} (held : L → Holders) (place : L → LockerKind) where
 
         -- the section that runs was asked at the phase that is published: where that changes none runs
         runs_now : wrote true b ≡ true → row'.run ≡ row.run → row'.run ≡ open_run x t.cell (effect x chs y).phase (run_in t.cell m.sections)
-        runs_now had e = e ∙ cell_here.runs ∙ by (declined x t.want m.registry.is_open y.phase) refl
-          where
-            by : (o : Bool) → declined x t.want m.registry.is_open y.phase ≡ o → open_run x t.cell y.phase (run_in t.cell m.sections) ≡ open_run x t.cell (effect x chs y).phase (run_in t.cell m.sections)
-            by false f = ap (λ (z : Content). open_run x t.cell z.phase (run_in t.cell m.sections)) (sym (left_is ∙ ap (λ b. record { phase = if b then flags_refused else y.phase; value = y.value }) f))
-            by true f =
-                let none = was_none (ap (λ b'. wrote b' b) (d_is ∙ f) ∙ had) in
-                let no_run = none_runs t.cell m.sections (omega (arith, none)) in
-                ap (open_run x t.cell y.phase) no_run ∙ ap (open_run x t.cell (effect x chs y).phase) (sym no_run)
+        runs_now had e = e ∙ cell_here.runs ∙ by (declined x t.want m.registry.is_open y.phase) refl where
+          by : (o : Bool) → declined x t.want m.registry.is_open y.phase ≡ o → open_run x t.cell y.phase (run_in t.cell m.sections) ≡ open_run x t.cell (effect x chs y).phase (run_in t.cell m.sections)
+          by false f = ap (λ (z : Content). open_run x t.cell z.phase (run_in t.cell m.sections)) (sym (left_is ∙ ap (λ b. record { phase = if b then flags_refused else y.phase; value = y.value }) f))
+          by true f =
+              let none = was_none (ap (λ b'. wrote b' b) (d_is ∙ f) ∙ had) in
+              let no_run = none_runs t.cell m.sections (omega (arith, none)) in
+              ap (open_run x t.cell y.phase) no_run ∙ ap (open_run x t.cell (effect x chs y).phase) (sym no_run)
 
         abbrev seen_as : Content → ℕ → ℕ → Option Run → Seen
         seen_as z r w o = record { plan = x; content = z; reads = reads_in t.cell m + r; writes = writes_in t.cell m + w; run = o }
@@ -263,12 +260,11 @@ module _ {L : Type 0} (held : L → Holders) (place : L → LockerKind) where
               told = told_as (Begun.Read l q) e ∙ told_phase;
               cyclic = cyclic_as (Begun.Read l q) e;
               met = tell (Taken.Read l q) (ap taken_of e);
-            }
-          where
-            seen : seen_at t.cell (guarded (reader n p t.cell) (answered p t.cell g chs m)) ≡ seen_as (effect x chs y) 1 0 (run_in t.cell m.sections)
-            seen =
-                seen_reader n p t.cell (answered p t.cell g chs m)
-                ∙ (let w : writes_in t.cell m ≡ writes_in t.cell m + 0 = omega arith in λ i. record { plan = x; content = now_here i; reads = reads_in t.cell m + 1; writes = w i; run = run_in t.cell m.sections })
+            } where
+              seen : seen_at t.cell (guarded (reader n p t.cell) (answered p t.cell g chs m)) ≡ seen_as (effect x chs y) 1 0 (run_in t.cell m.sections)
+              seen =
+                  seen_reader n p t.cell (answered p t.cell g chs m)
+                  ∙ (let w : writes_in t.cell m ≡ writes_in t.cell m + 0 = omega arith in λ i. record { plan = x; content = now_here i; reads = reads_in t.cell m + 1; writes = w i; run = run_in t.cell m.sections })
 
         pub took_write : (l : WriteTicket) (q : Phase) → b ≡ Begun.Write l q → of' ≡ record { waiting = None; innermost = of.innermost } → row'.run ≡ row.run → row'.waiting ≡ count (waits_at t.cell) (given_on t.cell g (without_wait p m.waits)) → row'.draft ≡ record { phase = q; value = row.value } → IsTook held place m v p t (Taken.Write l q) g v'
         took_write l q e o run many draft =
@@ -280,15 +276,14 @@ module _ {L : Type 0} (held : L → Holders) (place : L → LockerKind) where
               told = told_as (Begun.Write l q) e ∙ told_phase;
               cyclic = cyclic_as (Begun.Write l q) e;
               met = tell (Taken.Write l q) (ap taken_of e);
-            }
-          where
-            unwritten : count (writes_cell t.cell) m.guards ≡ 0
-            unwritten = let none = was_none (ap (wrote _) e) in omega (arith, none)
+            } where
+              unwritten : count (writes_cell t.cell) m.guards ≡ 0
+              unwritten = let none = was_none (ap (wrote _) e) in omega (arith, none)
 
-            seen : seen_at t.cell (guarded (writer_asked n p t.cell chs) (called p t.cell g m)) ≡ seen_as y 0 1 (run_in t.cell m.sections)
-            seen =
-                seen_writer n p t.cell chs (called p t.cell g m)
-                ∙ (let r : reads_in t.cell m ≡ reads_in t.cell m + 0 = omega arith in λ i. record { plan = x; content = y; reads = r i; writes = writes_in t.cell m + 1; run = run_in t.cell m.sections })
+              seen : seen_at t.cell (guarded (writer_asked n p t.cell chs) (called p t.cell g m)) ≡ seen_as y 0 1 (run_in t.cell m.sections)
+              seen =
+                  seen_writer n p t.cell chs (called p t.cell g m)
+                  ∙ (let r : reads_in t.cell m ≡ reads_in t.cell m + 0 = omega arith in λ i. record { plan = x; content = y; reads = r i; writes = writes_in t.cell m + 1; run = run_in t.cell m.sections })
 
         abbrev waiting_m : How → Standing
         waiting_m way = waiting p t.cell t.want way (called p t.cell g m)
@@ -304,13 +299,12 @@ module _ {L : Type 0} (held : L → Holders) (place : L → LockerKind) where
               told = tt;
               cyclic = cyclic_as (Begun.Wait way) e;
               met = tell (Taken.Wait way) (ap taken_of e);
-            }
-          where
-            itself : wait_of p (waiting_m way).waits ≡ Some (record { party = p; cell = t.cell; want = t.want; way = way; woken = false })
-            itself = let q = itself_eq p in rw q refl
+            } where
+              itself : wait_of p (waiting_m way).waits ≡ Some (record { party = p; cell = t.cell; want = t.want; way = way; woken = false })
+              itself = let q = itself_eq p in rw q refl
 
-            beside : (q : ℕ) → q ≢ p → wait_of q (waiting_m way).waits ≡ wait_of q (called p t.cell g m).waits
-            beside q ne = let f : (p == q) ≡ false = grind (arith, ne) in rw f refl
+              beside : (q : ℕ) → q ≢ p → wait_of q (waiting_m way).waits ≡ wait_of q (called p t.cell g m).waits
+              beside q ne = let f : (p == q) ≡ false = grind (arith, ne) in rw f refl
 
         -- a section that runs
         abbrev sec : Section
@@ -331,20 +325,19 @@ module _ {L : Type 0} (held : L → Holders) (place : L → LockerKind) where
               told = tt;
               cyclic = turned;
               met = told;
-            }
-          where
-            run_m : Standing
-            run_m = opened (section_asked n p t.cell t.want m) (registry_asked t.cell t.want m) (called p t.cell g m)
+            } where
+              run_m : Standing
+              run_m = opened (section_asked n p t.cell t.want m) (registry_asked t.cell t.want m) (called p t.cell g m)
 
-            seen : seen_at t.cell (opened (section_asked n p t.cell t.want m) (registry_asked t.cell t.want m) (called p t.cell g m)) ≡ seen_as y 0 1 (Some run_r)
-            seen =
-                let q = itself_eq t.cell in
-                let r : reads_in t.cell m ≡ reads_in t.cell m + 0 = omega arith in
-                let w : count (writes_cell t.cell) m.guards + (count (runs_in t.cell) m.sections + 1) ≡ writes_in t.cell m + 1 = omega arith in
-                rw q (λ i. record { plan = x; content = y; reads = r i; writes = w i; run = Some run_r })
+              seen : seen_at t.cell (opened (section_asked n p t.cell t.want m) (registry_asked t.cell t.want m) (called p t.cell g m)) ≡ seen_as y 0 1 (Some run_r)
+              seen =
+                  let q = itself_eq t.cell in
+                  let r : reads_in t.cell m ≡ reads_in t.cell m + 0 = omega arith in
+                  let w : count (writes_cell t.cell) m.guards + (count (runs_in t.cell) m.sections + 1) ≡ writes_in t.cell m + 1 = omega arith in
+                  rw q (λ i. record { plan = x; content = y; reads = r i; writes = w i; run = Some run_r })
 
-            itself : innermost p (sec ∷ m.sections) ≡ Some sec
-            itself = let q = itself_eq p in rw q refl
+              itself : innermost p (sec ∷ m.sections) ≡ Some sec
+              itself = let q = itself_eq p in rw q refl
 
-            beside : (q : ℕ) → q ≢ p → innermost q (sec ∷ m.sections) ≡ innermost q m.sections
-            beside q ne = let f : (p == q) ≡ false = grind (arith, ne) in rw f refl
+              beside : (q : ℕ) → q ≢ p → innermost q (sec ∷ m.sections) ≡ innermost q m.sections
+              beside q ne = let f : (p == q) ≡ false = grind (arith, ne) in rw f refl

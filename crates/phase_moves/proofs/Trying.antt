@@ -21,28 +21,26 @@ module _ {L : Type 0} (held : L → Holders) (place : L → LockerKind) (m : Sta
   may_wait ask e w = (is_asked row.plan t.want ask e).fast ∙ ap (λ (x : CellPlan). is_quick x t.want) here.planned ∙ (is.waits_so w).slow
 
   pub may_call : Calling waits (record { cell = t.cell; party = p }) v.parks
-  may_call = by waits is.waited
-    where
-      cell_in : t.cell < length v.parks.readers
-      cell_in = let a = is.cell in let d = is.rests.stands.sizes.readers in omega (arith, a, d)
+  may_call = by waits is.waited where
+    cell_in : t.cell < length v.parks.readers
+    cell_in = let a = is.cell in let d = is.rests.stands.sizes.readers in omega (arith, a, d)
 
-      party_in : p < length v.parks.rows
-      party_in = let a = is.party in let d = is.rests.stands.sizes.rows in omega (arith, a, d)
+    party_in : p < length v.parks.rows
+    party_in = let a = is.party in let d = is.rests.stands.sizes.rows in omega (arith, a, d)
 
-      waiting_at : (o : Option Wait) → row_of v.parks p ≡ wait_row o → WaitsAt t.cell o → ((row_of v.parks p).waiting ≢ Waiting.Free) × ((row_of v.parks p).cell ≡ t.cell)
-      waiting_at None e w = absurd w
-      waiting_at (Some x) e w = (λ f. never_free x.way x.woken (sym (ap (λ (r : Row). r.waiting) e) ∙ f), ap (λ (r : Row). r.cell) e ∙ w)
+    waiting_at : (o : Option Wait) → row_of v.parks p ≡ wait_row o → WaitsAt t.cell o → ((row_of v.parks p).waiting ≢ Waiting.Free) × ((row_of v.parks p).cell ≡ t.cell)
+    waiting_at None e w = absurd w
+    waiting_at (Some x) e w = (λ f. never_free x.way x.woken (sym (ap (λ (r : Row). r.waiting) e) ∙ f), ap (λ (r : Row). r.cell) e ∙ w)
 
-      by : (b : Bool) → MatchBool b (WaitsAt t.cell (wait_of p m.waits)) (wait_of p m.waits ≡ None) → MatchBool b (MayCallAgain (record { cell = t.cell; party = p }) v.parks) (MayCall (record { cell = t.cell; party = p }) v.parks)
-      by true w = (let k = waiting_at (wait_of p m.waits) (is.rests.stands.waits.shows.row p) w in record { cell = cell_in; party = party_in; waits = k.0; here = k.1 })
-      by false w = record { cell = cell_in; party = party_in; free = ap (λ (r : Row). r.waiting) (is.rests.stands.waits.shows.row p ∙ ap wait_row w) }
+    by : (b : Bool) → MatchBool b (WaitsAt t.cell (wait_of p m.waits)) (wait_of p m.waits ≡ None) → MatchBool b (MayCallAgain (record { cell = t.cell; party = p }) v.parks) (MayCall (record { cell = t.cell; party = p }) v.parks)
+    by true w = (let k = waiting_at (wait_of p m.waits) (is.rests.stands.waits.shows.row p) w in record { cell = cell_in; party = party_in; waits = k.0; here = k.1 })
+    by false w = record { cell = cell_in; party = party_in; free = ap (λ (r : Row). r.waiting) (is.rests.stands.waits.shows.row p ∙ ap wait_row w) }
 
   pub may_register : is_finalizable row.plan.kind ≡ true → MayRegister t.cell (held row.seq.locker) v.parks v.exit.registry
   may_register e =
       let x = is.rests.stands.exit in
       let sure : is_finalizable (cell_at m.plans t.cell).kind ≡ true = ap (λ (c : CellPlan). is_finalizable c.kind) (sym here.planned) ∙ e in
       subst (λ r. MayRegister t.cell (held row.seq.locker) v.parks r) (sym x.registry_is)
-      (record { inside = (let a = is.cell in let c = x.cells_are in omega (arith, a, c)); unknown = λ z closed. is.unknown sure (sym (ap number here.locked.phase_is) ∙ z) (none closed) })
-    where
-      none : (IsWriteOpen (held row.seq.locker) v.parks t.cell → ⊥) → writes_in t.cell m ≡ 0
-      none closed = elim (cases_lt 0 (writes_in t.cell m)) [ inl lt ↦ absurd (closed (here.locked.write_is lt)) | inr le ↦ omega (arith, le) ]
+      (record { inside = (let a = is.cell in let c = x.cells_are in omega (arith, a, c)); unknown = λ z closed. is.unknown sure (sym (ap number here.locked.phase_is) ∙ z) (none closed) }) where
+        none : (IsWriteOpen (held row.seq.locker) v.parks t.cell → ⊥) → writes_in t.cell m ≡ 0
+        none closed = elim (cases_lt 0 (writes_in t.cell m)) [ inl lt ↦ absurd (closed (here.locked.write_is lt)) | inr le ↦ omega (arith, le) ]

@@ -26,13 +26,12 @@ abbrev stands_at : ℕ → Row → Bool
 stands_at c r = if waits_so r.waiting then r.cell == c else false
 
 row_waits : (c : ℕ) (w : Wait) → stands_at c (wait_row (Some w)) ≡ waits_at c w
-row_waits c w = by w.party w.cell w.want w.way w.woken
-  where
-    by : (p x : ℕ) (want : Want) (way : How) (woken : Bool) → stands_at c (wait_row (Some (record { party = p; cell = x; want = want; way = way; woken = woken }))) ≡ waits_at c (record { party = p; cell = x; want = want; way = way; woken = woken })
-    by p x want How.Spin woken = refl
-    by p x want How.ParkedRead true = refl
-    by p x want How.ParkedWrite true = refl
-    by p x want _ _ = refl
+row_waits c w = by w.party w.cell w.want w.way w.woken where
+  by : (p x : ℕ) (want : Want) (way : How) (woken : Bool) → stands_at c (wait_row (Some (record { party = p; cell = x; want = want; way = way; woken = woken }))) ≡ waits_at c (record { party = p; cell = x; want = want; way = way; woken = woken })
+  by p x want How.Spin woken = refl
+  by p x want How.ParkedRead true = refl
+  by p x want How.ParkedWrite true = refl
+  by p x want _ _ = refl
 
 pub few_wait : (c : ℕ) (ws : List Wait) (s : Parking) → IsSingle ws → Shows ws s → count (waits_at c) ws ≤ length s.rows
 few_wait c ws s single shows =
@@ -58,13 +57,10 @@ waited_here false c o k w e = let f : None ≡ Some w = sym k ∙ e in absurd (c
 module _ (p c : ℕ) (ws : List Wait) (single : IsSingle ws) (g : Given) (at : (w : Wait) → wait_of p ws ≡ Some w → w.cell ≡ c) where
   -- at another cell as many wait
   pub count_beside : (d : ℕ) → d ≢ c → count (waits_at d) (given_on c g (without_wait p ws)) ≡ count (waits_at d) ws
-  count_beside d ne =
-      count_given d c g (without_wait p ws)
-      ∙ (let less = count_without (waits_at d) p ws single in let none = by (wait_of p ws) refl in omega (arith, less, none))
-    where
-      by : (o : Option Wait) → wait_of p ws ≡ o → one_of (waits_at d) o ≡ 0
-      by None e = refl
-      by (Some w) e = let q = at w e in let f : (w.cell == d) ≡ false = grind (arith, q, ne) in rw f refl
+  count_beside d ne = count_given d c g (without_wait p ws) ∙ (let less = count_without (waits_at d) p ws single in let none = by (wait_of p ws) refl in omega (arith, less, none)) where
+    by : (o : Option Wait) → wait_of p ws ≡ o → one_of (waits_at d) o ≡ 0
+    by None e = refl
+    by (Some w) e = let q = at w e in let f : (w.cell == d) ≡ false = grind (arith, q, ne) in rw f refl
 
   -- and here one less, where the party waited
   pub count_here : count (waits_at c) ws ≡ count (waits_at c) (given_on c g (without_wait p ws)) + (if is_some (target_of (wait_of p ws)) then 1 else 0)
@@ -72,11 +68,10 @@ module _ (p c : ℕ) (ws : List Wait) (single : IsSingle ws) (g : Given) (at : (
       let less = count_without (waits_at c) p ws single in
       let same = count_given c c g (without_wait p ws) in
       let one = by (wait_of p ws) refl in
-      omega (arith, less, same, one)
-    where
-      by : (o : Option Wait) → wait_of p ws ≡ o → one_of (waits_at c) o ≡ (if is_some (target_of o) then 1 else 0)
-      by None e = refl
-      by (Some w) e = let q = at w e in let f : (w.cell == c) ≡ true = grind (arith, q) in rw f refl
+      omega (arith, less, same, one) where
+        by : (o : Option Wait) → wait_of p ws ≡ o → one_of (waits_at c) o ≡ (if is_some (target_of o) then 1 else 0)
+        by None e = refl
+        by (Some w) e = let q = at w e in let f : (w.cell == c) ≡ true = grind (arith, q) in rw f refl
 
 -- so it is counted
 counted_with : (was is : Bool) (n k : ℕ) → n ≡ k + (if was then 1 else 0) → waiting_with was is n ≡ k + (if is then 1 else 0)

@@ -20,22 +20,16 @@ none_without p (w ∷ ws) e = grind (arith, none_without p ws)
 -- one wait less is counted
 pub count_once : (t : Wait → Bool) (p : ℕ) (ws : List Wait) → count (λ (w : Wait). w.party == p) ws ≤ 1 → count t ws ≡ count t (without_wait p ws) + one_of t (wait_of p ws)
 count_once t p [] one = refl
-count_once t p (w ∷ ws) one = by (w.party == p) one (count_once t p ws) (absent_without p ws)
-  where
-    by : (b : Bool) → cond b (count (λ (w : Wait). w.party == p) ws + 1) (count (λ (w : Wait). w.party == p) ws) ≤ 1
-        → (count (λ (w : Wait). w.party == p) ws ≤ 1 → count t ws ≡ count t (without_wait p ws) + one_of t (wait_of p ws))
-        → (count (λ (w : Wait). w.party == p) ws ≡ 0 → without_wait p ws ≡ ws)
-        → count t (w ∷ ws) ≡ count t (cond (not b) (w ∷ without_wait p ws) (without_wait p ws)) + one_of t (cond b (Some w) (wait_of p ws))
-    by true one rest gone = rw (gone (omega arith)) (more (t w))
-      where
-        more : (b : Bool) → cond b (count t ws + 1) (count t ws) ≡ count t ws + cond b 1 0
-        more true = refl
-        more false = omega arith
-    by false one rest gone = more (t w) (rest one)
-      where
-        more : (b : Bool) → count t ws ≡ count t (without_wait p ws) + one_of t (wait_of p ws) → cond b (count t ws + 1) (count t ws) ≡ cond b (count t (without_wait p ws) + 1) (count t (without_wait p ws)) + one_of t (wait_of p ws)
-        more true e = omega (arith, e)
-        more false e = e
+count_once t p (w ∷ ws) one = by (w.party == p) one (count_once t p ws) (absent_without p ws) where
+  by : (b : Bool) → cond b (count (λ (w : Wait). w.party == p) ws + 1) (count (λ (w : Wait). w.party == p) ws) ≤ 1
+      → (count (λ (w : Wait). w.party == p) ws ≤ 1 → count t ws ≡ count t (without_wait p ws) + one_of t (wait_of p ws))
+      → (count (λ (w : Wait). w.party == p) ws ≡ 0 → without_wait p ws ≡ ws)
+      → count t (w ∷ ws) ≡ count t (cond (not b) (w ∷ without_wait p ws) (without_wait p ws)) + one_of t (cond b (Some w) (wait_of p ws))
+  by true one rest gone = rw (gone (omega arith)) ((elim (t w) as (λ b. cond b (count t ws + 1) (count t ws) ≡ count t ws + cond b 1 0) [ true ↦ refl | false ↦ omega arith ]))
+  by false one rest gone = more (t w) (rest one) where
+    more : (b : Bool) → count t ws ≡ count t (without_wait p ws) + one_of t (wait_of p ws) → cond b (count t ws + 1) (count t ws) ≡ cond b (count t (without_wait p ws) + 1) (count t (without_wait p ws)) + one_of t (wait_of p ws)
+    more true e = omega (arith, e)
+    more false e = e
 
 -- the same, where each party waits once at most
 pub count_without : (t : Wait → Bool) (p : ℕ) (ws : List Wait) → IsSingle ws → count t ws ≡ count t (without_wait p ws) + one_of t (wait_of p ws)

@@ -11,19 +11,16 @@ changed f (Some w) = Some (f w)
 -- after a map that keeps the parties
 pub wait_map : (f : Wait → Wait) (p : ℕ) (ws : List Wait) → ((w : Wait) → (f w).party ≡ w.party) → wait_of p (map f ws) ≡ changed f (wait_of p ws)
 wait_map f p [] same = refl
-wait_map f p (w ∷ ws) same = by ((f w).party == p) (w.party == p) (ap (λ q. q == p) (same w)) (wait_map f p ws same)
-  where
-    by : (b d : Bool) → b ≡ d → wait_of p (map f ws) ≡ changed f (wait_of p ws) → cond b (Some (f w)) (wait_of p (map f ws)) ≡ changed f (cond d (Some w) (wait_of p ws))
-    by true true s e = refl
-    by false false s e = e
-    by true false s e = absurd (apart s)
-      where
-        apart : true ≡ false → ⊥
-        apart e = cc
-    by false true s e = absurd (apart s)
-      where
-        apart : false ≡ true → ⊥
-        apart e = cc
+wait_map f p (w ∷ ws) same = by ((f w).party == p) (w.party == p) (ap (λ q. q == p) (same w)) (wait_map f p ws same) where
+  by : (b d : Bool) → b ≡ d → wait_of p (map f ws) ≡ changed f (wait_of p ws) → cond b (Some (f w)) (wait_of p (map f ws)) ≡ changed f (cond d (Some w) (wait_of p ws))
+  by true true s e = refl
+  by false false s e = e
+  by true false s e = absurd (apart s) where
+    apart : true ≡ false → ⊥
+    apart e = cc
+  by false true s e = absurd (apart s) where
+    apart : false ≡ true → ⊥
+    apart e = cc
 
 -- after the shares of readers
 pub wait_readers : (c p : ℕ) (ws : List Wait) → wait_of p (map (wake_reader c) ws) ≡ changed (wake_reader c) (wait_of p ws)

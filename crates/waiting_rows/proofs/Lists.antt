@@ -41,30 +41,28 @@ any_readers c ws = any_listed (parks_to_read c) ws ∙ ap (λ ps. not (is_empty 
 -- a member is the party of a call that passes
 pub any_member : (t : Wait → Bool) (q : ℕ) (ws : List Wait) → 0 < occurs q (listed t ws) → list_any (λ w. (w.party == q) && t w) ws ≡ true
 any_member t q [] k = absurd (omega (arith, k))
-any_member t q (w ∷ ws) k = by (t w) (w.party == q) refl (rw (occurs-append q (listed t ws) (party_if (t w) w.party)) at k) (any_member t q ws)
-  where
-    by : (b e : Bool) → (w.party == q) ≡ e → 0 < occurs q (listed t ws) + occurs q (party_if b w.party) → (0 < occurs q (listed t ws) → list_any (λ w. (w.party == q) && t w) ws ≡ true) → ((e && b) || list_any (λ w. (w.party == q) && t w) ws) ≡ true
-    by true true s k f = refl
-    by true false s k f = let z : occurs q (party_if true w.party) ≡ 0 = grind (arith, s) in f (omega (arith, k, z))
-    by false true s k f = f (omega (arith, k))
-    by false false s k f = f (omega (arith, k))
+any_member t q (w ∷ ws) k = by (t w) (w.party == q) refl (rw (occurs-append q (listed t ws) (party_if (t w) w.party)) at k) (any_member t q ws) where
+  by : (b e : Bool) → (w.party == q) ≡ e → 0 < occurs q (listed t ws) + occurs q (party_if b w.party) → (0 < occurs q (listed t ws) → list_any (λ w. (w.party == q) && t w) ws ≡ true) → ((e && b) || list_any (λ w. (w.party == q) && t w) ws) ≡ true
+  by true true s k f = refl
+  by true false s k f = let z : occurs q (party_if true w.party) ≡ 0 = grind (arith, s) in f (omega (arith, k, z))
+  by false true s k f = f (omega (arith, k))
+  by false false s k f = f (omega (arith, k))
 
 -- ---- without the wait of a party
 
 -- the list is that without the party
 pub listed_without : (t : Wait → Bool) (p : ℕ) (ws : List Wait) → listed t (without_wait p ws) ≡ without p (listed t ws)
 listed_without t p [] = refl
-listed_without t p (w ∷ ws) = by (w.party == p) refl (listed_without t p ws) ∙ sym (filter-append (λ q. not (q == p)) (listed t ws) (party_if (t w) w.party))
-  where
-    one : (b e : Bool) → (w.party == p) ≡ e → without p (party_if b w.party) ≡ cond e [] (party_if b w.party)
-    one true true s = grind (arith, s)
-    one true false s = grind (arith, s)
-    one false true s = refl
-    one false false s = refl
+listed_without t p (w ∷ ws) = by (w.party == p) refl (listed_without t p ws) ∙ sym (filter-append (λ q. not (q == p)) (listed t ws) (party_if (t w) w.party)) where
+  one : (b e : Bool) → (w.party == p) ≡ e → without p (party_if b w.party) ≡ cond e [] (party_if b w.party)
+  one true true s = grind (arith, s)
+  one true false s = grind (arith, s)
+  one false true s = refl
+  one false false s = refl
 
-    by : (e : Bool) → (w.party == p) ≡ e → listed t (without_wait p ws) ≡ without p (listed t ws) → listed t (cond (not e) (w ∷ without_wait p ws) (without_wait p ws)) ≡ without p (listed t ws) ++ without p (party_if (t w) w.party)
-    by true s ih = rw (one (t w) true s) (rw append-nil ih)
-    by false s ih = rw (one (t w) false s) (ap (λ ps. ps ++ party_if (t w) w.party) ih)
+  by : (e : Bool) → (w.party == p) ≡ e → listed t (without_wait p ws) ≡ without p (listed t ws) → listed t (cond (not e) (w ∷ without_wait p ws) (without_wait p ws)) ≡ without p (listed t ws) ++ without p (party_if (t w) w.party)
+  by true s ih = rw (one (t w) true s) (rw append-nil ih)
+  by false s ih = rw (one (t w) false s) (ap (λ ps. ps ++ party_if (t w) w.party) ih)
 
 -- the parked readers
 pub readers_without : (c p : ℕ) (ws : List Wait) → parked_readers c (without_wait p ws) ≡ without p (parked_readers c ws)
@@ -105,14 +103,12 @@ readers_beside_writer q d ws = listed_readers d (map (wake_writer q) ws) ∙ lis
 -- and takes the writer from its list
 pub writer_woken : (q c : ℕ) (ws : List Wait) → parked_writers c (map (wake_writer q) ws) ≡ without q (parked_writers c ws)
 writer_woken q c [] = refl
-writer_woken q c (w ∷ ws) =
-    (λ i. writer_woken q c ws i ++ one i) ∙ sym (filter-append (λ p. not (p == q)) (parked_writers c ws) (party_if (parks_to_write c w) w.party))
-  where
-    by : (e b : Bool) → (w.party == q) ≡ e → parks_to_write c w ≡ b → party_if (parks_to_write c (wake_writer q w)) (wake_writer q w).party ≡ without q (party_if b w.party)
-    by true true s k = rw (writer_gone c q w s) (grind (arith, s))
-    by true false s k = rw (writer_gone c q w s) refl
-    by false true s k = (λ i. party_if (parks_to_write c (writer_other q w s i)) (writer_other q w s i).party) ∙ rw k (grind (arith, s))
-    by false false s k = (λ i. party_if (parks_to_write c (writer_other q w s i)) (writer_other q w s i).party) ∙ rw k refl
+writer_woken q c (w ∷ ws) = (λ i. writer_woken q c ws i ++ one i) ∙ sym (filter-append (λ p. not (p == q)) (parked_writers c ws) (party_if (parks_to_write c w) w.party)) where
+  by : (e b : Bool) → (w.party == q) ≡ e → parks_to_write c w ≡ b → party_if (parks_to_write c (wake_writer q w)) (wake_writer q w).party ≡ without q (party_if b w.party)
+  by true true s k = rw (writer_gone c q w s) (grind (arith, s))
+  by true false s k = rw (writer_gone c q w s) refl
+  by false true s k = (λ i. party_if (parks_to_write c (writer_other q w s i)) (writer_other q w s i).party) ∙ rw k (grind (arith, s))
+  by false false s k = (λ i. party_if (parks_to_write c (writer_other q w s i)) (writer_other q w s i).party) ∙ rw k refl
 
-    one : party_if (parks_to_write c (wake_writer q w)) (wake_writer q w).party ≡ without q (party_if (parks_to_write c w) w.party)
-    one = by (w.party == q) (parks_to_write c w) refl refl
+  one : party_if (parks_to_write c (wake_writer q w)) (wake_writer q w).party ≡ without q (party_if (parks_to_write c w) w.party)
+  one = by (w.party == q) (parks_to_write c w) refl refl

@@ -6,22 +6,21 @@ use Rattle.waiting_rows.proofs.{Lists.listed, Lists.listed_readers, Lists.listed
 -- a party is in a list as often as it has a call that passes
 pub occurs_listed : (t : Wait → Bool) (q : ℕ) (ws : List Wait) → count (λ (w : Wait). w.party == q) ws ≤ 1 → occurs q (listed t ws) ≡ one_of t (wait_of q ws)
 occurs_listed t q [] one = refl
-occurs_listed t q (w ∷ ws) one = occurs-append q (listed t ws) (party_if (t w) w.party) ∙ by (w.party == q) (t w) refl refl one (occurs_listed t q ws) (none_found (λ (w : Wait). w.party == q) ws)
-  where
-    by : (e b : Bool) → (w.party == q) ≡ e → t w ≡ b → cond e (count (λ (w : Wait). w.party == q) ws + 1) (count (λ (w : Wait). w.party == q) ws) ≤ 1
-        → (count (λ (w : Wait). w.party == q) ws ≤ 1 → occurs q (listed t ws) ≡ one_of t (wait_of q ws))
-        → (count (λ (w : Wait). w.party == q) ws ≡ 0 → wait_of q ws ≡ None)
-        → occurs q (listed t ws) + occurs q (party_if b w.party) ≡ one_of t (cond e (Some w) (wait_of q ws))
-    by true true s k one rest none =
-        let z : count (λ (w : Wait). w.party == q) ws ≡ 0 = omega arith in
-        let gone : occurs q (listed t ws) ≡ 0 = rest (omega arith) ∙ ap (one_of t) (none z) in
-        rw (gone, k, s) refl
-    by true false s k one rest none =
-        let z : count (λ (w : Wait). w.party == q) ws ≡ 0 = omega arith in
-        let gone : occurs q (listed t ws) ≡ 0 = rest (omega arith) ∙ ap (one_of t) (none z) in
-        rw (gone, k) refl
-    by false true s k one rest none = let r = rest one in rw s (omega (arith, r))
-    by false false s k one rest none = let r = rest one in omega (arith, r)
+occurs_listed t q (w ∷ ws) one = occurs-append q (listed t ws) (party_if (t w) w.party) ∙ by (w.party == q) (t w) refl refl one (occurs_listed t q ws) (none_found (λ (w : Wait). w.party == q) ws) where
+  by : (e b : Bool) → (w.party == q) ≡ e → t w ≡ b → cond e (count (λ (w : Wait). w.party == q) ws + 1) (count (λ (w : Wait). w.party == q) ws) ≤ 1
+      → (count (λ (w : Wait). w.party == q) ws ≤ 1 → occurs q (listed t ws) ≡ one_of t (wait_of q ws))
+      → (count (λ (w : Wait). w.party == q) ws ≡ 0 → wait_of q ws ≡ None)
+      → occurs q (listed t ws) + occurs q (party_if b w.party) ≡ one_of t (cond e (Some w) (wait_of q ws))
+  by true true s k one rest none =
+      let z : count (λ (w : Wait). w.party == q) ws ≡ 0 = omega arith in
+      let gone : occurs q (listed t ws) ≡ 0 = rest (omega arith) ∙ ap (one_of t) (none z) in
+      rw (gone, k, s) refl
+  by true false s k one rest none =
+      let z : count (λ (w : Wait). w.party == q) ws ≡ 0 = omega arith in
+      let gone : occurs q (listed t ws) ≡ 0 = rest (omega arith) ∙ ap (one_of t) (none z) in
+      rw (gone, k) refl
+  by false true s k one rest none = let r = rest one in rw s (omega (arith, r))
+  by false false s k one rest none = let r = rest one in omega (arith, r)
 
 -- the parked readers
 pub occurs_readers : (c q : ℕ) (ws : List Wait) → IsSingle ws → occurs q (parked_readers c ws) ≡ one_of (parks_to_read c) (wait_of q ws)

@@ -12,24 +12,22 @@ passes t (Some w) = t w
 -- the row of a waiting call says whether it is parked on the cell to read
 pub row_reads : (c : ℕ) (o : Option Wait) → reads_at c (wait_row o) ≡ passes (parks_to_read c) o
 row_reads c None = refl
-row_reads c (Some w) = by w.party w.cell w.want w.way w.woken
-  where
-    by : (p x : ℕ) (want : Want) (way : How) (woken : Bool) → reads_at c (wait_row (Some (record { party = p; cell = x; want = want; way = way; woken = woken }))) ≡ parks_to_read c (record { party = p; cell = x; want = want; way = way; woken = woken })
-    by p x want How.Spin woken = refl
-    by p x want How.ParkedRead true = refl
-    by p x want How.ParkedWrite true = refl
-    by p x want _ _ = refl
+row_reads c (Some w) = by w.party w.cell w.want w.way w.woken where
+  by : (p x : ℕ) (want : Want) (way : How) (woken : Bool) → reads_at c (wait_row (Some (record { party = p; cell = x; want = want; way = way; woken = woken }))) ≡ parks_to_read c (record { party = p; cell = x; want = want; way = way; woken = woken })
+  by p x want How.Spin woken = refl
+  by p x want How.ParkedRead true = refl
+  by p x want How.ParkedWrite true = refl
+  by p x want _ _ = refl
 
 -- or to write
 pub row_writes : (c : ℕ) (o : Option Wait) → writes_at c (wait_row o) ≡ passes (parks_to_write c) o
 row_writes c None = refl
-row_writes c (Some w) = by w.party w.cell w.want w.way w.woken
-  where
-    by : (p x : ℕ) (want : Want) (way : How) (woken : Bool) → writes_at c (wait_row (Some (record { party = p; cell = x; want = want; way = way; woken = woken }))) ≡ parks_to_write c (record { party = p; cell = x; want = want; way = way; woken = woken })
-    by p x want How.Spin woken = refl
-    by p x want How.ParkedRead true = refl
-    by p x want How.ParkedWrite true = refl
-    by p x want _ _ = refl
+row_writes c (Some w) = by w.party w.cell w.want w.way w.woken where
+  by : (p x : ℕ) (want : Want) (way : How) (woken : Bool) → writes_at c (wait_row (Some (record { party = p; cell = x; want = want; way = way; woken = woken }))) ≡ parks_to_write c (record { party = p; cell = x; want = want; way = way; woken = woken })
+  by p x want How.Spin woken = refl
+  by p x want How.ParkedRead true = refl
+  by p x want How.ParkedWrite true = refl
+  by p x want _ _ = refl
 
 -- a party that is parked on the cell to write
 pub record ParkedWriter (q c : ℕ) (ws : List Wait) : Type 0 where

@@ -24,10 +24,7 @@ free_party p ws s shows none lt = record { party = p; inside = lt; free = ap (λ
 -- a party whose call waits has a row
 pub waits_inside : (p : ℕ) (rows : List Row) (w : Wait) → get_or rows p free_row ≡ wait_row (Some w) → p < length rows
 waits_inside p rows w e =
-    elim (cases_lt p (length rows)) [
-      | inl k ↦ k
-      | inr k ↦ absurd (never_free w.way w.woken (ap (λ (r : Row). r.waiting) (sym e ∙ get_or_past rows p free_row k)))
-    ]
+    elim (cases_lt p (length rows)) [ inl k ↦ k | inr k ↦ absurd (never_free w.way w.woken (ap (λ (r : Row). r.waiting) (sym e ∙ get_or_past rows p free_row k))) ]
 
 -- ---- counts
 
@@ -39,43 +36,39 @@ count_rows f (w ∷ ws) rows fails single all =
     let inside : w.party < length rows = waits_inside w.party rows w here in
     let rest = count_rows f ws (set rows w.party free_row) fails (λ r. tail r (single r)) (set_shows rows w.party free_row free_row (λ p. wait_row (wait_of p (w ∷ ws))) (λ p. wait_row (wait_of p ws)) all (λ p ne. ap wait_row (beside w ws p ne)) inside (sym (ap wait_row (none_found (λ (v : Wait). v.party == w.party) ws (alone w ws (single w.party)))))) in
     let one = rw (here, fails) at (count_set f rows w.party free_row free_row inside) in
-    count_before (f (wait_row (Some w))) _ _ _ rest one
-  where
-    found : (w : Wait) (ws : List Wait) → wait_of w.party (w ∷ ws) ≡ Some w
-    found w ws = grind arith
+    count_before (f (wait_row (Some w))) _ _ _ rest one where
+      found : (w : Wait) (ws : List Wait) → wait_of w.party (w ∷ ws) ≡ Some w
+      found w ws = grind arith
 
-    tail : (r : ℕ) → count (λ (v : Wait). v.party == r) (w ∷ ws) ≤ 1 → count (λ (v : Wait). v.party == r) ws ≤ 1
-    tail r k = by (w.party == r) k
-      where
+      tail : (r : ℕ) → count (λ (v : Wait). v.party == r) (w ∷ ws) ≤ 1 → count (λ (v : Wait). v.party == r) ws ≤ 1
+      tail r k = by (w.party == r) k where
         by : (b : Bool) → cond b (count (λ (v : Wait). v.party == r) ws + 1) (count (λ (v : Wait). v.party == r) ws) ≤ 1 → count (λ (v : Wait). v.party == r) ws ≤ 1
         by true k = omega arith
         by false k = k
 
-    alone : (w : Wait) (ws : List Wait) → count (λ (v : Wait). v.party == w.party) (w ∷ ws) ≤ 1 → count (λ (v : Wait). v.party == w.party) ws ≡ 0
-    alone w ws k = grind (arith, k)
+      alone : (w : Wait) (ws : List Wait) → count (λ (v : Wait). v.party == w.party) (w ∷ ws) ≤ 1 → count (λ (v : Wait). v.party == w.party) ws ≡ 0
+      alone w ws k = grind (arith, k)
 
-    beside : (w : Wait) (ws : List Wait) (p : ℕ) → p ≢ w.party → wait_of p ws ≡ wait_of p (w ∷ ws)
-    beside w ws p ne = grind (arith, ne)
+      beside : (w : Wait) (ws : List Wait) (p : ℕ) → p ≢ w.party → wait_of p ws ≡ wait_of p (w ∷ ws)
+      beside w ws p ne = grind (arith, ne)
 
 -- what the row of a call says
 pub row_shares : (c : ℕ) (w : Wait) → shares_at c (wait_row (Some w)) ≡ shares_read c w
-row_shares c w = by w.party w.cell w.want w.way w.woken
-  where
-    by : (p x : ℕ) (want : Want) (way : How) (woken : Bool) → shares_at c (wait_row (Some (record { party = p; cell = x; want = want; way = way; woken = woken }))) ≡ shares_read c (record { party = p; cell = x; want = want; way = way; woken = woken })
-    by p x want How.Spin woken = refl
-    by p x want How.ParkedRead true = refl
-    by p x want How.ParkedWrite true = refl
-    by p x want _ _ = refl
+row_shares c w = by w.party w.cell w.want w.way w.woken where
+  by : (p x : ℕ) (want : Want) (way : How) (woken : Bool) → shares_at c (wait_row (Some (record { party = p; cell = x; want = want; way = way; woken = woken }))) ≡ shares_read c (record { party = p; cell = x; want = want; way = way; woken = woken })
+  by p x want How.Spin woken = refl
+  by p x want How.ParkedRead true = refl
+  by p x want How.ParkedWrite true = refl
+  by p x want _ _ = refl
 
 pub row_claims : (c : ℕ) (w : Wait) → cond {A = ℕ} (claims_at c (wait_row (Some w))) 1 0 ≡ cond {A = ℕ} (shares_write c w) 1 0 + cond {A = ℕ} (drains_on c w) 1 0
-row_claims c w = by w.party w.cell w.want w.way w.woken
-  where
-    by : (p x : ℕ) (want : Want) (way : How) (woken : Bool) → cond {A = ℕ} (claims_at c (wait_row (Some (record { party = p; cell = x; want = want; way = way; woken = woken })))) 1 0
-        ≡ cond {A = ℕ} (shares_write c (record { party = p; cell = x; want = want; way = way; woken = woken })) 1 0 + cond {A = ℕ} (drains_on c (record { party = p; cell = x; want = want; way = way; woken = woken })) 1 0
-    by p x want How.ParkedWrite true = omega arith
-    by p x want How.Drain woken = omega arith
-    by p x want How.ParkedRead true = refl
-    by p x want _ _ = refl
+row_claims c w = by w.party w.cell w.want w.way w.woken where
+  by : (p x : ℕ) (want : Want) (way : How) (woken : Bool) → cond {A = ℕ} (claims_at c (wait_row (Some (record { party = p; cell = x; want = want; way = way; woken = woken })))) 1 0
+      ≡ cond {A = ℕ} (shares_write c (record { party = p; cell = x; want = want; way = way; woken = woken })) 1 0 + cond {A = ℕ} (drains_on c (record { party = p; cell = x; want = want; way = way; woken = woken })) 1 0
+  by p x want How.ParkedWrite true = omega arith
+  by p x want How.Drain woken = omega arith
+  by p x want How.ParkedRead true = refl
+  by p x want _ _ = refl
 
 module _ (c : ℕ) (ws : List Wait) (s : Rows) (single : IsSingle ws) (shows : Shows ws s) where
   -- read shares
@@ -84,11 +77,10 @@ module _ (c : ℕ) (ws : List Wait) (s : Rows) (single : IsSingle ws) (shows : S
 
   -- claims: write shares and drains
   pub claims_shown : claims s c ≡ count (shares_write c) ws + count (drains_on c) ws
-  claims_shown = count_rows (claims_at c) ws s.rows refl single shows.row ∙ both ws
-    where
-      add : (a b d : Bool) (n m k : ℕ) → cond {A = ℕ} a 1 0 ≡ cond {A = ℕ} b 1 0 + cond {A = ℕ} d 1 0 → n ≡ m + k → cond a (n + 1) n ≡ cond b (m + 1) m + cond d (k + 1) k
-      add a b d n m k e f = grind arith
+  claims_shown = count_rows (claims_at c) ws s.rows refl single shows.row ∙ both ws where
+    add : (a b d : Bool) (n m k : ℕ) → cond {A = ℕ} a 1 0 ≡ cond {A = ℕ} b 1 0 + cond {A = ℕ} d 1 0 → n ≡ m + k → cond a (n + 1) n ≡ cond b (m + 1) m + cond d (k + 1) k
+    add a b d n m k e f = grind arith
 
-      both : (vs : List Wait) → count (λ (w : Wait). claims_at c (wait_row (Some w))) vs ≡ count (shares_write c) vs + count (drains_on c) vs
-      both [] = refl
-      both (w ∷ vs) = add (claims_at c (wait_row (Some w))) (shares_write c w) (drains_on c w) _ _ _ (row_claims c w) (both vs)
+    both : (vs : List Wait) → count (λ (w : Wait). claims_at c (wait_row (Some w))) vs ≡ count (shares_write c) vs + count (drains_on c) vs
+    both [] = refl
+    both (w ∷ vs) = add (claims_at c (wait_row (Some w))) (shares_write c w) (drains_on c w) _ _ _ (row_claims c w) (both vs)

@@ -7,10 +7,7 @@ use Rattle.waiting_rows.proofs.{Lists.readers_without, Lists.writers_without, Sl
 -- a party that is not parked to read at the cell is not in its list
 pub unlisted_reader : (d p : ℕ) (s : Rows) → IsSound s → reads_at d (row_of s p) ≡ false → without p (readers_of s d) ≡ readers_of s d
 unlisted_reader d p s sound e =
-    elim (cases_lt d (length s.readers)) [
-      | inl k ↦ without_absent p (readers_of s d) (sound.readers d p k ∙ rw e refl)
-      | inr k ↦ rw (get_or_past s.readers d [] k) refl
-    ]
+    elim (cases_lt d (length s.readers)) [ inl k ↦ without_absent p (readers_of s d) (sound.readers d p k ∙ rw e refl) | inr k ↦ rw (get_or_past s.readers d [] k) refl ]
 
 -- nor one that is not parked to write
 pub unlisted_writer : (d p : ℕ) (s : Rows) → IsSound s → writes_at d (row_of s p) ≡ false → without p (writers_of s d) ≡ writers_of s d
@@ -31,14 +28,12 @@ writes_here c d r e ne = rw e (grind (arith, ne))
 pub readers_left : (v : Waiting) (c p : ℕ) (s : Rows) → IsSound s → row_of s p ≡ record { waiting = v; cell = c } → (d : ℕ) → readers_of (left v c p s) d ≡ without p (readers_of s d)
 readers_left Waiting.ParkedRead c p s sound row d =
     set_shows_past s.readers c (without p (readers_of s c)) [] (readers_of s) (λ d. without p (readers_of s d)) (λ d. refl) (λ d ne. unlisted_reader d p s sound (reads_here c d (row_of s p) row ne)) refl (λ k. rw (get_or_past s.readers c [] k) refl) d
-readers_left Waiting.Free c p s sound row d = sym (unlisted_reader d p s sound (rw row refl))
 readers_left _ c p s sound row d = sym (unlisted_reader d p s sound (rw row refl))
 
 -- and the list of writers
 pub writers_left : (v : Waiting) (c p : ℕ) (s : Rows) → IsSound s → row_of s p ≡ record { waiting = v; cell = c } → (d : ℕ) → writers_of (left v c p s) d ≡ without p (writers_of s d)
 writers_left Waiting.ParkedWrite c p s sound row d =
     set_shows_past s.writers c (without p (writers_of s c)) [] (writers_of s) (λ d. without p (writers_of s d)) (λ d. refl) (λ d ne. unlisted_writer d p s sound (writes_here c d (row_of s p) row ne)) refl (λ k. rw (get_or_past s.writers c [] k) refl) d
-writers_left Waiting.Free c p s sound row d = sym (unlisted_writer d p s sound (rw row refl))
 writers_left _ c p s sound row d = sym (unlisted_writer d p s sound (rw row refl))
 
 -- the rows after the party left

@@ -9,15 +9,14 @@ use Rattle.waiting_rows.proofs.{ShowsFreed.unlisted_writer, Slots.set_shows}
 
 -- the row of a reader with its share
 pub row_woken : (c : ℕ) (w : Wait) → parks_to_read c w ≡ true → wait_row (Some (wake_reader c w)) ≡ record { waiting = Waiting.ShareRead; cell = c }
-row_woken c w e = by w.party w.cell w.want w.way w.woken e
-  where
-    same : (x : ℕ) → (x == c) ≡ true → x ≡ c
-    same x e = grind (arith, e)
+row_woken c w e = by w.party w.cell w.want w.way w.woken e where
+  same : (x : ℕ) → (x == c) ≡ true → x ≡ c
+  same x e = grind (arith, e)
 
-    by : (p x : ℕ) (want : Want) (way : How) (woken : Bool) → parks_to_read c (record { party = p; cell = x; want = want; way = way; woken = woken }) ≡ true → wait_row (Some (wake_reader c (record { party = p; cell = x; want = want; way = way; woken = woken }))) ≡ record { waiting = Waiting.ShareRead; cell = c }
-    by p x want How.ParkedRead false e = let s : x ≡ c = same x e in rw e (λ i. record { waiting = Waiting.ShareRead; cell = s i })
-    by p x want How.ParkedRead true e = absurd (cc)
-    by p x want _ _ e = absurd (cc)
+  by : (p x : ℕ) (want : Want) (way : How) (woken : Bool) → parks_to_read c (record { party = p; cell = x; want = want; way = way; woken = woken }) ≡ true → wait_row (Some (wake_reader c (record { party = p; cell = x; want = want; way = way; woken = woken }))) ≡ record { waiting = Waiting.ShareRead; cell = c }
+  by p x want How.ParkedRead false e = let s : x ≡ c = same x e in rw e (λ i. record { waiting = Waiting.ShareRead; cell = s i })
+  by p x want How.ParkedRead true e = absurd (cc)
+  by p x want _ _ e = absurd (cc)
 
 -- the row of a call that is not parked to read stays
 pub row_asleep : (c : ℕ) (w : Wait) → parks_to_read c w ≡ false → wake_reader c w ≡ w
@@ -25,21 +24,20 @@ row_asleep c w e = grind (arith, e)
 
 -- the row of a party after the shares of readers
 pub row_readers : (c p : ℕ) (ws : List Wait) (s : Rows) → c < length s.readers → IsSound s → Shows ws s → row_of (rows_to_readers c s) p ≡ wait_row (wait_of p (map (wake_reader c) ws))
-row_readers c p ws s inside sound shows = by (wait_of p ws) (shows.row p) ∙ ap wait_row (sym (wait_readers c p ws))
-  where
-    out : reads_at c (row_of s p) ≡ false → row_of (rows_to_readers c s) p ≡ row_of s p
-    out e = row-shared_other c (readers_of s c) s.rows p (sound.readers c p inside ∙ rw e refl)
+row_readers c p ws s inside sound shows = by (wait_of p ws) (shows.row p) ∙ ap wait_row (sym (wait_readers c p ws)) where
+  out : reads_at c (row_of s p) ≡ false → row_of (rows_to_readers c s) p ≡ row_of s p
+  out e = row-shared_other c (readers_of s c) s.rows p (sound.readers c p inside ∙ rw e refl)
 
-    call : (w : Wait) (b : Bool) → parks_to_read c w ≡ b → row_of s p ≡ wait_row (Some w) → row_of (rows_to_readers c s) p ≡ wait_row (Some (wake_reader c w))
-    call w true k row =
-        let reads : reads_at c (row_of s p) ≡ true = ap (reads_at c) row ∙ row_reads c (Some w) ∙ k in
-        let one : occurs p (readers_of s c) ≡ 1 = sound.readers c p inside ∙ rw reads refl in
-        row-shared_same c (readers_of s c) s.rows p (all_read c s inside sound) (omega (arith, one)) ∙ sym (row_woken c w k)
-    call w false k row = out (ap (reads_at c) row ∙ row_reads c (Some w) ∙ k) ∙ row ∙ ap (λ (v : Wait). wait_row (Some v)) (sym (row_asleep c w k))
+  call : (w : Wait) (b : Bool) → parks_to_read c w ≡ b → row_of s p ≡ wait_row (Some w) → row_of (rows_to_readers c s) p ≡ wait_row (Some (wake_reader c w))
+  call w true k row =
+      let reads : reads_at c (row_of s p) ≡ true = ap (reads_at c) row ∙ row_reads c (Some w) ∙ k in
+      let one : occurs p (readers_of s c) ≡ 1 = sound.readers c p inside ∙ rw reads refl in
+      row-shared_same c (readers_of s c) s.rows p (all_read c s inside sound) (omega (arith, one)) ∙ sym (row_woken c w k)
+  call w false k row = out (ap (reads_at c) row ∙ row_reads c (Some w) ∙ k) ∙ row ∙ ap (λ (v : Wait). wait_row (Some v)) (sym (row_asleep c w k))
 
-    by : (o : Option Wait) → row_of s p ≡ wait_row o → row_of (rows_to_readers c s) p ≡ wait_row (changed (wake_reader c) o)
-    by None row = out (ap (reads_at c) row) ∙ row
-    by (Some w) row = call w (parks_to_read c w) refl row
+  by : (o : Option Wait) → row_of s p ≡ wait_row o → row_of (rows_to_readers c s) p ≡ wait_row (changed (wake_reader c) o)
+  by None row = out (ap (reads_at c) row) ∙ row
+  by (Some w) row = call w (parks_to_read c w) refl row
 
 -- the parked readers of the cell are given shares
 pub shows_handed_readers : (c : ℕ) (ws : List Wait) (s : Rows) → c < length s.readers → IsSound s → Shows ws s → Shows (map (wake_reader c) ws) (rows_handed c Given.Readers s)
@@ -51,30 +49,26 @@ shows_handed_readers c ws s inside sound shows = record {
 
 -- the waits of other parties than the writer stay
 pub changed_other : (q p : ℕ) (ws : List Wait) → p ≢ q → changed (wake_writer q) (wait_of p ws) ≡ wait_of p ws
-changed_other q p ws ne = by (wait_of p ws) refl
-  where
-    by : (o : Option Wait) → wait_of p ws ≡ o → changed (wake_writer q) o ≡ o
-    by None e = refl
-    by (Some w) e =
-        let own : w.party ≡ p = wait_party p ws w e in
-        ap Some (writer_other q w (grind (arith, own, ne)))
+changed_other q p ws ne = by (wait_of p ws) refl where
+  by : (o : Option Wait) → wait_of p ws ≡ o → changed (wake_writer q) o ≡ o
+  by None e = refl
+  by (Some w) e = let own : w.party ≡ p = wait_party p ws w e in ap Some (writer_other q w (grind (arith, own, ne)))
 
 -- the row of a writer with its share
 pub row_writer : (q c : ℕ) (w : Wait) → w.party ≡ q → parks_to_write c w ≡ true → wait_row (Some (wake_writer q w)) ≡ record { waiting = Waiting.ShareWrite; cell = c }
-row_writer q c w own e = by w.party w.cell w.want w.way w.woken own e
-  where
-    same : (x : ℕ) → (x == c) ≡ true → x ≡ c
-    same x e = grind (arith, e)
+row_writer q c w own e = by w.party w.cell w.want w.way w.woken own e where
+  same : (x : ℕ) → (x == c) ≡ true → x ≡ c
+  same x e = grind (arith, e)
 
-    by : (p x : ℕ) (want : Want) (way : How) (woken : Bool) → p ≡ q → parks_to_write c (record { party = p; cell = x; want = want; way = way; woken = woken }) ≡ true → wait_row (Some (wake_writer q (record { party = p; cell = x; want = want; way = way; woken = woken }))) ≡ record { waiting = Waiting.ShareWrite; cell = c }
-    by p x want How.Spin woken own e = absurd (cc)
-    by p x want How.ParkedRead woken own e = absurd (cc)
-    by p x want How.Drain woken own e = absurd (cc)
-    by p x want How.ParkedWrite true own e = absurd (cc)
-    by p x want How.ParkedWrite false own e =
-        let s : x ≡ c = same x e in
-        let o : (p == q) ≡ true = grind (arith, own) in
-        rw o (λ i. record { waiting = Waiting.ShareWrite; cell = s i })
+  by : (p x : ℕ) (want : Want) (way : How) (woken : Bool) → p ≡ q → parks_to_write c (record { party = p; cell = x; want = want; way = way; woken = woken }) ≡ true → wait_row (Some (wake_writer q (record { party = p; cell = x; want = want; way = way; woken = woken }))) ≡ record { waiting = Waiting.ShareWrite; cell = c }
+  by p x want How.Spin woken own e = absurd (cc)
+  by p x want How.ParkedRead woken own e = absurd (cc)
+  by p x want How.Drain woken own e = absurd (cc)
+  by p x want How.ParkedWrite true own e = absurd (cc)
+  by p x want How.ParkedWrite false own e =
+      let s : x ≡ c = same x e in
+      let o : (p == q) ≡ true = grind (arith, own) in
+      rw o (λ i. record { waiting = Waiting.ShareWrite; cell = s i })
 
 -- a writer that is parked on the cell is given a share
 pub shows_handed_writer : (q c : ℕ) (ws : List Wait) (s : Rows) → c < length s.readers → IsSound s → Shows ws s → occurs q (writers_of s c) ≡ 1 → Shows (map (wake_writer q) ws) (rows_handed c (Given.Writer q) s)
@@ -90,8 +84,7 @@ shows_handed_writer q c ws s inside sound shows one =
       writers = λ d. set_shows s.writers c (without q (writers_of s c)) [] (λ d. writers_of s d) (λ d. parked_writers d (map (wake_writer q) ws)) (λ d. refl)
           (λ d ne. writer_woken q d ws ∙ ap (without q) (sym (shows.writers d)) ∙ unlisted_writer d q s sound (elsewhere (row_of s q).waiting (row_of s q).cell c d writes ne))
           (omega (arith, inside, sound.cells)) (ap (without q) (shows.writers c) ∙ sym (writer_woken q c ws)) d;
-    }
-  where
-    elsewhere : (v : Waiting) (x c d : ℕ) → writes_at c (record { waiting = v; cell = x }) ≡ true → d ≢ c → writes_at d (record { waiting = v; cell = x }) ≡ false
-    elsewhere Waiting.ParkedWrite x c d e ne = grind (arith, e, ne)
-    elsewhere _ x c d e ne = refl
+    } where
+      elsewhere : (v : Waiting) (x c d : ℕ) → writes_at c (record { waiting = v; cell = x }) ≡ true → d ≢ c → writes_at d (record { waiting = v; cell = x }) ≡ false
+      elsewhere Waiting.ParkedWrite x c d e ne = grind (arith, e, ne)
+      elsewhere _ x c d e ne = refl

@@ -33,7 +33,6 @@ single_writer q ws single = λ r. omega (arith, counted_map (wake_writer q) r ws
 -- with one wait more of a party that has none
 pub single_with : (p : ℕ) (way : How) (o : Option Attempt) (ws : List Wait) → wait_of p ws ≡ None → IsSingle ws → IsSingle (with_wait p way o ws)
 single_with p way None ws none single = single
-single_with p way (Some a) ws none single = λ r. at r (none_counted p ws none) (single r)
-  where
-    at : (r : ℕ) → count (λ (w : Wait). w.party == p) ws ≡ 0 → count (λ (w : Wait). w.party == r) ws ≤ 1 → cond (p == r) (count (λ (w : Wait). w.party == r) ws + 1) (count (λ (w : Wait). w.party == r) ws) ≤ 1
-    at r zero one = grind arith
+single_with p way (Some a) ws none single = λ r. at r (none_counted p ws none) (single r) where
+  at : (r : ℕ) → count (λ (w : Wait). w.party == p) ws ≡ 0 → count (λ (w : Wait). w.party == r) ws ≤ 1 → cond (p == r) (count (λ (w : Wait). w.party == r) ws + 1) (count (λ (w : Wait). w.party == r) ws) ≤ 1
+  at r zero one = grind arith
