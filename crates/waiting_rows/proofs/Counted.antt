@@ -1,6 +1,6 @@
 -- How many waiting calls pass a test, after a wait is taken off or given a share.
-use Rattle.waiting_rows.proofs.Words.{◌≡◌, ◌==◌, ℕ, ◌+◌, ◌≤◌, List, [], ◌∷◌, refl, arith, Bool, true, false, cond, None, Some, not, map, Option, count, Wait, wait_of}
-use Rattle.waiting_rows.proofs.Words.{without_wait, IsSingle}
+use Rattle.waiting_rows.proofs.Words.{◌≡◌, ◌==◌, ℕ, ◌+◌, ◌≤◌, List, [], ◌∷◌, refl, arith, Bool, cond, None, Some, not, map, Option, count, Wait, wait_of, without_wait}
+use Rattle.waiting_rows.proofs.Words.{IsSingle}
 
 -- one, where there is such a call
 abbrev pub one_of : (Wait → Bool) → Option Wait → ℕ
@@ -25,11 +25,7 @@ count_once t p (w ∷ ws) one = by (w.party == p) one (count_once t p ws) (absen
       → (count (λ (w : Wait). w.party == p) ws ≤ 1 → count t ws ≡ count t (without_wait p ws) + one_of t (wait_of p ws))
       → (count (λ (w : Wait). w.party == p) ws ≡ 0 → without_wait p ws ≡ ws)
       → count t (w ∷ ws) ≡ count t (cond (not b) (w ∷ without_wait p ws) (without_wait p ws)) + one_of t (cond b (Some w) (wait_of p ws))
-  by true one rest gone = rw (gone (omega arith)) ((elim (t w) as (λ b. cond b (count t ws + 1) (count t ws) ≡ count t ws + cond b 1 0) [ true ↦ refl | false ↦ omega arith ]))
-  by false one rest gone = more (t w) (rest one) where
-    more : (b : Bool) → count t ws ≡ count t (without_wait p ws) + one_of t (wait_of p ws) → cond b (count t ws + 1) (count t ws) ≡ cond b (count t (without_wait p ws) + 1) (count t (without_wait p ws)) + one_of t (wait_of p ws)
-    more true e = omega (arith, e)
-    more false e = e
+  by b one rest gone = grind arith
 
 -- the same, where each party waits once at most
 pub count_without : (t : Wait → Bool) (p : ℕ) (ws : List Wait) → IsSingle ws → count t ws ≡ count t (without_wait p ws) + one_of t (wait_of p ws)

@@ -2,7 +2,7 @@
 use Rattle.waiting_rows.proofs.Words.{◌≡◌, ◌≢◌, ◌==◌, ℕ, ◌+◌, ◌<◌, List, [], ◌∷◌, ◌++◌, refl, arith, Bool, true, false, cond, ◌∙◌, ap, sym, not, map, ◌||◌, ◌&&◌, append-nil}
 use Rattle.waiting_rows.proofs.Words.{filter-append, list_any, is_empty, occurs, without, occurs-append, Wait, party_if, parks_to_read, parks_to_write, parked_readers}
 use Rattle.waiting_rows.proofs.Words.{parked_writers, without_wait, wake_reader, wake_writer}
-use Rattle.waiting_rows.proofs.Each.{woken_to_read, reader_party, writer_party, writer_gone, writer_reads, writer_other}
+use Rattle.waiting_rows.proofs.Each.{woken_to_read, reader_party, writer_party, writer_reads}
 
 -- ---- the parties of the calls that pass a test, in order of parking
 
@@ -23,9 +23,7 @@ listed_writers c (w ∷ ws) = ap (λ ps. ps ++ party_if (parks_to_write c w) w.p
 
 -- one party more
 pub empty-append : (ps : List ℕ) (b : Bool) (p : ℕ) → (b || not (is_empty ps)) ≡ not (is_empty (ps ++ party_if b p))
-empty-append [] true p = refl
-empty-append (q ∷ ps) true p = refl
-empty-append _ _ p = refl
+empty-append ps b p = grind arith
 
 -- some call passes where the list is not empty
 pub any_listed : (t : Wait → Bool) (ws : List Wait) → list_any t ws ≡ not (is_empty (listed t ws))
@@ -43,10 +41,7 @@ pub any_member : (t : Wait → Bool) (q : ℕ) (ws : List Wait) → 0 < occurs q
 any_member t q [] k = absurd (omega (arith, k))
 any_member t q (w ∷ ws) k = by (t w) (w.party == q) refl (rw (occurs-append q (listed t ws) (party_if (t w) w.party)) at k) (any_member t q ws) where
   by : (b e : Bool) → (w.party == q) ≡ e → 0 < occurs q (listed t ws) + occurs q (party_if b w.party) → (0 < occurs q (listed t ws) → list_any (λ w. (w.party == q) && t w) ws ≡ true) → ((e && b) || list_any (λ w. (w.party == q) && t w) ws) ≡ true
-  by true true s k f = refl
-  by true false s k f = let z : occurs q (party_if true w.party) ≡ 0 = grind (arith, s) in f (omega (arith, k, z))
-  by false true s k f = f (omega (arith, k))
-  by false false s k f = f (omega (arith, k))
+  by b e s k f = grind arith
 
 -- ---- without the wait of a party
 
@@ -55,10 +50,7 @@ pub listed_without : (t : Wait → Bool) (p : ℕ) (ws : List Wait) → listed t
 listed_without t p [] = refl
 listed_without t p (w ∷ ws) = by (w.party == p) refl (listed_without t p ws) ∙ sym (filter-append (λ q. not (q == p)) (listed t ws) (party_if (t w) w.party)) where
   one : (b e : Bool) → (w.party == p) ≡ e → without p (party_if b w.party) ≡ cond e [] (party_if b w.party)
-  one true true s = grind (arith, s)
-  one true false s = grind (arith, s)
-  one false true s = refl
-  one false false s = refl
+  one b e s = grind arith
 
   by : (e : Bool) → (w.party == p) ≡ e → listed t (without_wait p ws) ≡ without p (listed t ws) → listed t (cond (not e) (w ∷ without_wait p ws) (without_wait p ws)) ≡ without p (listed t ws) ++ without p (party_if (t w) w.party)
   by true s ih = rw (one (t w) true s) (rw append-nil ih)
@@ -105,10 +97,7 @@ pub writer_woken : (q c : ℕ) (ws : List Wait) → parked_writers c (map (wake_
 writer_woken q c [] = refl
 writer_woken q c (w ∷ ws) = (λ i. writer_woken q c ws i ++ one i) ∙ sym (filter-append (λ p. not (p == q)) (parked_writers c ws) (party_if (parks_to_write c w) w.party)) where
   by : (e b : Bool) → (w.party == q) ≡ e → parks_to_write c w ≡ b → party_if (parks_to_write c (wake_writer q w)) (wake_writer q w).party ≡ without q (party_if b w.party)
-  by true true s k = rw (writer_gone c q w s) (grind (arith, s))
-  by true false s k = rw (writer_gone c q w s) refl
-  by false true s k = (λ i. party_if (parks_to_write c (writer_other q w s i)) (writer_other q w s i).party) ∙ rw k (grind (arith, s))
-  by false false s k = (λ i. party_if (parks_to_write c (writer_other q w s i)) (writer_other q w s i).party) ∙ rw k refl
+  by e b s k = grind arith
 
   one : party_if (parks_to_write c (wake_writer q w)) (wake_writer q w).party ≡ without q (party_if (parks_to_write c w) w.party)
   one = by (w.party == q) (parks_to_write c w) refl refl

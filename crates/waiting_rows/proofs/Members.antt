@@ -1,6 +1,6 @@
 -- Who is in the lists of parked calls, where each party waits at most once.
-use Rattle.waiting_rows.proofs.Words.{◌≡◌, ◌==◌, ℕ, ◌+◌, ◌≤◌, List, [], ◌∷◌, refl, arith, Bool, true, false, cond, None, Some, ◌∙◌, ap, occurs, occurs-append, count, Wait}
-use Rattle.waiting_rows.proofs.Words.{party_if, parks_to_read, parks_to_write, parked_readers, parked_writers, wait_of, none_found, IsSingle}
+use Rattle.waiting_rows.proofs.Words.{◌≡◌, ◌==◌, ℕ, ◌+◌, ◌≤◌, List, [], ◌∷◌, refl, arith, Bool, cond, None, Some, ◌∙◌, occurs, occurs-append, count, Wait, party_if}
+use Rattle.waiting_rows.proofs.Words.{parks_to_read, parks_to_write, parked_readers, parked_writers, wait_of, none_found, IsSingle}
 use Rattle.waiting_rows.proofs.{Lists.listed, Lists.listed_readers, Lists.listed_writers, Counted.one_of}
 
 -- a party is in a list as often as it has a call that passes
@@ -11,16 +11,7 @@ occurs_listed t q (w ∷ ws) one = occurs-append q (listed t ws) (party_if (t w)
       → (count (λ (w : Wait). w.party == q) ws ≤ 1 → occurs q (listed t ws) ≡ one_of t (wait_of q ws))
       → (count (λ (w : Wait). w.party == q) ws ≡ 0 → wait_of q ws ≡ None)
       → occurs q (listed t ws) + occurs q (party_if b w.party) ≡ one_of t (cond e (Some w) (wait_of q ws))
-  by true true s k one rest none =
-      let z : count (λ (w : Wait). w.party == q) ws ≡ 0 = omega arith in
-      let gone : occurs q (listed t ws) ≡ 0 = rest (omega arith) ∙ ap (one_of t) (none z) in
-      rw (gone, k, s) refl
-  by true false s k one rest none =
-      let z : count (λ (w : Wait). w.party == q) ws ≡ 0 = omega arith in
-      let gone : occurs q (listed t ws) ≡ 0 = rest (omega arith) ∙ ap (one_of t) (none z) in
-      rw (gone, k) refl
-  by false true s k one rest none = let r = rest one in rw s (omega (arith, r))
-  by false false s k one rest none = let r = rest one in omega (arith, r)
+  by e b s k one rest none = grind arith
 
 -- the parked readers
 pub occurs_readers : (c q : ℕ) (ws : List Wait) → IsSingle ws → occurs q (parked_readers c ws) ≡ one_of (parks_to_read c) (wait_of q ws)

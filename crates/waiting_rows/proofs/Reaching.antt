@@ -1,7 +1,6 @@
 -- The calls in a cell's lists are those that a gift reaches, and the flags of the lists are those of the waits.
-use Rattle.waiting_rows.proofs.Words.{◌≡◌, ℕ, ◌<◌, List, length, refl, arith, Bool, true, false, None, Some, ◌∙◌, ap, sym, not, Option, How, Rows, row_of, readers_of}
-use Rattle.waiting_rows.proofs.Words.{writers_of, is_empty, occurs, reads_at, writes_at, IsSound, is_one-if, Want, Wait, wait_of, parks_to_read, parks_to_write}
-use Rattle.waiting_rows.proofs.Words.{parked_writers, reaches, Shows, wait_row, Given}
+use Rattle.waiting_rows.proofs.Words.{◌≡◌, ℕ, ◌<◌, List, length, arith, Bool, true, false, None, Some, ◌∙◌, ap, sym, not, Option, Rows, readers_of, writers_of, is_empty}
+use Rattle.waiting_rows.proofs.Words.{occurs, reads_at, writes_at, IsSound, Wait, wait_of, parks_to_read, parks_to_write, parked_writers, reaches, Shows, wait_row, Given}
 use Rattle.waiting_rows.proofs.Lists.{listed_writers, any_member, any_readers}
 
 -- a waiting call, where it passes a test
@@ -11,23 +10,11 @@ passes t (Some w) = t w
 
 -- the row of a waiting call says whether it is parked on the cell to read
 pub row_reads : (c : ℕ) (o : Option Wait) → reads_at c (wait_row o) ≡ passes (parks_to_read c) o
-row_reads c None = refl
-row_reads c (Some w) = by w.party w.cell w.want w.way w.woken where
-  by : (p x : ℕ) (want : Want) (way : How) (woken : Bool) → reads_at c (wait_row (Some (record { party = p; cell = x; want = want; way = way; woken = woken }))) ≡ parks_to_read c (record { party = p; cell = x; want = want; way = way; woken = woken })
-  by p x want How.Spin woken = refl
-  by p x want How.ParkedRead true = refl
-  by p x want How.ParkedWrite true = refl
-  by p x want _ _ = refl
+row_reads c o = grind arith
 
 -- or to write
 pub row_writes : (c : ℕ) (o : Option Wait) → writes_at c (wait_row o) ≡ passes (parks_to_write c) o
-row_writes c None = refl
-row_writes c (Some w) = by w.party w.cell w.want w.way w.woken where
-  by : (p x : ℕ) (want : Want) (way : How) (woken : Bool) → writes_at c (wait_row (Some (record { party = p; cell = x; want = want; way = way; woken = woken }))) ≡ parks_to_write c (record { party = p; cell = x; want = want; way = way; woken = woken })
-  by p x want How.Spin woken = refl
-  by p x want How.ParkedRead true = refl
-  by p x want How.ParkedWrite true = refl
-  by p x want _ _ = refl
+row_writes c o = grind arith
 
 -- a party that is parked on the cell to write
 pub record ParkedWriter (q c : ℕ) (ws : List Wait) : Type 0 where
@@ -35,16 +22,9 @@ pub record ParkedWriter (q c : ℕ) (ws : List Wait) : Type 0 where
   pub is : wait_of q ws ≡ Some wait
   pub parks : parks_to_write c wait ≡ true
 
--- what passes is a call
-pub passing_writer : (q c : ℕ) (ws : List Wait) (o : Option Wait) → wait_of q ws ≡ o → passes (parks_to_write c) o ≡ true → ParkedWriter q c ws
-passing_writer q c ws None e k = absurd (cc)
-passing_writer q c ws (Some w) e k = record { wait = w; is = e; parks = k }
-
 -- the party in the list of writers is parked on the cell to write
 pub parked_writer : (q c : ℕ) (ws : List Wait) (s : Rows) → c < length s.readers → IsSound s → Shows ws s → occurs q (writers_of s c) ≡ 1 → ParkedWriter q c ws
-parked_writer q c ws s inside sound shows one =
-    let writes : writes_at c (row_of s q) ≡ true = is_one-if _ (sym (sound.writers c q inside) ∙ one) in
-    passing_writer q c ws (wait_of q ws) refl (sym (row_writes c (wait_of q ws)) ∙ ap (writes_at c) (sym (shows.row q)) ∙ writes)
+parked_writer q c ws s inside sound shows one = grind arith
 
 -- a gift to a writer of the list reaches it
 pub reaches_writer : (q c : ℕ) (ws : List Wait) (s : Rows) → Shows ws s → occurs q (writers_of s c) ≡ 1 → reaches c (Given.Writer q) ws ≡ true

@@ -1,17 +1,14 @@
 -- How many rows have a share or a claim of a cell is how many waiting calls have it; and which holds are open then.
-use Rattle.waiting_rows.proofs.Words.{◌≡◌, ◌≢◌, ◌==◌, ℕ, ◌+◌, ◌<◌, ◌≤◌, List, [], ◌∷◌, length, refl, arith, Bool, true, false, cond, None, Some, ◌∙◌, ap, sym, inl, inr}
-use Rattle.waiting_rows.proofs.Words.{get_or, set, get_or_past, cases_lt, count_by, How, Row, Rows, row_of, free_row, shares_at, claims_at, shares, claims, HasFree, Want}
-use Rattle.waiting_rows.proofs.Words.{count, Wait, wait_of, shares_read, shares_write, drains_on, none_found, Shows, IsSingle, waiting_of, wait_row, Waiting}
+use Rattle.waiting_rows.proofs.Words.{◌≡◌, ◌≢◌, ◌==◌, ℕ, ◌+◌, ◌<◌, ◌≤◌, List, [], ◌∷◌, length, refl, arith, Bool, false, cond, None, Some, ◌∙◌, ap, sym, inl, inr, get_or, set}
+use Rattle.waiting_rows.proofs.Words.{get_or_past, cases_lt, count_by, How, Row, Rows, row_of, free_row, shares_at, claims_at, shares, claims, HasFree, count, Wait, wait_of}
+use Rattle.waiting_rows.proofs.Words.{shares_read, shares_write, drains_on, none_found, Shows, IsSingle, waiting_of, wait_row, Waiting}
 use Rattle.waiting_rows.proofs.{Slots.set_shows, Passing.count_set, Passing.count_before, Passing.count_free, Passing.count_test}
 
 -- ---- a party that does not wait has a free row, and no other
 
 -- a waiting call has no free row
 pub never_free : (way : How) (woken : Bool) → waiting_of way woken ≡ Waiting.Free → ⊥
-never_free How.Spin woken e = cc
-never_free How.ParkedRead true e = cc
-never_free How.ParkedWrite true e = cc
-never_free _ _ e = cc
+never_free way woken e = grind arith
 
 -- a party that does not wait
 pub row_free : (p : ℕ) (ws : List Wait) (s : Rows) → Shows ws s → wait_of p ws ≡ None → row_of s p ≡ free_row
@@ -41,10 +38,7 @@ count_rows f (w ∷ ws) rows fails single all =
       found w ws = grind arith
 
       tail : (r : ℕ) → count (λ (v : Wait). v.party == r) (w ∷ ws) ≤ 1 → count (λ (v : Wait). v.party == r) ws ≤ 1
-      tail r k = by (w.party == r) k where
-        by : (b : Bool) → cond b (count (λ (v : Wait). v.party == r) ws + 1) (count (λ (v : Wait). v.party == r) ws) ≤ 1 → count (λ (v : Wait). v.party == r) ws ≤ 1
-        by true k = omega arith
-        by false k = k
+      tail r k = grind arith
 
       alone : (w : Wait) (ws : List Wait) → count (λ (v : Wait). v.party == w.party) (w ∷ ws) ≤ 1 → count (λ (v : Wait). v.party == w.party) ws ≡ 0
       alone w ws k = grind (arith, k)
@@ -54,21 +48,10 @@ count_rows f (w ∷ ws) rows fails single all =
 
 -- what the row of a call says
 pub row_shares : (c : ℕ) (w : Wait) → shares_at c (wait_row (Some w)) ≡ shares_read c w
-row_shares c w = by w.party w.cell w.want w.way w.woken where
-  by : (p x : ℕ) (want : Want) (way : How) (woken : Bool) → shares_at c (wait_row (Some (record { party = p; cell = x; want = want; way = way; woken = woken }))) ≡ shares_read c (record { party = p; cell = x; want = want; way = way; woken = woken })
-  by p x want How.Spin woken = refl
-  by p x want How.ParkedRead true = refl
-  by p x want How.ParkedWrite true = refl
-  by p x want _ _ = refl
+row_shares c w = grind arith
 
 pub row_claims : (c : ℕ) (w : Wait) → cond {A = ℕ} (claims_at c (wait_row (Some w))) 1 0 ≡ cond {A = ℕ} (shares_write c w) 1 0 + cond {A = ℕ} (drains_on c w) 1 0
-row_claims c w = by w.party w.cell w.want w.way w.woken where
-  by : (p x : ℕ) (want : Want) (way : How) (woken : Bool) → cond {A = ℕ} (claims_at c (wait_row (Some (record { party = p; cell = x; want = want; way = way; woken = woken })))) 1 0
-      ≡ cond {A = ℕ} (shares_write c (record { party = p; cell = x; want = want; way = way; woken = woken })) 1 0 + cond {A = ℕ} (drains_on c (record { party = p; cell = x; want = want; way = way; woken = woken })) 1 0
-  by p x want How.ParkedWrite true = omega arith
-  by p x want How.Drain woken = omega arith
-  by p x want How.ParkedRead true = refl
-  by p x want _ _ = refl
+row_claims c w = grind arith
 
 module _ (c : ℕ) (ws : List Wait) (s : Rows) (single : IsSingle ws) (shows : Shows ws s) where
   -- read shares

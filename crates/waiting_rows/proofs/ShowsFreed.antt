@@ -38,8 +38,7 @@ writers_left _ c p s sound row d = sym (unlisted_writer d p s sound (rw row refl
 
 -- the rows after the party left
 pub rows_left : (v : Waiting) (c p : ℕ) (s : Rows) → (left v c p s).rows ≡ set s.rows p free_row
-rows_left Waiting.Free c p s = refl
-rows_left _ c p s = refl
+rows_left v c p s = grind arith
 
 -- a party waits no longer
 pub shows_freed : (p : ℕ) (ws : List Wait) (s : Rows) → IsSound s → Shows ws s → Shows (without_wait p ws) (freed p s)

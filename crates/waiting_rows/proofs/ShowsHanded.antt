@@ -1,22 +1,15 @@
 -- The rows show who waits after parked calls are given shares.
-use Rattle.waiting_rows.proofs.Words.{◌≡◌, ◌≢◌, ◌==◌, ℕ, ◌<◌, List, [], length, refl, arith, Bool, true, false, None, Some, ◌∙◌, ap, sym, map, Option, How, Waiting, Rows}
-use Rattle.waiting_rows.proofs.Words.{row_of, free_row, readers_of, writers_of, reads_at, writes_at, occurs, without, rows_to_readers, IsSound, rows_handed, is_one-if}
-use Rattle.waiting_rows.proofs.Words.{write_inside, row-shared_other, row-shared_same, all_read, Want, Wait, wait_of, parks_to_read, parks_to_write, parked_readers}
-use Rattle.waiting_rows.proofs.Words.{parked_writers, wake_reader, wake_writer, Shows, wait_row, Given}
+use Rattle.waiting_rows.proofs.Words.{◌≡◌, ◌≢◌, ℕ, ◌<◌, List, [], length, refl, arith, Bool, true, false, None, Some, ◌∙◌, ap, sym, map, Option, Waiting, Rows, row_of}
+use Rattle.waiting_rows.proofs.Words.{free_row, readers_of, writers_of, reads_at, writes_at, occurs, without, rows_to_readers, IsSound, rows_handed, is_one-if, write_inside}
+use Rattle.waiting_rows.proofs.Words.{row-shared_other, row-shared_same, all_read, Wait, wait_of, parks_to_read, parks_to_write, parked_readers, parked_writers, wake_reader}
+use Rattle.waiting_rows.proofs.Words.{wake_writer, Shows, wait_row, Given}
 use Rattle.waiting_rows.proofs.Lists.{readers_woken, readers_woken_other, writers_beside_readers, readers_beside_writer, writer_woken}
 use Rattle.waiting_rows.proofs.{Each.writer_other, Finding.changed, Finding.wait_readers, Finding.wait_writer, Finding.wait_party, Reaching.parked_writer, Reaching.row_reads}
 use Rattle.waiting_rows.proofs.{ShowsFreed.unlisted_writer, Slots.set_shows}
 
 -- the row of a reader with its share
 pub row_woken : (c : ℕ) (w : Wait) → parks_to_read c w ≡ true → wait_row (Some (wake_reader c w)) ≡ record { waiting = Waiting.ShareRead; cell = c }
-row_woken c w e = by w.party w.cell w.want w.way w.woken e where
-  same : (x : ℕ) → (x == c) ≡ true → x ≡ c
-  same x e = grind (arith, e)
-
-  by : (p x : ℕ) (want : Want) (way : How) (woken : Bool) → parks_to_read c (record { party = p; cell = x; want = want; way = way; woken = woken }) ≡ true → wait_row (Some (wake_reader c (record { party = p; cell = x; want = want; way = way; woken = woken }))) ≡ record { waiting = Waiting.ShareRead; cell = c }
-  by p x want How.ParkedRead false e = let s : x ≡ c = same x e in rw e (λ i. record { waiting = Waiting.ShareRead; cell = s i })
-  by p x want How.ParkedRead true e = absurd (cc)
-  by p x want _ _ e = absurd (cc)
+row_woken c w e = grind arith
 
 -- the row of a call that is not parked to read stays
 pub row_asleep : (c : ℕ) (w : Wait) → parks_to_read c w ≡ false → wake_reader c w ≡ w
@@ -56,19 +49,7 @@ changed_other q p ws ne = by (wait_of p ws) refl where
 
 -- the row of a writer with its share
 pub row_writer : (q c : ℕ) (w : Wait) → w.party ≡ q → parks_to_write c w ≡ true → wait_row (Some (wake_writer q w)) ≡ record { waiting = Waiting.ShareWrite; cell = c }
-row_writer q c w own e = by w.party w.cell w.want w.way w.woken own e where
-  same : (x : ℕ) → (x == c) ≡ true → x ≡ c
-  same x e = grind (arith, e)
-
-  by : (p x : ℕ) (want : Want) (way : How) (woken : Bool) → p ≡ q → parks_to_write c (record { party = p; cell = x; want = want; way = way; woken = woken }) ≡ true → wait_row (Some (wake_writer q (record { party = p; cell = x; want = want; way = way; woken = woken }))) ≡ record { waiting = Waiting.ShareWrite; cell = c }
-  by p x want How.Spin woken own e = absurd (cc)
-  by p x want How.ParkedRead woken own e = absurd (cc)
-  by p x want How.Drain woken own e = absurd (cc)
-  by p x want How.ParkedWrite true own e = absurd (cc)
-  by p x want How.ParkedWrite false own e =
-      let s : x ≡ c = same x e in
-      let o : (p == q) ≡ true = grind (arith, own) in
-      rw o (λ i. record { waiting = Waiting.ShareWrite; cell = s i })
+row_writer q c w own e = grind arith
 
 -- a writer that is parked on the cell is given a share
 pub shows_handed_writer : (q c : ℕ) (ws : List Wait) (s : Rows) → c < length s.readers → IsSound s → Shows ws s → occurs q (writers_of s c) ≡ 1 → Shows (map (wake_writer q) ws) (rows_handed c (Given.Writer q) s)
@@ -86,5 +67,4 @@ shows_handed_writer q c ws s inside sound shows one =
           (omega (arith, inside, sound.cells)) (ap (without q) (shows.writers c) ∙ sym (writer_woken q c ws)) d;
     } where
       elsewhere : (v : Waiting) (x c d : ℕ) → writes_at c (record { waiting = v; cell = x }) ≡ true → d ≢ c → writes_at d (record { waiting = v; cell = x }) ≡ false
-      elsewhere Waiting.ParkedWrite x c d e ne = grind (arith, e, ne)
-      elsewhere _ x c d e ne = refl
+      elsewhere v x c d e ne = grind arith

@@ -1,6 +1,6 @@
 -- Each party waits at most once.
 use Rattle.waiting_rows.proofs.Words.{◌≡◌, ℕ, ◌+◌, ◌≤◌, List, [], ◌∷◌, refl, arith, cond, None, Some, map, ◌==◌, Option, How, count, Wait, Attempt, wait_of, without_wait}
-use Rattle.waiting_rows.proofs.Words.{with_wait, wake_reader, wake_writer, IsSingle, Given}
+use Rattle.waiting_rows.proofs.Words.{with_wait, wake_reader, wake_writer, IsSingle}
 use Rattle.waiting_rows.proofs.Each.{reader_party, writer_party}
 
 -- a party without a call that waits is in no wait
