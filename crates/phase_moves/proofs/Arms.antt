@@ -145,20 +145,14 @@ module _ {L : Type 0} (held : L → Holders) (place : L → LockerKind) where
     -- ---- what the locker requires
 
     calling : (waits : Bool) → MatchBool waits (WaitsAt t.cell (wait_of p m.waits)) (wait_of p m.waits ≡ None) → MatchBool waits ((row_of v.parks p).cell ≡ t.cell) (row_of v.parks p ≡ free_row)
-    calling true w = by (wait_of p m.waits) (is.rests.stands.waits.shows.row p) w where
-      by : (o : Option Wait) → row_of v.parks p ≡ wait_row o → WaitsAt t.cell o → (row_of v.parks p).cell ≡ t.cell
-      by None e w = absurd w
-      by (Some x) e w = ap (λ (r : _). r.cell) e ∙ w
-    calling false w = is.rests.stands.waits.shows.row p ∙ ap wait_row w
+    calling waits w = grind arith
 
     waits_here : (waits : Bool) → MatchBool waits (WaitsAt t.cell (wait_of p m.waits)) (wait_of p m.waits ≡ None) → (w : Wait) → wait_of p m.waits ≡ Some w → w.cell ≡ t.cell
-    waits_here true k w e = subst (WaitsAt t.cell) e k
-    waits_here false k w e = absurd (let f : None ≡ Some w = sym k ∙ e in cc)
+    waits_here waits k w e = grind arith
 
     -- what does not wait did not wait before
     awake : (w : Bool) → MatchBool w (WaitsAt t.cell (wait_of p m.waits)) (wait_of p m.waits ≡ None) → (w ≡ true → MayWait x t.want) → is_quick x t.want ≡ true → wait_of p m.waits ≡ None
-    awake true k so quick = let slow = (so refl).slow in absurd (let f : false ≡ true = sym slow ∙ quick in cc)
-    awake false k so quick = k
+    awake w k so quick = grind arith
 
     slow_so : waits ≡ true → ask.fast ≡ false
     slow_so e = asked_here.fast ∙ (is.waits_so e).slow

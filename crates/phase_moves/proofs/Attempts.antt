@@ -112,12 +112,10 @@ record JudgedTo (who : Who) (ask : Ask) (h : Holders) (s : Parking) (b : Begun) 
   pub told : TellsFirst who ask h.phase b
 
 waiting_phase : (way : How) (h : Holders) → (held_waiting way h).phase ≡ h.phase
-waiting_phase How.Spin h = refl
-waiting_phase _ h = refl
+waiting_phase way h = grind arith
 
 admitted_phase : (n : LockNature) (h : Holders) → (admitted h n).phase ≡ h.phase
-admitted_phase LockNature.Read h = refl
-admitted_phase _ h = refl
+admitted_phase n h = grind arith
 
 -- what was got begins this
 pub record GotTo (who : Who) (ask : Ask) (p : Phase) (n : LockNature) (s : Parking) (b : Begun) : Type 0 where
@@ -127,43 +125,23 @@ pub record GotTo (who : Who) (ask : Ask) (p : Phase) (n : LockNature) (s : Parki
 
 -- no run is asked by a call that wants no lock to write
 pub run_writes : (w : Want) (due there : Bool) → (initializes w && due) ≡ true → nature_where w due there ≡ LockNature.Write
-run_writes Want.Init true there e = refl
-run_writes Want.Read true there e = refl
-run_writes Want.Write due there e = refl
-run_writes _ _ there e = absurd (cc)
+run_writes w due there e = grind arith
 
 no_run : (ask : Ask) (p : Phase) (n : LockNature) → n ≡ nature_of ask p → n ≢ LockNature.Write → asks_run ask p ≡ false
-no_run ask p n e ne = by (asks_run ask p) refl where
-  by : (b : Bool) → asks_run ask p ≡ b → b ≡ false
-  by true q = absurd (ne (e ∙ run_writes ask.want (seq_shall_init ask.tol p) (has (number p) initialized) q))
-  by false q = refl
+no_run ask p n e ne = grind arith
 
 got_write : (who : Who) (ask : Ask) (p : Phase) (s : Parking) (run final : Bool) → asks_run ask p ≡ run → finalizes ask.want ≡ final → GotTo who ask p LockNature.Write s (if run then Begun.Run (section_by who ask.want unregistered write_ticket) else (if final then Begun.Final (section_by who ask.want p write_ticket) else Begun.Write write_ticket p))
-got_write who ask p s false true r e = record { rows = refl; wrote = λ k. refl; told = (refl, e) }
-got_write who ask p s _ _ r e = record { rows = refl; wrote = λ k. refl; told = (refl, r) }
+got_write who ask p s run final r e = grind arith
 
 pub got_to : (who : Who) (ask : Ask) (p : Phase) (n : LockNature) (s : Parking) → n ≡ nature_of ask p → GotTo who ask p n s (begun_by who ask p (Attempt.Got (got n p)))
-got_to who ask p LockNature.Read s e = record { rows = refl; wrote = λ k. absurd (omega (arith, k)); told = (refl, no_run ask p LockNature.Read e (λ q. cc)) }
-got_to who ask p LockNature.None s e = record { rows = refl; wrote = λ k. absurd (omega (arith, k)); told = (refl, no_run ask p LockNature.None e (λ q. cc)) }
-got_to who ask p LockNature.Write s e = got_write who ask p s (asks_run ask p) (finalizes ask.want) refl refl
+got_to who ask p n s e = grind arith
 
 -- where the lock to write is not barred nothing is locked
 pub unlocked : (h : Holders) (n : LockNature) → n ≡ LockNature.Write → bars h n ≡ false → h.locked ≡ false
-unlocked h n e b = first h.locked (let f : bars_write h ≡ false = ap (bars h) (sym e) ∙ b in f) where
-  first : (x : Bool) → (x || not (h.readers == 0)) ≡ false → x ≡ false
-  first true e = absurd (cc)
-  first false e = refl
+unlocked h n e b = grind arith
 
 judged_to : (k : LockerKind) (fresh : Bool) (who : Who) (wake n : LockNature) (h : Holders) (s : Parking) (a : Attempt) (h' : Holders) (s' : Parking) (ask : Ask) → n ≡ nature_of ask h.phase → Judged k fresh who wake n h s a h' s' → JudgedTo who ask h s (begun_by who ask h.phase a) h' s'
-judged_to k fresh who wake n h s a h' s' ask ruled judged = by (bars h n) refl judged where
-  by : (b : Bool) → bars h n ≡ b → MatchBool b (Waits k fresh who wake n h s a h' s') (Gets who n h s a h' s') → JudgedTo who ask h s (begun_by who ask h.phase a) h' s'
-  by true e j =
-      subst (λ x. JudgedTo who ask h s (begun_by who ask h.phase x) h' s') (sym j.answer)
-      (record { phase = ap (λ (x : Holders). x.phase) j.held ∙ waiting_phase j.how h; rows = j.rows; alone = λ z. absurd (omega (arith, z)); told = tt })
-  by false e j =
-      let t = got_to who ask h.phase n s ruled in
-      subst (λ x. JudgedTo who ask h s (begun_by who ask h.phase x) h' s') (sym j.answer)
-      (record { phase = ap (λ (x : Holders). x.phase) j.held ∙ admitted_phase n h; rows = j.rows ∙ t.rows; alone = λ z. unlocked h n (t.wrote z) e; told = t.told })
+judged_to k fresh who wake n h s a h' s' ask ruled judged = grind arith
 
 -- ---- the calls
 

@@ -21,18 +21,13 @@ is_zero : (n : ℕ) → n ≡ 0 → (n == 0) ≡ true
 is_zero n e = grind (arith, e)
 
 some_not : (n : ℕ) → nat_lt 0 n ≡ not (n == 0)
-some_not n = elim (cases_lt 0 n) [
-  | inl lt ↦ (let a = less n lt in let b : (n == 0) ≡ false = grind (arith, lt) in a ∙ ap not (sym b))
-  | inr le ↦ (let e : n ≡ 0 = omega (arith, le) in not_less n e ∙ ap not (sym (is_zero n e)))
-]
+some_not n = grind arith
 
 read_same : (w d e m : Bool) → (w ≡ true → e ≡ true) → (((w || d) && e) || m) ≡ (w || ((d && e) || m))
-read_same true d e m f = (elim e as (λ e. e ≡ true → (e || m) ≡ true) [ true ↦ λ p. refl | false ↦ λ p. absurd (cc) ]) (f refl)
-read_same false d e m f = refl
+read_same w d e m f = grind arith
 
 write_same : (w d z l : Bool) → l ≡ not z → ((w || d) || not z) ≡ (w || (d || l))
-write_same true d z l e = refl
-write_same false d z l e = ap (λ b. d || b) (sym e)
+write_same w d z l e = grind arith
 
 -- ---- drains
 
@@ -41,12 +36,7 @@ counted t u [] same = refl
 counted t u (w ∷ ws) same = let e = same w in let f = counted t u ws same in grind (arith, e, f)
 
 row_drains : (c : ℕ) (w : Wait) → drains_at c (wait_row (Some w)) ≡ drains_on c w
-row_drains c w = by w.party w.cell w.want w.way w.woken where
-  by : (p x : ℕ) (want : Want) (way : How) (woken : Bool) → drains_at c (wait_row (Some (record { party = p; cell = x; want = want; way = way; woken = woken }))) ≡ drains_on c (record { party = p; cell = x; want = want; way = way; woken = woken })
-  by p x want How.Spin woken = refl
-  by p x want How.ParkedRead true = refl
-  by p x want How.ParkedWrite true = refl
-  by p x want _ _ = refl
+row_drains c w = grind arith
 
 -- the rows of who is parked tell the drains
 pub drains_shown : (c : ℕ) (ws : List Wait) (s : Parking) → IsSingle ws → Shows ws s → drains s c ≡ count (drains_on c) ws
@@ -116,18 +106,10 @@ module _ (k : LockerKind) (h : Holders) (s : Parking) (c reads writes : ℕ) (ws
 -- ---- what is kept
 
 way_kept : (way : How) (woken : Bool) (n : LockNature) (h : Holders) → row_keeps (waiting_of way woken) n h ≡ keeps_way way woken n h.readers
-way_kept How.Spin woken LockNature.None h = refl
-way_kept How.ParkedRead true LockNature.None h = refl
-way_kept How.ParkedRead false LockNature.None h = refl
-way_kept How.ParkedWrite true LockNature.None h = refl
-way_kept How.ParkedWrite false LockNature.None h = refl
-way_kept How.Drain woken LockNature.None h = refl
-way_kept _ _ _ h = refl
+way_kept way woken n h = grind arith
 
 call_kept : (o : Option Wait) (n : LockNature) (h : Holders) → row_keeps (wait_row o).waiting n h ≡ keeps o n h.readers
-call_kept (Some w) n h = way_kept w.way w.woken n h
-call_kept None LockNature.None h = refl
-call_kept None _ h = refl
+call_kept o n h = grind arith
 
 -- what the row of a party says is kept where the rules keep it
 pub row_kept : (p : ℕ) (n : LockNature) (ws : List Wait) (s : Parking) (h : Holders) → Shows ws s → row_keeps (row_of s p).waiting n h ≡ keeps (wait_of p ws) n h.readers
@@ -136,44 +118,27 @@ row_kept p n ws s h shows = rw (shows.row p) (call_kept (wait_of p ws) n h)
 -- ---- ways
 
 spin_way : (p : Place) (way : How) → is_owned p ≡ false → is_park (kind_at p) ≡ false → Answer.Waiting How.Spin ≡ answer_barred_at p way
-spin_way Place.Spin way f e = refl
-spin_way _ way f e = absurd (cc)
+spin_way p way f e = grind arith
 
 park_way : (p : Place) (way : How) → is_park (kind_at p) ≡ true → Answer.Waiting way ≡ answer_barred_at p way
-park_way Place.Park way e = refl
-park_way _ way e = absurd (cc)
+park_way p way e = grind arith
 
 -- readers alone bar a writer of an unlocked record
 alone : (w d l : Bool) → (w || d) ≡ false → (w || (d || l)) ≡ true → (l && (not w && not d)) ≡ true
-alone false false true e f = refl
-alone _ _ _ e f = absurd (cc)
+alone w d l e f = grind arith
 
 by_readers : (n : LockNature) (o : Holding) → n ≡ LockNature.Write → (o.written || o.drained) ≡ false → is_barred n o ≡ true → is_barred_by_readers n o ≡ true
-by_readers LockNature.Write o e f b = alone o.written o.drained (nat_lt 0 o.readers) f b
-by_readers _ o e f b = absurd (cc)
+by_readers n o e f b = grind arith
 
 -- the way that the locker chose is one that is due
 way_due : (p : Place) (q : Kind) (w : Want) (n : LockNature) (o : Holding) (fresh : Bool) (h : Holders) → is_owned p ≡ false → h.locked ≡ (o.written || o.drained) → is_barred n o ≡ true → (way : How) → MayWait (kind_at p) fresh (wakes_as q w) n h way → Answer.Waiting way ≡ answer_barred_at p (way_parked q w (drains_by n o (is_drain way)))
-way_due p q w n o fresh h slow locks is How.Spin may = spin_way p (way_parked q w false) slow may
-way_due p q w n o fresh h slow locks is How.ParkedRead may = park_way p How.ParkedRead may.0 ∙ ap (λ x. answer_barred_at p (way_of_nature x)) (sym may.1)
-way_due p q w n o fresh h slow locks is How.ParkedWrite may = park_way p How.ParkedWrite may.0 ∙ ap (λ x. answer_barred_at p (way_of_nature x)) (sym may.1)
-way_due p q w n o fresh h slow locks is How.Drain may = park_way p How.Drain may.0 ∙ ap (λ b. answer_barred_at p (way_parked q w b)) (sym (by_readers n o may.2 (sym locks ∙ may.3) is))
+way_due p q w n o fresh h slow locks is way may = grind arith
 
 -- so is the answer of what waits
 pub waits_due : (x : CellPlan) (w : Want) (n : LockNature) (o : Holding) (fresh : Bool) (h : Holders) → is_quick x w ≡ false → h.locked ≡ (o.written || o.drained) → is_barred n o ≡ true → (way : How) → MayWait (kind_at x.place) fresh (wakes_as x.kind w) n h way
     → Answer.Waiting way ≡ answer_barred (is_fast w) x.place (way_parked x.kind w (drains_by n o (is_drain way)))
-waits_due x w n o fresh h slow locks is way may = way_due x.place x.kind w n o fresh h (neither (is_fast w) (is_owned x.place) slow).1 locks is way may ∙ sym (ap (λ f. answer_barred f x.place (way_parked x.kind w (drains_by n o (is_drain way)))) (neither (is_fast w) (is_owned x.place) slow).0) where
-  neither : (a b : Bool) → (a || b) ≡ false → (a ≡ false) × (b ≡ false)
-  neither true b e = absurd (cc)
-  neither false b e = (refl, e)
+waits_due x w n o fresh h slow locks is way may = grind arith
 
 -- and of what does not wait
 pub misses_due : (x : CellPlan) (w : Want) (way : How) → is_quick x w ≡ true → answer_missed w ≡ answer_barred (is_fast w) x.place way
-misses_due x w way quick = by (is_fast w) quick where
-  owned : (p : Place) → is_owned p ≡ true → Answer.Borrowed ≡ answer_barred_at p way
-  owned (Place.Own q) e = refl
-  owned _ e = absurd (cc)
-
-  by : (f : Bool) → (f || is_owned x.place) ≡ true → (if f then Answer.Missed else Answer.Borrowed) ≡ answer_barred f x.place way
-  by true e = refl
-  by false e = owned x.place e
+misses_due x w way quick = grind arith

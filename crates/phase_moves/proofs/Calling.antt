@@ -12,33 +12,16 @@ module _ {L : Type 0} (held : L → Holders) (place : L → LockerKind) where
   pub answered_moved : (c hand : ℕ) (m : Standing) (v v' : Rows L) (ws : List Wait) (f : ℕ → Content) (r : Registry) → Stands held place hand m v → OthersStay c v.parks v'.parks → SameSize v.parks v'.parks → length v'.parks.writers ≡ length v.parks.writers → v'.guards ≡ v.guards
       → IsExit (length v.cells.items) (record m { registry = r }) v'.exit → AreShown (length v.cells.items) ws v'.parks → ((d : ℕ) → d ≢ c → f d ≡ m.content d)
       → ((d : ℕ) → d ≢ c → count (waits_at d) ws ≡ count (waits_at d) m.waits) → IsMoved held place c hand hand m (record m { waits = ws; content = f; registry = r }) v v'
-  answered_moved c hand m v v' ws f r t others same lists guards exit shown beside counts =
-      record {
-        around = λ d ne. (let e = beside d ne in λ i. record { plan = cell_at m.plans d; content = e i; reads = reads_in d m; writes = writes_in d m; run = run_in d m.sections });
-        counts = counts;
-        drafts = λ g x e w ne. e;
-        others = others;
-        same = same;
-        lists = lists;
-        guards = guards;
-        slots = λ g lt. refl;
-        exit = record { registry_is = exit.registry_is; owner_is = exit.owner_is; turns_are = exit.turns_are; cells_are = exit.cells_are };
-        waits = shown;
-        numbers = t.guards;
-        sections = t.sections;
-      }
+  answered_moved c hand m v v' ws f r t others same lists guards exit shown beside counts = grind arith
 
   -- other calls wait, and nothing else changes
   pub waits_moved : (c hand : ℕ) (m : Standing) (v v' : Rows L) (ws : List Wait) → Stands held place hand m v → OthersStay c v.parks v'.parks → SameSize v.parks v'.parks → length v'.parks.writers ≡ length v.parks.writers → v'.guards ≡ v.guards → v'.exit ≡ v.exit → AreShown (length v.cells.items) ws v'.parks
       → ((d : ℕ) → d ≢ c → count (waits_at d) ws ≡ count (waits_at d) m.waits) → IsMoved held place c hand hand m (record m { waits = ws }) v v'
-  waits_moved c hand m v v' ws t others same lists guards exit shown counts =
-      answered_moved c hand m v v' ws m.content m.registry t others same lists guards (exit_kept (length v.cells.items) m m v.exit v'.exit exit refl refl refl t.exit) shown (λ d ne. refl) counts
+  waits_moved c hand m v v' ws t others same lists guards exit shown counts = grind arith
 
   -- nothing is touched beside the row of a cell
   pub nothing_moved : (c hand : ℕ) (m : Standing) (v v' : Rows L) → Stands held place hand m v → v'.guards ≡ v.guards → v'.exit ≡ v.exit → v'.parks ≡ v.parks → IsMoved held place c hand hand m m v v'
-  nothing_moved c hand m v v' t guards exit parks =
-      waits_moved c hand m v v' m.waits t (subst (λ (s : Parking). OthersStay c v.parks s) (sym parks) (others_refl c v.parks)) (subst (λ (s : Parking). SameSize v.parks s) (sym parks) (record { parties = refl; cells = refl })) (ap (λ (s : Parking). length s.writers) parks) guards exit
-      (subst (λ (s : Parking). AreShown (length v.cells.items) m.waits s) (sym parks) t.waits) (λ d ne. refl)
+  nothing_moved c hand m v v' t guards exit parks = grind arith
 
   -- ---- a clone
 

@@ -49,7 +49,4 @@ module _ {L : Type 0} (c : ℕ) (m : Standing) (row : CellRow L) where
 
   -- the row stays, and what is published stays that a write guard shows
   pub keeps_still : (m' : Standing) (row' : CellRow L) → KeepsDraft c m row → row'.draft ≡ row.draft → m'.plans ≡ m.plans → ((g : ℕ) (x : Guard) → numbered g m'.guards ≡ Some x → x.writes ≡ true → numbered g m.guards ≡ Some x) → ((g : ℕ) (x : Guard) → numbered g m.guards ≡ Some x → x.writes ≡ true → m'.content x.cell ≡ m.content x.cell) → KeepsDraft c m' row'
-  keeps_still m' row' k same plans there shown g x e w at =
-      let f = there g x e w in
-      let y = shown g x f w in
-      same ∙ k g x f w at ∙ ap draft_of (λ i. effect (cell_at (sym plans i) x.cell) x.changes (sym y i))
+  keeps_still m' row' k same plans there shown g x e w at = grind arith

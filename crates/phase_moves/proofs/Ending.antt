@@ -23,14 +23,10 @@ EndedAs o made h s (Finished.Failed q) g h' s' = (made ≡ false) × (q ≡ reac
 
 module _ (o : SeqSection) (h : Holders) (s : Parking) (r : Finished × Given) (h' : Holders) (s' : Parking) where
   goes : (w : SeqWant) → o.want ≡ w → GoesOn w o.who.cell (reached o.stays true) h s r h' s' → EndedAs o true h s r.0 r.1 h' s'
-  goes SeqWant.Init e k = subst (λ f. EndedAs o true h s f r.1 h' s') (sym k.finished) (refl, e, refl, k.hands)
-  goes SeqWant.Read e k = subst (λ f. EndedAs o true h s f r.1 h' s') (sym k.finished) (refl, e, refl, k.downgrades)
-  goes SeqWant.Write e k = subst (λ (f : Finished × Given). EndedAs o true h s f.0 f.1 h' s') (sym k.finished) (refl, e, refl, k.held, k.rows, refl)
-  goes _ e k = absurd k
+  goes w e k = grind arith
 
   pub ended_as : (made : Bool) → Finishes o made h s r h' s' → EndedAs o made h s r.0 r.1 h' s'
-  ended_as true k = goes o.want refl k
-  ended_as false k = subst (λ f. EndedAs o false h s f r.1 h' s') (sym k.finished) (refl, refl, k.hands)
+  ended_as made k = grind arith
 
 -- a value was made or not
 abbrev pub IsMadeAs : Option ℕ → Bool → Type 0
@@ -39,31 +35,24 @@ IsMadeAs (Some v) b = b ≡ true
 
 -- as the code asks
 pub is_made : (o : Option ℕ) (b : Bool) → b ≡ is_some o → IsMadeAs o b
-is_made None b e = e
-is_made (Some v) b e = e
+is_made o b e = grind arith
 
 -- the phase that is reached is the one that the changes give
 reached_as : (x : CellPlan) (w : Want) (is_open : Bool) (y : Content) (made : Option ℕ) (b : Bool) → is_turn w ≡ false → IsMadeAs made b → reached (stays_in x w is_open y.phase) b ≡ phase_of (content_of_run x.kind is_open made y).phase
-reached_as x (Calls k) is_open y (Some v) true e m = refl
-reached_as x (Calls k) is_open y None false e m = refl
-reached_as x _ is_open y _ _ e m = absurd (cc)
+reached_as x w is_open y made b e m = grind arith
 
 -- a section that is not a finalizer's runs as something that asks for a run
 seeks_init : (o : Option SeqWant) → seeks_run o ≡ true → initializes (unwrap_or o SeqWant.Write) ≡ true
-seeks_init None e = absurd (cc)
-seeks_init (Some w) e = e
+seeks_init o e = grind arith
 
 form_init : (f : Form) → initializes (form_as f) ≡ true
-form_init (Held true _) = refl
-form_init _ = refl
+form_init f = grind arith
 
 either_init : (b : Bool) (x y : SeqWant) → (b ≡ true → initializes x ≡ true) → initializes y ≡ true → initializes (if b then x else y) ≡ true
-either_init true x y f g = f refl
-either_init false x y f g = g
+either_init b x y f g = grind arith
 
 pub asked_run : (q : Kind) (w : Want) → is_turn w ≡ false → initializes (run_as q w) ≡ true
-asked_run q (Calls k) e = either_init (seeks_run (seeks q (Calls k))) (want_of q (Calls k)) (form_as (form_of q k)) (seeks_init (seeks q (Calls k))) (form_init (form_of q k))
-asked_run q Turns e = absurd (cc)
+asked_run q w e = grind arith
 
 module _ {L : Type 0} (held : L → Holders) (place : L → LockerKind) (m : Standing) (v : Rows L) (p c : ℕ) (made : Option ℕ) (s : Section) (is : IsEnding held place m v p c made s) (row : CellRow L) (row_is : row ≡ get_or v.cells.items c row) where
   abbrev n : ℕ
@@ -91,10 +80,7 @@ module _ {L : Type 0} (held : L → Holders) (place : L → LockerKind) (m : Sta
         })
 
     pub end_room : (b : Bool) → IsMadeAs made b → b ≡ true → HasFree v.parks
-    end_room b is_as so = by made refl is_as where
-      by : (x : Option ℕ) → made ≡ x → IsMadeAs x b → HasFree v.parks
-      by None e q = absurd (let f : true ≡ false = sym so ∙ q in cc)
-      by (Some x) e q = free_party p m.waits v.parks is.inner.rests.stands.waits.shows (is.awake x e) (let a = is.inner.party in let r = is.inner.rests.stands.sizes.rows in omega (arith, a, r))
+    end_room b is_as so = grind arith
 
   -- ---- the move
 
@@ -120,16 +106,10 @@ module _ {L : Type 0} (held : L → Holders) (place : L → LockerKind) (m : Sta
     phase_is d e = reached_as (cell_at m.plans c) s.want s.is_open (m.content c) made d is.calls (subst (IsMadeAs made) e made_is)
 
     made_value : b ≡ true → made ≡ made_as.value
-    made_value e = by made (subst (IsMadeAs made) e made_is) where
-      by : (x : Option ℕ) → IsMadeAs x true → x ≡ (content_of_run (cell_at m.plans c).kind s.is_open x (m.content c)).value
-      by None q = absurd (cc)
-      by (Some x) q = refl
+    made_value e = grind arith
 
     kept_value : b ≡ false → (m.content c).value ≡ made_as.value
-    kept_value e = by made (subst (IsMadeAs made) e made_is) where
-      by : (x : Option ℕ) → IsMadeAs x false → (m.content c).value ≡ (content_of_run (cell_at m.plans c).kind s.is_open x (m.content c)).value
-      by None q = refl
-      by (Some x) q = absurd (cc)
+    kept_value e = grind arith
 
     known_made : IsKnown (phase_of made_as.phase)
     known_made = change_known (cell_at m.plans c) (Ran s.is_open made) (m.content c) here.known

@@ -10,21 +10,14 @@ use Rattle.phase_moves.proofs.Innermost.{write_open as run_open}
 
 -- calls park where the locker has parked calls
 pub parks_as : (p : Place) → is_park (kind_at p) ≡ is_parking p
-parks_as Place.Park = refl
-parks_as _ = refl
+parks_as p = grind arith
 
 -- where parked calls are listed, calls park
 pub parking : (k : LockerKind) (h : Holders) (s : Parking) (c : ℕ) (p : Place) (g : Given) → Fits k h s c → k ≡ kind_at p → IsListed c s g → g ≢ Given.Nobody → is_parking p ≡ true
-parking k h s c p g fits e l ne = by (is_parking p) refl g l ne where
-  by : (b : Bool) → is_parking p ≡ b → (d : Given) → IsListed c s d → d ≢ Given.Nobody → is_parking p ≡ true
-  by true q d at some = q
-  by false q Given.Nobody at some = absurd (some refl)
-  by false q (Given.Writer r) at some = absurd (listed_in r (writers_of s c) at (fits.still (ap is_park e ∙ parks_as p ∙ q)).0.1)
-  by false q Given.Readers at some = absurd (let a = (fits.still (ap is_park e ∙ parks_as p ∙ q)).0.0 in let b : false ≡ true = sym at ∙ a in cc)
+parking k h s c p g fits e l ne = grind arith
 
 pub idle_at : (c : ℕ) (h : Holders) (s : Parking) (g : Given) → MayHand c h s g → g ≢ Given.Nobody → IsIdle h
-idle_at c h s Given.Nobody may ne = absurd (ne refl)
-idle_at c h s _ may ne = may.0
+idle_at c h s g may ne = grind arith
 
 module _ {L : Type 0} (held : L → Holders) (place : L → LockerKind) (hand : ℕ) (m : Standing) (v : Rows L) (x : Guard) (t : Stands held place hand m v) (found : numbered hand m.guards ≡ Some x) (row : CellRow L) (row_is : slice_get v.cells.items x.cell ≡ Some row) (g : Given) where
   there : numbered x.number m.guards ≡ Some x

@@ -61,19 +61,14 @@ count_less t g gs x e f = let all = count_removed t g gs x e in let yes = ap (λ
 
 -- all rows stay where the guards are the same but for the one in hand
 pub slots_same : (m m' : Standing) (hand g : ℕ) → (g ≢ hand → numbered g m'.guards ≡ numbered g m.guards) → slot_row hand m' g ≡ slot_row hand m g
-slots_same m m' hand g guards = by (g == hand) refl where
-  by : (b : Bool) → (g == hand) ≡ b → slot_row hand m' g ≡ slot_row hand m g
-  by true e = rw e refl
-  by false e = let r : guard_row (numbered g m'.guards) ≡ guard_row (numbered g m.guards) = ap guard_row (guards (grind (arith, e))) in rw e r
+slots_same m m' hand g guards = grind arith
 
 -- what the calls that wait ask stays at a gift
 target_changed : (f : Wait → Wait) → ((w : Wait) → target_of (Some (f w)) ≡ target_of (Some w)) → (o : Option Wait) → target_of (changed f o) ≡ target_of o
-target_changed f same None = refl
-target_changed f same (Some w) = same w
+target_changed f same o = grind arith
 
 target_woken : (b : Bool) (w : Wait) → target_of (Some (cond b (wait_woken w) w)) ≡ target_of (Some w)
-target_woken true w = refl
-target_woken false w = refl
+target_woken b w = grind arith
 
 pub target_given : (c : ℕ) (g : Given) (ws : List Wait) (p : ℕ) → target_of (wait_of p (given_on c g ws)) ≡ target_of (wait_of p ws)
 target_given c Given.Nobody ws p = refl

@@ -12,11 +12,7 @@ pub record ReadRow (c : ℕ) (o : Option Guard) : Type 0 where
   pub at : x.cell ≡ c
 
 pub read_row : (q c : ℕ) (l : ReadTicket) (o : Option Guard) → GuardRow.Read q c l ≡ guard_row o → ReadRow c o
-read_row q c l None e = absurd (cc)
-read_row q c l (Some x) e = by x.writes refl where
-  by : (b : Bool) → x.writes ≡ b → ReadRow c (Some x)
-  by true w = absurd (let f : GuardRow.Read q c l ≡ GuardRow.Write x.party x.cell write_ticket = e ∙ (rw w refl) in cc)
-  by false w = let f : GuardRow.Read q c l ≡ GuardRow.Read x.party x.cell read_ticket = e ∙ (rw w refl) in record { x = x; is = refl; reads = w; at = cc }
+read_row q c l o e = grind arith
 
 pub record WriteRow (c : ℕ) (o : Option Guard) : Type 0 where
   pub x : Guard
@@ -25,20 +21,12 @@ pub record WriteRow (c : ℕ) (o : Option Guard) : Type 0 where
   pub at : x.cell ≡ c
 
 pub write_row : (q c : ℕ) (l : WriteTicket) (o : Option Guard) → GuardRow.Write q c l ≡ guard_row o → WriteRow c o
-write_row q c l None e = absurd (cc)
-write_row q c l (Some x) e = by x.writes refl where
-  by : (b : Bool) → x.writes ≡ b → WriteRow c (Some x)
-  by true w = let f : GuardRow.Write q c l ≡ GuardRow.Write x.party x.cell write_ticket = e ∙ (rw w refl) in record { x = x; is = refl; writes = w; at = cc }
-  by false w = absurd (let f : GuardRow.Write q c l ≡ GuardRow.Read x.party x.cell read_ticket = e ∙ (rw w refl) in cc)
+write_row q c l o e = grind arith
 
 module _ {L : Type 0} (held : L → Holders) (place : L → LockerKind) where
   -- beyond the rows there is no guard but the one in hand
   pub beyond : (hand n : ℕ) (m : Standing) (v : Rows L) → Stands held place hand m v → numbered hand m.guards ≡ None → length v.guards.items ≤ n → numbered n m.guards ≡ None
-  beyond hand n m v t none room = by (numbered n m.guards) refl where
-    by : (o : Option Guard) → numbered n m.guards ≡ o → o ≡ None
-    by None e = refl
-    by (Some x) e =
-        elim (cases_eq n hand) [ inl q ↦ sym e ∙ ap (λ i. numbered i m.guards) q ∙ none | inr ne ↦ (let l = t.guards.in_rows n x e ne in absurd (omega (arith, l, room))) ]
+  beyond hand n m v t none room = grind arith
 
   -- the row of a step that holds no guard is pushed
   pub pushed_free : (hand : ℕ) (m : Standing) (v new : Rows L) → Stands held place hand m v → numbered hand m.guards ≡ None → Pushes held place v GuardRow.Free new → Rests held place m new
@@ -57,24 +45,16 @@ row_party p x = (elim x.writes as (λ b. x.writes ≡ b → is_row_of p (guard_r
 
 -- whose guard it is
 owner : (p : ℕ) (o : Option Guard) (b : Bool) → is_row_of p (guard_row o) ≡ b → own p o ≡ (if b then o else None)
-owner p None true e = refl
-owner p None false e = refl
-owner p (Some x) b e = let f : (x.party == p) ≡ b = sym (row_party p x) ∙ e in rw f refl
+owner p o b e = grind arith
 
 module _ {L : Type 0} (held : L → Holders) (place : L → LockerKind) (m : Standing) (v v' : Rows L) (p g : ℕ) (r : Rests held place m v) where
   -- the row of a guard
   pub row_shown : (row : GuardRow) → slice_get v.guards.items g ≡ Some row → g < length v.guards.items → row ≡ guard_row (numbered g m.guards)
-  row_shown row e lt =
-      let s : Some row ≡ Some (slot_row (length v.guards.items) m g) = sym e ∙ r.stands.slot g lt in
-      let q : row ≡ slot_row (length v.guards.items) m g = cc in
-      let no : (g == length v.guards.items) ≡ false = grind (arith, lt) in
-      q ∙ rw no refl
+  row_shown row e lt = grind arith
 
   -- it is not the party's
   pub not_taken : (row : GuardRow) → slice_get v.guards.items g ≡ Some row → g < length v.guards.items → is_row_of p row ≡ false → IsTaken held place v p g GuardRow.Free v m
-  not_taken row e lt f =
-      let none : guard_of g p m.guards ≡ None = owner p (numbered g m.guards) false (ap (is_row_of p) (sym (row_shown row e lt)) ∙ f) in
-      record { row_is = ap guard_row (sym none); taken = subst (λ o. TakenAs held place v g o m v) (sym none) r.stands }
+  not_taken row e lt f = grind arith
 
   -- it is
   pub is_taken : (row : GuardRow) → slice_get v.guards.items g ≡ Some row → g < length v.guards.items → is_row_of p row ≡ true → v'.guards.items ≡ set v.guards.items g GuardRow.Free → v'.cells ≡ v.cells → v'.parties ≡ v.parties → v'.parks ≡ v.parks → v'.exit ≡ v.exit → IsTaken held place v p g row v' m

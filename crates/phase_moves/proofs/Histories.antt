@@ -10,18 +10,11 @@ use Rattle.phase_moves.proofs.Words.{answer_of_look, is_other, Finished, Answer}
 use Rattle.phase_moves.proofs.Guards.{its_number}
 
 owned_by : (p : ℕ) (x : Guard) (o : Option Guard) → own p o ≡ Some x → (o ≡ Some x) × (x.party ≡ p)
-owned_by p x None e = absurd (cc)
-owned_by p x (Some y) e = by (y.party == p) refl e where
-  by : (b : Bool) → (y.party == p) ≡ b → (if b then Some y else None) ≡ Some x → (Some y ≡ Some x) × (x.party ≡ p)
-  by true q e = let same : y ≡ x = cc in (e, sym (ap (λ (z : Guard). z.party) same) ∙ grind (arith, q))
-  by false q e = absurd (cc)
+owned_by p x o e = grind arith
 
 -- the write guard that a run leaves is given back at once
 pub writer_left : (n : ℕ) (s : Section) (made : Option ℕ) (d : Given) (t : WriteTicket) (q : Phase) (m : Standing) → left (writer_of n s made) d (ended n s made Given.Nobody (Finished.Write t q) m) ≡ run_closed s made d m
-writer_left n s made d t q m =
-    let own : (n == n) ≡ true = grind arith in
-    let back : (if n == n then m.guards else writer_of n s made ∷ without_guard n m.guards) ≡ m.guards = rw own refl in
-    λ i. record (run_closed s made d m) { guards = back i }
+writer_left n s made d t q m = grind arith
 
 module _ (cells : List CellPlan) (h : List Event) (p : ℕ) where
   abbrev ws : List Wait

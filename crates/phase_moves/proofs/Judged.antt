@@ -12,32 +12,21 @@ use Rattle.phase_moves.proofs.{Attempts.free_same, Attempts.got_to, Attempts.unl
 -- ---- how many read then
 
 waiting_readers : (way : How) (h : Holders) → (held_waiting way h).readers ≡ h.readers
-waiting_readers How.Spin h = refl
-waiting_readers _ h = refl
+waiting_readers way h = grind arith
 
 admitted_few : (n : LockNature) (h : Holders) → bars h n ≡ false → h.readers ≤ most_readers → (admitted h n).readers ≤ most_readers
-admitted_few LockNature.Read h e le = by (h.locked && (h.readers == 0)) (h.readers == most_readers) refl e where
-  by : (a b : Bool) → (h.readers == most_readers) ≡ b → (a || b) ≡ false → h.readers + 1 ≤ most_readers
-  by false false f e = grind (arith, f, le)
-  by _ _ f e = absurd (cc)
-admitted_few LockNature.Write h e le = le
-admitted_few LockNature.None h e le = le
+admitted_few n h e le = grind arith
 
 given_up_few : (w : Waiting) (h : Holders) → h.readers ≤ most_readers → (given_up w h).readers ≤ most_readers
-given_up_few Waiting.ShareRead h le = omega (arith, le)
-given_up_few _ h le = le
+given_up_few w h le = grind arith
 
 -- a lock to write is given beside no reader
 unread : (h : Holders) → bars h LockNature.Write ≡ false → h.readers ≡ 0
-unread h e = by h.locked (h.readers == 0) refl e where
-  by : (a z : Bool) → (h.readers == 0) ≡ z → (a || not z) ≡ false → h.readers ≡ 0
-  by false true f e = grind (arith, f)
-  by _ _ f e = absurd (cc)
+unread h e = grind arith
 
 -- nobody keeps what it has not
 none_kept : (n : LockNature) (h : Holders) → keeps Waiting.Free n h ≡ false
-none_kept LockNature.Read h = refl
-none_kept _ h = refl
+none_kept n h = grind arith
 
 module _ (k : LockerKind) (who : Who) (ask : Ask) (h : Holders) (s : Parking) where
   -- the lock that it wants
@@ -110,63 +99,18 @@ module _ (k : LockerKind) (who : Who) (ask : Ask) (h : Holders) (s : Parking) wh
 
   -- it is admitted
   admitted_so : (fresh : Bool) (mid : Holders) (rows : Parking) (b : Begun) (h' : Holders) → bars mid wanted ≡ false → b ≡ begun_admitted → h'.readers ≡ (admitted mid wanted).readers → JudgedSo fresh mid b h'
-  admitted_so fresh mid rows b h' e is readers =
-      record {
-        judged = subst (λ c. MatchBool c (IsBarred fresh mid b) (b ≡ begun_admitted)) (sym e) is;
-        few = λ le. subst (λ i. i ≤ most_readers) (sym readers) (admitted_few wanted mid e le);
-        free = λ z.
-            let w = (got_to who ask h.phase wanted rows refl).wrote (sym (ap writes_begun is) ∙ z) in
-            let none = unread mid (ap (bars mid) (sym w) ∙ e) in
-            record { locked = unlocked mid wanted w e; readers = none; then_none = readers ∙ ap (λ x. (admitted mid x).readers) w ∙ none };
-      }
+  admitted_so fresh mid rows b h' e is readers = grind arith
 
   judged_so : (fresh : Bool) (mid : Holders) (rows : Parking) (n : LockNature) (a : Attempt) (h' : Holders) (s' : Parking) → ask.fast ≡ false → n ≡ wanted → mid.phase ≡ h.phase → Judged k fresh who (wake_of ask.want) n mid rows a h' s' → JudgedSo fresh mid (begun_by who ask h.phase a) h'
-  judged_so fresh mid rows n a h' s' slow ruled phase j = by (bars mid wanted) refl (subst (λ x. Judged k fresh who (wake_of ask.want) x mid rows a h' s') ruled j) where
-    by : (c : Bool) → bars mid wanted ≡ c → MatchBool c (Waits k fresh who (wake_of ask.want) wanted mid rows a h' s') (Gets who wanted mid rows a h' s') → JudgedSo fresh mid (begun_by who ask h.phase a) h'
-    by true e w =
-        let is : begun_by who ask h.phase a ≡ Begun.Wait w.how = ap (begun_by who ask h.phase) w.answer in
-        record {
-          judged = subst (λ c. MatchBool c (IsBarred fresh mid (begun_by who ask h.phase a)) (begun_by who ask h.phase a ≡ begun_admitted)) (sym e)
-              (subst (λ f. MatchBool f (begun_by who ask h.phase a ≡ Begun.Missed) (IsWaiting fresh mid (begun_by who ask h.phase a))) (sym slow) (record { way = w.how; may = w.may; begins = is }));
-          few = λ le. subst (λ i. i ≤ most_readers) (sym (ap (λ (x : Holders). x.readers) w.held ∙ waiting_readers w.how mid)) le;
-          free = λ z. absurd (let y : 0 ≡ 1 = sym (ap writes_begun is) ∙ z in omega (arith, y));
-        }
-    by false e w = admitted_so fresh mid rows (begun_by who ask h.phase a) h' e (ap (begun_by who ask h.phase) w.answer ∙ ap (λ q. begun_of who ask h.phase (got wanted q)) phase) (ap (λ (x : Holders). x.readers) w.held)
+  judged_so fresh mid rows n a h' s' slow ruled phase j = grind arith
 
   -- a call that does not wait
   tried_so : (r : Begun × Given) (h' : Holders) (s' : Parking) → ask.fast ≡ true → TriesLock who ask h s r h' s' → JudgedSo true h r.0 h'
-  tried_so r h' s' fast a = by (bars h wanted) refl where
-    told : (c : Bool) → bars h wanted ≡ c → r.0 ≡ begun_tried who ask h.phase (if c then None else Some (got wanted h.phase))
-    told c e = ap (λ (x : Begun × Given). x.0) a.answer ∙ ap (begun_tried who ask h.phase) (a.tries.answer ∙ ap (λ n. if bars h n then None else Some (got n h.phase)) a.tries.allowed ∙ ap (λ c. if c then None else Some (got wanted h.phase)) e)
-
-    held : (c : Bool) → bars h wanted ≡ c → h'.readers ≡ (if c then h else admitted h wanted).readers
-    held c e = ap (λ (x : Holders). x.readers) (a.tries.held ∙ ap (λ n. if bars h n then h else admitted h n) a.tries.allowed ∙ ap (λ c. if c then h else admitted h wanted) e)
-
-    by : (c : Bool) → bars h wanted ≡ c → JudgedSo true h r.0 h'
-    by true e =
-        record {
-          judged = subst (λ c. MatchBool c (IsBarred true h r.0) (r.0 ≡ begun_admitted)) (sym e) (subst (λ f. MatchBool f (r.0 ≡ Begun.Missed) (IsWaiting true h r.0)) (sym fast) (told true e));
-          few = λ le. subst (λ i. i ≤ most_readers) (sym (held true e)) le;
-          free = λ z. absurd (let y : 0 ≡ 1 = sym (ap writes_begun (told true e)) ∙ z in omega (arith, y));
-        }
-    by false e = admitted_so true h s r.0 h' e (told false e) (held false e)
+  tried_so r h' s' fast a = grind arith
 
   -- where the record that was judged was free, nothing stands beside the lock to write
   apart_so : (g : Given) (mid h' : Holders) (rows : Parking) → rows ≡ rows_handed who.cell g (freed who.party s) → Fits k mid rows who.cell → open_reads mid rows who.cell ≡ open_reads h s who.cell → (IsWriteOpen h s who.cell → IsWriteOpen mid rows who.cell) → IsFree mid h' → IsApart g h'
-  apart_so g mid h' rows are fits reads writes free =
-      let none = free.readers in
-      let most = fits.shared in
-      let no_share : shares rows who.cell ≡ 0 = omega (arith, none, most) in
-      record {
-        readers = free.then_none;
-        clear =
-            record {
-              shares_none = ap (λ y. shares y who.cell) (sym are) ∙ no_share;
-              claims_none = ap (λ y. claims y who.cell) (sym are) ∙ fits.locked free.locked;
-              reads_none = omega (arith, reads, none);
-              closed = λ o. (let l = (writes o).locked in let f = free.locked in cc);
-            };
-      }
+  apart_so g mid h' rows are fits reads writes free = grind arith
 
   module _ (running : Option ℕ) (r : Begun × Given) (h' : Holders) (s' : Parking) (calm : is_cyclic ask.want who.party running ≡ false) (fits : Fits k h s who.cell) where
     -- a call of a party that does not wait

@@ -35,11 +35,7 @@ module _ {L : Type 0} (held : L → Holders) (place : L → LockerKind) (hand : 
 
   -- nothing else is published
   content_beside : (g : Given) (d : ℕ) → d ≢ x.cell → (left x g m).content d ≡ m.content d
-  content_beside g d ne = by x.writes (x.cell == d) refl where
-    by : (w b : Bool) → (x.cell == d) ≡ b → content_after_back m.plans d (cond w (Some (record { cell = x.cell; changes = x.changes })) None) (m.content d) ≡ m.content d
-    by true true e = absurd (ne (grind (arith, e)))
-    by true false e = rw e refl
-    by false b e = refl
+  content_beside g d ne = grind arith
 
   -- other cells are as they were
   around : (g : Given) (d : ℕ) → d ≢ x.cell → seen_at d (left x g m) ≡ seen_at d m
@@ -136,11 +132,7 @@ module _ {L : Type 0} (held : L → Holders) (place : L → LockerKind) (hand : 
 
   -- what is published after a write guard is given back
   seen_back : (g : Given) → x.writes ≡ true → (left x g m).content x.cell ≡ seen_by m x
-  seen_back g w = by x.writes w (x.cell == x.cell) refl (grind arith) where
-    by : (b : Bool) → b ≡ true → (e : Bool) → (x.cell == x.cell) ≡ e → e ≡ true → content_after_back m.plans x.cell (cond b (Some (record { cell = x.cell; changes = x.changes })) None) (m.content x.cell) ≡ seen_by m x
-    by true p true e q = rw e refl
-    by true p false e q = absurd (cc)
-    by false p e q r = absurd (cc)
+  seen_back g w = grind arith
 
   -- nothing is left on the cell
   module _ (w : x.writes ≡ true) where

@@ -46,14 +46,11 @@ free_as : (h : Holders) → bars_write h ≡ false → (h.readers ≡ 0) × (h.l
 free_as h e = (grind (arith, e), grind (arith, e))
 
 none_occurs : (xs : List ℕ) (p : ℕ) → is_empty xs ≡ true → occurs p xs ≡ 1 → ⊥
-none_occurs [] p e f = absurd (omega (arith, f))
-none_occurs (x ∷ xs) p e f = absurd (cc)
+none_occurs xs p e f = grind arith
 
 -- nothing is given where nobody is parked
 gives_none : (c : ℕ) (h : Holders) (s : Parking) (g : Given) → NobodyParked s c → MayHand c h s g → g ≡ Given.Nobody
-gives_none c h s Given.Nobody none may = refl
-gives_none c h s (Given.Writer q) none may = absurd (none_occurs (writers_of s c) q none.1 may.1)
-gives_none c h s Given.Readers none may = absurd (let e = none.0 in let f = may.1 in let q : true ≡ false = sym e ∙ f in cc)
+gives_none c h s g none may = grind arith
 
 module _ {L : Type 0} (held : L → Holders) (place : L → LockerKind) (hand : ℕ) (m : Standing) (v : Rows L) (c : ℕ) (is : IsLending held place hand m v c) (row : CellRow L) (row_is : row ≡ get_or v.cells.items c row) where
   row_at : slice_get v.cells.items c ≡ Some row

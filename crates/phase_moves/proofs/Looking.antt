@@ -75,42 +75,15 @@ met_turned m p t turned =
 
 -- it is answered by what the cell holds
 pub met_looked : (m : Standing) (p : ℕ) (t : Target) → seeks (cell_at m.plans t.cell).kind t.want ≡ None → wait_of p m.waits ≡ None → IsMet p t (Taken.Nothing (phase_of (m.content t.cell).phase)) Given.Nobody m
-met_looked m p t none free =
-    record {
-      moment = Last;
-      chosen = false;
-      answered = looked_due x t.cell p m.registry y t.want none
-          ∙ sym (judged_no (initializes x.kind t.want && generates_for p (find (runs_in t.cell) m.sections)) (keeps_in p t.cell t.want m) (is_barred (wanted_in t.cell t.want m) (holding_in t.cell (without_wait p m.waits) m)) false Answer.Cyclic
-          (answer_barred (is_fast t.want) x.place (way_parked x.kind t.want (drains_by (wanted_in t.cell t.want m) (holding_in t.cell (without_wait p m.waits) m) false))) (answer_admitted x.kind (tolerance_of x) t.cell m.registry.is_open t.want y)
-          (ap (λ s. seeks_run s && generates_for p (find (runs_in t.cell) m.sections)) none) (ap (λ w. keeps w (wanted_in t.cell t.want m) (readers_in t.cell m.waits m)) free) (ap (λ n. is_barred n (holding_in t.cell (without_wait p m.waits) m)) unwanted));
-      gives = tt;
-      wanted = by t.want none;
-    } where
-      x : CellPlan
-      x = cell_at m.plans t.cell
-
-      y : Content
-      y = m.content t.cell
-
-      unwanted : wanted_in t.cell t.want m ≡ LockNature.None
-      unwanted = ap (λ s. lock_asked (asking s (is_fast t.want) (tolerance_of (cell_at m.plans t.cell))) (m.content t.cell).phase) none
-
-      by : (w : Want) → seeks (cell_at m.plans t.cell).kind w ≡ None → IsUnlocked (cell_at m.plans t.cell).kind w
-      by (Calls j) e = ap (seeks_as (form_of (cell_at m.plans t.cell).kind j)) (sym e) ∙ sought_as (cell_at m.plans t.cell).kind j
-      by Turns e = tt
+met_looked m p t none free = grind arith
 
 -- nothing happened in its section
 unchanged : (m : Standing) (c : ℕ) (w : Want) → seeks (cell_at m.plans c).kind w ≡ None → changes_at c w m ≡ []
-unchanged m c (Calls j) none =
-    ap (λ s. if run_asked (asking s (is_fast (Calls j)) (tolerance_of (cell_at m.plans c))) (m.content c).phase && not (runs_generator (cell_at m.plans c).kind (tolerance_of (cell_at m.plans c)) m.registry.is_open (m.content c).phase) then Asked m.registry.is_open j ∷ [] else []) none
-unchanged m c Turns none = refl
+unchanged m c w none = grind arith
 
 -- so nothing is published
 still : (m : Standing) (c d : ℕ) (chs : List Change) → chs ≡ [] → content_back (Some (record { cell = c; changes = chs })) m d ≡ m.content d
-still m c d chs e = ap (λ z. content_back (Some (record { cell = c; changes = z })) m d) e ∙ by (c == d) where
-  by : (b : Bool) → (if b then m.content d else m.content d) ≡ m.content d
-  by true = refl
-  by false = refl
+still m c d chs e = grind arith
 
 module _ {L : Type 0} (held : L → Holders) (place : L → LockerKind) (hand : ℕ) (m : Standing) (v : Rows L) where
   -- what rows of these cells stand for

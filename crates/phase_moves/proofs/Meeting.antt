@@ -149,40 +149,11 @@ module _ (n : ℕ) (k : LockerKind) (h : Holders) (s : Parking) (m : Standing) (
 
     -- what a call may give that does not wait
     quiet_missed : (first : Given) (e : Begun) → ask.fast ≡ true → IsKept k who ask h s e first ⊎ IsJudged k who ask h s e first → first ≡ Given.Nobody
-    quiet_missed first e fast (inl kept) = kept.quiet
-    quiet_missed first e fast (inr j) = by first refl where
-      some : first ≢ Given.Nobody → ⊥
-      some ne =
-          let gift = gives_first first (sym kept_is ∙ j.dropped) ne j.may in
-          let own = gift.own in
-          let none : false ≡ true = sym (ap has_own (awake (sym asked.fast ∙ fast))) ∙ own in
-          cc
-
-      by : (z : Given) → first ≡ z → first ≡ Given.Nobody
-      by Given.Nobody f = f
-      by (Given.Writer q) f = absurd (some (λ z. (let a : Given.Writer q ≡ Given.Nobody = sym f ∙ z in cc)))
-      by Given.Readers f = absurd (some (λ z. (let a : Given.Readers ≡ Given.Nobody = sym f ∙ z in cc)))
+    quiet_missed first e fast f = grind arith
 
     -- what is got is of the kind that is wanted
     of_fits : (z : Begun) (g : Given) → FitsSought ask.want z → (writes_begun z ≡ 1 → g ≡ Given.Nobody) → IsOf p t g m (taken_of z)
-    of_fits (Begun.Wait way) g fits none = absurd fits
-    of_fits Begun.Missed g fits none = absurd fits
-    of_fits Begun.Cyclic g fits none = absurd fits
-    of_fits (Begun.Nothing q) g fits none = by t.want asked.sought where
-      by : (w : Want) → seeks x.kind w ≡ Some ask.want → IsUnlocked x.kind w
-      by (Calls j) e = form_none (form_of x.kind j) ask.want fits (ap (seeks_as (form_of x.kind j)) (sym e) ∙ sought_as x.kind j)
-      by Turns e = tt
-    of_fits (Begun.Read l q) g fits none = by t.want asked.sought where
-      by : (w : Want) → seeks x.kind w ≡ Some ask.want → IsCallOf x.kind w is_to_read
-      by (Calls j) e = form_read (form_of x.kind j) ask.want fits (ap (seeks_as (form_of x.kind j)) (sym e) ∙ sought_as x.kind j)
-      by Turns e = let f : ask.want ≡ Sought.Finalize = cc in let a : false ≡ true = ap gets_read (sym f) ∙ fits in absurd (cc)
-    of_fits (Begun.Write l q) g fits none =
-        (by t.want asked.sought, ap wants_to_write (sym wanted_is ∙ write_wanted ask.want (shall_init ask.tol h.phase) (has (number h.phase) initialized) fits), none refl) where
-          by : (w : Want) → seeks x.kind w ≡ Some ask.want → IsCallOf x.kind w takes_write
-          by (Calls j) e = form_write (form_of x.kind j) ask.want fits (ap (seeks_as (form_of x.kind j)) (sym e) ∙ sought_as x.kind j)
-          by Turns e = let f : ask.want ≡ Sought.Finalize = cc in let a : false ≡ true = ap gets_write (sym f) ∙ fits in absurd (cc)
-    of_fits (Begun.Run z) g fits none = tt
-    of_fits (Begun.Final z) g fits none = tt
+    of_fits z g fits none = grind arith
 
     -- a turn may wait
     slow_turn : t.want ≡ Turns → is_quick x t.want ≡ true → ⊥

@@ -13,13 +13,7 @@ numbered_with y g gs ne = grind (arith, ne)
 
 -- a hand that holds no guard shows what another shows
 empty_hand : (m : Standing) (hand n g : ℕ) → numbered hand m.guards ≡ None → g ≢ n → slot_row n m g ≡ slot_row hand m g
-empty_hand m hand n g none ne = by (g == hand) refl where
-  no : (g == n) ≡ false
-  no = grind (arith, ne)
-
-  by : (b : Bool) → (g == hand) ≡ b → slot_row n m g ≡ slot_row hand m g
-  by true e = let s : g ≡ hand = grind (arith, e) in let f : numbered g m.guards ≡ None = ap (λ i. numbered i m.guards) s ∙ none in rw (no, e, f) refl
-  by false e = rw (no, e) refl
+empty_hand m hand n g none ne = grind arith
 
 -- what is seen of a cell with a read guard more
 pub seen_reader : (n p c : ℕ) (m : Standing) → seen_at c (guarded (reader n p c) m) ≡ record { plan = cell_at m.plans c; content = m.content c; reads = reads_in c m + 1; writes = writes_in c m; run = run_in c m.sections }
@@ -27,10 +21,7 @@ seen_reader n p c m = let e : (c == c) ≡ true = grind arith in rw e refl
 
 -- and with a write guard more
 pub seen_writer : (n p c : ℕ) (chs : List Change) (m : Standing) → seen_at c (guarded (writer_asked n p c chs) m) ≡ record { plan = cell_at m.plans c; content = m.content c; reads = reads_in c m; writes = writes_in c m + 1; run = run_in c m.sections }
-seen_writer n p c chs m =
-    let e : (c == c) ≡ true = grind arith in
-    let w : count (writes_cell c) m.guards + 1 + count (runs_in c) m.sections ≡ writes_in c m + 1 = omega arith in
-    rw e (λ i. record { plan = cell_at m.plans c; content = m.content c; reads = reads_in c m; writes = w i; run = run_in c m.sections })
+seen_writer n p c chs m = grind arith
 
 module _ {L : Type 0} (held : L → Holders) (place : L → LockerKind) where
   -- after a move that left the hand empty, a guard is opened
@@ -92,9 +83,7 @@ module _ {L : Type 0} (held : L → Holders) (place : L → LockerKind) where
 
   -- the empty hand is named anew
   pub rehand : (hand n : ℕ) (m : Standing) (v : Rows L) → Stands held place hand m v → numbered hand m.guards ≡ None → length v.guards.items ≤ n → Stands held place n m v
-  rehand hand n m v t none room =
-      reslotted hand n m v v t refl refl refl refl (λ g l. t.slot g l ∙ ap (λ x. Some x) (sym (empty_hand m hand n g none (λ e. absurd (omega (arith, l, room, e))))))
-      (λ g x e ne. t.guards.in_rows g x e (λ q. let f : None ≡ Some x = sym none ∙ ap (λ i. numbered i m.guards) (sym q) ∙ e in absurd (cc)))
+  rehand hand n m v t none room = grind arith
 
   -- the row of the step is pushed
   pub pushed : (m : Standing) (v v' : Rows L) (row : GuardRow) → Stands held place (length v.guards.items) m v → row ≡ guard_row (numbered (length v.guards.items) m.guards) → v'.guards.items ≡ v.guards.items ++ row ∷ [] → v'.cells ≡ v.cells → v'.parties ≡ v.parties → v'.parks ≡ v.parks → v'.exit ≡ v.exit
@@ -172,44 +161,16 @@ no_more j f = elim (cases_lt 0 j) [ inl lt ↦ absurd (f lt) | inr le ↦ omega 
 
 -- what opens a write hold leaves it open
 pub opens : (who : Who) (b : Begun) (running : Option ℕ) (h : Holders) (s : Parking) → begins_write b ≡ true → BegunStands who b running h s → IsWriteOpen h s who.cell
-opens who (Begun.Write t q) running h s e k = k.1
-opens who (Begun.Run o) running h s e k = subst (λ (w : Who). IsWriteOpen h s w.cell) k.1 k.2.locked
-opens who (Begun.Final o) running h s e k = subst (λ (w : Who). IsWriteOpen h s w.cell) k.1 k.2.locked
-opens who _ running h s e k = absurd (cc)
+opens who b running h s e k = grind arith
 
 -- as many are opened as this says
 pub as_many : (b : Begun) (o : Bool) → begins_write b ≡ o → writes_begun b ≡ (if o then 1 else 0)
-as_many (Begun.Wait way) o e = ap (λ x. if x then 1 else 0) e
-as_many Begun.Missed o e = ap (λ x. if x then 1 else 0) e
-as_many Begun.Cyclic o e = ap (λ x. if x then 1 else 0) e
-as_many (Begun.Nothing q) o e = ap (λ x. if x then 1 else 0) e
-as_many (Begun.Read t q) o e = ap (λ x. if x then 1 else 0) e
-as_many (Begun.Write t q) o e = ap (λ x. if x then 1 else 0) e
-as_many (Begun.Run x) o e = ap (λ x. if x then 1 else 0) e
-as_many (Begun.Final x) o e = ap (λ x. if x then 1 else 0) e
+as_many b o e = grind arith
 
 pub wrote_all : (d : Bool) (b : Begun) → begins_write b ≡ true → wrote d b ≡ true
-wrote_all d (Begun.Nothing q) e = absurd (cc)
-wrote_all d (Begun.Read t q) e = absurd (cc)
-wrote_all d _ e = e
+wrote_all d b e = grind arith
 
 module _ {L : Type 0} (held : L → Holders) (place : L → LockerKind) where
   -- a section more
   pub section_opened : (c hand hand' : ℕ) (m m' : Standing) (v v' : Rows L) (s : Section) → IsMoved held place c hand hand' m m' v v' → s.cell ≡ c → c < length v.cells.items → IsMoved held place c hand hand' m (opened s m'.registry m') v v'
-  section_opened c hand hand' m m' v v' s k at lt =
-      record {
-        around = λ d ne. around d ne ∙ k.around d ne;
-        counts = k.counts;
-        drafts = k.drafts;
-        others = k.others;
-        same = k.same;
-        lists = k.lists;
-        guards = k.guards;
-        slots = k.slots;
-        exit = record { registry_is = k.exit.registry_is; owner_is = k.exit.owner_is; turns_are = k.exit.turns_are; cells_are = k.exit.cells_are };
-        waits = k.waits;
-        numbers = k.numbers;
-        sections = (subst (λ d. d < length v.cells.items) (sym at) lt, k.sections);
-      } where
-        around : (d : ℕ) → d ≢ c → seen_at d (opened s m'.registry m') ≡ seen_at d m'
-        around d ne = let e : (s.cell == d) ≡ false = grind (arith, ne, at) in rw e refl
+  section_opened c hand hand' m m' v v' s k at lt = grind arith

@@ -57,10 +57,7 @@ module _ (k : LockerKind) (who : Who) (ask : Ask) (o : Option Registry) (h : Hol
 
   -- an answer that begins no run is as it was entered
   as_entered : (b : Begun) (g : Given) (h' : Holders) → is_run b ≡ false → IsMetBy k who ask h s b g h' → IsSettled b g h'
-  as_entered b g h' e d = record { entered = b; first = g; how = d.how; begins = same b e; gave = inl refl; few = d.few; alone = λ z. (d.apart z).clear } where
-    same : (b : Begun) → is_run b ≡ false → b ≡ begun_settled ask o h.phase b
-    same (Begun.Run x) e = absurd (cc)
-    same _ e = refl
+  as_entered b g h' e d = grind arith
 
   -- a run
   runs_on : (x : SeqSection) (g : Given) (h' : Holders) → is_refused ask.tol.leak o h.phase ≡ false → IsMetBy k who ask h s (Begun.Run x) g h' → IsSettled (Begun.Run (section_by x.who x.want (stays_asked o h.phase) x.ticket)) g h'
@@ -82,47 +79,7 @@ module _ (k : LockerKind) (who : Who) (ask : Ask) (o : Option Registry) (h : Hol
     is_declined w g q may = record { quiet = refl; ran = refl; refuses = refuses; may = subst (λ v. MayDecline v g) (sym q) may; clear = (d.apart refl).clear }
 
     goes : (w : Want) (f : Finished) → ask.want ≡ w → GoesOn w x.who.cell refused h1 s1 (f, r.1) h' s' → IsSettled (begun_at_once f) r.1 h'
-    goes Want.Init f q j =
-        let hands = subst (λ c. Hands c (leave_write refused h1) s1 r.1 h' s') at j.hands in
-        let hands_there : Hands who.cell (leave_write refused h1) (freed who.party s) r.1 h' s' = subst (λ y. Hands who.cell (leave_write refused h1) y r.1 h' s') e.rows hands in
-        record {
-          entered = Begun.Run x;
-          first = Given.Nobody;
-          how = d.how;
-          begins = declined_as j.finished q refl;
-          gave = inr (is_declined Want.Init r.1 q (listed_hand who.cell (leave_write refused h1) (freed who.party s) r.1 hands_there.may));
-          few = λ le. subst (λ n. n ≤ most_readers) (sym (ap (λ (y : Holders). y.readers) hands_there.held)) (handed_few r.1 who.cell (leave_write refused h1) (freed who.party s) hands_there.may none (omega (arith, room)));
-          alone = λ z. absurd (omega (arith, sym (ap (λ y. writes_begun (begun_at_once y)) j.finished) ∙ z));
-        } where
-          none : h1.readers ≤ most_readers
-          none = let a = (d.apart refl).readers in omega (arith, a)
-    goes Want.Read f q j =
-        let down = subst (λ c. Downgrades c refused h1 s1 r.1 h' s') at j.downgrades in
-        let down_there : Downgrades who.cell refused h1 (freed who.party s) r.1 h' s' = subst (λ y. Downgrades who.cell refused h1 y r.1 h' s') e.rows down in
-        record {
-          entered = Begun.Run x;
-          first = Given.Nobody;
-          how = d.how;
-          begins = declined_as j.finished q refl;
-          gave = inr (is_declined Want.Read r.1 q down_there.may);
-          few = λ le. subst (λ n. n ≤ most_readers) (sym (ap (λ (y : Holders). y.readers) down_there.held)) (shared r.1 down_there.may);
-          alone = λ z. absurd (omega (arith, sym (ap (λ y. writes_begun (begun_at_once y)) j.finished) ∙ z));
-        } where
-          shared : (g : Given) → MayShare who.cell (freed who.party s) g → (held_handed who.cell g (freed who.party s) (downgrade refused h1)).readers ≤ most_readers
-          shared Given.Nobody may = let none = (d.apart refl).readers in omega (arith, none)
-          shared (Given.Writer p) may = absurd may
-          shared Given.Readers may = let none = (d.apart refl).readers in omega (arith, none, room)
-    goes Want.Write f q j =
-        record {
-          entered = Begun.Run x;
-          first = Given.Nobody;
-          how = d.how;
-          begins = declined_as (ap (λ (y : Finished × Given). y.0) j.finished) q refl;
-          gave = inl (ap (λ (y : Finished × Given). y.1) j.finished);
-          few = λ le. subst (λ n. n ≤ most_readers) (sym (ap (λ (y : Holders). y.readers) j.held)) (d.few le);
-          alone = λ z. subst (λ y. IsClear k who ask h s y) (sym (ap (λ (y : Finished × Given). y.1) j.finished)) (d.apart refl).clear;
-        }
-    goes _ f q j = absurd j
+    goes w f q j = grind arith
 
     at_once : HasSectionAtOnce x h1 s1 r h' s' → IsSettled r.0 r.1 h'
     at_once so = subst (λ b. IsSettled b r.1 h') (sym so.answer) (goes x.want so.finished (sym wants) so.goes_on)
@@ -133,10 +90,7 @@ module _ (k : LockerKind) (who : Who) (ask : Ask) (o : Option Registry) (h : Hol
 
     runs_or_not : (m : Registry) → o ≡ Some m → (x : SeqSection) (h1 : Holders) (s1 : Parking) (r : Begun × Given) (h' : Holders) (s' : Parking) → IsMetBy k who ask h s (Begun.Run x) Given.Nobody h1 → IsEntered who ask h s (Begun.Run x) Given.Nobody h1 s1
         → (c : Bool) → is_refused ask.tol.leak (Some m) h.phase ≡ c → MatchBool c (HasSectionAtOnce x h1 s1 r h' s') (Generates x (staying m.is_open h.phase) h1 s1 r h' s') → IsSettled r.0 r.1 h'
-    runs_or_not m q x h1 s1 r h' s' d e true f j = at_once x h1 s1 r h' s' d e room (ap (λ y. is_refused ask.tol.leak y h.phase) q ∙ f) j
-    runs_or_not m q x h1 s1 r h' s' d e false f j =
-        subst (λ (z : Begun × Given). IsSettled z.0 z.1 h') (ap (λ y. (Begun.Run (section_by x.who x.want (stays_asked y h.phase) x.ticket), Given.Nobody)) q ∙ sym j.answer)
-        (subst (λ z. IsSettled (Begun.Run (section_by x.who x.want (stays_asked o h.phase) x.ticket)) Given.Nobody z) (sym j.held) (runs_on x Given.Nobody h1 (ap (λ y. is_refused ask.tol.leak y h.phase) q ∙ f) d))
+    runs_or_not m q x h1 s1 r h' s' d e c f j = grind arith
 
     settled : (m : Registry) → o ≡ Some m → (b : Begun) (g : Given) (h1 : Holders) (s1 : Parking) (r : Begun × Given) (h' : Holders) (s' : Parking) → IsMetBy k who ask h s b g h1 → IsTurned h s b g h1 s1 ⊎ IsEntered who ask h s b g h1 s1 → Settles ask.tol.leak m h.phase (b, g) h1 s1 r h' s' → IsSettled r.0 r.1 h'
     settled m q (Begun.Run x) g h1 s1 r h' s' d (inl t) st = absurd (let e = t.away in cc)
@@ -145,11 +99,7 @@ module _ (k : LockerKind) (who : Who) (ask : Ask) (o : Option Registry) (h : Hol
 
     -- on a cell without a registry
     unsettled : o ≡ None → (b : Begun) (g : Given) (h1 : Holders) (s1 : Parking) → IsMetBy k who ask h s b g h1 → IsTurned h s b g h1 s1 ⊎ IsEntered who ask h s b g h1 s1 → IsSettled b g h1
-    unsettled q (Begun.Run x) g h1 s1 d (inl t) = absurd (let e = t.away in cc)
-    unsettled q (Begun.Run x) g h1 s1 d (inr e) =
-        subst (λ (y : SeqSection). IsSettled (Begun.Run y) g h1) ((λ i. section_by (e.told.0 i).who (e.told.0 i).want (stays_asked (q i) h.phase) (e.told.0 i).ticket) ∙ sym e.told.0) (runs_on x g h1 (ap (λ y. is_refused ask.tol.leak y h.phase) q) d)
-    unsettled q (Begun.Wait way) g h1 s1 d e = as_entered (Begun.Wait way) g h1 refl d
-    unsettled q b g h1 s1 d e = as_entered b g h1 refl d
+    unsettled q b g h1 s1 d e = grind arith
 
 -- a call of a party that waits at the cell, or does not wait
 module _ (k : LockerKind) (who : Who) (ask : Ask) (h : Holders) (s : Parking) (running : Option ℕ) (r : Begun × Given) (h' : Holders) (s' : Parking) (calm : is_cyclic ask.want who.party running ≡ false) (fits : Fits k h s who.cell)

@@ -9,9 +9,7 @@ use Rattle.phase_moves.proofs.{Giving.idle_at, Judged.IsClear, Parking.shown_cal
 
 -- what gives nothing then may do so
 pub gives_none : (p : ℕ) (t : Target) (m : Standing) (b : Taken) → GivesLast p t b Given.Nobody m
-gives_none p t m (Taken.Nothing q) = tt
-gives_none p t m (Taken.Read l q) = tt
-gives_none p t m _ = refl
+gives_none p t m b = grind arith
 
 module _ (n : ℕ) (k : LockerKind) (h : Holders) (s : Parking) (m : Standing) (p : ℕ) (t : Target) (locked : IsLocked k h s t.cell (reads_in t.cell m) (writes_in t.cell m) (m.content t.cell).phase) (placed : k ≡ kind_at (cell_at m.plans t.cell).place) (shown : AreShown n m.waits s) (sizes : length s.writers ≡ length s.readers) (few : length s.rows < most_parties)
     (cell_in : t.cell < length s.readers) (party_in : p < length s.rows) (waited : (w : Wait) → wait_of p m.waits ≡ Some w → w.cell ≡ t.cell) where

@@ -76,9 +76,7 @@ module _ {L : Type 0} (held : L → Holders) (place : L → LockerKind) where
     -- ---- the registry
 
     pub exit_with : (r : Registry) → v'.exit.registry ≡ r → cells_of r ≡ cells_of m.registry → IsExit (length v.cells.items) (record m { registry = r }) v'.exit
-    exit_with r e n_is =
-        let z = is.rests.stands.exit in
-        record { registry_is = e; owner_is = owner ∙ z.owner_is; turns_are = ap (λ (ts : _). ts.items) turns ∙ z.turns_are; cells_are = n_is ∙ z.cells_are }
+    exit_with r e n_is = grind arith
 
     pub exit_still : is_run b ≡ false → IsExit (length v.cells.items) m v'.exit
     exit_still e = exit_with m.registry (registry ∙ registry_still row.plan.kind t.cell (held row.seq.locker).phase b v.exit.registry e ∙ is.rests.stands.exit.registry_is) refl

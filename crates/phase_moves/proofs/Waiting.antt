@@ -8,8 +8,7 @@ use Rattle.phase_moves.proofs.Words.{set, length-set, count-set, shares-shared, 
 -- ---- a gift leaves it
 
 woken_there : (d : ℕ) (b : Bool) (w : Wait) → waits_at d (cond b (wait_woken w) w) ≡ waits_at d w
-woken_there d true w = refl
-woken_there d false w = refl
+woken_there d b w = grind arith
 
 pub count_given : (d c : ℕ) (g : Given) (ws : List Wait) → count (waits_at d) (given_on c g ws) ≡ count (waits_at d) ws
 count_given d c Given.Nobody ws = refl
@@ -26,12 +25,7 @@ abbrev stands_at : ℕ → Row → Bool
 stands_at c r = if waits_so r.waiting then r.cell == c else false
 
 row_waits : (c : ℕ) (w : Wait) → stands_at c (wait_row (Some w)) ≡ waits_at c w
-row_waits c w = by w.party w.cell w.want w.way w.woken where
-  by : (p x : ℕ) (want : Want) (way : How) (woken : Bool) → stands_at c (wait_row (Some (record { party = p; cell = x; want = want; way = way; woken = woken }))) ≡ waits_at c (record { party = p; cell = x; want = want; way = way; woken = woken })
-  by p x want How.Spin woken = refl
-  by p x want How.ParkedRead true = refl
-  by p x want How.ParkedWrite true = refl
-  by p x want _ _ = refl
+row_waits c w = grind arith
 
 pub few_wait : (c : ℕ) (ws : List Wait) (s : Parking) → IsSingle ws → Shows ws s → count (waits_at c) ws ≤ length s.rows
 few_wait c ws s single shows =
@@ -50,9 +44,7 @@ count_elsewhere d w ws ne = let q : (w.cell == d) ≡ false = grind (arith, ne) 
 -- ---- an attempt at a cell, of a party that waits there or nowhere
 
 pub waited_here : (waits : Bool) (c : ℕ) (o : Option Wait) → MatchBool waits (WaitsAt c o) (o ≡ None) → (w : Wait) → o ≡ Some w → w.cell ≡ c
-waited_here true c None k w e = absurd k
-waited_here true c (Some x) k w e = let same : x ≡ w = cc in ap (λ (z : Wait). z.cell) (sym same) ∙ k
-waited_here false c o k w e = let f : None ≡ Some w = sym k ∙ e in absurd (cc)
+waited_here waits c o k w e = grind arith
 
 module _ (p c : ℕ) (ws : List Wait) (single : IsSingle ws) (g : Given) (at : (w : Wait) → wait_of p ws ≡ Some w → w.cell ≡ c) where
   -- at another cell as many wait
@@ -75,9 +67,7 @@ module _ (p c : ℕ) (ws : List Wait) (single : IsSingle ws) (g : Given) (at : (
 
 -- so it is counted
 counted_with : (was is : Bool) (n k : ℕ) → n ≡ k + (if was then 1 else 0) → waiting_with was is n ≡ k + (if is then 1 else 0)
-counted_with true true n k e = omega (arith, e)
-counted_with false true n k e = omega (arith, e)
-counted_with _ _ n k e = omega (arith, e)
+counted_with was is n k e = grind arith
 
 pub counted_less : (was : Bool) (n k : ℕ) → n ≡ k + (if was then 1 else 0) → waiting_with was false n ≡ k
 counted_less was n k e = let all = counted_with was false n k e in omega (arith, all)
@@ -87,8 +77,7 @@ counted_more was n k e = let all = counted_with was true n k e in omega (arith, 
 
 -- one that waited is counted
 pub some_counted : (was : Bool) (n k : ℕ) → n ≡ k + (if was then 1 else 0) → was ≡ true → 0 < n
-some_counted true n k e f = omega (arith, e)
-some_counted false n k e f = absurd (cc)
+some_counted was n k e f = grind arith
 
 -- ---- the parked readers of a cell are not too many, and leave room for one more where a party does not wait
 
