@@ -2,9 +2,9 @@
 use Rattle.phase_moves.proofs.Words.{◌≡◌, ◌∙◌, ℕ, List, [], ◌∷◌, ap, sym, subst, refl, Bool, true, false, None, Some, not, ◌&&◌, if◌then◌else◌, MatchBool, ◌==◌, find, Option}
 use Rattle.phase_moves.proofs.Words.{Phase, has, initialized, number, phase_of, Registry, Who, LockNature, LockResult, ReadTicket, WriteTicket, got, read_ticket, write_ticket}
 use Rattle.phase_moves.proofs.Words.{Ask, Sought, Begun, Tolerance, asks_run, finalizes, run_sought, nature_of, nature_where, shall_init, begun_of, begun_write, runs}
-use Rattle.phase_moves.proofs.Words.{section_by, is_run, unregistered, is_refused, Call, asking, Answer, CellPlan, Want, Calls, Turns, answer_admitted, answer_at, begins_run}
-use Rattle.phase_moves.proofs.Words.{turn_answer_admitted, asks, is_fast, run_asked, seeks, Content, content_asked, effect, form_of, tolerance_of, is_accessible}
-use Rattle.phase_moves.proofs.Words.{runs_generator, Section, generates_for, is_turn, runs_in, registry_for, answer_taken, changes_asked, run_in, runner_of, taken_of, Taken}
+use Rattle.phase_moves.proofs.Words.{section_by, is_run, unregistered, is_refused, Call, Answer, CellPlan, Want, Calls, Turns, answer_admitted, answer_at, begins_run}
+use Rattle.phase_moves.proofs.Words.{turn_answer_admitted, asks, Content, content_asked, effect, form_of, tolerance_of, is_accessible, runs_generator, Section, generates_for}
+use Rattle.phase_moves.proofs.Words.{is_turn, runs_in, registry_for, answer_taken, changes_asked, run_in, runner_of, taken_of}
 use Rattle.phase_moves.proofs.Seeking.{gets_none, gets_read, gets_write, seeks_as, sought_as}
 use Rattle.phase_moves.proofs.{Asked.IsAsked, Asked.asks_same, Asked.call_left, Asked.refuses_same, Attempts.stays_asked, Settling.begun_declined, Settling.begun_settled}
 
@@ -187,11 +187,6 @@ module _ (x : CellPlan) (c p : ℕ) (reg : Registry) (y : Content) where
     left (Begun.Read l z) e = refl
     left (Begun.Write l z) e = refl
     left _ e = absurd (cc)
-
-  -- what looks at the cell as it is
-  pub looked_due : (w : Want) → seeks x.kind w ≡ None → answer_taken x.kind (record { cell = c; want = w }) (y_then w) (Taken.Nothing q) ≡ answer_admitted x.kind (tolerance_of x) c reg.is_open w y
-  looked_due (Calls k) e = called_due k (Begun.Nothing q) false (ap (λ s. run_asked (asking s (is_fast (Calls k)) (tolerance_of x)) y.phase && runs_generator x.kind (tolerance_of x) reg.is_open y.phase) e) refl
-  looked_due Turns e = absurd (cc)
 
   pub admitted_due : (w : Want) (ask : Ask) → IsAsked x w ask → Due w (begun_met who o q ask)
   admitted_due (Calls k) ask is = called_due k (begun_met who o q ask) (asks_run ask q && not (is_refused ask.tol.leak o q)) (sym begins) (met_runs who o q ask (calls_no_turn x k ask is)) where

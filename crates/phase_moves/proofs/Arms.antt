@@ -4,10 +4,10 @@ use Rattle.phase_moves.proofs.Words.{MatchBool, if◌then◌else◌, is_some, Op
 use Rattle.phase_moves.proofs.Words.{ReadTicket, WriteTicket, write_ticket, Parking, IsSound, freed, readers_of, row_of, free_row, rows_handed, Left, Opens, Ask, SeqSection}
 use Rattle.phase_moves.proofs.Words.{Begun, is_cyclic, runs as seq_runs, section_by, running_after, is_turned_back, is_run, BegunStands, begins_write, reads_begun, CellPlan}
 use Rattle.phase_moves.proofs.Words.{Want, Calls, Turns, initializes, seeks, cell_at, Content, tries_registration, innermost, is_turn, count, most_parties, Wait, wait_of}
-use Rattle.phase_moves.proofs.Words.{waits_at, without_wait, cell_of_section, given_on, wait_row, CellRow, PartyRow, Target, Rows, CallOf, registry_for, registry_begun}
-use Rattle.phase_moves.proofs.Words.{Standing, run_in, runner_of, reads_in, writes_in, section_asked, registry_asked, Stands, seen_at, IsCell, IsExit, IsLocked, AreShown}
-use Rattle.phase_moves.proofs.Words.{party_row, open_run, run_as, stays_in, IsAttempting, IsTook, MayWait_of_tries as MayWait, WaitsAt, ask_of, draft_after, is_quick}
-use Rattle.phase_moves.proofs.Words.{opens_section, party_after, run_after, taken_of, waiting_after, waiting_with, Taken, IsMet, sound_of, freed_free, freed_size, Sought}
+use Rattle.phase_moves.proofs.Words.{waits_at, without_wait, cell_of_section, given_on, CellRow, PartyRow, Target, Rows, CallOf, registry_for, registry_begun, Standing}
+use Rattle.phase_moves.proofs.Words.{run_in, runner_of, reads_in, writes_in, section_asked, registry_asked, Stands, seen_at, IsCell, IsExit, IsLocked, AreShown, party_row}
+use Rattle.phase_moves.proofs.Words.{open_run, run_as, stays_in, IsAttempting, IsTook, MayWait_of_tries as MayWait, WaitsAt, ask_of, draft_after, is_quick, opens_section}
+use Rattle.phase_moves.proofs.Words.{party_after, run_after, taken_of, waiting_after, waiting_with, Taken, IsMet, sound_of, freed_free, freed_size, Sought}
 use Rattle.phase_moves.proofs.Asked.{IsAsked, asked_as, stays_same, run_calls, registry_run, cells_stay}
 use Rattle.phase_moves.proofs.Attempts.{is_away, IsBegun, IsTurned, Tells, declines, phase_left, rows_begun, stays_asked, writes_begun, wrote}
 use Rattle.phase_moves.proofs.Waiting.{fewer_readers, count_here, counted_less, counted_more, few_wait, some_counted, waited_here}

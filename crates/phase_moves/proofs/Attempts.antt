@@ -1,11 +1,10 @@
 -- What an attempt does to the record of its cell and to the rows, by what it began.
-use Rattle.phase_moves.proofs.Words.{◌≡◌, ◌≢◌, ◌<◌, ◌∙◌, ℕ, length, set, ap, sym, subst, refl, arith, Bool, true, false, None, Some, inl, inr, ◌⊎◌, MatchBool, if◌then◌else◌}
-use Rattle.phase_moves.proofs.Words.{◌||◌, ◌&&◌, ◌==◌, not, set-get_or, Option, Phase, Holders, bars_write, Given, How, Who, Waiting, LockerKind, Row, LockNature, Attempt}
-use Rattle.phase_moves.proofs.Words.{bars, admitted, got, write_ticket, Parking, row_of, free_row, freed, left, is_drain_of_rows as is_drain, Fits, IsWriteOpen, rows_handed}
-use Rattle.phase_moves.proofs.Words.{Judged, Waits, Gets, Keeps, GivesUp, rows_waiting, held_waiting, given_up, keeps, kept_writes, left_writes, hands_writes, Ask}
-use Rattle.phase_moves.proofs.Words.{Sought as Want, Begun, run_sought as initializes, finalizes, asks_run, wake_of, nature_of, nature_where, shall_init as seq_shall_init}
-use Rattle.phase_moves.proofs.Words.{is_refused, unregistered, refused, staying, has, initialized, number, Registry, Begins, Resumes, TurnsBack, MakesAttempt, MakesAnother}
-use Rattle.phase_moves.proofs.Words.{TriesLock, is_cyclic, section_by, begun_by, begun_tried, IsListed, listed_hand, Enters}
+use Rattle.phase_moves.proofs.Words.{◌≡◌, ◌<◌, ◌∙◌, ℕ, length, set, ap, sym, subst, refl, arith, Bool, true, false, None, Some, inl, inr, ◌⊎◌, MatchBool, if◌then◌else◌, ◌&&◌}
+use Rattle.phase_moves.proofs.Words.{not, set-get_or, Option, Phase, Holders, Given, Who, Waiting, LockerKind, Row, LockNature, Attempt, bars, admitted, got, write_ticket}
+use Rattle.phase_moves.proofs.Words.{Parking, row_of, free_row, freed, left, is_drain_of_rows as is_drain, Fits, IsWriteOpen, rows_handed, Judged, Keeps, GivesUp}
+use Rattle.phase_moves.proofs.Words.{rows_waiting, given_up, keeps, kept_writes, left_writes, hands_writes, Ask, Sought as Want, Begun, run_sought as initializes, finalizes}
+use Rattle.phase_moves.proofs.Words.{asks_run, wake_of, nature_of, nature_where, is_refused, unregistered, refused, staying, Registry, Begins, Resumes, TurnsBack}
+use Rattle.phase_moves.proofs.Words.{MakesAttempt, MakesAnother, TriesLock, is_cyclic, section_by, begun_by, begun_tried, IsListed, listed_hand, Enters}
 use Rattle.phase_moves.proofs.Lockers.{hands_phase}
 
 -- the rows after what was begun
@@ -111,9 +110,6 @@ record JudgedTo (who : Who) (ask : Ask) (h : Holders) (s : Parking) (b : Begun) 
   pub alone : writes_begun b ≡ 1 → h.locked ≡ false
   pub told : TellsFirst who ask h.phase b
 
-waiting_phase : (way : How) (h : Holders) → (held_waiting way h).phase ≡ h.phase
-waiting_phase way h = grind arith
-
 admitted_phase : (n : LockNature) (h : Holders) → (admitted h n).phase ≡ h.phase
 admitted_phase n h = grind arith
 
@@ -126,12 +122,6 @@ pub record GotTo (who : Who) (ask : Ask) (p : Phase) (n : LockNature) (s : Parki
 -- no run is asked by a call that wants no lock to write
 pub run_writes : (w : Want) (due there : Bool) → (initializes w && due) ≡ true → nature_where w due there ≡ LockNature.Write
 run_writes w due there e = grind arith
-
-no_run : (ask : Ask) (p : Phase) (n : LockNature) → n ≡ nature_of ask p → n ≢ LockNature.Write → asks_run ask p ≡ false
-no_run ask p n e ne = grind arith
-
-got_write : (who : Who) (ask : Ask) (p : Phase) (s : Parking) (run final : Bool) → asks_run ask p ≡ run → finalizes ask.want ≡ final → GotTo who ask p LockNature.Write s (if run then Begun.Run (section_by who ask.want unregistered write_ticket) else (if final then Begun.Final (section_by who ask.want p write_ticket) else Begun.Write write_ticket p))
-got_write who ask p s run final r e = grind arith
 
 pub got_to : (who : Who) (ask : Ask) (p : Phase) (n : LockNature) (s : Parking) → n ≡ nature_of ask p → GotTo who ask p n s (begun_by who ask p (Attempt.Got (got n p)))
 got_to who ask p n s e = grind arith

@@ -1,10 +1,9 @@
 -- A locker bars as the rules do, keeps what they keep, and a barred call waits in a way that is due.
-use Rattle.phase_moves.proofs.Words.{◌≡◌, ◌==◌, ◌<◌, ◌≤◌, ◌+◌, ◌∙◌, ℕ, List, [], ◌∷◌, ap, sym, refl, arith, Bool, true, false, None, Some, not, ◌||◌, ◌&&◌, inl, inr, cases_lt}
-use Rattle.phase_moves.proofs.Words.{nat_lt, if◌then◌else◌, Option, Holders, most_readers, LockNature, How, LockerKind, bars, Parking, claims, drains, drains_at, row_of, Fits}
-use Rattle.phase_moves.proofs.Words.{IsWriteOpen, is_park, open_reads, MayWait, keeps as row_keeps, write_has_no_reader, Kind, Place, Want, CellPlan, answer_barred}
-use Rattle.phase_moves.proofs.Words.{answer_barred_at, drains_by, way_parked, is_fast, wakes_as, way_of_nature, is_owned, count, Holding, is_barred, is_barred_by_readers}
-use Rattle.phase_moves.proofs.Words.{keeps_of_holds as keeps, keeps_way, Wait, drains_on, is_drain, shares_read, shares_write, wait_of, IsSingle, Shows, wait_row, waiting_of}
-use Rattle.phase_moves.proofs.Words.{claims_shown, count_rows, shares_shown, answer_missed, kind_at, is_quick, Answer}
+use Rattle.phase_moves.proofs.Words.{◌≡◌, ◌==◌, ◌<◌, ◌≤◌, ◌+◌, ◌∙◌, ℕ, List, [], ◌∷◌, sym, refl, arith, Bool, true, false, None, Some, not, ◌||◌, ◌&&◌, inl, inr, cases_lt}
+use Rattle.phase_moves.proofs.Words.{nat_lt, Option, Holders, most_readers, LockNature, How, LockerKind, bars, Parking, claims, drains, drains_at, row_of, Fits, IsWriteOpen}
+use Rattle.phase_moves.proofs.Words.{open_reads, MayWait, keeps as row_keeps, write_has_no_reader, Want, CellPlan, answer_barred, drains_by, way_parked, is_fast, wakes_as}
+use Rattle.phase_moves.proofs.Words.{count, Holding, is_barred, keeps_of_holds as keeps, Wait, drains_on, is_drain, shares_read, shares_write, wait_of, IsSingle, Shows}
+use Rattle.phase_moves.proofs.Words.{wait_row, claims_shown, count_rows, shares_shown, answer_missed, kind_at, is_quick, Answer}
 
 -- ---- tests of numbers
 
@@ -105,9 +104,6 @@ module _ (k : LockerKind) (h : Holders) (s : Parking) (c reads writes : ℕ) (ws
 
 -- ---- what is kept
 
-way_kept : (way : How) (woken : Bool) (n : LockNature) (h : Holders) → row_keeps (waiting_of way woken) n h ≡ keeps_way way woken n h.readers
-way_kept way woken n h = grind arith
-
 call_kept : (o : Option Wait) (n : LockNature) (h : Holders) → row_keeps (wait_row o).waiting n h ≡ keeps o n h.readers
 call_kept o n h = grind arith
 
@@ -116,23 +112,6 @@ pub row_kept : (p : ℕ) (n : LockNature) (ws : List Wait) (s : Parking) (h : Ho
 row_kept p n ws s h shows = rw (shows.row p) (call_kept (wait_of p ws) n h)
 
 -- ---- ways
-
-spin_way : (p : Place) (way : How) → is_owned p ≡ false → is_park (kind_at p) ≡ false → Answer.Waiting How.Spin ≡ answer_barred_at p way
-spin_way p way f e = grind arith
-
-park_way : (p : Place) (way : How) → is_park (kind_at p) ≡ true → Answer.Waiting way ≡ answer_barred_at p way
-park_way p way e = grind arith
-
--- readers alone bar a writer of an unlocked record
-alone : (w d l : Bool) → (w || d) ≡ false → (w || (d || l)) ≡ true → (l && (not w && not d)) ≡ true
-alone w d l e f = grind arith
-
-by_readers : (n : LockNature) (o : Holding) → n ≡ LockNature.Write → (o.written || o.drained) ≡ false → is_barred n o ≡ true → is_barred_by_readers n o ≡ true
-by_readers n o e f b = grind arith
-
--- the way that the locker chose is one that is due
-way_due : (p : Place) (q : Kind) (w : Want) (n : LockNature) (o : Holding) (fresh : Bool) (h : Holders) → is_owned p ≡ false → h.locked ≡ (o.written || o.drained) → is_barred n o ≡ true → (way : How) → MayWait (kind_at p) fresh (wakes_as q w) n h way → Answer.Waiting way ≡ answer_barred_at p (way_parked q w (drains_by n o (is_drain way)))
-way_due p q w n o fresh h slow locks is way may = grind arith
 
 -- so is the answer of what waits
 pub waits_due : (x : CellPlan) (w : Want) (n : LockNature) (o : Holding) (fresh : Bool) (h : Holders) → is_quick x w ≡ false → h.locked ≡ (o.written || o.drained) → is_barred n o ≡ true → (way : How) → MayWait (kind_at x.place) fresh (wakes_as x.kind w) n h way

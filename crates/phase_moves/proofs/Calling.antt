@@ -1,11 +1,10 @@
 -- A call at one cell, which changes who waits alone.
 use Rattle.phase_moves.proofs.Words.{◌≡◌, ◌≢◌, ◌==◌, ◌<◌, ◌+◌, ◌∙◌, ℕ, List, length, set, get_or, ap, sym, subst, refl, arith, true, None, Some, IsNone, OnSome, ◌↔◌, Option}
 use Rattle.phase_moves.proofs.Words.{Holders, Registry, admit_read, most_readers, LockerKind, ReadTicket, Parking, SameSize, claims, Fits, KeepsFit, open_reads, OthersStay}
-use Rattle.phase_moves.proofs.Words.{others_refl, Content, cell_at, Guard, numbered, reader, reads_cell, count, Wait, waits_at, found_counts, shares_shown, CellRow, Rows}
-use Rattle.phase_moves.proofs.Words.{Standing, cloned, reads_in, writes_in, run_in, CountsWaits, KeepsDraft, Seen, seen_at, IsCell, IsExit, IsLocked, AreShown, Stands}
-use Rattle.phase_moves.proofs.Words.{IsOpenReader, IsFull, ClonesAs}
+use Rattle.phase_moves.proofs.Words.{Content, Guard, numbered, reader, reads_cell, count, Wait, waits_at, found_counts, shares_shown, CellRow, Rows, Standing, cloned}
+use Rattle.phase_moves.proofs.Words.{reads_in, writes_in, CountsWaits, KeepsDraft, Seen, seen_at, IsCell, IsExit, IsLocked, AreShown, Stands, IsOpenReader, IsFull, ClonesAs}
 use Rattle.phase_moves.proofs.{Drafts.beside_reader, Drafts.keeps_still, Guards.found_itself, Guards.reads_here, Lockers.reading_alone, Opening.guard_opened}
-use Rattle.phase_moves.proofs.{Opening.seen_reader, Moved.IsMoved, Moved.exit_kept, Moved.parties_same, Moved.moved, Places.read_at}
+use Rattle.phase_moves.proofs.{Opening.seen_reader, Moved.IsMoved, Moved.parties_same, Moved.moved, Places.read_at}
 
 module _ {L : Type 0} (held : L → Holders) (place : L → LockerKind) where
   -- other calls wait, the registry is this, and the cell holds something else
@@ -13,11 +12,6 @@ module _ {L : Type 0} (held : L → Holders) (place : L → LockerKind) where
       → IsExit (length v.cells.items) (record m { registry = r }) v'.exit → AreShown (length v.cells.items) ws v'.parks → ((d : ℕ) → d ≢ c → f d ≡ m.content d)
       → ((d : ℕ) → d ≢ c → count (waits_at d) ws ≡ count (waits_at d) m.waits) → IsMoved held place c hand hand m (record m { waits = ws; content = f; registry = r }) v v'
   answered_moved c hand m v v' ws f r t others same lists guards exit shown beside counts = grind arith
-
-  -- other calls wait, and nothing else changes
-  pub waits_moved : (c hand : ℕ) (m : Standing) (v v' : Rows L) (ws : List Wait) → Stands held place hand m v → OthersStay c v.parks v'.parks → SameSize v.parks v'.parks → length v'.parks.writers ≡ length v.parks.writers → v'.guards ≡ v.guards → v'.exit ≡ v.exit → AreShown (length v.cells.items) ws v'.parks
-      → ((d : ℕ) → d ≢ c → count (waits_at d) ws ≡ count (waits_at d) m.waits) → IsMoved held place c hand hand m (record m { waits = ws }) v v'
-  waits_moved c hand m v v' ws t others same lists guards exit shown counts = grind arith
 
   -- nothing is touched beside the row of a cell
   pub nothing_moved : (c hand : ℕ) (m : Standing) (v v' : Rows L) → Stands held place hand m v → v'.guards ≡ v.guards → v'.exit ≡ v.exit → v'.parks ≡ v.parks → IsMoved held place c hand hand m m v v'

@@ -1,7 +1,6 @@
 -- What the row of a cell keeps of the guard that writes the cell.
-use Rattle.phase_moves.proofs.Words.{◌≡◌, ◌≢◌, ◌∙◌, ℕ, ◌∷◌, ap, subst, sym, arith, true, false, Some, inl, inr, cases_eq, Content, effect, cell_at, count, Guard, numbered}
-use Rattle.phase_moves.proofs.Words.{without_guard, reader, writes_cell, found_counts, guard_kept, List, ◌≤◌, ◌==◌, ◌⊎◌, CellRow, Standing, seen_by, guarded, KeepsDraft}
-use Rattle.phase_moves.proofs.Words.{draft_of}
+use Rattle.phase_moves.proofs.Words.{◌≡◌, ◌≢◌, ◌∙◌, ℕ, ◌∷◌, ap, subst, sym, arith, true, false, Some, inl, inr, cases_eq, Content, count, Guard, numbered, without_guard}
+use Rattle.phase_moves.proofs.Words.{reader, writes_cell, found_counts, guard_kept, List, ◌≤◌, ◌==◌, ◌⊎◌, CellRow, Standing, seen_by, guarded, KeepsDraft, draft_of}
 use Rattle.phase_moves.proofs.Guards.{count_less, writes_here}
 
 -- where no guard writes the cell none is found that does

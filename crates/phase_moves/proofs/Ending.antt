@@ -1,12 +1,12 @@
 -- A run ends, and its call goes on.
 use Rattle.phase_moves.proofs.Words.{◌≡◌, ◌==◌, ◌<◌, ◌≤◌, ◌+◌, ◌∙◌, ℕ, [], ◌∷◌, length, set, get_or, ap, sym, subst, refl, arith, Bool, true, false, None, Some, Option}
-use Rattle.phase_moves.proofs.Words.{is_some_of_option as is_some, unwrap_or, if◌then◌else◌, Phase, Holders, phase_of, IsKnown, leave_write, most_readers, Given, LockerKind}
-use Rattle.phase_moves.proofs.Words.{Parking, HasFree, IsWriteOpen, open_reads, Hands, Downgrades, Left, ReadTicket, WriteTicket, Sought as SeqWant, SeqSection, Finished}
-use Rattle.phase_moves.proofs.Words.{run_sought as initializes, reached, Finishes, GoesOn, FinishedStands, IsRunning, reads_finished, CellPlan, Kind, Form, Told, Shown, Held}
-use Rattle.phase_moves.proofs.Words.{form_of, seeks, seeks_run, Want, Calls, Turns, cell_at, Content, Ran, content_of_run, reader, Section, is_turn, runs_in}
-use Rattle.phase_moves.proofs.Words.{without_innermost, writes_cell, count, wait_of, listed_hand, listed_share, free_party, CellRow, OpenRun, PartyRow, Rows, Standing, run_in}
-use Rattle.phase_moves.proofs.Words.{reads_in, writes_in, runner_of, run_closed, guarded, seen_by, writer_of, Seen, draft_of, seen_at, IsCell, IsLocked, Stands, form_as}
-use Rattle.phase_moves.proofs.Words.{run_as, section_of, stays_in, target_of, want_of, IsEnding, EndsAs, GoesAs, write_has_no_reader, MayGive, MayGiveDown}
+use Rattle.phase_moves.proofs.Words.{is_some_of_option as is_some, Phase, Holders, phase_of, IsKnown, leave_write, most_readers, Given, LockerKind, Parking, HasFree}
+use Rattle.phase_moves.proofs.Words.{IsWriteOpen, open_reads, Hands, Downgrades, Left, ReadTicket, WriteTicket, Sought as SeqWant, SeqSection, Finished}
+use Rattle.phase_moves.proofs.Words.{run_sought as initializes, reached, Finishes, GoesOn, FinishedStands, IsRunning, reads_finished, CellPlan, Kind, Want, cell_at, Content}
+use Rattle.phase_moves.proofs.Words.{Ran, content_of_run, reader, Section, is_turn, runs_in, without_innermost, writes_cell, count, wait_of, listed_hand, listed_share}
+use Rattle.phase_moves.proofs.Words.{CellRow, OpenRun, PartyRow, Rows, Standing, run_in, reads_in, writes_in, runner_of, run_closed, guarded, seen_by, writer_of, Seen}
+use Rattle.phase_moves.proofs.Words.{draft_of, seen_at, IsCell, IsLocked, Stands, run_as, section_of, stays_in, target_of, IsEnding, EndsAs, GoesAs, write_has_no_reader}
+use Rattle.phase_moves.proofs.Words.{MayGive, MayGiveDown}
 use Rattle.phase_moves.proofs.Innermost.{in_cells, cell_here, runs_here, o_is, its_row, write_open, seen_closed, seen_without, closed_moved, without_moved, without_it}
 use Rattle.phase_moves.proofs.Innermost.{cell_ended, counted_ended, no_writers, parties_ended}
 use Rattle.phase_moves.proofs.{Known.change_known, Known.stays_known, Leaving.parked_few, Leaving.parked_fewer, Lockers.locked_write, Lockers.locked_down}
@@ -40,16 +40,6 @@ is_made o b e = grind arith
 -- the phase that is reached is the one that the changes give
 reached_as : (x : CellPlan) (w : Want) (is_open : Bool) (y : Content) (made : Option ℕ) (b : Bool) → is_turn w ≡ false → IsMadeAs made b → reached (stays_in x w is_open y.phase) b ≡ phase_of (content_of_run x.kind is_open made y).phase
 reached_as x w is_open y made b e m = grind arith
-
--- a section that is not a finalizer's runs as something that asks for a run
-seeks_init : (o : Option SeqWant) → seeks_run o ≡ true → initializes (unwrap_or o SeqWant.Write) ≡ true
-seeks_init o e = grind arith
-
-form_init : (f : Form) → initializes (form_as f) ≡ true
-form_init f = grind arith
-
-either_init : (b : Bool) (x y : SeqWant) → (b ≡ true → initializes x ≡ true) → initializes y ≡ true → initializes (if b then x else y) ≡ true
-either_init b x y f g = grind arith
 
 pub asked_run : (q : Kind) (w : Want) → is_turn w ≡ false → initializes (run_as q w) ≡ true
 asked_run q w e = grind arith

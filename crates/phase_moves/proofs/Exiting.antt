@@ -1,11 +1,7 @@
 -- The exit alone moves.
-use Rattle.phase_moves.proofs.Words.{◌≡◌, ◌<◌, ◌∙◌, ℕ, List, [], ◌∷◌, ◌++◌, length, ap, sym, subst, refl, arith, Some, All, Option, Holders, Look, Turned, Registry}
-use Rattle.phase_moves.proofs.Words.{IsSound_of_registry as IsSound, cells_of, first_of, look_at, looked, after_turn, LockerKind, Exit, Rows, Standing, owned, round_looked}
-use Rattle.phase_moves.proofs.Words.{turn_ended, Stands, IsExit, IsTurn, Turn}
-
--- the first cell that is left is one of the cells
-first_below : (P : ℕ → Type 0) (xs ys : List ℕ) (c : ℕ) → All P (xs ++ ys) → first_of xs ≡ Some c → P c
-first_below P xs ys c all e = grind arith
+use Rattle.phase_moves.proofs.Words.{◌≡◌, ◌∙◌, ℕ, List, [], ◌∷◌, ◌++◌, length, ap, refl, arith, Some, Option, Holders, Look, Turned, Registry, IsSound_of_registry as IsSound}
+use Rattle.phase_moves.proofs.Words.{cells_of, first_of, look_at, looked, after_turn, LockerKind, Exit, Rows, Standing, owned, round_looked, turn_ended, Stands, IsExit}
+use Rattle.phase_moves.proofs.Words.{IsTurn, Turn}
 
 module _ {L : Type 0} (held : L → Holders) (place : L → LockerKind) (hand : ℕ) (m : Standing) (v : Rows L) (t : Stands held place hand m v) where
   -- where nothing else is touched, the rows stand for what is open as before

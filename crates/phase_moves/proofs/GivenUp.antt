@@ -1,7 +1,6 @@
 -- What a call that waited gives up, and what was run of what was begun.
-use Rattle.phase_moves.proofs.Words.{◌≡◌, ◌≢◌, ◌<◌, ◌∙◌, ℕ, length, sym, refl, arith, Bool, true, false, inl, inr, ◌||◌, ◌⊎◌, if◌then◌else◌, Phase, Holders, Given, How, Who}
-use Rattle.phase_moves.proofs.Words.{Waiting, LockNature, got, write_ticket, Parking, left, writers_of, NobodyParked, given_up, listed_in, still_empty, Ask, SeqSection, Begun}
-use Rattle.phase_moves.proofs.Words.{asks_run, finalizes, begun_of, begun_write, section_by, is_run, unregistered, is_drain, IsListed, waiting_of}
+use Rattle.phase_moves.proofs.Words.{◌≡◌, ◌≢◌, ◌<◌, ℕ, length, arith, Bool, true, false, ◌||◌, ◌⊎◌, Phase, Holders, Given, How, Who, Waiting, LockNature, got, Parking, left}
+use Rattle.phase_moves.proofs.Words.{NobodyParked, given_up, still_empty, Ask, Begun, asks_run, begun_of, is_run, is_drain, IsListed, waiting_of}
 
 -- ---- what is given up
 

@@ -1,16 +1,11 @@
 -- What is given as a guard is given back may be given.
-use Rattle.phase_moves.proofs.Words.{◌≡◌, ◌≢◌, ◌∙◌, ℕ, ap, sym, subst, refl, arith, Bool, true, false, Some, slice_get, Phase, Holders, leave_read, leave_write, Given}
-use Rattle.phase_moves.proofs.Words.{LockerKind, Parking, writers_of, Fits, IsIdle, is_park, Hands, Downgrades, MayHand, MayShare, listed_in, Place, cell_at, is_parking}
-use Rattle.phase_moves.proofs.Words.{Guard, numbered, reads_cell, writes_cell, IsListed, listed_hand, reaches_given, shares_shown, claims_shown, CellRow, Rows, Standing}
-use Rattle.phase_moves.proofs.Words.{left_of_standing as left, reads_in, writes_in, Stands, seen_at, IsCell, kind_at, stand_on, IsGift, MayGive, MayGiveDown, get_or, reaches}
-use Rattle.phase_moves.proofs.Words.{Section, IsInnermost}
+use Rattle.phase_moves.proofs.Words.{◌≡◌, ◌≢◌, ◌∙◌, ℕ, ap, sym, subst, refl, arith, true, false, Some, slice_get, Phase, Holders, leave_read, leave_write, Given, LockerKind}
+use Rattle.phase_moves.proofs.Words.{Parking, Fits, IsIdle, Hands, Downgrades, MayHand, MayShare, Place, cell_at, is_parking, Guard, numbered, reads_cell, writes_cell}
+use Rattle.phase_moves.proofs.Words.{IsListed, listed_hand, reaches_given, shares_shown, claims_shown, CellRow, Rows, Standing, left_of_standing as left, reads_in, writes_in}
+use Rattle.phase_moves.proofs.Words.{Stands, seen_at, IsCell, kind_at, stand_on, IsGift, MayGive, MayGiveDown, get_or, reaches, Section, IsInnermost}
 use Rattle.phase_moves.proofs.Guards.{found_itself, count_same, count_less, reads_here, never_writes}
 use Rattle.phase_moves.proofs.{Lockers.reading_alone, Leaving.read_open, Leaving.write_open, Leaving.no_reads, Leaving.no_writes, Innermost.cell_here}
 use Rattle.phase_moves.proofs.Innermost.{write_open as run_open}
-
--- calls park where the locker has parked calls
-pub parks_as : (p : Place) → is_park (kind_at p) ≡ is_parking p
-parks_as p = grind arith
 
 -- where parked calls are listed, calls park
 pub parking : (k : LockerKind) (h : Holders) (s : Parking) (c : ℕ) (p : Place) (g : Given) → Fits k h s c → k ≡ kind_at p → IsListed c s g → g ≢ Given.Nobody → is_parking p ≡ true

@@ -1,8 +1,8 @@
 -- The rows of guards, after one is taken off or opened.
 use Rattle.phase_moves.proofs.Words.{◌≡◌, ◌≢◌, ◌==◌, ◌≤◌, ◌+◌, ◌∙◌, ℕ, List, ◌∷◌, ap, sym, refl, arith, Bool, true, false, cond, None, Some, inl, inr, cases_eq, Option, count}
 use Rattle.phase_moves.proofs.Words.{Guard, numbered, without_guard, reads_cell, writes_cell, Wait, wait_of, wake_reader, wake_writer, wait_woken, found_passes, none_found}
-use Rattle.phase_moves.proofs.Words.{none_counted, count_removed, guard_kept, Given, given_on, changed_of_finding as changed, wait_readers, wait_writer, Standing, guard_row}
-use Rattle.phase_moves.proofs.Words.{slot_row, target_of}
+use Rattle.phase_moves.proofs.Words.{none_counted, count_removed, guard_kept, Given, given_on, changed_of_finding as changed, wait_readers, wait_writer, Standing, slot_row}
+use Rattle.phase_moves.proofs.Words.{target_of}
 
 -- a guard has its number
 pub its_number : (g : ℕ) (gs : List Guard) (x : Guard) → numbered g gs ≡ Some x → x.number ≡ g

@@ -1,7 +1,7 @@
 -- What the row of a guard in hand tells, and when the hand is empty.
-use Rattle.phase_moves.proofs.Words.{◌≡◌, ◌≤◌, ◌∙◌, ℕ, length, ap, sym, refl, arith, Bool, true, false, None, Some, inl, inr, ◌==◌, ◌<◌, set, subst, cases_eq, Option, Holders}
-use Rattle.phase_moves.proofs.Words.{Given, LockerKind, ReadTicket, WriteTicket, read_ticket, write_ticket, Guard, numbered, without_guard, guard_of, own, Rows, Standing}
-use Rattle.phase_moves.proofs.Words.{left_of_standing as left, Stands, guard_row, slot_row, Rests, Pushes, IsTaken, TakenAs, slice_get, if◌then◌else◌, GuardRow, is_row_of}
+use Rattle.phase_moves.proofs.Words.{◌≡◌, ◌≤◌, ◌∙◌, ℕ, length, ap, sym, refl, arith, Bool, true, false, None, Some, ◌<◌, set, subst, Option, Holders, Given, LockerKind}
+use Rattle.phase_moves.proofs.Words.{ReadTicket, WriteTicket, Guard, numbered, without_guard, guard_of, own, Rows, Standing, left_of_standing as left, Stands, guard_row}
+use Rattle.phase_moves.proofs.Words.{Rests, Pushes, IsTaken, TakenAs, slice_get, if◌then◌else◌, GuardRow, is_row_of}
 use Rattle.phase_moves.proofs.{Guards.gone, Guards.its_number, Guards.found_itself, Opening.rehand, Opening.taken}
 
 -- the row of a read guard, and of a write guard
@@ -39,9 +39,6 @@ module _ {L : Type 0} (held : L → Holders) (place : L → LockerKind) where
       ap (λ i. numbered i (without_guard x.number m.guards)) (sym (its_number hand m.guards x found)) ∙ gone x.number m.guards x (found_itself hand m.guards x found) (t.guards.once x.number)
 
 -- ---- what the row of a guard tells of the guard
-
-row_party : (p : ℕ) (x : Guard) → is_row_of p (guard_row (Some x)) ≡ (x.party == p)
-row_party p x = (elim x.writes as (λ b. x.writes ≡ b → is_row_of p (guard_row (Some x)) ≡ (x.party == p)) [ true ↦ λ e. rw e refl | false ↦ λ e. rw e refl ]) refl
 
 -- whose guard it is
 owner : (p : ℕ) (o : Option Guard) (b : Bool) → is_row_of p (guard_row o) ≡ b → own p o ≡ (if b then o else None)

@@ -1,8 +1,8 @@
 -- What stands open after one step more is a move of what stood open.
-use Rattle.phase_moves.proofs.Words.{◌≡◌, ◌≢◌, ◌∙◌, ℕ, List, [], ◌∷◌, length, ap, sym, refl, arith, Bool, true, false, None, Some, ◌==◌, if◌then◌else◌, not, Option, Phase}
-use Rattle.phase_moves.proofs.Words.{Given, ReadTicket, WriteTicket, Refusal, CellPlan, Act, Change, Ran, Put, RanIfAsked, registry, owner, ended_turns, finishing}
-use Rattle.phase_moves.proofs.Words.{turn_of_section, owner_by, Guard, guards, numbered, guard_of, own, without_guard, reader, reader_beside, reader_made, writer_made, Event}
-use Rattle.phase_moves.proofs.Words.{accepts, Makes, Finishes_of_deeds as Finishes, replay, content_after_back, back_of_guard, back_of_section, Section, sections, innermost}
+use Rattle.phase_moves.proofs.Words.{◌≡◌, ◌≢◌, ◌∙◌, ℕ, List, [], ◌∷◌, length, ap, sym, refl, arith, Bool, true, false, None, Some, ◌==◌, not, Option, Phase, Given, ReadTicket}
+use Rattle.phase_moves.proofs.Words.{WriteTicket, Refusal, CellPlan, Act, Change, Ran, Put, RanIfAsked, registry, owner, ended_turns, finishing, turn_of_section, owner_by}
+use Rattle.phase_moves.proofs.Words.{Guard, guards, numbered, guard_of, own, without_guard, reader, reader_beside, reader_made, writer_made, Event, accepts, Makes}
+use Rattle.phase_moves.proofs.Words.{Finishes_of_deeds as Finishes, replay, content_after_back, back_of_guard, back_of_section, Section, sections, innermost}
 use Rattle.phase_moves.proofs.Words.{without_innermost, Wait, waits, wait_of, without_wait, waits_given_with, cell_concerned_with, cell_of_guard, cell_of_section}
 use Rattle.phase_moves.proofs.Words.{found_passes, given_on, none_without, given_concerned, Lent, Loan, standing, event, answer_of, changed, lending, lent_in, was_used}
 use Rattle.phase_moves.proofs.Words.{Standing, left_of_standing as left, downgraded, cloned, ended, finalized, run_closed, turn_of, writer_of, owned, put, round_looked, Look}

@@ -1,28 +1,17 @@
 -- How a call was judged that was not turned back: it keeps what it has, or gives it up, and is barred or admitted by the
 -- record that this leaves.
-use Rattle.phase_moves.proofs.Words.{◌≡◌, ◌<◌, ◌≤◌, ◌+◌, ◌∙◌, ℕ, length, ap, sym, subst, refl, arith, Bool, true, false, None, Some, inl, inr, ◌⊎◌, MatchBool, ◌||◌, ◌&&◌}
-use Rattle.phase_moves.proofs.Words.{◌==◌, not, if◌then◌else◌, Option, Holders, most_readers, Given, How, Who, Waiting, LockerKind, Row, LockNature, Attempt, bars, admitted}
-use Rattle.phase_moves.proofs.Words.{got, Parking, IsSound, claims, row_of, free_row, freed, left, is_drain_of_rows as is_drain, readers_of, shares, Fits, IsWriteOpen}
-use Rattle.phase_moves.proofs.Words.{flagged, open_reads, MayHand, rows_handed, Judged, Waits, Gets, Keeps, GivesUp, MayWait, held_waiting, given_up, keeps, hands_fit}
-use Rattle.phase_moves.proofs.Words.{by_bool, freed_size, gives_up_freed, keeps_fit, write_has_no_reader, between_only, given_up_reads, hands_reads, hands_writes, kept_open}
-use Rattle.phase_moves.proofs.Words.{kept_writes, left_writes, Ask, Begun, nature_of, wake_of, Begins, Resumes, TurnsBack, MakesAttempt, MakesAnother, TriesLock, begun_by}
-use Rattle.phase_moves.proofs.Words.{begun_of, begun_tried, is_cyclic, Enters}
-use Rattle.phase_moves.proofs.{Attempts.free_same, Attempts.got_to, Attempts.unlocked, Attempts.writes_begun, Lockers.handed_few, Lockers.hands_phase}
+use Rattle.phase_moves.proofs.Words.{◌≡◌, ◌<◌, ◌≤◌, ◌∙◌, ℕ, length, ap, sym, subst, refl, arith, Bool, true, false, inl, inr, ◌⊎◌, MatchBool, not, Option, Holders}
+use Rattle.phase_moves.proofs.Words.{most_readers, Given, How, Who, Waiting, LockerKind, Row, LockNature, Attempt, bars, got, Parking, IsSound, claims, row_of, free_row}
+use Rattle.phase_moves.proofs.Words.{freed, left, is_drain_of_rows as is_drain, readers_of, shares, Fits, IsWriteOpen, flagged, open_reads, MayHand, rows_handed, Judged}
+use Rattle.phase_moves.proofs.Words.{Keeps, GivesUp, MayWait, given_up, keeps, hands_fit, by_bool, freed_size, gives_up_freed, keeps_fit, write_has_no_reader, between_only}
+use Rattle.phase_moves.proofs.Words.{given_up_reads, hands_reads, hands_writes, kept_open, kept_writes, left_writes, Ask, Begun, nature_of, wake_of, Begins, Resumes}
+use Rattle.phase_moves.proofs.Words.{TurnsBack, MakesAttempt, MakesAnother, TriesLock, begun_by, begun_of, is_cyclic, Enters}
+use Rattle.phase_moves.proofs.{Attempts.free_same, Attempts.got_to, Attempts.writes_begun, Lockers.handed_few, Lockers.hands_phase}
 
 -- ---- how many read then
 
-waiting_readers : (way : How) (h : Holders) → (held_waiting way h).readers ≡ h.readers
-waiting_readers way h = grind arith
-
-admitted_few : (n : LockNature) (h : Holders) → bars h n ≡ false → h.readers ≤ most_readers → (admitted h n).readers ≤ most_readers
-admitted_few n h e le = grind arith
-
 given_up_few : (w : Waiting) (h : Holders) → h.readers ≤ most_readers → (given_up w h).readers ≤ most_readers
 given_up_few w h le = grind arith
-
--- a lock to write is given beside no reader
-unread : (h : Holders) → bars h LockNature.Write ≡ false → h.readers ≡ 0
-unread h e = grind arith
 
 -- nobody keeps what it has not
 none_kept : (n : LockNature) (h : Holders) → keeps Waiting.Free n h ≡ false
@@ -96,10 +85,6 @@ module _ (k : LockerKind) (who : Who) (ask : Ask) (h : Holders) (s : Parking) wh
     judged : MatchBool (bars mid wanted) (IsBarred fresh mid b) (b ≡ begun_admitted)
     few : mid.readers ≤ most_readers → h'.readers ≤ most_readers
     free : writes_begun b ≡ 1 → IsFree mid h'
-
-  -- it is admitted
-  admitted_so : (fresh : Bool) (mid : Holders) (rows : Parking) (b : Begun) (h' : Holders) → bars mid wanted ≡ false → b ≡ begun_admitted → h'.readers ≡ (admitted mid wanted).readers → JudgedSo fresh mid b h'
-  admitted_so fresh mid rows b h' e is readers = grind arith
 
   judged_so : (fresh : Bool) (mid : Holders) (rows : Parking) (n : LockNature) (a : Attempt) (h' : Holders) (s' : Parking) → ask.fast ≡ false → n ≡ wanted → mid.phase ≡ h.phase → Judged k fresh who (wake_of ask.want) n mid rows a h' s' → JudgedSo fresh mid (begun_by who ask h.phase a) h'
   judged_so fresh mid rows n a h' s' slow ruled phase j = grind arith

@@ -1,11 +1,10 @@
 -- A guard in hand is given back.
-use Rattle.phase_moves.proofs.Words.{◌≡◌, ◌≢◌, ◌==◌, ◌<◌, ◌≤◌, ◌+◌, ◌∙◌, ℕ, length, get_or, ap, sym, subst, refl, arith, Bool, true, false, cond, None, Some, slice_get}
-use Rattle.phase_moves.proofs.Words.{Holders, Phase, phase_of, IsKnown, leave_read, leave_write, most_readers, Given, LockerKind, Parking, IsSound, HasFree, readers_of, Fits}
-use Rattle.phase_moves.proofs.Words.{IsWriteOpen, open_reads, Hands, Downgrades, rows_handed, content_after_back, cell_at, count, runs_in, Guard, numbered, without_guard}
-use Rattle.phase_moves.proofs.Words.{reader, reads_cell, writes_cell, found_counts, guard_kept, Shows, given_on, IsListed, shows_on, single_on, within_on, listed_hand}
-use Rattle.phase_moves.proofs.Words.{listed_share, sound_of, CellRow, Draft, Rows, Standing, left_of_standing as left, downgraded, reads_in, writes_in, seen_by, run_in}
-use Rattle.phase_moves.proofs.Words.{runner_of, CountsWaits, draft_of, Seen, seen_at, IsCell, IsLocked, Stands, slot_row, party_row, open_run, Left, IsReader, IsWriter}
-use Rattle.phase_moves.proofs.Words.{write_has_no_reader}
+use Rattle.phase_moves.proofs.Words.{◌≡◌, ◌≢◌, ◌==◌, ◌<◌, ◌≤◌, ◌+◌, ◌∙◌, ℕ, length, get_or, ap, sym, subst, refl, arith, true, false, None, Some, slice_get, Holders, Phase}
+use Rattle.phase_moves.proofs.Words.{phase_of, IsKnown, leave_read, leave_write, most_readers, Given, LockerKind, Parking, IsSound, HasFree, readers_of, Fits, IsWriteOpen}
+use Rattle.phase_moves.proofs.Words.{open_reads, Hands, Downgrades, rows_handed, cell_at, count, runs_in, Guard, numbered, without_guard, reader, reads_cell, writes_cell}
+use Rattle.phase_moves.proofs.Words.{found_counts, guard_kept, Shows, given_on, IsListed, shows_on, single_on, within_on, listed_hand, listed_share, sound_of, CellRow, Draft}
+use Rattle.phase_moves.proofs.Words.{Rows, Standing, left_of_standing as left, downgraded, reads_in, writes_in, seen_by, run_in, runner_of, CountsWaits, draft_of, Seen}
+use Rattle.phase_moves.proofs.Words.{seen_at, IsCell, IsLocked, Stands, slot_row, party_row, open_run, Left, IsReader, IsWriter, write_has_no_reader}
 use Rattle.phase_moves.proofs.Guards.{its_number, found_itself, gone, once_without, left_there, reads_elsewhere, writes_elsewhere, writes_here, reads_here, never_reads}
 use Rattle.phase_moves.proofs.Guards.{never_writes, count_same, count_less, slots_same, target_given}
 use Rattle.phase_moves.proofs.Lockers.{locked_read, locked_write, locked_down, writing_alone, hands_writers, downgrades_writers}

@@ -2,10 +2,10 @@
 use Rattle.phase_moves.proofs.Words.{◌≡◌, ◌≢◌, ◌==◌, ◌<◌, ◌≤◌, ◌+◌, ◌∙◌, ℕ, List, [], ◌∷◌, length, set, get_or, ap, sym, subst, refl, arith, Bool, true, false, Some, inl, inr}
 use Rattle.phase_moves.proofs.Words.{cases_eq, cases_lt, slice_get, ◌⊎◌, not, if◌then◌else◌, Holders, IsKnown, number, phase_of, admit_write, bars_write, leave_write}
 use Rattle.phase_moves.proofs.Words.{most_readers, Given, LockerKind, Fits, IsWriteOpen, KeepsFit, NobodyParked, open_reads, Hands, MayHand, rows_handed, Left, OthersStay}
-use Rattle.phase_moves.proofs.Words.{Parking, SameSize, claims, is_empty, occurs, readers_of, writers_of, others_refl, lends_value, CellPlan, Content, Change, effect, Guard}
-use Rattle.phase_moves.proofs.Words.{numbered, count, cell_at, Wait, drains_on, shares_read, shares_write, waits_at, claims_shown, shares_shown, Lent, Loan, Published}
-use Rattle.phase_moves.proofs.Words.{CellRow, Rows, Finds, IsFound, IsLending, IsLent, changed, changes_lent, content_of, in_use, lent_in, Standing, reads_in, writes_in}
-use Rattle.phase_moves.proofs.Words.{run_in, seen_at, IsCell, IsLocked, AreShown, Stands, open_run}
+use Rattle.phase_moves.proofs.Words.{Parking, SameSize, claims, readers_of, others_refl, lends_value, CellPlan, Content, Change, effect, Guard, numbered, count, cell_at, Wait}
+use Rattle.phase_moves.proofs.Words.{drains_on, shares_read, shares_write, waits_at, claims_shown, shares_shown, Lent, Loan, Published, CellRow, Rows, Finds, IsFound}
+use Rattle.phase_moves.proofs.Words.{IsLending, IsLent, changed, changes_lent, content_of, in_use, lent_in, Standing, reads_in, writes_in, run_in, seen_at, IsCell, IsLocked}
+use Rattle.phase_moves.proofs.Words.{AreShown, Stands, open_run}
 use Rattle.phase_moves.proofs.{Calling.answered_moved, Drafts.keeps_still, Drafts.none_writes, Leaving.parked_few, Lockers.locked_write, Moved.exit_kept, Moved.moved}
 use Rattle.phase_moves.proofs.{Moved.parties_same, Places.itself_eq, Places.read_at, Opening.no_more, Runs.none_runs}
 
@@ -44,9 +44,6 @@ barred_as h e none = grind (arith, e, none)
 
 free_as : (h : Holders) → bars_write h ≡ false → (h.readers ≡ 0) × (h.locked ≡ false)
 free_as h e = (grind (arith, e), grind (arith, e))
-
-none_occurs : (xs : List ℕ) (p : ℕ) → is_empty xs ≡ true → occurs p xs ≡ 1 → ⊥
-none_occurs xs p e f = grind arith
 
 -- nothing is given where nobody is parked
 gives_none : (c : ℕ) (h : Holders) (s : Parking) (g : Given) → NobodyParked s c → MayHand c h s g → g ≡ Given.Nobody

@@ -1,7 +1,7 @@
 -- What the calls of a locker leave of a cell's record.
-use Rattle.phase_moves.proofs.Words.{◌≡◌, ◌<◌, ◌≤◌, ◌+◌, ◌∙◌, ℕ, length, ap, sym, subst, refl, arith, length-set, inl, inr, cases_lt, Phase, Holders, phase_of, leave_read}
-use Rattle.phase_moves.proofs.Words.{leave_write, downgrade, most_readers, Given, LockerKind, Parking, readers_of, Fits, IsWriteOpen, open_reads, Hands, Downgrades, MayHand}
-use Rattle.phase_moves.proofs.Words.{MayShare, rows_handed, held_handed, SameAt, write_has_no_reader, fits_same, IsLocked}
+use Rattle.phase_moves.proofs.Words.{◌≡◌, ◌<◌, ◌≤◌, ◌+◌, ◌∙◌, ℕ, length, ap, refl, arith, length-set, inl, inr, cases_lt, Phase, Holders, phase_of, leave_read, leave_write}
+use Rattle.phase_moves.proofs.Words.{downgrade, most_readers, Given, LockerKind, Parking, readers_of, Fits, IsWriteOpen, open_reads, Hands, Downgrades, MayHand, rows_handed}
+use Rattle.phase_moves.proofs.Words.{held_handed, SameAt, write_has_no_reader, IsLocked}
 
 -- a gift leaves the phase
 pub handed_phase : (g : Given) (c : ℕ) (s : Parking) (h : Holders) → (held_handed c g s h).phase ≡ h.phase
@@ -28,12 +28,6 @@ downgrades_writers c q h s g h' s' k = ap (λ (x : Parking). length x.writers) k
 
 pub handed_few : (g : Given) (c : ℕ) (h : Holders) (s : Parking) → MayHand c h s g → h.readers ≤ most_readers → length (readers_of s c) ≤ most_readers → (held_handed c g s h).readers ≤ most_readers
 handed_few g c h s may le room = grind arith
-
-pub hands_few : (c : ℕ) (h : Holders) (s : Parking) (g : Given) (h' : Holders) (s' : Parking) → Hands c h s g h' s' → h.readers ≤ most_readers → length (readers_of s c) ≤ most_readers → h'.readers ≤ most_readers
-hands_few c h s g h' s' k le parked = subst (λ n. n ≤ most_readers) (sym (ap (λ (x : Holders). x.readers) k.held)) (handed_few g c h s k.may le parked)
-
-pub downgrades_few : (c : ℕ) (q : Phase) (h : Holders) (s : Parking) (g : Given) (h' : Holders) (s' : Parking) → Downgrades c q h s g h' s' → h.readers ≡ 0 → 1 + length (readers_of s c) ≤ most_readers → h'.readers ≤ most_readers
-downgrades_few c q h s g h' s' k none room = grind arith
 
 -- what is said of a cell stays where the rows say the same of it
 pub locked_same : (k : LockerKind) (h : Holders) (s s' : Parking) (d r w p : ℕ) → SameAt d s s' → IsLocked k h s d r w p → IsLocked k h s' d r w p

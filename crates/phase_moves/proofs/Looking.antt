@@ -1,15 +1,12 @@
 -- What the rows tell of what stands open.
-use Rattle.phase_moves.proofs.Words.{◌≡◌, ◌==◌, ◌<◌, ◌∙◌, ℕ, List, length, get_or, ap, sym, subst, refl, arith, Bool, true, false, None, Some, [], ◌∷◌, ◌&&◌, gets}
-use Rattle.phase_moves.proofs.Words.{common_steps, slice_get, MatchBool, if◌then◌else◌, is_some, not, Option, Holders, LockerKind, CellPlan, Guard, guard_of, numbered, own}
-use Rattle.phase_moves.proofs.Words.{cell_at, tolerance_of, Section, innermost, generates_for, runs_in, cell_of_section, wait_of, without_wait, Running, CellRow, Draft}
-use Rattle.phase_moves.proofs.Words.{GuardRow, PartyRow, Rows, Standing, answered, changes_at, content_back, run_in, runner_of, seen_by, guard_row, party_row, CountsWaits}
-use Rattle.phase_moves.proofs.Words.{KeepsDraft, AreInside, AreNumbered, AreShown, AreSized, IsCell, IsExit, Stands, seen_at, held_of, run_kept, running_kept, running_of}
-use Rattle.phase_moves.proofs.Words.{shown_by, value_drafted, value_kept, Rests, find, Phase, phase_of, runs, asking, Want, Calls, Turns, answer_admitted, answer_barred}
-use Rattle.phase_moves.proofs.Words.{drains_by, way_parked, initializes, is_fast, lock_asked, run_asked, seeks, seeks_run, Asked, Change, Content, effect, form_of, is_barred}
-use Rattle.phase_moves.proofs.Words.{keeps_of_holds as keeps, Last, runs_generator, none_without, Target, IsMet, IsUnlocked, holding_in, keeps_in, readers_in, wanted_in}
-use Rattle.phase_moves.proofs.Words.{IsAttempting, IsTook, MayWait_of_tries as MayWait, WaitsAt, ask_of, LockNature, Given, Answer, Taken}
-use Rattle.phase_moves.proofs.{Innermost.row_run, Places.read_at, Runs.inside_found, Hand.row_shown, Admitting.judged_no, Admitting.looked_due, Admitting.runs_same}
-use Rattle.phase_moves.proofs.{Admitting.turned_so, Seeking.seeks_as, Seeking.sought_as, Asked.none_sought}
+use Rattle.phase_moves.proofs.Words.{◌≡◌, ◌==◌, ◌<◌, ◌∙◌, ℕ, List, length, get_or, ap, sym, subst, refl, arith, Bool, true, false, None, Some, [], ◌&&◌, gets, common_steps}
+use Rattle.phase_moves.proofs.Words.{slice_get, MatchBool, is_some, Option, Holders, LockerKind, CellPlan, Guard, guard_of, numbered, own, cell_at, Section, innermost}
+use Rattle.phase_moves.proofs.Words.{generates_for, runs_in, cell_of_section, wait_of, Running, CellRow, Draft, GuardRow, PartyRow, Rows, Standing, answered, changes_at}
+use Rattle.phase_moves.proofs.Words.{content_back, run_in, runner_of, seen_by, guard_row, party_row, CountsWaits, KeepsDraft, AreInside, AreNumbered, AreShown, AreSized}
+use Rattle.phase_moves.proofs.Words.{IsCell, IsExit, Stands, seen_at, held_of, run_kept, running_kept, running_of, shown_by, value_drafted, value_kept, Rests, find, Phase}
+use Rattle.phase_moves.proofs.Words.{phase_of, runs, Want, initializes, seeks, seeks_run, Change, effect, Last, none_without, Target, IsMet, IsAttempting, IsTook}
+use Rattle.phase_moves.proofs.Words.{MayWait_of_tries as MayWait, WaitsAt, ask_of, Given, Answer, Taken}
+use Rattle.phase_moves.proofs.{Innermost.row_run, Places.read_at, Runs.inside_found, Hand.row_shown, Admitting.runs_same, Admitting.turned_so, Asked.none_sought}
 
 is_there : {X : Type 0} (xs : List X) (i : ℕ) → i < length xs → slice_get xs i ≡ None → ⊥
 is_there xs i lt e = grind (arith, common_steps, gets, lt, e)

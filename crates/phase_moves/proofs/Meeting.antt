@@ -2,20 +2,19 @@
 use Rattle.phase_moves.proofs.Words.{◌≡◌, ◌≢◌, ◌<◌, ◌∙◌, ℕ, List, length, ap, sym, subst, refl, arith, Bool, true, false, None, Some, inl, inr, ◌&&◌, ◌||◌, cases_lt, ◌⊎◌}
 use Rattle.phase_moves.proofs.Words.{MatchBool, if◌then◌else◌, nat_lt, find, Option, Holders, has, initialized, number, Registry, Given, How, Who, LockerKind, LockNature}
 use Rattle.phase_moves.proofs.Words.{bars, got, Parking, row_of, freed, MayHand, MayShare, rows_handed, MayWait, given_up, keeps as row_keeps, Ask, Sought, Begun, asks_run}
-use Rattle.phase_moves.proofs.Words.{run_sought, nature_of, shall_init, wake_of, begun_of, is_cyclic, section_by, is_run, flags_refused, is_refused, CellPlan, Want, Calls}
-use Rattle.phase_moves.proofs.Words.{Turns, answer_admitted, answer_barred, answer_of_attempt, drains_by, way_parked, is_accessible, is_owned, initializes, is_fast, seeks}
-use Rattle.phase_moves.proofs.Words.{wakes_as, Content, form_of, is_to_read, count, has_own, is_barred, keeps_of_holds as keeps, wants_to_write, cell_at, tolerance_of, First}
-use Rattle.phase_moves.proofs.Words.{Last, generates_for, runs_in, Wait, drains_on, is_drain, wait_of, without_wait, most_parties, IsListed, given_on, listed_hand}
-use Rattle.phase_moves.proofs.Words.{listed_share, claims_shown, shares_shown, Target, registry_for, IsGift, MayGive, stand_on, GivesDown, GivesFirst, GivesLast, IsCallOf}
-use Rattle.phase_moves.proofs.Words.{IsMet, IsOf, IsReaching, IsUnlocked, answer_taken, holding_in, keeps_in, meets, takes_write, wanted_in, writers_in, Standing, answered}
-use Rattle.phase_moves.proofs.Words.{changes_at, content_tried, reads_in, run_in, runner_of, writes_in, AreShown, IsLocked, kind_at, is_quick, taken_of, Answer}
+use Rattle.phase_moves.proofs.Words.{run_sought, nature_of, shall_init, wake_of, begun_of, is_cyclic, section_by, is_run, flags_refused, is_refused, CellPlan, Turns}
+use Rattle.phase_moves.proofs.Words.{answer_admitted, answer_barred, answer_of_attempt, drains_by, way_parked, is_accessible, is_owned, initializes, is_fast, wakes_as}
+use Rattle.phase_moves.proofs.Words.{Content, count, is_barred, keeps_of_holds as keeps, wants_to_write, cell_at, tolerance_of, First, Last, generates_for, runs_in, Wait}
+use Rattle.phase_moves.proofs.Words.{drains_on, is_drain, wait_of, without_wait, most_parties, IsListed, given_on, listed_hand, listed_share, claims_shown, shares_shown}
+use Rattle.phase_moves.proofs.Words.{Target, registry_for, IsGift, MayGive, stand_on, GivesDown, GivesFirst, GivesLast, IsMet, IsOf, IsReaching, answer_taken, holding_in}
+use Rattle.phase_moves.proofs.Words.{keeps_in, meets, wanted_in, writers_in, Standing, answered, changes_at, content_tried, reads_in, run_in, runner_of, writes_in, AreShown}
+use Rattle.phase_moves.proofs.Words.{IsLocked, kind_at, is_quick, taken_of, Answer}
 use Rattle.phase_moves.proofs.Asked.{IsAsked, asked_left, declines_same, own_same, wakes_same, wanted_same}
 use Rattle.phase_moves.proofs.Barring.{barred_same, locked_same, misses_due, readers_same, row_kept, waits_due}
 use Rattle.phase_moves.proofs.Judged.{IsBarred, IsClear, IsJudged, IsKept, IsWaiting}
 use Rattle.phase_moves.proofs.Sharing.{gives_none, clear_none as clear_none_of, gives_first as gives_first_of, reaching as reaching_of, shown_given as shown_given_of}
 use Rattle.phase_moves.proofs.Settling.{IsDeclined, IsSettled, MayDecline, begun_declined, begun_settled}
 use Rattle.phase_moves.proofs.Admitting.{FitsSought, admitted_due, begun_met, judged_no, met_fits, runs_same, turned_no}
-use Rattle.phase_moves.proofs.Seeking.{form_none, form_read, form_write, gets_read, gets_write, seeks_as, sought_as, write_wanted}
 use Rattle.phase_moves.proofs.{Attempts.run_writes, Attempts.stays_asked, Attempts.writes_begun, GivenUp.ran_asked, GivenUp.waits_by}
 
 -- it waits, or it is barred and does not wait

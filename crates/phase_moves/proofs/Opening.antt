@@ -1,9 +1,8 @@
 -- A guard is opened, put into its row, and taken out of it.
 use Rattle.phase_moves.proofs.Words.{◌≡◌, ◌≢◌, ◌==◌, ◌<◌, ◌≤◌, ◌+◌, ◌∙◌, ℕ, List, [], ◌∷◌, ◌++◌, length, set, ap, sym, subst, refl, arith, Bool, true, false, cond, None, Some}
-use Rattle.phase_moves.proofs.Words.{inl, inr, length-set, cases_eq, cases_lt, common_steps, gets, slice_get, ◌⊎◌, if◌then◌else◌, Option, Holders, LockerKind, count, runs_in}
-use Rattle.phase_moves.proofs.Words.{Section, Guard, numbered, reader, Change, cell_at, writes_cell, GuardRow, Rows, Standing, guarded, run_in, reads_in, writes_in}
-use Rattle.phase_moves.proofs.Words.{writer_asked, opened, Stands, IsCell, IsExit, AreShown, AreSized, AreInside, seen_at, slot_row, guard_row, Parking, Rests, Who}
-use Rattle.phase_moves.proofs.Words.{IsWriteOpen, Begun, BegunStands, begins_write}
+use Rattle.phase_moves.proofs.Words.{inl, inr, length-set, cases_eq, cases_lt, common_steps, gets, slice_get, ◌⊎◌, if◌then◌else◌, Option, Holders, LockerKind, Section, Guard}
+use Rattle.phase_moves.proofs.Words.{numbered, reader, Change, cell_at, GuardRow, Rows, Standing, guarded, run_in, reads_in, writes_in, writer_asked, opened, Stands, IsCell}
+use Rattle.phase_moves.proofs.Words.{IsExit, AreShown, AreSized, AreInside, seen_at, slot_row, guard_row, Parking, Rests, Who, IsWriteOpen, Begun, BegunStands, begins_write}
 use Rattle.phase_moves.proofs.{Drafts.found_beside, Guards.once_with, Guards.reads_elsewhere, Guards.writes_elsewhere, Moved.IsMoved, Places.slice_get_set_same}
 use Rattle.phase_moves.proofs.{Places.slice_get_set_other, Attempts.writes_begun, Attempts.wrote}
 

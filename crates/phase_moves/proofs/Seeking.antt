@@ -1,6 +1,6 @@
 -- What the forms of calls seek, and what is left to what seeks that.
-use Rattle.phase_moves.proofs.Words.{◌≡◌, refl, Bool, true, false, None, Some, not, if◌then◌else◌, Option, Sought, nature_where, Call, Kind, call_seeks, is_plain, Form, Told}
-use Rattle.phase_moves.proofs.Words.{form_of, is_to_read, takes_none, takes_write, LockNature}
+use Rattle.phase_moves.proofs.Words.{◌≡◌, refl, Bool, true, false, Some, not, if◌then◌else◌, Option, Sought, Call, Kind, call_seeks, is_plain, Form, Told, form_of, is_to_read}
+use Rattle.phase_moves.proofs.Words.{takes_none, takes_write}
 
 -- a call of this form may seek this
 abbrev pub seeks_as : Form → Option Sought → Bool
@@ -33,24 +33,3 @@ abbrev pub gets_write : Sought → Bool
 gets_write Sought.Write = true
 gets_write Sought.WriteOnly = true
 gets_write _ = false
-
--- and the form of a call is of that sort
-pub form_none : (f : Form) (s : Sought) → gets_none s ≡ true → seeks_as f (Some s) ≡ true → takes_none f ≡ true
-form_none f Sought.Init e is = is
-form_none f _ e is = absurd (cc)
-
-pub form_read : (f : Form) (s : Sought) → gets_read s ≡ true → seeks_as f (Some s) ≡ true → is_to_read f ≡ true
-form_read f Sought.Read e is = is
-form_read f Sought.ReadOnly e is = is
-form_read f _ e is = absurd (cc)
-
-pub form_write : (f : Form) (s : Sought) → gets_write s ≡ true → seeks_as f (Some s) ≡ true → takes_write f ≡ true
-form_write f Sought.Write e is = is
-form_write f Sought.WriteOnly e is = is
-form_write f _ e is = absurd (cc)
-
--- what gets the lock to write wants it at each phase
-pub write_wanted : (s : Sought) (due there : Bool) → gets_write s ≡ true → nature_where s due there ≡ LockNature.Write
-write_wanted Sought.Write due there e = refl
-write_wanted Sought.WriteOnly due there e = refl
-write_wanted _ due there e = absurd (cc)

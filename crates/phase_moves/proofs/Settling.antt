@@ -1,12 +1,10 @@
 -- What a call begins that was not turned back, once it is settled whether its cell is registered.
-use Rattle.phase_moves.proofs.Words.{◌≡◌, ◌<◌, ◌≤◌, ◌+◌, ◌∙◌, ℕ, length, ap, sym, subst, refl, arith, Bool, true, false, None, Some, inl, inr, ◌⊎◌, MatchBool, if◌then◌else◌}
-use Rattle.phase_moves.proofs.Words.{Option, Phase, Holders, downgrade, leave_write, most_readers, Registry, Given, Who, LockerKind, read_ticket, write_ticket, Parking}
-use Rattle.phase_moves.proofs.Words.{IsSound, row_of, free_row, freed, readers_of, Fits, Downgrades, Hands, MayShare, held_handed, Ask, Sought as Want, SeqSection, Begun}
-use Rattle.phase_moves.proofs.Words.{Finished, is_cyclic, section_by, is_run, GoesOn, refused, staying, Generates, HasSectionAtOnce, Settles, Stays, begun_at_once, is_refused}
-use Rattle.phase_moves.proofs.Words.{CallOf as Calls, Enters, IsListed, listed_hand}
+use Rattle.phase_moves.proofs.Words.{◌≡◌, ◌<◌, ◌≤◌, ◌+◌, ℕ, length, sym, subst, refl, arith, Bool, true, false, None, Some, inl, inr, ◌⊎◌, MatchBool, if◌then◌else◌, Option}
+use Rattle.phase_moves.proofs.Words.{Phase, Holders, most_readers, Registry, Given, Who, LockerKind, read_ticket, write_ticket, Parking, IsSound, row_of, free_row, freed}
+use Rattle.phase_moves.proofs.Words.{readers_of, Fits, MayShare, Ask, Sought as Want, SeqSection, Begun, is_cyclic, section_by, is_run, refused, staying, Generates}
+use Rattle.phase_moves.proofs.Words.{HasSectionAtOnce, Settles, Stays, is_refused, CallOf as Calls, Enters, IsListed}
 use Rattle.phase_moves.proofs.Attempts.{IsEntered, IsTurned, entered, stays_asked, writes_begun}
 use Rattle.phase_moves.proofs.Judged.{IsClear, IsJudged, IsKept, IsMetBy, met_by}
-use Rattle.phase_moves.proofs.Lockers.{handed_few}
 
 -- what is begun with the lock to write where no generator runs. The other wants ask for no run
 abbrev pub begun_declined : Want → Begun
@@ -59,30 +57,8 @@ module _ (k : LockerKind) (who : Who) (ask : Ask) (o : Option Registry) (h : Hol
   as_entered : (b : Begun) (g : Given) (h' : Holders) → is_run b ≡ false → IsMetBy k who ask h s b g h' → IsSettled b g h'
   as_entered b g h' e d = grind arith
 
-  -- a run
-  runs_on : (x : SeqSection) (g : Given) (h' : Holders) → is_refused ask.tol.leak o h.phase ≡ false → IsMetBy k who ask h s (Begun.Run x) g h' → IsSettled (Begun.Run (section_by x.who x.want (stays_asked o h.phase) x.ticket)) g h'
-  runs_on x g h' e d = record { entered = Begun.Run x; first = g; how = d.how; begins = sym (ap (λ c. if c then begun_declined ask.want else Begun.Run (section_by x.who x.want (stays_asked o h.phase) x.ticket)) e); gave = inl refl; few = d.few; alone = λ z. (d.apart z).clear }
-
   -- a run that is declined
   module _ (x : SeqSection) (h1 : Holders) (s1 : Parking) (r : Begun × Given) (h' : Holders) (s' : Parking) (d : IsMetBy k who ask h s (Begun.Run x) Given.Nobody h1) (e : IsEntered who ask h s (Begun.Run x) Given.Nobody h1 s1) (room : 1 + length (readers_of (freed who.party s) who.cell) ≤ most_readers) (refuses : is_refused ask.tol.leak o h.phase ≡ true) where
-    wants : x.want ≡ ask.want
-    wants = ap (λ (y : SeqSection). y.want) e.told.0
-
-    at : x.who.cell ≡ who.cell
-    at = ap (λ (y : SeqSection). y.who.cell) e.told.0
-
-    -- what it became
-    declined_as : {f : Finished} {g : Finished} {w : Want} → f ≡ g → ask.want ≡ w → begun_at_once g ≡ begun_declined w → begun_at_once f ≡ begun_settled ask o h.phase (Begun.Run x)
-    declined_as is q same = ap begun_at_once is ∙ same ∙ ap begun_declined (sym q) ∙ sym (ap (λ c. if c then begun_declined ask.want else Begun.Run (section_by x.who x.want (stays_asked o h.phase) x.ticket)) refuses)
-
-    is_declined : (w : Want) (g : Given) → ask.want ≡ w → MayDecline w g → IsDeclined (Begun.Run x) Given.Nobody g
-    is_declined w g q may = record { quiet = refl; ran = refl; refuses = refuses; may = subst (λ v. MayDecline v g) (sym q) may; clear = (d.apart refl).clear }
-
-    goes : (w : Want) (f : Finished) → ask.want ≡ w → GoesOn w x.who.cell refused h1 s1 (f, r.1) h' s' → IsSettled (begun_at_once f) r.1 h'
-    goes w f q j = grind arith
-
-    at_once : HasSectionAtOnce x h1 s1 r h' s' → IsSettled r.0 r.1 h'
-    at_once so = subst (λ b. IsSettled b r.1 h') (sym so.answer) (goes x.want so.finished (sym wants) so.goes_on)
 
   module _ (room : 1 + length (readers_of (freed who.party s) who.cell) ≤ most_readers) where
     still : (b : Begun) (g : Given) (h1 : Holders) (s1 : Parking) (r : Begun × Given) (h' : Holders) (s' : Parking) → is_run b ≡ false → IsMetBy k who ask h s b g h1 → Stays (b, g) h1 s1 r h' s' → IsSettled r.0 r.1 h'

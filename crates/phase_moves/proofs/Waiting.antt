@@ -1,9 +1,9 @@
 -- How many calls and turns wait at a cell.
-use Rattle.phase_moves.proofs.Words.{◌∷◌, ◌≡◌, ◌≢◌, ◌==◌, ◌<◌, ◌≤◌, ◌+◌, ◌∙◌, ℕ, List, length, ap, sym, refl, arith, Bool, true, false, cond, None, Some, count_by-le-length}
-use Rattle.phase_moves.proofs.Words.{MatchBool, if◌then◌else◌, is_some, Option, Given, How, Row, Waiting, Parking, Parking as Rows, row_of, free_row, readers_of, occurs}
-use Rattle.phase_moves.proofs.Words.{shared, reads_at, shares_at, IsSound, HasFree, Want, count, Wait, wait_of, waits_at, without_wait, wait_woken, wake_reader, wake_writer}
-use Rattle.phase_moves.proofs.Words.{given_on, IsSingle, Shows, wait_row, count_map, count_without, one_of, count_test, count_rows, target_of, WaitsAt, waiting_with, get_or}
-use Rattle.phase_moves.proofs.Words.{set, length-set, count-set, shares-shared, share_is, free_is, all_read, length-shared, row-shared_other, most_readers}
+use Rattle.phase_moves.proofs.Words.{◌∷◌, ◌≡◌, ◌≢◌, ◌==◌, ◌<◌, ◌≤◌, ◌+◌, ◌∙◌, ℕ, List, length, refl, arith, Bool, true, false, cond, None, Some, count_by-le-length, MatchBool}
+use Rattle.phase_moves.proofs.Words.{if◌then◌else◌, is_some, Option, Given, Row, Waiting, Parking, Parking as Rows, row_of, free_row, readers_of, occurs, shared, reads_at}
+use Rattle.phase_moves.proofs.Words.{shares_at, IsSound, HasFree, count, Wait, wait_of, waits_at, without_wait, wait_woken, wake_reader, wake_writer, given_on, IsSingle}
+use Rattle.phase_moves.proofs.Words.{Shows, wait_row, count_map, count_without, one_of, count_test, count_rows, target_of, WaitsAt, waiting_with, get_or, set, length-set}
+use Rattle.phase_moves.proofs.Words.{count-set, shares-shared, share_is, free_is, all_read, length-shared, row-shared_other, most_readers}
 
 -- ---- a gift leaves it
 

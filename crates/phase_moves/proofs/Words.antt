@@ -8,17 +8,17 @@ pub use Rattle.phase_bits.specs.{Flags.has, Flags.initialized, Flags.without_fla
 pub use Rattle.phase_bits.specs.Records.{admit_read, admit_write, bars_write, downgrade, leave_read, leave_write, most_readers}
 pub use Rattle.phase_bits.specs.declared.{holders.Holders.Holders, phase.Phase.Phase}
 pub use Rattle.phase_locker.proofs.{Counts.count-set, Counts.free_is, Counts.share_is, Counts.shares-shared, Fresh.new_fits, Holding.all_read, Holding.hands_fit}
-pub use Rattle.phase_locker.proofs.{Holding.Holds, Holding.listed_in, Judging.by_bool, Leaving.write_has_no_reader, Opening.between_only, Others.fits_beside, Others.fits_same}
-pub use Rattle.phase_locker.proofs.{Others.others_refl, Shares.length-shared, Shares.row-shared_other}
+pub use Rattle.phase_locker.proofs.{Holding.Holds, Judging.by_bool, Leaving.write_has_no_reader, Opening.between_only, Others.fits_beside, Others.others_refl}
+pub use Rattle.phase_locker.proofs.Shares.{length-shared, row-shared_other}
 pub use Rattle.phase_locker.proofs.Keeping.{freed_free, freed_size, gives_up_freed, keeps_fit, still_empty}
 pub use Rattle.phase_locker.proofs.Standing.{given_up_reads, hands_reads, hands_writes, kept_open, kept_writes, left_writes}
 pub use Rattle.phase_locker.specs.{Left.Left, Natures.admitted, Natures.bars, Natures.got, Natures.read_ticket, Natures.write_ticket, Others.OthersStay, Others.SameAt}
 pub use Rattle.phase_locker.specs.Stands.{MayCall, MayCallAgain, Opens}
-pub use Rattle.phase_locker.specs.Attempts.{Gets, given_up, GivesUp, held_waiting, Judged, Keeps, keeps, MayWait, rows_waiting, Waits}
+pub use Rattle.phase_locker.specs.Attempts.{given_up, GivesUp, Judged, Keeps, keeps, MayWait, rows_waiting}
 pub use Rattle.phase_locker.specs.Fits.{Fits, flagged, is_park, IsIdle, IsWriteOpen, KeepsFit, NobodyParked, open_reads}
 pub use Rattle.phase_locker.specs.Gifts.{Downgrades, Hands, held_handed, MayHand, MayShare, rows_handed}
-pub use Rattle.phase_locker.specs.Rows.{claims, drains, drains_at, free_row, freed, HasFree, is_drain as is_drain_of_rows, is_empty, IsSound, left, no_rows, occurs}
-pub use Rattle.phase_locker.specs.Rows.{readers_of, reads_at, row_of, Rows as Parking, SameSize, shared, shares, shares_at, writers_of}
+pub use Rattle.phase_locker.specs.Rows.{claims, drains, drains_at, free_row, freed, HasFree, is_drain as is_drain_of_rows, IsSound, left, no_rows, occurs, readers_of}
+pub use Rattle.phase_locker.specs.Rows.{reads_at, row_of, Rows as Parking, SameSize, shared, shares, shares_at}
 pub use Rattle.phase_locker.specs.declared.{tickets.Attempt.Attempt, tickets.LockNature.LockNature, tickets.LockResult.LockResult, tickets.ReadTicket.ReadTicket}
 pub use Rattle.phase_locker.specs.declared.{tickets.WriteTicket.WriteTicket, ways.Given.Given, ways.How.How, ways.LockerKind.LockerKind, ways.Row.Row, ways.Waiting.Waiting}
 pub use Rattle.phase_locker.specs.declared.ways.Who.{Who}
@@ -28,15 +28,15 @@ pub use Rattle.phase_moves.specs.Calls.{Calling, Calls as CallOf, Enters, regist
 pub use Rattle.phase_moves.specs.Closing.{AreClosing, CanClose, IsClosing, IsOpenRun, IsPopped, RunsFor, StayBeside}
 pub use Rattle.phase_moves.specs.Ends.{EndsAs, FinalizesAs, GoesAs, IsEnding, IsFinalizing, IsInnermost}
 pub use Rattle.phase_moves.specs.Lends.{answer_of, changed, changes_lent, content_of, Finds, in_use, IsFound, IsLending, IsLent, lending, lent_in, was_used}
-pub use Rattle.phase_moves.specs.Meets.{answer_missed, answer_taken, GivesDown, GivesFirst, GivesLast, holding_in, IsCallOf, IsMet, IsOf, IsReaching, IsUnlocked, keeps_in}
-pub use Rattle.phase_moves.specs.Meets.{meets, readers_in, takes_none, takes_write, wanted_in, writers_in}
+pub use Rattle.phase_moves.specs.Meets.{answer_missed, answer_taken, GivesDown, GivesFirst, GivesLast, holding_in, IsMet, IsOf, IsReaching, keeps_in, meets, readers_in}
+pub use Rattle.phase_moves.specs.Meets.{takes_none, takes_write, wanted_in, writers_in}
 pub use Rattle.phase_moves.specs.Moves.{ClonesAs, IsFull, IsOpenReader, IsOpenWriter, IsReader, IsTaken, IsWriter, LeavesRead, LeavesWrite, Pushes, Rests, TakenAs}
 pub use Rattle.phase_moves.specs.Reading.{held_of, is_row_of, run_kept, running_kept, running_of, shown_by, value_drafted, value_kept}
 pub use Rattle.phase_moves.specs.Standing.{answered, called, changes_asked, changes_at, cloned, closed, content_back, content_tried, downgraded, ended, finalized, guarded}
 pub use Rattle.phase_moves.specs.Standing.{left as left_of_standing, opened, owned, put, reads_in, registry_asked, round_looked, Run, run_closed, run_in, runner_of}
 pub use Rattle.phase_moves.specs.Standing.{section_asked, seen_by, Standing, turn_ended, turn_of, waiting, writer_asked, writer_of, writes_in}
 pub use Rattle.phase_moves.specs.Stands.{AreInside, AreNumbered, AreShown, AreSized, CountsWaits, draft_of, form_as, guard_row, IsCell, IsExit, IsLocked, KeepsDraft, kind_at}
-pub use Rattle.phase_moves.specs.Stands.{open_run, party_row, run_as, section_of, Seen, seen_at, slot_row, Stands, stays_in, target_of, want_of}
+pub use Rattle.phase_moves.specs.Stands.{open_run, party_row, run_as, section_of, Seen, seen_at, slot_row, Stands, stays_in, target_of}
 pub use Rattle.phase_moves.specs.Tries.{ask_of, draft_after, has_want, is_quick, IsAttempting, IsTook, MayWait as MayWait_of_tries, opens_section, party_after, phase_asked}
 pub use Rattle.phase_moves.specs.Tries.{run_after, taken_of, waiting_after, waiting_with, WaitsAt}
 pub use Rattle.phase_moves.specs.declared.{lend.Lent.Lent, lend.Loan.Loan, lend.Published.Published, look_up.Running.Running, rows.CellRow.CellRow, rows.Draft.Draft}
@@ -58,32 +58,30 @@ pub use Rattle.schedule_rules.proofs.Opened.{wait_removed, writes_put}
 pub use Rattle.schedule_rules.specs.{Deeds.Finishes as Finishes_of_deeds, Deeds.Makes, Due.answer_of_look, Forms.form_of, Forms.is_to_read, Gifts.reaches, History.accepts}
 pub use Rattle.schedule_rules.specs.{History.count, History.Event, Kinds.cell_at, Kinds.is_owned, Kinds.is_parking, Kinds.tolerance_of, Legal.First, Legal.Last}
 pub use Rattle.schedule_rules.specs.{Refusals.is_other, Replay.back_of_guard, Replay.back_of_section, Replay.content_after_back, Replay.replay, Transcripts.most_parties}
-pub use Rattle.schedule_rules.specs.Answers.{answer_admitted, answer_at, answer_barred, answer_barred_at, answer_of_attempt, begins_run, drains_by, turn_answer_admitted}
-pub use Rattle.schedule_rules.specs.Answers.{way_parked}
-pub use Rattle.schedule_rules.specs.Calls.{asks, initializes, is_fast, lock_asked, lock_wanted, run_asked, seeks, seeks_run, wakes_as, way_of_nature, woken_as}
+pub use Rattle.schedule_rules.specs.Answers.{answer_admitted, answer_at, answer_barred, answer_of_attempt, begins_run, drains_by, turn_answer_admitted, way_parked}
+pub use Rattle.schedule_rules.specs.Calls.{asks, initializes, is_fast, lock_asked, lock_wanted, run_asked, seeks, seeks_run, wakes_as, woken_as}
 pub use Rattle.schedule_rules.specs.Changes.{Asked, asks_to_lend, Change, Content, content_after, content_asked, content_of_run, effect, Ended, is_declined, Put, Ran}
 pub use Rattle.schedule_rules.specs.Changes.{RanIfAsked}
 pub use Rattle.schedule_rules.specs.Exits.{ended_turns, finishing, owner, owner_by, registry, turn_of_section}
 pub use Rattle.schedule_rules.specs.Guards.{Guard, guard_of, guards, numbered, own, put_in, reader, reader_beside, reader_made, without_guard, writer_made}
-pub use Rattle.schedule_rules.specs.Holds.{has_own, Holding, is_barred, is_barred_by_readers, keeps as keeps_of_holds, keeps_way, reads_cell, wants_to_write, writes_cell}
+pub use Rattle.schedule_rules.specs.Holds.{has_own, Holding, is_barred, keeps as keeps_of_holds, reads_cell, wants_to_write, writes_cell}
 pub use Rattle.schedule_rules.specs.Phases.{flags_kept, is_accessible, NoRun, phase_finalized, phase_reached, runs_generator, tries_registration, value_finalized}
 pub use Rattle.schedule_rules.specs.Sections.{generates_for, innermost, is_turn, runs_in, Section, sections, without_innermost}
 pub use Rattle.schedule_rules.specs.Waits.{cell_concerned_with, cell_of_guard, cell_of_section, drains_on, is_drain, shares_read, shares_write, Wait, wait_of, wait_woken}
 pub use Rattle.schedule_rules.specs.Waits.{waits, waits_at, waits_given_with, wake_reader, wake_writer, with_wait, without_wait}
-pub use Rattle.schedule_rules.specs.declared.{form.Form.Form, form.Form.TheVariants.Held, form.Form.TheVariants.Shown, form.Form.TheVariants.Told, line.Answer.Answer}
-pub use Rattle.schedule_rules.specs.declared.{line.Refusal.Refusal, plan.CellPlan.CellPlan, plan.Place.Place, plan.Plan.Plan, step.Act.Act, step.Want.Want}
-pub use Rattle.schedule_rules.specs.declared.step.Want.TheVariants.{Calls, Turns}
+pub use Rattle.schedule_rules.specs.declared.{form.Form.Form, form.Form.TheVariants.Told, line.Answer.Answer, line.Refusal.Refusal, plan.CellPlan.CellPlan, plan.Place.Place}
+pub use Rattle.schedule_rules.specs.declared.{plan.Plan.Plan, step.Act.Act, step.Want.Want, step.Want.TheVariants.Calls, step.Want.TheVariants.Turns}
 pub use Rattle.std.proofs.{Math.ListN.length-replicate, lemmas.Bool.cases_eq, lemmas.Bool.cases_lt, lemmas.Grind.common_steps, lemmas.List.set-get_or}
 pub use Rattle.std.proofs.{lemmas.List.Sums.count_by-le-length, lemmas.Nat.and_le_l, lemmas.Nat.or_of_8, lemmas.Option.gets, lemmas.Option.slice_get-get_or}
 pub use Rattle.std.proofs.lemmas.Option.{slice_get_within}
 pub use Rattle.std.proofs.Common.{[], ap, arith, Bool, cond, false, get_or, inl, inr, length, length-set, List, None, not, refl, replicate, set, Some, subst, sym, true, ℕ}
 pub use Rattle.std.proofs.Common.{◌&&◌, ◌++◌, ◌+◌, ◌<◌, ◌==◌, ◌^◌, ◌||◌, ◌∙◌, ◌∷◌, ◌≡◌, ◌≢◌, ◌≤◌}
 pub use Rattle.std.specs.{List.find, Option.is_some as is_some_of_option, Option.unwrap_or, Vec.with_item}
-pub use Rattle.std.specs.Prelude.{All, if◌then◌else◌, is_some, IsNone, MatchBool, nat_lt, OnSome, slice_get, vec_capacity, ◌-◌, ◌↔◌, ◌⊎◌}
+pub use Rattle.std.specs.Prelude.{if◌then◌else◌, is_some, IsNone, MatchBool, nat_lt, OnSome, slice_get, vec_capacity, ◌-◌, ◌↔◌, ◌⊎◌}
 pub use Rattle.std.specs.declared.option.Option.{Option}
 pub use Rattle.waiting_rows.proofs.{Counted.count_map, Counted.count_without, Counted.none_without, Counted.one_of, Finding.changed as changed_of_finding}
-pub use Rattle.waiting_rows.proofs.{Finding.wait_readers, Finding.wait_writer, Gave.gave_share, Passing.count_test, ShowsFreed.shows_freed, ShowsWaiting.shows_waiting_at}
-pub use Rattle.waiting_rows.proofs.{Single.single_with, Single.single_without, Sound.sound_of, Within.shows_fresh, Within.within_with, Within.within_without}
+pub use Rattle.waiting_rows.proofs.{Finding.wait_readers, Finding.wait_writer, Gave.gave_share, Passing.count_test, RowCounts.claims_shown, RowCounts.count_rows}
+pub use Rattle.waiting_rows.proofs.{RowCounts.never_free, RowCounts.shares_shown, ShowsFreed.shows_freed, ShowsWaiting.shows_waiting_at, Single.single_with}
+pub use Rattle.waiting_rows.proofs.{Single.single_without, Sound.sound_of, Within.shows_fresh, Within.within_with, Within.within_without}
 pub use Rattle.waiting_rows.proofs.GivenOn.{given_concerned, listed_hand, listed_share, none_on, reaches_given, shows_on, single_on, within_on}
-pub use Rattle.waiting_rows.proofs.RowCounts.{claims_shown, count_rows, free_party, never_free, shares_shown}
 pub use Rattle.waiting_rows.specs.{Given.given_on, Given.IsListed, Shown.IsSingle, Shown.Shows, Shown.wait_row, Shown.waiting_of}
