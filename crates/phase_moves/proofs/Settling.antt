@@ -57,9 +57,6 @@ module _ (k : LockerKind) (who : Who) (ask : Ask) (o : Option Registry) (h : Hol
   as_entered : (b : Begun) (g : Given) (h' : Holders) → is_run b ≡ false → IsMetBy k who ask h s b g h' → IsSettled b g h'
   as_entered b g h' e d = grind arith
 
-  -- a run that is declined
-  module _ (x : SeqSection) (h1 : Holders) (s1 : Parking) (r : Begun × Given) (h' : Holders) (s' : Parking) (d : IsMetBy k who ask h s (Begun.Run x) Given.Nobody h1) (e : IsEntered who ask h s (Begun.Run x) Given.Nobody h1 s1) (room : 1 + length (readers_of (freed who.party s) who.cell) ≤ most_readers) (refuses : is_refused ask.tol.leak o h.phase ≡ true) where
-
   module _ (room : 1 + length (readers_of (freed who.party s) who.cell) ≤ most_readers) where
     still : (b : Begun) (g : Given) (h1 : Holders) (s1 : Parking) (r : Begun × Given) (h' : Holders) (s' : Parking) → is_run b ≡ false → IsMetBy k who ask h s b g h1 → Stays (b, g) h1 s1 r h' s' → IsSettled r.0 r.1 h'
     still b g h1 s1 r h' s' e d st = subst (λ (q : Begun × Given). IsSettled q.0 q.1 h') (sym st.same) (subst (λ z. IsSettled b g z) (sym st.held) (as_entered b g h1 e d))
