@@ -212,9 +212,7 @@ module _ {L : Type 0} (held : L → Holders) (place : L → LockerKind) where
       turned : is_away b ≡ true → Turned
       turned e = elim all [ inl d ↦ d | inr d ↦ absurd (stayed b refl e d) ] where
         stayed : (z : Begun) → b ≡ z → is_away z ≡ true → Begun_ → ⊥
-        stayed Begun.Missed f e d = told_as d Begun.Missed f
-        stayed Begun.Cyclic f e d = told_as d Begun.Cyclic f
-        stayed _ f e d = absurd (cc)
+        stayed z f e d = grind arith
 
       does_cyclic : b ≡ Begun.Cyclic → of' ≡ of → row'.run ≡ row.run → row'.waiting ≡ row.waiting → row'.draft ≡ row.draft → IsTook held place m v p t Taken.Cyclic g v'
       does_cyclic e o run many draft =

@@ -194,8 +194,7 @@ module _ (k : LockerKind) (who : Who) (ask : Ask) (running : Option ℕ) (h : Ho
     row = λ i. record { waiting = (row_of s who.party).waiting; cell = here i }
 
     given_phase : (w : Waiting) → (given_up w h).phase ≡ h.phase
-    given_phase Waiting.ShareRead = refl
-    given_phase _ = refl
+    given_phase w = grind arith
 
     kept : (n : LockNature) (a : Attempt) → n ≡ nature_of ask h.phase → r.0 ≡ begun_by who ask h.phase a → keeps (row_of s who.party).waiting n h ≡ true → Keeps who n h s (a, r.1) h' s' → IsEntered who ask h s r.0 r.1 h' s'
     kept n a ruled answer e j =

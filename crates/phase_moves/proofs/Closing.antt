@@ -1,5 +1,5 @@
 -- What is open is given back, one after another.
-use Rattle.phase_moves.proofs.Words.{◌≡◌, ◌≢◌, ◌<◌, ◌+◌, ◌∙◌, ℕ, List, [], ◌∷◌, ◌++◌, length, ◌==◌, ap, sym, subst, refl, arith, Bool, true, false, None, Some, common_steps}
+use Rattle.phase_moves.proofs.Words.{◌≡◌, ◌≢◌, ◌<◌, ◌+◌, ◌∙◌, ℕ, List, [], ◌∷◌, ◌++◌, length, ◌==◌, ap, sym, subst, refl, arith, Bool, false, None, Some, common_steps}
 use Rattle.phase_moves.proofs.Words.{gets, slice_get_within, slice_get, if◌then◌else◌, Option, Holders, LockerKind, Given, ReadTicket, WriteTicket, IsWriteOpen, Parking}
 use Rattle.phase_moves.proofs.Words.{fits_beside, SeqSection, LazySequentializer, Want, Calls, Turns, Guard, numbered, count, cell_at, Section, runs_in, CellRow, GuardRow}
 use Rattle.phase_moves.proofs.Words.{OpenRun, Rows, Run, Standing, left_of_standing as left, run_in, runner_of, IsCell, Stands, guard_row, open_run, section_of, seen_at}
@@ -113,8 +113,7 @@ runs_counted : (c : ℕ) (ss : List Section) (r : Run) → run_in c ss ≡ Some 
 runs_counted c [] r e = absurd (cc)
 runs_counted c (s ∷ ss) r e = by (s.cell == c) refl (λ q. runs_counted c ss r q) where
   by : (b : Bool) → (s.cell == c) ≡ b → (run_in c ss ≡ Some r → 0 < count (runs_in c) ss) → 0 < (if s.cell == c then count (runs_in c) ss + 1 else count (runs_in c) ss)
-  by true q rest = rw q (omega arith)
-  by false q rest = rw q (rest (rw q at e))
+  by b q rest = grind arith
 
 -- the section of the cell's sequentializer
 abbrev section_at : Standing → ℕ → Run → SeqSection

@@ -161,8 +161,7 @@ module _ {L : Type 0} (held : L → Holders) (place : L → LockerKind) (m : Sta
           gave = back_gives false d.0 d.2 (reads_here (Finished.Failed q) e) (stands_here (Finished.Failed q) e).0;
         } where
           failing : (x : Option ℕ) → IsMadeAs x false → q ≡ told_of x → GoesAs (run_as (cell_at m.plans s.cell).kind s.want) x (told_of x) (Finished.Failed q) r.1
-          failing None z f = f
-          failing (Some x) z f = absurd (cc)
+          failing x z f = grind arith
 
     -- its call has what it wants
     pub ends_phase : (q : Phase) → r.0 ≡ Finished.Phase q → row'.value ≡ made → EndsAs held place m v s made (Some (Finished.Phase q, r.1)) v'
@@ -174,8 +173,7 @@ module _ {L : Type 0} (held : L → Holders) (place : L → LockerKind) (m : Sta
           gave = back_gives true d.0 d.3 (reads_here (Finished.Phase q) e) (stands_here (Finished.Phase q) e).0;
         } where
           going : (x : Option ℕ) → IsMadeAs x true → (run_as (cell_at m.plans s.cell).kind s.want ≡ SeqWant.Init) × (q ≡ told_of x) → GoesAs (run_as (cell_at m.plans s.cell).kind s.want) x (told_of x) (Finished.Phase q) r.1
-          going None z f = absurd (cc)
-          going (Some x) z f = f
+          going x z f = grind arith
 
     -- its call reads on
     pub ends_read : (l : ReadTicket) (q : Phase) → r.0 ≡ Finished.Read l q → row'.value ≡ made → EndsAs held place m v s made (Some (Finished.Read l q, r.1)) v'
@@ -201,8 +199,7 @@ module _ {L : Type 0} (held : L → Holders) (place : L → LockerKind) (m : Sta
               ∙ ap (λ (w : Seen). record { plan = w.plan; content = w.content; reads = w.reads + 1; writes = w.writes; run = w.run }) (seen_closed held place m v p c s is.inner row row_is (Ran s.is_open made ∷ []) r.1)
 
           going : (x : Option ℕ) → IsMadeAs x true → (run_as (cell_at m.plans s.cell).kind s.want ≡ SeqWant.Read) × (q ≡ told_of x) → GoesAs (run_as (cell_at m.plans s.cell).kind s.want) x (told_of x) (Finished.Read l q) r.1
-          going None z f = absurd (cc)
-          going (Some x) z f = f
+          going x z f = grind arith
 
     -- its call writes on
     pub ends_write : (l : WriteTicket) (q : Phase) → r.0 ≡ Finished.Write l q → row'.value ≡ row.value → row'.draft ≡ record { phase = q; value = made } → EndsAs held place m v s made (Some (Finished.Write l q, r.1)) v'
@@ -239,11 +236,7 @@ module _ {L : Type 0} (held : L → Holders) (place : L → LockerKind) (m : Sta
 
           -- its holder sees what was made
           drafted : q ≡ told_of made → IsMadeAs made true → record { phase = q; value = made } ≡ draft_of (seen_by gone (writer_of n s made))
-          drafted f = by made f where
-            by : (x : Option ℕ) → q ≡ told_of x → IsMadeAs x true → record { phase = q; value = x } ≡ draft_of (seen_by gone (writer_of n s x))
-            by None f k = absurd (cc)
-            by (Some x) f k = ap (λ z. record { phase = z; value = Some x }) f
+          drafted f = grind arith
 
           going : (x : Option ℕ) → IsMadeAs x true → (run_as (cell_at m.plans s.cell).kind s.want ≡ SeqWant.Write) × (q ≡ told_of x) × (r.1 ≡ Given.Nobody) → GoesAs (run_as (cell_at m.plans s.cell).kind s.want) x (told_of x) (Finished.Write l q) r.1
-          going None z f = absurd (cc)
-          going (Some x) z f = f
+          going x z f = grind arith

@@ -1,5 +1,5 @@
 -- What stands open after one step more is a move of what stood open.
-use Rattle.phase_moves.proofs.Words.{◌≡◌, ◌≢◌, ◌∙◌, ℕ, List, [], ◌∷◌, length, ap, sym, refl, arith, Bool, true, false, None, Some, ◌==◌, not, Option, Phase, Given, ReadTicket}
+use Rattle.phase_moves.proofs.Words.{◌≡◌, ◌≢◌, ◌∙◌, ℕ, List, [], ◌∷◌, length, ap, sym, refl, arith, Bool, true, false, None, Some, ◌==◌, Option, Phase, Given, ReadTicket}
 use Rattle.phase_moves.proofs.Words.{WriteTicket, Refusal, CellPlan, Act, Change, Ran, Put, RanIfAsked, registry, owner, ended_turns, finishing, turn_of_section, owner_by}
 use Rattle.phase_moves.proofs.Words.{Guard, guards, numbered, guard_of, own, without_guard, reader, reader_beside, reader_made, writer_made, Event, accepts, Makes}
 use Rattle.phase_moves.proofs.Words.{Finishes_of_deeds as Finishes, replay, content_after_back, back_of_guard, back_of_section, Section, sections, innermost}
@@ -150,11 +150,7 @@ module _ (cells : List CellPlan) (h : List Event) (p : ℕ) where
     owns : owner_by p true (owner h) ≡ Some p
     owns = by (owner h) free where
       by : (o : Option ℕ) → is_other o p ≡ false → owner_by p true o ≡ Some p
-      by None e = refl
-      by (Some q) e = at (q == p) refl e where
-        at : (b : Bool) → (q == p) ≡ b → not b ≡ false → Some q ≡ Some p
-        at true f g = ap (λ x. Some x) (grind (arith, f))
-        at false f g = absurd (cc)
+      by o e = grind arith
 
     -- a look for the cells that were registered since the last one
     pub exit_looks : wait_of p ws ≡ None → (o : Look) → standing cells (event p Act.Exit (record { answer = answer_of_look o; given = Given.Nobody }) ∷ h) ≡ round_looked (owned p (standing cells h))

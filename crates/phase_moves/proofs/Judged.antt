@@ -193,8 +193,7 @@ module _ (k : LockerKind) (who : Who) (ask : Ask) (h : Holders) (s : Parking) wh
             apart = λ z. apart_so r.1 j.between h' j.rows j.hands.rows fits_then reads_then writes_then (t.free z);
           }) where
             given_phase : (w : Waiting) → (given_up w h).phase ≡ h.phase
-            given_phase Waiting.ShareRead = refl
-            given_phase _ = refl
+            given_phase w = grind arith
 
       -- a call of a party that waits at the cell
       again_met : Resumes k who ask running h s r h' s' → IsMetBy r.0 r.1 h'

@@ -8,8 +8,7 @@ use Rattle.phase_moves.proofs.Words.{Ended, asks_to_lend, content_after, content
 staying_known : (is_open : Bool) (p : ℕ) → p < 256 → flags_staying is_open p < 256
 staying_known is_open p k = by (p == 0) where
   tried : (b : Bool) → registration b < 256
-  tried true = omega arith
-  tried false = omega arith
+  tried b = grind arith
 
   by : (b : Bool) → (if b then registration is_open else without_flags p initialization_flags) < 256
   by true = tried is_open
@@ -36,8 +35,7 @@ change_known x (Ran is_open (Some v)) y k = record { below = reached_known (flag
 change_known x (Ran is_open None) y k = record { below = reached_known (flags_kept x.kind is_open y.phase) false (kept_known x is_open y.phase k.below) }
 change_known x (Asked is_open c) y k = by (is_declined x.kind (tolerance_of x) c is_open y.phase) where
   by : (b : Bool) → IsKnown (phase_of (if b then record { phase = phase_reached x.kind is_open y.phase NoRun; value = y.value } else y).phase)
-  by true = record { below = omega arith }
-  by false = k
+  by b = grind arith
 change_known x (Put v) y k = k
 change_known x (RanIfAsked is_open made) y k = by (asks_to_lend x.kind (tolerance_of x) y.phase) made where
   by : (b : Bool) (o : Option ℕ) → IsKnown (phase_of (if b then content_of_run x.kind is_open o y else y).phase)

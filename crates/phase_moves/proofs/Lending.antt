@@ -15,10 +15,7 @@ fewer : (t u : Wait → Bool) → ((w : Wait) → t w ≡ true → u w ≡ true)
 fewer t u all [] = omega arith
 fewer t u all (w ∷ ws) = by (t w) (u w) (all w) (fewer t u all ws) where
   by : (a b : Bool) → (a ≡ true → b ≡ true) → count t ws ≤ count u ws → (if a then count t ws + 1 else count t ws) ≤ (if b then count u ws + 1 else count u ws)
-  by true false f e = absurd (let q = f refl in cc)
-  by true true f e = omega (arith, e)
-  by false true f e = omega (arith, e)
-  by false false f e = e
+  by a b f e = grind arith
 
 share_waits : (c : ℕ) (ws : List Wait) → count (shares_read c) ws ≤ count (waits_at c) ws
 share_waits c = fewer (shares_read c) (waits_at c) (λ w e. grind (arith, e))

@@ -1,6 +1,6 @@
 -- What the rows tell of what stands open.
 use Rattle.phase_moves.proofs.Words.{◌≡◌, ◌==◌, ◌<◌, ◌∙◌, ℕ, List, length, get_or, ap, sym, subst, refl, arith, Bool, true, false, None, Some, [], ◌&&◌, gets, common_steps}
-use Rattle.phase_moves.proofs.Words.{slice_get, MatchBool, is_some, Option, Holders, LockerKind, CellPlan, Guard, guard_of, numbered, own, cell_at, Section, innermost}
+use Rattle.phase_moves.proofs.Words.{slice_get, MatchBool, Option, Holders, LockerKind, CellPlan, Guard, guard_of, numbered, own, cell_at, Section, innermost}
 use Rattle.phase_moves.proofs.Words.{generates_for, runs_in, cell_of_section, wait_of, Running, CellRow, Draft, GuardRow, PartyRow, Rows, Standing, answered, changes_at}
 use Rattle.phase_moves.proofs.Words.{content_back, run_in, runner_of, seen_by, guard_row, party_row, CountsWaits, KeepsDraft, AreInside, AreNumbered, AreShown, AreSized}
 use Rattle.phase_moves.proofs.Words.{IsCell, IsExit, Stands, seen_at, held_of, run_kept, running_kept, running_of, shown_by, value_drafted, value_kept, Rests, find, Phase}
@@ -121,8 +121,7 @@ module _ {L : Type 0} (held : L → Holders) (place : L → LockerKind) (m : Sta
   free : wait_of p m.waits ≡ None
   free = by waits is.waited is.waits_so where
     by : (w : Bool) → MatchBool w (WaitsAt t.cell (wait_of p m.waits)) (wait_of p m.waits ≡ None) → (w ≡ true → MayWait (cell_at m.plans t.cell) t.want) → wait_of p m.waits ≡ None
-    by true k so = let sought = (so refl).sought in absurd (let f : false ≡ true = sym (ap is_some nothing) ∙ sought in cc)
-    by false k so = k
+    by w k so = grind arith
 
   same : m ≡ answered p t.cell Given.Nobody (changes_at t.cell t.want m) m
   same = λ i. record m { waits = sym (none_without p m.waits free) i; content = λ d. sym (still m t.cell d (changes_at t.cell t.want m) (unchanged m t.cell t.want nothing)) i }

@@ -2,7 +2,7 @@
 use Rattle.phase_moves.proofs.Words.{◌≡◌, ◌≢◌, ◌<◌, ◌∙◌, ℕ, List, length, ap, sym, subst, refl, arith, Bool, true, false, None, Some, inl, inr, ◌&&◌, ◌||◌, cases_lt, ◌⊎◌}
 use Rattle.phase_moves.proofs.Words.{MatchBool, if◌then◌else◌, nat_lt, find, Option, Holders, has, initialized, number, Registry, Given, How, Who, LockerKind, LockNature}
 use Rattle.phase_moves.proofs.Words.{bars, got, Parking, row_of, freed, MayHand, MayShare, rows_handed, MayWait, given_up, keeps as row_keeps, Ask, Sought, Begun, asks_run}
-use Rattle.phase_moves.proofs.Words.{run_sought, nature_of, shall_init, wake_of, begun_of, is_cyclic, section_by, is_run, flags_refused, is_refused, CellPlan, Turns}
+use Rattle.phase_moves.proofs.Words.{run_sought, nature_of, shall_init, wake_of, begun_of, is_cyclic, is_run, flags_refused, is_refused, CellPlan, Turns}
 use Rattle.phase_moves.proofs.Words.{answer_admitted, answer_barred, answer_of_attempt, drains_by, way_parked, is_accessible, is_owned, initializes, is_fast, wakes_as}
 use Rattle.phase_moves.proofs.Words.{Content, count, is_barred, keeps_of_holds as keeps, wants_to_write, cell_at, tolerance_of, First, Last, generates_for, runs_in, Wait}
 use Rattle.phase_moves.proofs.Words.{drains_on, is_drain, wait_of, without_wait, most_parties, IsListed, given_on, listed_hand, listed_share, claims_shown, shares_shown}
@@ -15,7 +15,7 @@ use Rattle.phase_moves.proofs.Judged.{IsBarred, IsClear, IsJudged, IsKept, IsWai
 use Rattle.phase_moves.proofs.Sharing.{gives_none, clear_none as clear_none_of, gives_first as gives_first_of, reaching as reaching_of, shown_given as shown_given_of}
 use Rattle.phase_moves.proofs.Settling.{IsDeclined, IsSettled, MayDecline, begun_declined, begun_settled}
 use Rattle.phase_moves.proofs.Admitting.{FitsSought, admitted_due, begun_met, judged_no, met_fits, runs_same, turned_no}
-use Rattle.phase_moves.proofs.{Attempts.run_writes, Attempts.stays_asked, Attempts.writes_begun, GivenUp.ran_asked, GivenUp.waits_by}
+use Rattle.phase_moves.proofs.{Attempts.run_writes, Attempts.writes_begun, GivenUp.ran_asked, GivenUp.waits_by}
 
 -- it waits, or it is barred and does not wait
 record Waits (e : Begun) : Type 0 where
@@ -140,11 +140,7 @@ module _ (n : ℕ) (k : LockerKind) (h : Holders) (s : Parking) (m : Standing) (
     sort e first (inl kept) = inr kept.begins
     sort e first (inr j) = by (bars j.mid (nature_of ask h.phase)) j.judged where
       by : (b : Bool) → MatchBool b (IsBarred k who ask h s j.fresh j.mid e) (e ≡ begun_of who ask h.phase (got (nature_of ask h.phase) h.phase)) → Sorted e
-      by true w = barred ask.fast refl w where
-        barred : (f : Bool) → ask.fast ≡ f → MatchBool f (e ≡ Begun.Missed) (IsWaiting k who ask h s j.fresh j.mid e) → Sorted e
-        barred true f w = inl (inr (record { quick = f; begins = w }))
-        barred false f w = inl (inl (record { way = w.way; begins = w.begins }))
-      by false w = inr w
+      by b w = grind arith
 
     -- what a call may give that does not wait
     quiet_missed : (first : Given) (e : Begun) → ask.fast ≡ true → IsKept k who ask h s e first ⊎ IsJudged k who ask h s e first → first ≡ Given.Nobody
@@ -166,17 +162,8 @@ module _ (n : ℕ) (k : LockerKind) (h : Holders) (s : Parking) (m : Standing) (
 
       listed : IsListed t.cell freed_p g
       listed = by st.how st.gave where
-        first_listed : IsKept k who ask h s st.entered st.first ⊎ IsJudged k who ask h s st.entered st.first → IsListed t.cell freed_p st.first
-        first_listed (inl kept) = subst (λ z. IsListed t.cell freed_p z) (sym kept.quiet) tt
-        first_listed (inr j) = listed_hand t.cell (given_up (row_of s p).waiting h) freed_p st.first j.may
-
         by : IsKept k who ask h s st.entered st.first ⊎ IsJudged k who ask h s st.entered st.first → (g ≡ st.first) ⊎ IsDeclined k who ask o h s st.entered st.first g → IsListed t.cell freed_p g
-        by how (inl e) = subst (λ z. IsListed t.cell freed_p z) (sym e) (first_listed how)
-        by how (inr d) = declined_listed ask.want d.may where
-          declined_listed : (w : Sought) → MayDecline k who ask o h s w g → IsListed t.cell freed_p g
-          declined_listed Sought.Init may = may
-          declined_listed Sought.Read may = listed_share t.cell freed_p g may
-          declined_listed _ may = absurd may
+        by how e = grind arith
 
       by : Sorted st.entered → IsOf p t g m (taken_of (begun_settled ask o h.phase st.entered))
       by (inl (inl w)) = subst (λ z. IsOf p t g m (taken_of (begun_settled ask o h.phase z))) (sym w.begins) tt
@@ -189,13 +176,10 @@ module _ (n : ℕ) (k : LockerKind) (h : Holders) (s : Parking) (m : Standing) (
     gives_last : (e : Begun) (first g : Given) → IsKept k who ask h s e first ⊎ IsJudged k who ask h s e first → IsDeclined k who ask o h s e first g → GivesLast p t (taken_of (begun_settled ask o h.phase e)) g m
     gives_last e first g j d = subst (λ z. GivesLast p t (taken_of z) g m) (sym (declined_then e d.ran)) (subst (λ w. GivesLast p t (taken_of (begun_declined w)) g m) refl (by ask.want refl d.may)) where
       declined_then : (z : Begun) → is_run z ≡ true → begun_settled ask o h.phase z ≡ begun_declined ask.want
-      declined_then (Begun.Run z) f = ap (λ c. if c then begun_declined ask.want else Begun.Run (section_by z.who z.want (stays_asked o h.phase) z.ticket)) d.refuses
-      declined_then _ f = absurd (cc)
+      declined_then z f = grind arith
 
       admitted : Sorted e → e ≡ begun_of who ask h.phase (got (nature_of ask h.phase) h.phase)
-      admitted (inl (inl w)) = absurd (let f : false ≡ true = sym (ap is_run w.begins) ∙ d.ran in cc)
-      admitted (inl (inr w)) = absurd (let f : false ≡ true = sym (ap is_run w.begins) ∙ d.ran in cc)
-      admitted (inr f) = f
+      admitted e = grind arith
 
       run_asked : asks_run ask h.phase ≡ true
       run_asked = ran_asked who ask h.phase (nature_of ask h.phase) (ap is_run (sym (admitted (sort e first j))) ∙ d.ran)

@@ -1,5 +1,5 @@
 -- A guard is opened, put into its row, and taken out of it.
-use Rattle.phase_moves.proofs.Words.{◌≡◌, ◌≢◌, ◌==◌, ◌<◌, ◌≤◌, ◌+◌, ◌∙◌, ℕ, List, [], ◌∷◌, ◌++◌, length, set, ap, sym, subst, refl, arith, Bool, true, false, cond, None, Some}
+use Rattle.phase_moves.proofs.Words.{◌≡◌, ◌≢◌, ◌==◌, ◌<◌, ◌≤◌, ◌+◌, ◌∙◌, ℕ, List, [], ◌∷◌, ◌++◌, length, set, ap, sym, subst, refl, arith, Bool, true, false, None, Some}
 use Rattle.phase_moves.proofs.Words.{inl, inr, length-set, cases_eq, cases_lt, common_steps, gets, slice_get, ◌⊎◌, if◌then◌else◌, Option, Holders, LockerKind, Section, Guard}
 use Rattle.phase_moves.proofs.Words.{numbered, reader, Change, cell_at, GuardRow, Rows, Standing, guarded, run_in, reads_in, writes_in, writer_asked, opened, Stands, IsCell}
 use Rattle.phase_moves.proofs.Words.{IsExit, AreShown, AreSized, AreInside, seen_at, slot_row, guard_row, Parking, Rests, Who, IsWriteOpen, Begun, BegunStands, begins_write}
@@ -9,10 +9,6 @@ use Rattle.phase_moves.proofs.{Places.slice_get_set_other, Attempts.writes_begun
 -- the guards with one more
 numbered_with : (y : Guard) (g : ℕ) (gs : List Guard) → g ≢ y.number → numbered g (y ∷ gs) ≡ numbered g gs
 numbered_with y g gs ne = grind (arith, ne)
-
--- a hand that holds no guard shows what another shows
-empty_hand : (m : Standing) (hand n g : ℕ) → numbered hand m.guards ≡ None → g ≢ n → slot_row n m g ≡ slot_row hand m g
-empty_hand m hand n g none ne = grind arith
 
 -- what is seen of a cell with a read guard more
 pub seen_reader : (n p c : ℕ) (m : Standing) → seen_at c (guarded (reader n p c) m) ≡ record { plan = cell_at m.plans c; content = m.content c; reads = reads_in c m + 1; writes = writes_in c m; run = run_in c m.sections }
@@ -49,9 +45,7 @@ module _ {L : Type 0} (held : L → Holders) (place : L → LockerKind) where
         around d ne = let r = reads_elsewhere y d (λ e. ne (e ∙ at)) in let w = writes_elsewhere y d (λ e. ne (e ∙ at)) in rw (r, w) refl
 
         slots : (g : ℕ) → g < length v.guards.items → slot_row n (guarded y m') g ≡ slot_row hand' m' g
-        slots g l =
-            let ne : g ≢ n = λ e. absurd (omega (arith, l, room, e)) in
-            ap (λ o. cond (g == n) GuardRow.Free (guard_row o)) (numbered_with y g m'.guards (λ q. ne (q ∙ number))) ∙ empty_hand m' hand' n g empty ne
+        slots g l = grind arith
 
         drafts : (g : ℕ) (x : Guard) → numbered g (y ∷ m'.guards) ≡ Some x → x.writes ≡ true → x.cell ≢ c → numbered g m.guards ≡ Some x
         drafts g x e w ne = elim (found_beside y g m'.guards x e) [ inl q ↦ absurd (ne (ap (λ (z : Guard). z.cell) (sym q) ∙ at)) | inr f ↦ k.drafts g x f w ne ]
@@ -60,8 +54,7 @@ module _ {L : Type 0} (held : L → Holders) (place : L → LockerKind) where
         other g x e = λ q. let n : None ≡ Some x = sym empty ∙ ap (λ i. numbered i m'.guards) (sym q) ∙ e in absurd (cc)
 
         here : (g : ℕ) (x : Guard) → numbered g (y ∷ m'.guards) ≡ Some x → (g ≡ y.number) ⊎ (g ≢ y.number) → x.cell < length v.cells.items
-        here g x e (inl q) = let is : y ≡ x = grind (arith, e, q) in subst (λ (z : Guard). z.cell < length v.cells.items) is (subst (λ i. i < length v.cells.items) (sym at) lt)
-        here g x e (inr ne) = k.numbers.in_cells g x (sym (numbered_with y g m'.guards ne) ∙ e)
+        here g x e f = grind arith
 
   -- only the rows of guards change
   reslotted : (hand n : ℕ) (m : Standing) (v v' : Rows L) → Stands held place hand m v → v'.cells ≡ v.cells → v'.parties ≡ v.parties → v'.parks ≡ v.parks → v'.exit ≡ v.exit
@@ -149,8 +142,7 @@ module _ {L : Type 0} (held : L → Holders) (place : L → LockerKind) where
         size = ap (λ (xs : List GuardRow). length xs) guards ∙ grind (arith, common_steps)
 
         by : (o : Option Guard) → numbered (length v.guards.items + 1) m.guards ≡ o → o ≡ None
-        by None e = refl
-        by (Some x) e = let l = t.guards.in_rows (length v.guards.items + 1) x e (λ q. absurd (omega (arith, q))) in absurd (omega (arith, l))
+        by o e = grind arith
 
 -- ---- what is opened by what was begun, and a section more
 

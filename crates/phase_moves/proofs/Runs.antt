@@ -1,5 +1,5 @@
 -- The sections that run.
-use Rattle.phase_moves.proofs.Words.{◌≡◌, ◌≢◌, ◌==◌, ◌<◌, ◌≤◌, ℕ, List, [], ◌∷◌, refl, subst, arith, Bool, true, false, cond, None, Some, count, Section, innermost}
+use Rattle.phase_moves.proofs.Words.{◌≡◌, ◌≢◌, ◌==◌, ◌<◌, ◌≤◌, ℕ, List, [], ◌∷◌, refl, arith, Bool, true, false, cond, None, Some, count, Section, innermost}
 use Rattle.phase_moves.proofs.Words.{without_innermost, runs_in, cell_of_section, found_counts, innermost_kept, run_in, AreInside}
 
 -- where no section is counted none runs
@@ -27,5 +27,4 @@ pub inside_found : (n p : ℕ) (ss : List Section) (s : Section) → AreInside n
 inside_found n p [] s k e = absurd (cc)
 inside_found n p (x ∷ ss) s k e = by (x.party == p) e (inside_found n p ss s k.1) where
   by : (b : Bool) → cond b (Some x) (innermost p ss) ≡ Some s → (innermost p ss ≡ Some s → s.cell < n) → s.cell < n
-  by true e rest = let same : x ≡ s = cc in subst (λ (y : Section). y.cell < n) same k.0
-  by false e rest = rest e
+  by b e rest = grind arith

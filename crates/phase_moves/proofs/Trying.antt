@@ -1,8 +1,8 @@
 -- What the code reads of the cell before an attempt.
-use Rattle.phase_moves.proofs.Words.{◌≡◌, ◌≢◌, ◌<◌, ◌∙◌, ℕ, length, get_or, ap, sym, subst, arith, Bool, true, false, None, Some, inl, inr, MatchBool, cases_lt, Option}
-use Rattle.phase_moves.proofs.Words.{Holders, number, LockerKind, Row, row_of, Fits, IsWriteOpen, MayCall, MayCallAgain, Ask, MayRegister, CellPlan, is_finalizable, cell_at}
-use Rattle.phase_moves.proofs.Words.{Wait, wait_of, wait_row, never_free, CellRow, Target, Rows, Calling, Standing, writes_in, seen_at, IsCell, IsAttempting, WaitsAt, ask_of}
-use Rattle.phase_moves.proofs.Words.{has_want, is_quick, Waiting}
+use Rattle.phase_moves.proofs.Words.{◌≡◌, ◌∙◌, ℕ, get_or, ap, sym, subst, arith, Bool, true, false, None, Some, inl, inr, MatchBool, cases_lt}
+use Rattle.phase_moves.proofs.Words.{Holders, number, LockerKind, Fits, IsWriteOpen, MayCall, MayCallAgain, Ask, MayRegister, CellPlan, is_finalizable, cell_at}
+use Rattle.phase_moves.proofs.Words.{wait_of, CellRow, Target, Rows, Calling, Standing, writes_in, seen_at, IsCell, IsAttempting, WaitsAt, ask_of}
+use Rattle.phase_moves.proofs.Words.{has_want, is_quick}
 use Rattle.phase_moves.proofs.{Asked.is_asked, Places.read_at}
 
 module _ {L : Type 0} (held : L → Holders) (place : L → LockerKind) (m : Standing) (v : Rows L) (p : ℕ) (t : Target) (waits : Bool) (is : IsAttempting held place m v p t waits) (row : CellRow L) (row_is : row ≡ get_or v.cells.items t.cell row) where
@@ -22,19 +22,8 @@ module _ {L : Type 0} (held : L → Holders) (place : L → LockerKind) (m : Sta
 
   pub may_call : Calling waits (record { cell = t.cell; party = p }) v.parks
   may_call = by waits is.waited where
-    cell_in : t.cell < length v.parks.readers
-    cell_in = let a = is.cell in let d = is.rests.stands.sizes.readers in omega (arith, a, d)
-
-    party_in : p < length v.parks.rows
-    party_in = let a = is.party in let d = is.rests.stands.sizes.rows in omega (arith, a, d)
-
-    waiting_at : (o : Option Wait) → row_of v.parks p ≡ wait_row o → WaitsAt t.cell o → ((row_of v.parks p).waiting ≢ Waiting.Free) × ((row_of v.parks p).cell ≡ t.cell)
-    waiting_at None e w = absurd w
-    waiting_at (Some x) e w = (λ f. never_free x.way x.woken (sym (ap (λ (r : Row). r.waiting) e) ∙ f), ap (λ (r : Row). r.cell) e ∙ w)
-
     by : (b : Bool) → MatchBool b (WaitsAt t.cell (wait_of p m.waits)) (wait_of p m.waits ≡ None) → MatchBool b (MayCallAgain (record { cell = t.cell; party = p }) v.parks) (MayCall (record { cell = t.cell; party = p }) v.parks)
-    by true w = (let k = waiting_at (wait_of p m.waits) (is.rests.stands.waits.shows.row p) w in record { cell = cell_in; party = party_in; waits = k.0; here = k.1 })
-    by false w = record { cell = cell_in; party = party_in; free = ap (λ (r : Row). r.waiting) (is.rests.stands.waits.shows.row p ∙ ap wait_row w) }
+    by b w = grind arith
 
   pub may_register : is_finalizable row.plan.kind ≡ true → MayRegister t.cell (held row.seq.locker) v.parks v.exit.registry
   may_register e =

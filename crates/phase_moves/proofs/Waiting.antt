@@ -51,8 +51,7 @@ module _ (p c : ℕ) (ws : List Wait) (single : IsSingle ws) (g : Given) (at : (
   pub count_beside : (d : ℕ) → d ≢ c → count (waits_at d) (given_on c g (without_wait p ws)) ≡ count (waits_at d) ws
   count_beside d ne = count_given d c g (without_wait p ws) ∙ (let less = count_without (waits_at d) p ws single in let none = by (wait_of p ws) refl in omega (arith, less, none)) where
     by : (o : Option Wait) → wait_of p ws ≡ o → one_of (waits_at d) o ≡ 0
-    by None e = refl
-    by (Some w) e = let q = at w e in let f : (w.cell == d) ≡ false = grind (arith, q, ne) in rw f refl
+    by o e = grind arith
 
   -- and here one less, where the party waited
   pub count_here : count (waits_at c) ws ≡ count (waits_at c) (given_on c g (without_wait p ws)) + (if is_some (target_of (wait_of p ws)) then 1 else 0)
@@ -62,8 +61,7 @@ module _ (p c : ℕ) (ws : List Wait) (single : IsSingle ws) (g : Given) (at : (
       let one = by (wait_of p ws) refl in
       omega (arith, less, same, one) where
         by : (o : Option Wait) → wait_of p ws ≡ o → one_of (waits_at c) o ≡ (if is_some (target_of o) then 1 else 0)
-        by None e = refl
-        by (Some w) e = let q = at w e in let f : (w.cell == c) ≡ true = grind (arith, q) in rw f refl
+        by o e = grind arith
 
 -- so it is counted
 counted_with : (was is : Bool) (n k : ℕ) → n ≡ k + (if was then 1 else 0) → waiting_with was is n ≡ k + (if is then 1 else 0)
