@@ -210,19 +210,10 @@ module _ {L : Type 0} (held : L → Holders) (place : L → LockerKind) where
 
       -- what is turned away
       turned : is_away b ≡ true → Turned
-      turned e = elim all [ inl d ↦ d | inr d ↦ absurd (stayed b refl e d) ] where
-        stayed : (z : Begun) → b ≡ z → is_away z ≡ true → Begun_ → ⊥
-        stayed z f e d = grind arith
+      turned e = grind (arith, all, is_away)
 
       does_cyclic : b ≡ Begun.Cyclic → of' ≡ of → row'.run ≡ row.run → row'.waiting ≡ row.waiting → row'.draft ≡ row.draft → IsTook held place m v p t Taken.Cyclic g v'
-      does_cyclic e o run many draft =
-          let d = turned (ap is_away e) in
-          record {
-            stands = stays_away Begun.Cyclic e refl refl d o run many draft;
-            told = tt;
-            cyclic = cyclic_as Begun.Cyclic e;
-            met = subst (λ z. IsMet p t Taken.Cyclic z m) (sym d.given) (met_turned m p t (sym (cyclic_as Begun.Cyclic e)));
-          }
+      does_cyclic e o run many draft = grind (arith, turned, is_away, stays_away, cyclic_as, met, met_turned)
 
       does_missed : b ≡ Begun.Missed → of' ≡ of → row'.run ≡ row.run → row'.waiting ≡ row.waiting → row'.draft ≡ row.draft → IsTook held place m v p t Taken.Missed g v'
       does_missed e o run many draft = record { stands = stays_away Begun.Missed e refl refl (turned (ap is_away e)) o run many draft; told = tt; cyclic = cyclic_as Begun.Missed e; met = told_met (ap is_turned_back e) Taken.Missed (ap taken_of e) }
@@ -279,11 +270,7 @@ module _ {L : Type 0} (held : L → Holders) (place : L → LockerKind) where
 
       -- no section ran where one is opened
       pub none_before : opens_section b ≡ true → row.run ≡ None
-      none_before e = by b refl e where
-        by : (z : Begun) → b ≡ z → opens_section z ≡ true → row.run ≡ None
-        by (Begun.Run s) f e = none_before_run s f
-        by (Begun.Final s) f e = none_before_final s f
-        by _ f e = absurd (cc)
+      none_before e = grind (arith, none_before_run, none_before_final)
 
       -- all of it
       pub does : of' ≡ party_after t b of → row'.run ≡ run_after p t of b row.run → row'.waiting ≡ waiting_after b (is_some of.waiting) row.waiting → row'.draft ≡ draft_after b row.value row.draft → IsTook held place m v p t (taken_of b) g v'

@@ -1,10 +1,10 @@
 -- What an attempt does to the record of its cell and to the rows, by what it began.
-use Rattle.phase_moves.proofs.Words.{◌≡◌, ◌<◌, ◌∙◌, ℕ, length, set, ap, sym, subst, refl, arith, Bool, true, false, None, Some, inl, inr, ◌⊎◌, MatchBool, if◌then◌else◌, ◌&&◌}
-use Rattle.phase_moves.proofs.Words.{not, set-get_or, Option, Phase, Holders, Given, Who, Waiting, LockerKind, Row, LockNature, Attempt, bars, admitted, got, write_ticket}
-use Rattle.phase_moves.proofs.Words.{Parking, row_of, free_row, freed, left, is_drain_of_rows as is_drain, Fits, IsWriteOpen, rows_handed, Judged, Keeps, GivesUp}
-use Rattle.phase_moves.proofs.Words.{rows_waiting, given_up, keeps, kept_writes, left_writes, hands_writes, Ask, Sought as Want, Begun, run_sought as initializes, finalizes}
-use Rattle.phase_moves.proofs.Words.{asks_run, wake_of, nature_of, nature_where, is_refused, unregistered, refused, staying, Registry, Begins, Resumes, TurnsBack}
-use Rattle.phase_moves.proofs.Words.{MakesAttempt, MakesAnother, TriesLock, is_cyclic, section_by, begun_by, begun_tried, IsListed, listed_hand, Enters}
+use Rattle.phase_moves.proofs.Words.{◌≡◌, ◌<◌, ◌∙◌, ℕ, length, ap, sym, subst, refl, arith, Bool, true, false, None, Some, inl, inr, ◌⊎◌, MatchBool, if◌then◌else◌, ◌&&◌, not}
+use Rattle.phase_moves.proofs.Words.{set-get_or, Option, Phase, Holders, Given, Who, Waiting, LockerKind, LockNature, Attempt, bars, admitted, got, write_ticket, Parking}
+use Rattle.phase_moves.proofs.Words.{row_of, free_row, freed, left, is_drain_of_rows as is_drain, Fits, IsWriteOpen, rows_handed, Judged, Keeps, GivesUp, rows_waiting}
+use Rattle.phase_moves.proofs.Words.{given_up, keeps, kept_writes, left_writes, hands_writes, Ask, Sought as Want, Begun, run_sought as initializes, finalizes, asks_run}
+use Rattle.phase_moves.proofs.Words.{wake_of, nature_of, nature_where, is_refused, unregistered, refused, staying, Registry, Begins, Resumes, TurnsBack, MakesAttempt}
+use Rattle.phase_moves.proofs.Words.{MakesAnother, TriesLock, is_cyclic, section_by, begun_by, begun_tried, IsListed, listed_hand, Enters}
 use Rattle.phase_moves.proofs.Lockers.{hands_phase}
 
 -- the rows after what was begun
@@ -137,9 +137,7 @@ judged_to k fresh who wake n h s a h' s' ask ruled judged = grind arith
 
 -- the row of a party that does not wait is free already
 pub free_same : (p : ℕ) (s : Parking) → row_of s p ≡ free_row → freed p s ≡ s
-free_same p s e = ap (λ (r : Row). left r.waiting r.cell p s) e ∙ (λ i. record { rows = same i; readers = s.readers; writers = s.writers }) where
-  same : set s.rows p free_row ≡ s.rows
-  same = ap (λ r. set s.rows p r) (sym e) ∙ set-get_or s.rows p free_row
+free_same p s e = grind (arith, set-get_or)
 
 module _ (k : LockerKind) (who : Who) (ask : Ask) (running : Option ℕ) (h : Holders) (s : Parking) (r : Begun × Given) (h' : Holders) (s' : Parking) where
   turned : TurnsBack h s r h' s' → IsTurned h s r.0 r.1 h' s'
@@ -232,5 +230,4 @@ module _ (k : LockerKind) (who : Who) (ask : Ask) (running : Option ℕ) (h : Ho
 
   -- a call of a party that waits at the cell, or does not wait
   pub entered : (waits : Bool) → MatchBool waits ((row_of s who.party).cell ≡ who.cell) (row_of s who.party ≡ free_row) → who.party < length s.rows → Fits k h s who.cell → Enters waits k who ask running h s r h' s' → IsTurned h s r.0 r.1 h' s' ⊎ IsEntered who ask h s r.0 r.1 h' s'
-  entered true row inside fits d = resumes row inside fits d
-  entered false row inside fits d = begins row d
+  entered waits row inside fits d = grind (arith, resumes, begins)

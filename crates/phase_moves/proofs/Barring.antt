@@ -1,6 +1,6 @@
 -- A locker bars as the rules do, keeps what they keep, and a barred call waits in a way that is due.
-use Rattle.phase_moves.proofs.Words.{◌≡◌, ◌==◌, ◌<◌, ◌≤◌, ◌+◌, ◌∙◌, ℕ, List, [], ◌∷◌, sym, refl, arith, Bool, true, false, None, Some, not, ◌||◌, ◌&&◌, inl, inr, cases_lt}
-use Rattle.phase_moves.proofs.Words.{nat_lt, Option, Holders, most_readers, LockNature, How, LockerKind, bars, Parking, claims, drains, drains_at, row_of, Fits, IsWriteOpen}
+use Rattle.phase_moves.proofs.Words.{◌≡◌, ◌==◌, ◌<◌, ◌≤◌, ◌+◌, ◌∙◌, ℕ, List, [], ◌∷◌, refl, arith, Bool, true, false, None, Some, not, ◌||◌, ◌&&◌, inl, inr, cases_lt, nat_lt}
+use Rattle.phase_moves.proofs.Words.{Option, Holders, most_readers, LockNature, How, LockerKind, bars, Parking, claims, drains, drains_at, row_of, Fits, IsWriteOpen}
 use Rattle.phase_moves.proofs.Words.{open_reads, MayWait, keeps as row_keeps, write_has_no_reader, Want, CellPlan, answer_barred, drains_by, way_parked, is_fast, wakes_as}
 use Rattle.phase_moves.proofs.Words.{count, Holding, is_barred, keeps_of_holds as keeps, Wait, drains_on, is_drain, shares_read, shares_write, wait_of, IsSingle, Shows}
 use Rattle.phase_moves.proofs.Words.{wait_row, claims_shown, count_rows, shares_shown, answer_missed, kind_at, is_quick, Answer}
@@ -80,19 +80,7 @@ module _ (k : LockerKind) (h : Holders) (s : Parking) (c reads writes : ℕ) (ws
 
   -- beside a write nobody reads
   pub unread_written : 0 < writers → readers ≡ 0
-  unread_written lt = sym readers_same ∙ elim (cases_lt 0 writes) [ inl writing ↦ write_has_no_reader k h s c fits (write_is writing) | inr le ↦ shared (omega (arith, lt, le)) ] where
-    shared : 0 < count (shares_write c) ws → h.readers ≡ 0
-    shared some = elim (cases_lt 0 h.readers) [
-      | inr le ↦ omega (arith, le)
-      | inl read ↦ (let shown = claims_shown c ws s single shows in
-          let one = fits.one in
-          let drained = fits.drained (locks h.locked refl) read in
-          let drains_are = drains_shown c ws s single shows in
-          absurd (omega (arith, shown, one, drained, drains_are, some)))
-    ] where
-      locks : (b : Bool) → h.locked ≡ b → b ≡ true
-      locks true e = refl
-      locks false e = let none = fits.locked e in let shown = claims_shown c ws s single shows in absurd (omega (arith, none, shown, some))
+  unread_written lt = grind (arith, readers_same, cases_lt, write_has_no_reader, claims_shown, drains_shown)
 
   -- it bars as the rules do
   pub barred_same : (n : LockNature) → bars h n ≡ is_barred n (record { readers = readers; written = nat_lt 0 writers; drained = nat_lt 0 drainers })

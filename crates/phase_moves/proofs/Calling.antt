@@ -1,5 +1,5 @@
 -- A call at one cell, which changes who waits alone.
-use Rattle.phase_moves.proofs.Words.{◌≡◌, ◌≢◌, ◌==◌, ◌<◌, ◌+◌, ◌∙◌, ℕ, List, length, set, get_or, ap, sym, subst, refl, arith, true, None, Some, IsNone, OnSome, ◌↔◌, Option}
+use Rattle.phase_moves.proofs.Words.{◌≡◌, ◌≢◌, ◌==◌, ◌<◌, ◌+◌, ◌∙◌, ℕ, List, length, set, get_or, ap, sym, subst, refl, arith, true, Some, IsNone, OnSome, ◌↔◌, Option}
 use Rattle.phase_moves.proofs.Words.{Holders, Registry, admit_read, most_readers, LockerKind, ReadTicket, Parking, SameSize, claims, Fits, KeepsFit, open_reads, OthersStay}
 use Rattle.phase_moves.proofs.Words.{Content, Guard, numbered, reader, reads_cell, count, Wait, waits_at, found_counts, shares_shown, CellRow, Rows, Standing, cloned}
 use Rattle.phase_moves.proofs.Words.{reads_in, writes_in, CountsWaits, KeepsDraft, Seen, seen_at, IsCell, IsExit, IsLocked, AreShown, Stands, IsOpenReader, IsFull, ClonesAs}
@@ -110,5 +110,4 @@ module _ {L : Type 0} (held : L → Holders) (place : L → LockerKind) where
     -- what the locker answers
     pub clones : (o : Option ReadTicket) → v'.cells.items ≡ set v.cells.items c row' → v'.guards ≡ v.guards → v'.parties ≡ v.parties → v'.parks ≡ v.parks → v'.exit ≡ v.exit → row'.plan ≡ row.plan → row'.waiting ≡ row.waiting → row'.value ≡ row.value → row'.draft ≡ row.draft → row'.run ≡ row.run → row'.seq.running ≡ row.seq.running → place row'.seq.locker ≡ place row.seq.locker
         → (IsNone o ↔ ((held row.seq.locker).readers ≡ most_readers)) → OnSome o (held row'.seq.locker ≡ admit_read (held row.seq.locker)) → (IsNone o → held row'.seq.locker ≡ held row.seq.locker) → KeepsFit (place row.seq.locker) (held row.seq.locker) (held row'.seq.locker) → ClonesAs held place v m x o v'
-    clones None cells guards parties parks exit plan many value draft run running stays most some none keeps = (clone_none cells guards parties parks exit plan many value draft run running stays (none refl), clone_full (most.0 refl))
-    clones (Some t) cells guards parties parks exit plan many value draft run running stays most some none keeps = clone_more cells guards parties parks exit plan many value draft run running stays some (λ e. (let f = most.1 e in absurd (cc))) keeps
+    clones o cells guards parties parks exit plan many value draft run running stays most some none keeps = grind (arith, clone_none, clone_full, clone_more)

@@ -1,6 +1,6 @@
 -- What is open is given back, one after another.
-use Rattle.phase_moves.proofs.Words.{◌≡◌, ◌≢◌, ◌<◌, ◌+◌, ◌∙◌, ℕ, List, [], ◌∷◌, ◌++◌, length, ◌==◌, ap, sym, subst, refl, arith, Bool, false, None, Some, common_steps}
-use Rattle.phase_moves.proofs.Words.{gets, slice_get_within, slice_get, if◌then◌else◌, Option, Holders, LockerKind, Given, ReadTicket, WriteTicket, IsWriteOpen, Parking}
+use Rattle.phase_moves.proofs.Words.{◌≡◌, ◌≢◌, ◌<◌, ◌+◌, ◌∙◌, ℕ, List, [], ◌∷◌, ◌++◌, length, ◌==◌, ap, sym, subst, refl, arith, Bool, false, None, Some, common_steps, gets}
+use Rattle.phase_moves.proofs.Words.{slice_get_within, slice_get, if◌then◌else◌, Option, Holders, LockerKind, Given, ReadTicket, WriteTicket, IsWriteOpen, Parking}
 use Rattle.phase_moves.proofs.Words.{fits_beside, SeqSection, LazySequentializer, Want, Calls, Turns, Guard, numbered, count, cell_at, Section, runs_in, CellRow, GuardRow}
 use Rattle.phase_moves.proofs.Words.{OpenRun, Rows, Run, Standing, left_of_standing as left, run_in, runner_of, IsCell, Stands, guard_row, open_run, section_of, seen_at}
 use Rattle.phase_moves.proofs.Words.{slot_row, Rests, LeavesRead, LeavesWrite, IsReader, IsWriter, AreClosing, CanClose, IsClosing, IsOpenRun, IsPopped, RunsFor, StayBeside}
@@ -9,19 +9,13 @@ use Rattle.phase_moves.proofs.{Ending.asked_run, Finalizing.asked_final, Hand.re
 -- ---- lists whose last is popped
 
 pub last_at : {X : Type 0} (xs ys : List X) (x : X) → ys ≡ xs ++ x ∷ [] → slice_get ys (length xs) ≡ Some x
-last_at xs ys x e = rw e (here xs) where
-  here : (zs : List _) → slice_get (zs ++ x ∷ []) (length zs) ≡ Some x
-  here zs = grind (arith, common_steps, gets)
+last_at xs ys x e = grind (arith, common_steps, gets)
 
 pub other_at : {X : Type 0} (xs ys : List X) (x : X) (i : ℕ) → ys ≡ xs ++ x ∷ [] → i < length xs → slice_get ys i ≡ slice_get xs i
-other_at xs ys x i e lt = rw e (there xs lt) where
-  there : (zs : List _) → i < length zs → slice_get (zs ++ x ∷ []) i ≡ slice_get zs i
-  there zs k = grind (arith, common_steps, gets, k)
+other_at xs ys x i e lt = grind (arith, common_steps, gets)
 
 pub one_less : {X : Type 0} (xs ys : List X) (x : X) → ys ≡ xs ++ x ∷ [] → length ys ≡ length xs + 1
-one_less xs ys x e = rw e (here xs) where
-  here : (zs : List _) → length (zs ++ x ∷ []) ≡ length zs + 1
-  here zs = grind (arith, common_steps)
+one_less xs ys x e = grind (arith, common_steps)
 
 -- as few
 pub rest_few : {X : Type 0} (rows rest : List X) (row : X) (n : ℕ) → length rows < n → rows ≡ rest ++ row ∷ [] → length rest < n

@@ -6,9 +6,7 @@ use Rattle.phase_moves.proofs.Words.{NobodyParked, given_up, still_empty, Ask, B
 
 -- a party that leaves its list leaves empty lists empty
 pub nobody_left : (v : Waiting) (c p : ℕ) (s : Parking) → c < length s.readers → length s.writers ≡ length s.readers → NobodyParked s c → NobodyParked (left v c p s) c
-nobody_left Waiting.ParkedRead c p s inside same e = (still_empty s.readers c p inside e.0, e.1)
-nobody_left Waiting.ParkedWrite c p s inside same e = (e.0, still_empty s.writers c p (omega (arith, inside, same)) e.1)
-nobody_left _ c p s inside same e = e
+nobody_left v c p s inside same e = grind (arith, still_empty)
 
 pub not_listed : (c : ℕ) (s : Parking) (g : Given) → NobodyParked s c → IsListed c s g → g ≢ Given.Nobody → ⊥
 not_listed c s g e l ne = grind arith

@@ -1,8 +1,8 @@
 -- What is given as a guard is given back may be given.
 use Rattle.phase_moves.proofs.Words.{◌≡◌, ◌≢◌, ◌∙◌, ℕ, ap, sym, subst, refl, arith, true, false, Some, slice_get, Phase, Holders, leave_read, leave_write, Given, LockerKind}
-use Rattle.phase_moves.proofs.Words.{Parking, Fits, IsIdle, Hands, Downgrades, MayHand, MayShare, Place, cell_at, is_parking, Guard, numbered, reads_cell, writes_cell}
-use Rattle.phase_moves.proofs.Words.{IsListed, listed_hand, reaches_given, shares_shown, claims_shown, CellRow, Rows, Standing, left_of_standing as left, reads_in, writes_in}
-use Rattle.phase_moves.proofs.Words.{Stands, seen_at, IsCell, kind_at, stand_on, IsGift, MayGive, MayGiveDown, get_or, reaches, Section, IsInnermost}
+use Rattle.phase_moves.proofs.Words.{Parking, Fits, IsIdle, Hands, Downgrades, MayHand, MayShare, Place, cell_at, is_parking, Guard, numbered, IsListed, listed_hand}
+use Rattle.phase_moves.proofs.Words.{reaches_given, shares_shown, claims_shown, CellRow, Rows, Standing, left_of_standing as left, reads_in, writes_in, Stands, seen_at}
+use Rattle.phase_moves.proofs.Words.{IsCell, kind_at, stand_on, IsGift, MayGive, MayGiveDown, get_or, Section, IsInnermost}
 use Rattle.phase_moves.proofs.Guards.{found_itself, count_same, count_less, reads_here, never_writes}
 use Rattle.phase_moves.proofs.{Lockers.reading_alone, Leaving.read_open, Leaving.write_open, Leaving.no_reads, Leaving.no_writes, Innermost.cell_here}
 use Rattle.phase_moves.proofs.Innermost.{write_open as run_open}
@@ -25,19 +25,7 @@ module _ {L : Type 0} (held : L → Holders) (place : L → LockerKind) (hand : 
   gift ne listed free = record { parks = parking _ _ v.parks x.cell (cell_at m.plans x.cell).place g its.locked.fits its.placed listed ne; reach = reaches_given x.cell g m.waits v.parks t.waits.shows listed; free = free }
 
   free_read : x.writes ≡ false → IsIdle (leave_read (held row.seq.locker)) → stand_on x.cell (left x Given.Nobody m) ≡ 0
-  free_read r idle =
-      let l = its.locked in
-      let less = count_less (reads_cell x.cell) x.number m.guards x there (reads_here x r) in
-      let same = count_same (writes_cell x.cell) x.number m.guards x there (never_writes x x.cell r) in
-      let are = l.reads_are in
-      let most = l.fits.shared in
-      let readers = idle.readers in
-      let some = read_open held place hand m v x t found row row_is r in
-      let none = reading_alone (place row.seq.locker) (held row.seq.locker) v.parks x.cell _ _ _ l (omega (arith, are, some)) in
-      let shown = shares_shown x.cell m.waits v.parks t.waits.single t.waits.shows in
-      let claimed = claims_shown x.cell m.waits v.parks t.waits.single t.waits.shows in
-      let claims = l.fits.locked idle.locked in
-      omega (arith, less, same, are, most, readers, some, none, shown, claimed, claims)
+  free_read r idle = grind (arith, its, count_less, there, reads_here, count_same, never_writes, read_open, reading_alone, shares_shown, claims_shown)
 
   free_write : (q : Phase) → x.writes ≡ true → IsIdle (leave_write q (held row.seq.locker)) → stand_on x.cell (left x Given.Nobody m) ≡ 0
   free_write q w idle =
@@ -63,15 +51,7 @@ module _ {L : Type 0} (held : L → Holders) (place : L → LockerKind) (hand : 
         subst (IsGift x.cell (left x Given.Nobody m)) e (gift ne (listed_hand x.cell _ v.parks g hands.may) (free_write q w (idle_at x.cell _ v.parks g hands.may ne)))
 
   pub gives_read : x.writes ≡ false → (h' : Holders) (s' : Parking) → Hands x.cell (leave_read (held row.seq.locker)) v.parks g h' s' → MayGive x.cell (left x Given.Nobody m) g
-  gives_read r h' s' hands = by g refl where
-    by : (d : Given) → g ≡ d → MayGive x.cell (left x Given.Nobody m) d
-    by Given.Nobody e = tt
-    by (Given.Writer q) e =
-        let ne : g ≢ Given.Nobody = λ z. (let f : Given.Writer q ≡ Given.Nobody = sym e ∙ z in cc) in
-        subst (IsGift x.cell (left x Given.Nobody m)) e (gift ne (listed_hand x.cell _ v.parks g hands.may) (free_read r (idle_at x.cell _ v.parks g hands.may ne)))
-    by Given.Readers e =
-        let ne : g ≢ Given.Nobody = λ z. (let f : Given.Readers ≡ Given.Nobody = sym e ∙ z in cc) in
-        subst (IsGift x.cell (left x Given.Nobody m)) e (gift ne (listed_hand x.cell _ v.parks g hands.may) (free_read r (idle_at x.cell _ v.parks g hands.may ne)))
+  gives_read r h' s' hands = grind (arith, gift, listed_hand, free_read, idle_at)
 
 -- the same, at the cell that the code names
 pub gives_read_at : {L : Type 0} (held : L → Holders) (place : L → LockerKind) (hand : ℕ) (m : Standing) (v : Rows L) (x : Guard) (t : Stands held place hand m v) (found : numbered hand m.guards ≡ Some x) (c : ℕ) → x.cell ≡ c → (row : CellRow L) → slice_get v.cells.items c ≡ Some row → (g : Given) → x.writes ≡ false
@@ -114,13 +94,7 @@ module _ {L : Type 0} (held : L → Holders) (place : L → LockerKind) (m : Sta
         rw waits (omega (arith, reads, writes, readers, most, unclaimed, shown, claimed))
 
     gift_closed : g ≢ Given.Nobody → IsGift c n g
-    gift_closed ne =
-        let listed : IsListed c v.parks g = listed_hand c _ v.parks g hands.may in
-        record {
-          parks = ap (λ x. is_parking (cell_at x c).place) plans ∙ parking _ _ v.parks c (cell_at m.plans c).place g here.locked.fits here.placed listed ne;
-          reach = ap (reaches c g) waits ∙ reaches_given c g m.waits v.parks is.rests.stands.waits.shows listed;
-          free = free ne;
-        }
+    gift_closed ne = grind (arith, listed_hand, parking, here, reaches_given, free)
 
     pub gives_closed : MayGive c n g
     gives_closed = by g refl where

@@ -1,8 +1,7 @@
 -- The rows of guards, after one is taken off or opened.
-use Rattle.phase_moves.proofs.Words.{◌≡◌, ◌≢◌, ◌==◌, ◌≤◌, ◌+◌, ◌∙◌, ℕ, List, ◌∷◌, ap, sym, refl, arith, Bool, true, false, cond, None, Some, inl, inr, cases_eq, Option, count}
-use Rattle.phase_moves.proofs.Words.{Guard, numbered, without_guard, reads_cell, writes_cell, Wait, wait_of, wake_reader, wake_writer, wait_woken, found_passes, none_found}
-use Rattle.phase_moves.proofs.Words.{none_counted, count_removed, guard_kept, Given, given_on, changed_of_finding as changed, wait_readers, wait_writer, Standing, slot_row}
-use Rattle.phase_moves.proofs.Words.{target_of}
+use Rattle.phase_moves.proofs.Words.{◌≡◌, ◌≢◌, ◌==◌, ◌≤◌, ◌+◌, ◌∙◌, ℕ, List, ◌∷◌, ap, refl, arith, Bool, true, false, cond, None, Some, cases_eq, Option, count, Guard}
+use Rattle.phase_moves.proofs.Words.{numbered, without_guard, reads_cell, writes_cell, Wait, wait_of, wait_woken, found_passes, none_found, none_counted, count_removed}
+use Rattle.phase_moves.proofs.Words.{guard_kept, Given, given_on, changed_of_finding as changed, wait_readers, wait_writer, Standing, slot_row, target_of}
 
 -- a guard has its number
 pub its_number : (g : ℕ) (gs : List Guard) (x : Guard) → numbered g gs ≡ Some x → x.number ≡ g
@@ -27,11 +26,7 @@ once_with y k gs e one = let none = none_counted (λ (x : Guard). x.number == y.
 
 -- what is left was there
 pub left_there : (g k : ℕ) (gs : List Guard) (x y : Guard) → numbered g gs ≡ Some x → count (λ (z : Guard). z.number == g) gs ≤ 1 → numbered k (without_guard g gs) ≡ Some y → (k ≢ g) × (numbered k gs ≡ Some y)
-left_there g k gs x y e one f =
-    elim (cases_eq k g) [
-      | inl q ↦ (let n : None ≡ Some y = sym (gone g gs x e one) ∙ ap (λ i. numbered i (without_guard g gs)) (sym q) ∙ f in absurd (cc))
-      | inr ne ↦ (ne, sym (guard_kept g k gs ne) ∙ f)
-    ]
+left_there g k gs x y e one f = grind (arith, cases_eq, gone, guard_kept)
 
 -- of a guard on one cell, no test of another is passed
 pub reads_elsewhere : (x : Guard) (d : ℕ) → d ≢ x.cell → reads_cell d x ≡ false
@@ -71,6 +66,4 @@ target_woken : (b : Bool) (w : Wait) → target_of (Some (cond b (wait_woken w) 
 target_woken b w = grind arith
 
 pub target_given : (c : ℕ) (g : Given) (ws : List Wait) (p : ℕ) → target_of (wait_of p (given_on c g ws)) ≡ target_of (wait_of p ws)
-target_given c Given.Nobody ws p = refl
-target_given c (Given.Writer q) ws p = rw (wait_writer q p ws) (target_changed (wake_writer q) (λ w. target_woken _ w) (wait_of p ws))
-target_given c Given.Readers ws p = rw (wait_readers c p ws) (target_changed (wake_reader c) (λ w. target_woken _ w) (wait_of p ws))
+target_given c g ws p = grind (arith, wait_writer, target_changed, target_woken, wait_readers)

@@ -1,7 +1,7 @@
 -- What the row of a guard in hand tells, and when the hand is empty.
 use Rattle.phase_moves.proofs.Words.{◌≡◌, ◌≤◌, ◌∙◌, ℕ, length, ap, sym, refl, arith, Bool, true, false, None, Some, ◌<◌, set, subst, Option, Holders, Given, LockerKind}
-use Rattle.phase_moves.proofs.Words.{ReadTicket, WriteTicket, Guard, numbered, without_guard, guard_of, own, Rows, Standing, left_of_standing as left, Stands, guard_row}
-use Rattle.phase_moves.proofs.Words.{Rests, Pushes, IsTaken, TakenAs, slice_get, if◌then◌else◌, GuardRow, is_row_of}
+use Rattle.phase_moves.proofs.Words.{ReadTicket, WriteTicket, Guard, numbered, guard_of, own, Rows, Standing, left_of_standing as left, Stands, guard_row, Rests, Pushes}
+use Rattle.phase_moves.proofs.Words.{IsTaken, TakenAs, slice_get, if◌then◌else◌, GuardRow, is_row_of}
 use Rattle.phase_moves.proofs.{Guards.gone, Guards.its_number, Guards.found_itself, Opening.rehand, Opening.taken}
 
 -- the row of a read guard, and of a write guard
@@ -30,13 +30,11 @@ module _ {L : Type 0} (held : L → Holders) (place : L → LockerKind) where
 
   -- the row of a step that holds no guard is pushed
   pub pushed_free : (hand : ℕ) (m : Standing) (v new : Rows L) → Stands held place hand m v → numbered hand m.guards ≡ None → Pushes held place v GuardRow.Free new → Rests held place m new
-  pushed_free hand m v new t none push =
-      push m (rehand held place hand (length v.guards.items) m v t none (omega arith)) (ap guard_row (sym (beyond hand (length v.guards.items) m v t none (omega arith))))
+  pushed_free hand m v new t none push = grind (arith, rehand, beyond)
 
   -- after a guard is given back
   pub left_empty : (hand : ℕ) (m : Standing) (v : Rows L) (x : Guard) (g : Given) → Stands held place hand m v → numbered hand m.guards ≡ Some x → numbered hand (left x g m).guards ≡ None
-  left_empty hand m v x g t found =
-      ap (λ i. numbered i (without_guard x.number m.guards)) (sym (its_number hand m.guards x found)) ∙ gone x.number m.guards x (found_itself hand m.guards x found) (t.guards.once x.number)
+  left_empty hand m v x g t found = grind (arith, its_number, gone, found_itself)
 
 -- ---- what the row of a guard tells of the guard
 

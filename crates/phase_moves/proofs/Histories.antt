@@ -1,12 +1,10 @@
 -- What stands open after one step more is a move of what stood open.
 use Rattle.phase_moves.proofs.Words.{◌≡◌, ◌≢◌, ◌∙◌, ℕ, List, [], ◌∷◌, length, ap, sym, refl, arith, Bool, true, false, None, Some, ◌==◌, Option, Phase, Given, ReadTicket}
-use Rattle.phase_moves.proofs.Words.{WriteTicket, Refusal, CellPlan, Act, Change, Ran, Put, RanIfAsked, registry, owner, ended_turns, finishing, turn_of_section, owner_by}
-use Rattle.phase_moves.proofs.Words.{Guard, guards, numbered, guard_of, own, without_guard, reader, reader_beside, reader_made, writer_made, Event, accepts, Makes}
-use Rattle.phase_moves.proofs.Words.{Finishes_of_deeds as Finishes, replay, content_after_back, back_of_guard, back_of_section, Section, sections, innermost}
-use Rattle.phase_moves.proofs.Words.{without_innermost, Wait, waits, wait_of, without_wait, waits_given_with, cell_concerned_with, cell_of_guard, cell_of_section}
-use Rattle.phase_moves.proofs.Words.{found_passes, given_on, none_without, given_concerned, Lent, Loan, standing, event, answer_of, changed, lending, lent_in, was_used}
-use Rattle.phase_moves.proofs.Words.{Standing, left_of_standing as left, downgraded, cloned, ended, finalized, run_closed, turn_of, writer_of, owned, put, round_looked, Look}
-use Rattle.phase_moves.proofs.Words.{answer_of_look, is_other, Finished, Answer}
+use Rattle.phase_moves.proofs.Words.{WriteTicket, Refusal, CellPlan, Act, Change, Ran, Put, RanIfAsked, registry, owner, ended_turns, finishing, owner_by, Guard, guards}
+use Rattle.phase_moves.proofs.Words.{numbered, guard_of, own, reader, reader_beside, Event, accepts, replay, content_after_back, Section, sections, innermost, Wait, waits}
+use Rattle.phase_moves.proofs.Words.{wait_of, without_wait, waits_given_with, cell_concerned_with, found_passes, given_on, none_without, given_concerned, Lent, Loan, standing}
+use Rattle.phase_moves.proofs.Words.{event, answer_of, changed, lending, lent_in, was_used, Standing, left_of_standing as left, downgraded, cloned, ended, finalized}
+use Rattle.phase_moves.proofs.Words.{run_closed, writer_of, owned, put, round_looked, Look, answer_of_look, is_other, Finished, Answer}
 use Rattle.phase_moves.proofs.Guards.{its_number}
 
 owned_by : (p : ℕ) (x : Guard) (o : Option Guard) → own p o ≡ Some x → (o ≡ Some x) × (x.party ≡ p)
@@ -71,16 +69,10 @@ module _ (cells : List CellPlan) (h : List Event) (p : ℕ) where
       number = its_number g (guards h) x found
 
       pub release_left : (d : Given) → standing cells (event p (Act.Release g) (record { answer = Answer.Done; given = d }) ∷ h) ≡ left x d (standing cells h)
-      release_left d =
-          let given = given_awake (Act.Release g) d x.cell (ap cell_of_guard found) in
-          λ i. record { plans = cells; waits = given i; sections = sections h; guards = without_guard (sym number i) (guards h); content = λ c. content_after_back cells c (back_of_guard (found i)) (replay cells c h); registry = registry cells h; owner = owner h; turns = ended_turns h }
+      release_left d = grind (arith, given_awake, found, number)
 
       pub downgrade_read : (d : Given) → standing cells (event p (Act.Downgrade g) (record { answer = Answer.ReadGuard; given = d }) ∷ h) ≡ downgraded (length h) x d (standing cells h)
-      downgrade_read d =
-          let given = given_awake (Act.Downgrade g) d x.cell (ap cell_of_guard found) in
-          let party = (owned_by p x (numbered g (guards h)) mine).1 in
-          let guards_are = ap (λ o. reader_beside (length h) p o (without_guard g (guards h))) found ∙ (λ i. reader (length h) (sym party i) x.cell ∷ without_guard (sym number i) (guards h)) in
-          λ i. record { plans = cells; waits = given i; sections = sections h; guards = guards_are i; content = λ c. content_after_back cells c (back_of_guard (found i)) (replay cells c h); registry = registry cells h; owner = owner h; turns = ended_turns h }
+      downgrade_read d = grind (arith, given_awake, found, owned_by, number)
 
       pub clone_beside : standing cells (event p (Act.Clone g) (record { answer = Answer.ReadGuard; given = Given.Nobody }) ∷ h) ≡ cloned (length h) x (standing cells h)
       clone_beside =
@@ -95,39 +87,23 @@ module _ (cells : List CellPlan) (h : List Event) (p : ℕ) where
       party = let e = found_passes (λ (x : Section). x.party == p) (sections h) s top in grind (arith, e)
 
       pub made_read : (v : ℕ) (d : Given) (t : ReadTicket) (q : Phase) → standing cells (event p (Act.Made v) (record { answer = Answer.ReadGuard; given = d }) ∷ h) ≡ ended (length h) s (Some v) d (Finished.Read t q) (standing cells h)
-      made_read v d t q =
-          let given = given_awake (Act.Made v) d s.cell (ap cell_of_section top) in
-          let guards_are = ap (λ o. reader_made (length h) p o (guards h)) top ∙ ap (λ r. reader (length h) r s.cell ∷ guards h) (sym party) in
-          λ i. record { plans = cells; waits = given i; sections = without_innermost (sym party i) (sections h); guards = guards_are i; content = λ c. content_after_back cells c (back_of_section (Makes (Some v)) (top i)) (replay cells c h); registry = registry cells h; owner = owner h; turns = ended_turns h }
+      made_read v d t q = grind (arith, given_awake, party)
 
       pub made_write : (v : ℕ) (t : WriteTicket) (q : Phase) → standing cells (event p (Act.Made v) (record { answer = Answer.WriteGuard; given = Given.Nobody }) ∷ h) ≡ ended (length h) s (Some v) Given.Nobody (Finished.Write t q) (standing cells h)
-      made_write v t q =
-          let guards_are = ap (λ o. writer_made (length h) p v o (guards h)) top ∙ ap (λ r. record { number = length h; party = r; cell = s.cell; writes = true; start = s.start; changes = Ran s.is_open (Some v) ∷ [] } ∷ guards h) (sym party) in
-          λ i. record { plans = cells; waits = none_without p ws awake i; sections = without_innermost (sym party i) (sections h); guards = guards_are i; content = λ c. replay cells c h; registry = registry cells h; owner = owner h; turns = ended_turns h }
+      made_write v t q = grind (arith, number, party, none_without)
 
       -- its section is given back at once: where the phase is told, and where the value is shown
       pub made_told : (v : ℕ) (d : Given) (q : Phase) → standing cells (event p (Act.Made v) (record { answer = Answer.Phase q; given = d }) ∷ h) ≡ run_closed s (Some v) d (standing cells h)
-      made_told v d q =
-          let given = given_awake (Act.Made v) d s.cell (ap cell_of_section top) in
-          λ i. record { plans = cells; waits = given i; sections = without_innermost (sym party i) (sections h); guards = guards h; content = λ c. content_after_back cells c (back_of_section (Makes (Some v)) (top i)) (replay cells c h); registry = registry cells h; owner = owner h; turns = ended_turns h }
+      made_told v d q = grind (arith, given_awake, party)
 
       pub made_shown : (v u : ℕ) (d : Given) → standing cells (event p (Act.Made v) (record { answer = Answer.Value u; given = d }) ∷ h) ≡ run_closed s (Some v) d (standing cells h)
-      made_shown v u d =
-          let given = given_awake (Act.Made v) d s.cell (ap cell_of_section top) in
-          λ i. record { plans = cells; waits = given i; sections = without_innermost (sym party i) (sections h); guards = guards h; content = λ c. content_after_back cells c (back_of_section (Makes (Some v)) (top i)) (replay cells c h); registry = registry cells h; owner = owner h; turns = ended_turns h }
+      made_shown v u d = grind (arith, given_awake, party)
 
       pub made_failed : (d : Given) (q : Phase) → standing cells (event p Act.MadeFailed (record { answer = Answer.Failed; given = d }) ∷ h) ≡ ended (length h) s None d (Finished.Failed q) (standing cells h)
-      made_failed d q =
-          let given = given_awake Act.MadeFailed d s.cell (ap cell_of_section top) in
-          λ i. record { plans = cells; waits = given i; sections = without_innermost (sym party i) (sections h); guards = guards h; content = λ c. content_after_back cells c (back_of_section (Makes None) (top i)) (replay cells c h); registry = registry cells h; owner = owner h; turns = ended_turns h }
+      made_failed d q = grind (arith, given_awake, party)
 
       pub final_ended : (fine : Bool) (left : Option ℕ) (d : Given) (q : Phase) → standing cells (event p (finishing fine left) (record { answer = Answer.Phase q; given = d }) ∷ h) ≡ finalized s fine left d (standing cells h)
-      final_ended true left d q =
-          let given = given_awake (Act.Finished left) d s.cell (ap cell_of_section top) in
-          λ i. record { plans = cells; waits = given i; sections = without_innermost (sym party i) (sections h); guards = guards h; content = λ c. content_after_back cells c (back_of_section (Finishes true left) (top i)) (replay cells c h); registry = registry cells h; owner = owner h; turns = turn_of_section (turn_of true) (top i) (ended_turns h) }
-      final_ended false left d q =
-          let given = given_awake (Act.FinishFailed left) d s.cell (ap cell_of_section top) in
-          λ i. record { plans = cells; waits = given i; sections = without_innermost (sym party i) (sections h); guards = guards h; content = λ c. content_after_back cells c (back_of_section (Finishes false left) (top i)) (replay cells c h); registry = registry cells h; owner = owner h; turns = turn_of_section (turn_of false) (top i) (ended_turns h) }
+      final_ended fine left d q = grind (arith, given_awake, party)
 
   -- ---- a step of a party that does not wait, which opens and gives back nothing
 
@@ -154,5 +130,4 @@ module _ (cells : List CellPlan) (h : List Event) (p : ℕ) where
 
     -- a look for the cells that were registered since the last one
     pub exit_looks : wait_of p ws ≡ None → (o : Look) → standing cells (event p Act.Exit (record { answer = answer_of_look o; given = Given.Nobody }) ∷ h) ≡ round_looked (owned p (standing cells h))
-    exit_looks awake (Look.Round r) = λ i. record (round_looked (owned p (standing cells h))) { waits = none_without p ws awake i; owner = owns i }
-    exit_looks awake Look.Closed = λ i. record (round_looked (owned p (standing cells h))) { waits = none_without p ws awake i; owner = owns i }
+    exit_looks awake o = grind (arith, none_without, owns)

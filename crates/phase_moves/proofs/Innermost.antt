@@ -3,7 +3,7 @@ use Rattle.phase_moves.proofs.Words.{◌≡◌, ◌≢◌, ◌==◌, ◌<◌, �
 use Rattle.phase_moves.proofs.Words.{phase_of, IsKnown, Turned, Given, LockerKind, Parking, Fits, IsWriteOpen, rows_handed, Left, cell_at, Content, Change, effect, count}
 use Rattle.phase_moves.proofs.Words.{Section, innermost, without_innermost, runs_in, writes_cell, wait_of, cell_of_section, found_counts, found_passes, count_ended}
 use Rattle.phase_moves.proofs.Words.{innermost_kept, Shows, given_on, IsListed, shows_on, single_on, within_on, CellRow, OpenRun, PartyRow, Rows, Standing, Run, run_in}
-use Rattle.phase_moves.proofs.Words.{reads_in, closed, CountsWaits, seen_at, IsCell, IsLocked, IsExit, AreShown, party_row, open_run, section_of, target_of, IsInnermost}
+use Rattle.phase_moves.proofs.Words.{reads_in, closed, CountsWaits, seen_at, IsCell, IsLocked, IsExit, party_row, open_run, section_of, target_of, IsInnermost}
 use Rattle.phase_moves.proofs.Runs.{none_runs, run_kept, run_top, inside_ended, inside_found}
 use Rattle.phase_moves.proofs.{Lockers.writing_alone, Leaving.sound, Moved.IsMoved, Moved.HasParties, Moved.exit_kept, Moved.parties_set, Places.read_at, Waiting.count_given}
 
@@ -72,10 +72,7 @@ module _ {L : Type 0} (held : L → Holders) (place : L → LockerKind) (m : Sta
       omega (arith, one, less, yes)
 
   runs_beside : (d : ℕ) → d ≢ c → count (runs_in d) (without_innermost s.party m.sections) ≡ count (runs_in d) m.sections
-  runs_beside d ne =
-      let less = ended_runs d in
-      let none : cond {A = ℕ} (runs_in d s) 1 0 ≡ 0 = (let e : (s.cell == d) ≡ false = (let q = is.at in grind (arith, q, ne)) in rw e refl) in
-      omega (arith, less, none)
+  runs_beside d ne = grind (arith, ended_runs)
 
   run_beside : (d : ℕ) → d ≢ c → run_in d (without_innermost s.party m.sections) ≡ run_in d m.sections
   run_beside d ne = run_kept d s.party m.sections s (ap (λ q. innermost q m.sections) its_party ∙ is.found) (λ e. ne (e ∙ is.at))
@@ -92,22 +89,7 @@ module _ {L : Type 0} (held : L → Holders) (place : L → LockerKind) (m : Sta
       λ i. record { plan = cell_at m.plans c; content = m.content c; reads = r i; writes = w i; run = o i }
 
   pub without_moved : (v' : Rows L) {l l' : L} → Left held place c l l' v.parks v'.parks → v'.guards ≡ v.guards → v'.exit ≡ v.exit → v'.parks ≡ v.parks → IsMoved held place c n n m without_it v v'
-  without_moved v' k guards exit parks =
-      let st = is.rests.stands in
-      record {
-        counts = λ d ne. refl;
-        drafts = λ g x e w ne. e;
-        around = λ d ne. (let w = runs_beside d ne in let r = run_beside d ne in λ i. record { plan = cell_at m.plans d; content = m.content d; reads = reads_in d m; writes = count (writes_cell d) m.guards + w i; run = r i });
-        others = k.others;
-        same = k.same;
-        lists = ap (λ (q : Parking). length q.writers) parks;
-        guards = guards;
-        slots = λ g lt. refl;
-        exit = exit_kept (length v.cells.items) m without_it v.exit v'.exit exit refl refl refl st.exit;
-        waits = subst (λ (q : Parking). AreShown (length v.cells.items) m.waits q) (sym parks) st.waits;
-        numbers = st.guards;
-        sections = inside_ended (length v.cells.items) s.party m.sections st.sections;
-      }
+  without_moved v' k guards exit parks = grind (arith, runs_beside, run_beside, exit_kept, inside_ended)
 
   -- the section is gone, in which this happened, and g was given
   module _ (chs : List Change) (g : Given) where
@@ -166,9 +148,7 @@ module _ {L : Type 0} (held : L → Holders) (place : L → LockerKind) (m : Sta
   -- the row of the cell
   pub cell_ended : (v' : Rows L) (row' : CellRow L) (y : Content) (a z : ℕ) → row'.plan ≡ row.plan → row'.run ≡ None → row'.seq.running ≡ None → place row'.seq.locker ≡ place row.seq.locker → row'.value ≡ y.value → IsKnown (phase_of y.phase) → IsLocked (place row'.seq.locker) (held row'.seq.locker) v'.parks c a z y.phase
       → IsCell held place (record { plan = cell_at m.plans c; content = y; reads = a; writes = z; run = None }) v'.parks c row'
-  cell_ended v' row' y a z plan run running kind value known locked =
-      let k0 = cell_here in
-      record { planned = plan ∙ k0.planned; valued = value; known = known; locked = locked; placed = kind ∙ k0.placed; runner = running; runs = run }
+  cell_ended v' row' y a z plan run running kind value known locked = grind (arith, cell_here)
 
   -- the rows of parties
   pub parties_ended : (v' : Rows L) (of of' : PartyRow) → of ≡ get_or v.parties.items p of → v'.parties.items ≡ set v.parties.items p of' → (o : OpenRun) → row.run ≡ Some o → of' ≡ record { waiting = of.waiting; innermost = o.run.outer }

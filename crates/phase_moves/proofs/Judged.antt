@@ -1,11 +1,11 @@
 -- How a call was judged that was not turned back: it keeps what it has, or gives it up, and is barred or admitted by the
 -- record that this leaves.
 use Rattle.phase_moves.proofs.Words.{◌≡◌, ◌<◌, ◌≤◌, ◌∙◌, ℕ, length, ap, sym, subst, refl, arith, Bool, true, false, inl, inr, ◌⊎◌, MatchBool, not, Option, Holders}
-use Rattle.phase_moves.proofs.Words.{most_readers, Given, How, Who, Waiting, LockerKind, Row, LockNature, Attempt, bars, got, Parking, IsSound, claims, row_of, free_row}
-use Rattle.phase_moves.proofs.Words.{freed, left, is_drain_of_rows as is_drain, readers_of, shares, Fits, IsWriteOpen, flagged, open_reads, MayHand, rows_handed, Judged}
-use Rattle.phase_moves.proofs.Words.{Keeps, GivesUp, MayWait, given_up, keeps, hands_fit, by_bool, freed_size, gives_up_freed, keeps_fit, write_has_no_reader, between_only}
+use Rattle.phase_moves.proofs.Words.{most_readers, Given, How, Who, Waiting, LockerKind, LockNature, Attempt, bars, got, Parking, IsSound, claims, row_of, free_row, freed}
+use Rattle.phase_moves.proofs.Words.{left, is_drain_of_rows as is_drain, readers_of, shares, Fits, IsWriteOpen, flagged, open_reads, MayHand, rows_handed, Judged, Keeps}
+use Rattle.phase_moves.proofs.Words.{GivesUp, MayWait, given_up, keeps, hands_fit, by_bool, freed_size, gives_up_freed, keeps_fit, write_has_no_reader, between_only}
 use Rattle.phase_moves.proofs.Words.{given_up_reads, hands_reads, hands_writes, kept_open, kept_writes, left_writes, Ask, Begun, nature_of, wake_of, Begins, Resumes}
-use Rattle.phase_moves.proofs.Words.{TurnsBack, MakesAttempt, MakesAnother, TriesLock, begun_by, begun_of, is_cyclic, Enters}
+use Rattle.phase_moves.proofs.Words.{TriesLock, begun_by, begun_of, is_cyclic, Enters}
 use Rattle.phase_moves.proofs.{Attempts.free_same, Attempts.got_to, Attempts.writes_begun, Lockers.handed_few, Lockers.hands_phase}
 
 -- ---- how many read then
@@ -100,40 +100,7 @@ module _ (k : LockerKind) (who : Who) (ask : Ask) (h : Holders) (s : Parking) wh
   module _ (running : Option ℕ) (r : Begun × Given) (h' : Holders) (s' : Parking) (calm : is_cyclic ask.want who.party running ≡ false) (fits : Fits k h s who.cell) where
     -- a call of a party that does not wait
     first_met : row_of s who.party ≡ free_row → Begins k who ask running h s r h' s' → IsMetBy r.0 r.1 h'
-    first_met free d = by (is_cyclic ask.want who.party running) ask.fast refl calm d where
-      -- nothing was given up
-      as_judged : (b : Begun) → JudgedSo true h b h' → IsMetBy b Given.Nobody h'
-      as_judged b j =
-          record {
-            how = inr (record {
-              dropped = ap (λ (x : Row). keeps x.waiting wanted h) free ∙ none_kept wanted h;
-              mid = h;
-              rows = s;
-              rows_are = sym (free_same who.party s free);
-              may = tt;
-              fits = fits;
-              reads = refl;
-              writes = λ o. o;
-              only = λ o. o;
-              fresh = true;
-              judged = j.judged;
-            });
-            few = j.few;
-            apart = λ z. apart_so Given.Nobody h h' s (sym (free_same who.party s free)) fits refl (λ o. o) (j.free z);
-          }
-
-      tried : ask.fast ≡ true → TriesLock who ask h s r h' s' → IsMetBy r.0 r.1 h'
-      tried fast a = subst (λ g. IsMetBy r.0 g h') (sym (ap (λ (x : Begun × Given). x.1) a.answer)) (as_judged r.0 (tried_so r h' s' fast a))
-
-      made : ask.fast ≡ false → MakesAttempt k who ask h s r h' s' → IsMetBy r.0 r.1 h'
-      made slow a =
-          subst (λ b. IsMetBy b r.1 h') (sym a.answer)
-          (subst (λ g. IsMetBy (begun_by who ask h.phase a.attempt) g h') (sym a.locks.given) (as_judged (begun_by who ask h.phase a.attempt) (judged_so true h s a.locks.nature a.attempt h' s' slow a.locks.allowed refl a.locks.judged)))
-
-      by : (c f : Bool) → ask.fast ≡ f → c ≡ false → MatchBool c (TurnsBack h s r h' s') (MatchBool f (TriesLock who ask h s r h' s') (MakesAttempt k who ask h s r h' s')) → IsMetBy r.0 r.1 h'
-      by true f q e d = absurd (cc)
-      by false true q e d = tried q d
-      by false false q e d = made q d
+    first_met free d = grind (arith, none_kept, free_same, apart_so, tried_so, judged_so)
 
     module _ (cell : who.cell < length s.readers) (party : who.party < length s.rows) (sound : IsSound s) (sound_then : IsSound (freed who.party s)) (room : length (readers_of (freed who.party s) who.cell) ≤ most_readers) (here : (row_of s who.party).cell ≡ who.cell) (slow : ask.fast ≡ false) where
       abbrev v : Waiting
@@ -197,19 +164,9 @@ module _ (k : LockerKind) (who : Who) (ask : Ask) (h : Holders) (s : Parking) wh
 
       -- a call of a party that waits at the cell
       again_met : Resumes k who ask running h s r h' s' → IsMetBy r.0 r.1 h'
-      again_met d = by (is_cyclic ask.want who.party running) calm d where
-        made : MakesAnother k who ask h s r h' s' → IsMetBy r.0 r.1 h'
-        made a = elim (by_bool (keeps v a.again.nature h) a.again.steps) [
-          | inl j ↦ keeps_met a.again.nature a.attempt a.again.allowed a.answer j.0 j.1
-          | inr j ↦ gives_met a.again.nature a.attempt a.again.allowed a.answer j.0 j.1
-        ]
-
-        by : (c : Bool) → c ≡ false → MatchBool c (TurnsBack h s r h' s') (MakesAnother k who ask h s r h' s') → IsMetBy r.0 r.1 h'
-        by true e d = absurd (cc)
-        by false e d = made d
+      again_met d = grind (arith, by_bool, keeps_met, gives_met)
 
     -- a call of a party that waits at the cell, or does not wait
     pub met_by : (waits : Bool) → (waits ≡ true → ask.fast ≡ false) → MatchBool waits ((row_of s who.party).cell ≡ who.cell) (row_of s who.party ≡ free_row) → who.cell < length s.readers → who.party < length s.rows → IsSound s → IsSound (freed who.party s) → length (readers_of (freed who.party s) who.cell) ≤ most_readers
         → Enters waits k who ask running h s r h' s' → IsMetBy r.0 r.1 h'
-    met_by true slow here cell party sound sound_then room d = again_met cell party sound sound_then room here (slow refl) d
-    met_by false slow free cell party sound sound_then room d = first_met free d
+    met_by waits slow here cell party sound sound_then room d = grind (arith, again_met, first_met)

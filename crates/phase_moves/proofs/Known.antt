@@ -1,26 +1,18 @@
 -- The phases that a cell can have are known: they have no bit above the eight flags.
-use Rattle.phase_moves.proofs.Words.{ℕ, ◌<◌, List, [], ◌∷◌, arith, Bool, true, false, None, Some, is_finalizable, tolerance_of, Option, and_le_l, or_of_8, ◌==◌, ◌^◌, ◌-◌}
-use Rattle.phase_moves.proofs.Words.{if◌then◌else◌, without_flags, IsKnown, phase_of, final_outcome, flags_finalized, flags_reached, flags_staying, initialization_flags}
-use Rattle.phase_moves.proofs.Words.{outcome, registration, CellPlan, Want, Calls, Turns, flags_kept, phase_reached, NoRun, Content, Change, Ran, Asked, Put, RanIfAsked}
-use Rattle.phase_moves.proofs.Words.{Ended, asks_to_lend, content_after, content_of_run, effect, is_declined, stays_in}
+use Rattle.phase_moves.proofs.Words.{ℕ, ◌<◌, List, [], ◌∷◌, arith, Bool, true, false, None, Some, is_finalizable, tolerance_of, Option, and_le_l, or_of_8, if◌then◌else◌}
+use Rattle.phase_moves.proofs.Words.{IsKnown, phase_of, final_outcome, flags_finalized, flags_reached, flags_staying, outcome, CellPlan, Want, flags_kept, phase_reached}
+use Rattle.phase_moves.proofs.Words.{NoRun, Content, Change, Ran, Asked, Put, RanIfAsked, Ended, asks_to_lend, content_after, content_of_run, effect, is_declined, stays_in}
 
 -- the flags that stay beside those of a run
 staying_known : (is_open : Bool) (p : ℕ) → p < 256 → flags_staying is_open p < 256
-staying_known is_open p k = by (p == 0) where
-  tried : (b : Bool) → registration b < 256
-  tried b = grind arith
-
-  by : (b : Bool) → (if b then registration is_open else without_flags p initialization_flags) < 256
-  by true = tried is_open
-  by false = let less : _ = and_le_l p (2 ^ 32 - 1 - initialization_flags) in omega (arith, less, k)
+staying_known is_open p k = grind (arith, and_le_l)
 
 kept_known : (x : CellPlan) (is_open : Bool) (p : ℕ) → p < 256 → flags_kept x.kind is_open p < 256
 kept_known x is_open p k = elim (is_finalizable x.kind) as (λ b. (if b then flags_staying is_open p else 0) < 256) [ true ↦ staying_known is_open p k | false ↦ omega arith ]
 
 -- those of a section that runs
 pub stays_known : (x : CellPlan) (w : Want) (is_open : Bool) (p : ℕ) → IsKnown (phase_of p) → IsKnown (stays_in x w is_open p)
-stays_known x (Calls k) is_open p known = record { below = kept_known x is_open p known.below }
-stays_known x Turns is_open p known = known
+stays_known x w is_open p known = grind (arith, kept_known)
 
 -- the flags that a run and a finalizer reach
 reached_known : (stays : ℕ) (made : Bool) → stays < 256 → flags_reached stays made < 256

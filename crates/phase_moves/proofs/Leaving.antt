@@ -3,8 +3,8 @@ use Rattle.phase_moves.proofs.Words.{◌≡◌, ◌≢◌, ◌==◌, ◌<◌, �
 use Rattle.phase_moves.proofs.Words.{phase_of, IsKnown, leave_read, leave_write, most_readers, Given, LockerKind, Parking, IsSound, HasFree, readers_of, Fits, IsWriteOpen}
 use Rattle.phase_moves.proofs.Words.{open_reads, Hands, Downgrades, rows_handed, cell_at, count, runs_in, Guard, numbered, without_guard, reader, reads_cell, writes_cell}
 use Rattle.phase_moves.proofs.Words.{found_counts, guard_kept, Shows, given_on, IsListed, shows_on, single_on, within_on, listed_hand, listed_share, sound_of, CellRow, Draft}
-use Rattle.phase_moves.proofs.Words.{Rows, Standing, left_of_standing as left, downgraded, reads_in, writes_in, seen_by, run_in, runner_of, CountsWaits, draft_of, Seen}
-use Rattle.phase_moves.proofs.Words.{seen_at, IsCell, IsLocked, Stands, slot_row, party_row, open_run, Left, IsReader, IsWriter, write_has_no_reader}
+use Rattle.phase_moves.proofs.Words.{Rows, Standing, left_of_standing as left, downgraded, reads_in, writes_in, seen_by, run_in, CountsWaits, draft_of, Seen, seen_at, IsCell}
+use Rattle.phase_moves.proofs.Words.{IsLocked, Stands, slot_row, party_row, Left, IsReader, IsWriter, write_has_no_reader}
 use Rattle.phase_moves.proofs.Guards.{its_number, found_itself, gone, once_without, left_there, reads_elsewhere, writes_elsewhere, writes_here, reads_here, never_reads}
 use Rattle.phase_moves.proofs.Guards.{never_writes, count_same, count_less, slots_same, target_given}
 use Rattle.phase_moves.proofs.Lockers.{locked_read, locked_write, locked_down, writing_alone, hands_writers, downgrades_writers}
@@ -38,11 +38,7 @@ module _ {L : Type 0} (held : L → Holders) (place : L → LockerKind) (hand : 
 
   -- other cells are as they were
   around : (g : Given) (d : ℕ) → d ≢ x.cell → seen_at d (left x g m) ≡ seen_at d m
-  around g d ne =
-      let a = content_beside g d ne in
-      let r = count_same (reads_cell d) x.number m.guards x itself (reads_elsewhere x d ne) in
-      let w = count_same (writes_cell d) x.number m.guards x itself (writes_elsewhere x d ne) in
-      λ i. record { plan = cell_at m.plans d; content = a i; reads = r i; writes = w i + count (runs_in d) m.sections; run = run_in d m.sections }
+  around g d ne = grind (arith, content_beside, count_same, itself, reads_elsewhere, writes_elsewhere)
 
   -- a guard that is left was there
   pub still_there : (g : Given) (j : ℕ) (y : Guard) → numbered j (left x g m).guards ≡ Some y → (j ≢ x.number) × (numbered j m.guards ≡ Some y)
@@ -92,16 +88,11 @@ module _ {L : Type 0} (held : L → Holders) (place : L → LockerKind) (hand : 
 
   -- a read guard is open at the locker
   pub read_open : x.writes ≡ false → 0 < open_reads (held row.seq.locker) v.parks x.cell
-  read_open r =
-      let some = found_counts (λ (z : Guard). z.number == x.number) (reads_cell x.cell) m.guards x there (reads_here x r) in
-      let are = its_cell.locked.reads_are in
-      omega (arith, some, are)
+  read_open r = grind (arith, found_counts, there, reads_here, its_cell)
 
   -- and so is a write guard
   pub write_open : x.writes ≡ true → IsWriteOpen (held row.seq.locker) v.parks x.cell
-  write_open w =
-      let some = found_counts (λ (z : Guard). z.number == x.number) (writes_cell x.cell) m.guards x there (writes_here x w) in
-      its_cell.locked.write_is (omega (arith, some))
+  write_open w = grind (arith, found_counts, there, writes_here, its_cell)
 
   -- what is published after a read guard is given back
   kept_back : (g : Given) → x.writes ≡ false → (left x g m).content x.cell ≡ m.content x.cell
@@ -155,20 +146,7 @@ module _ {L : Type 0} (held : L → Holders) (place : L → LockerKind) (hand : 
     pub write_gone : (g : Given) (row' : CellRow L) (s' : Parking) (r : ℕ) → row'.plan ≡ row.plan → row'.value ≡ (seen_by m x).value → row'.run ≡ row.run → row'.seq.running ≡ row.seq.running → place row'.seq.locker ≡ place row.seq.locker
         → IsLocked (place row'.seq.locker) (held row'.seq.locker) s' x.cell r 0 (seen_by m x).phase
         → IsCell held place (record { plan = cell_at m.plans x.cell; content = (left x g m).content x.cell; reads = r; writes = 0; run = run_in x.cell m.sections }) s' x.cell row'
-    write_gone g row' s' r plan value run running stays locked =
-        let k0 = its_cell in
-        let seen = seen_back g w in
-        let none = no_run in
-        subst (λ (z : Seen). IsCell held place z s' x.cell row') (λ i. record { plan = cell_at m.plans x.cell; content = sym seen i; reads = r; writes = 0; run = sym none i })
-        (record {
-          planned = plan ∙ k0.planned;
-          valued = value;
-          known = effect_known (cell_at m.plans x.cell) x.changes (m.content x.cell) k0.known;
-          locked = locked;
-          placed = stays ∙ k0.placed;
-          runner = running ∙ k0.runner ∙ ap runner_of none;
-          runs = run ∙ k0.runs ∙ ap (λ o. open_run (cell_at m.plans x.cell) x.cell (m.content x.cell).phase o) none;
-        })
+    write_gone g row' s' r plan value run running stays locked = grind (arith, its_cell, seen_back, no_run, effect_known)
 
     -- the lock is given back
     pub write_back : (g : Given) (row' : CellRow L) (s' : Parking) (q : Phase) → row'.plan ≡ row.plan → q ≡ phase_of (seen_by m x).phase → row'.value ≡ (seen_by m x).value → row'.run ≡ row.run → row'.seq.running ≡ row.seq.running
@@ -192,8 +170,7 @@ module _ {L : Type 0} (held : L → Holders) (place : L → LockerKind) (hand : 
 
 -- the rows of parties stay
 pub parties_left : {L : Type 0} (held : L → Holders) (place : L → LockerKind) (hand : ℕ) (m : Standing) (v v' : Rows L) (x : Guard) → Stands held place hand m v → v'.parties ≡ v.parties → (g : Given) → HasParties held place (left x g m) v v'
-parties_left held place hand m v v' x t parties g =
-    parties_same held place hand m (left x g m) v v' t parties (λ p. ap (λ w. record { waiting = w; innermost = (party_row m p).innermost }) (target_given x.cell g m.waits p))
+parties_left held place hand m v v' x t parties g = grind (arith, parties_same, target_given)
 
 -- ---- the moves
 

@@ -1,8 +1,8 @@
 -- The value of a cell is lent.
 use Rattle.phase_moves.proofs.Words.{◌≡◌, ◌≢◌, ◌==◌, ◌<◌, ◌≤◌, ◌+◌, ◌∙◌, ℕ, List, [], ◌∷◌, length, set, get_or, ap, sym, subst, refl, arith, Bool, true, false, Some, inl, inr}
-use Rattle.phase_moves.proofs.Words.{cases_eq, cases_lt, slice_get, ◌⊎◌, not, if◌then◌else◌, Holders, IsKnown, number, phase_of, admit_write, bars_write, leave_write}
-use Rattle.phase_moves.proofs.Words.{most_readers, Given, LockerKind, Fits, IsWriteOpen, KeepsFit, NobodyParked, open_reads, Hands, MayHand, rows_handed, Left, OthersStay}
-use Rattle.phase_moves.proofs.Words.{Parking, SameSize, claims, readers_of, others_refl, lends_value, CellPlan, Content, Change, effect, Guard, numbered, count, cell_at, Wait}
+use Rattle.phase_moves.proofs.Words.{cases_eq, cases_lt, slice_get, ◌⊎◌, not, if◌then◌else◌, Holders, IsKnown, phase_of, admit_write, bars_write, leave_write, most_readers}
+use Rattle.phase_moves.proofs.Words.{Given, LockerKind, Fits, IsWriteOpen, KeepsFit, NobodyParked, open_reads, Hands, MayHand, rows_handed, Left, OthersStay, Parking}
+use Rattle.phase_moves.proofs.Words.{SameSize, claims, readers_of, others_refl, lends_value, CellPlan, Content, Change, effect, Guard, numbered, count, cell_at, Wait}
 use Rattle.phase_moves.proofs.Words.{drains_on, shares_read, shares_write, waits_at, claims_shown, shares_shown, Lent, Loan, Published, CellRow, Rows, Finds, IsFound}
 use Rattle.phase_moves.proofs.Words.{IsLending, IsLent, changed, changes_lent, content_of, in_use, lent_in, Standing, reads_in, writes_in, run_in, seen_at, IsCell, IsLocked}
 use Rattle.phase_moves.proofs.Words.{AreShown, Stands, open_run}
@@ -62,10 +62,7 @@ module _ {L : Type 0} (held : L → Holders) (place : L → LockerKind) (hand : 
 
   -- what was read before
   pub none_waits : (first : CellRow L) → first ≡ get_or v.cells.items c first → (0 < first.waiting → ⊥) → row.waiting ≡ 0
-  none_waits first first_is calm =
-      let same : Some first ≡ Some row = sym (read_at v.cells.items c first is.inside first_is) ∙ row_at in
-      let same_row : first ≡ row = cc in
-      no_more row.waiting (λ lt. calm (subst (λ (x : CellRow L). 0 < x.waiting) (sym same_row) lt))
+  none_waits first first_is calm = grind (arith, read_at, row_at, no_more)
 
   -- somebody holds it
   pub held_on : row.waiting ≡ 0 → bars_write (held row.seq.locker) ≡ true → true ≡ in_use c m
@@ -142,10 +139,7 @@ module _ {L : Type 0} (held : L → Holders) (place : L → LockerKind) (hand : 
 
     -- what was published
     was_is : (was : Published) → was.phase ≡ (held l₁).phase → was.value ≡ row.value → content_of was ≡ m.content c
-    was_is was e f =
-        let q : number was.phase ≡ (m.content c).phase = ap number (e ∙ ap (λ (h : Holders). h.phase) tried.1 ∙ here.locked.phase_is) in
-        let u : was.value ≡ (m.content c).value = f ∙ here.valued in
-        λ i. record { phase = q i; value = u i }
+    was_is was e f = grind (arith, here)
 
     module _ (v' : Rows L) (row' : CellRow L) (cells : v'.cells.items ≡ set v.cells.items c row') (guards : v'.guards ≡ v.guards) (parties : v'.parties ≡ v.parties) (exit : v'.exit ≡ v.exit) (plan : row'.plan ≡ row.plan) (calm : row'.waiting ≡ row.waiting) (draft : row'.draft ≡ row.draft) (run : row'.run ≡ row.run) (running : row'.seq.running ≡ row.seq.running)
         (p : Published) (value : row'.value ≡ p.value) (known : IsKnown p.phase) (g : Given) (hands : Hands c (leave_write p.phase (held l₁)) s₁ g (held row'.seq.locker) v'.parks) (reads : open_reads (held row'.seq.locker) v'.parks c ≡ 0) (closed : IsWriteOpen (held row'.seq.locker) v'.parks c → ⊥) (k : Left held place c l₁ row'.seq.locker s₁ v'.parks) where

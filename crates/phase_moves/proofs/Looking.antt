@@ -1,11 +1,10 @@
 -- What the rows tell of what stands open.
 use Rattle.phase_moves.proofs.Words.{◌≡◌, ◌==◌, ◌<◌, ◌∙◌, ℕ, List, length, get_or, ap, sym, subst, refl, arith, Bool, true, false, None, Some, [], ◌&&◌, gets, common_steps}
-use Rattle.phase_moves.proofs.Words.{slice_get, MatchBool, Option, Holders, LockerKind, CellPlan, Guard, guard_of, numbered, own, cell_at, Section, innermost}
-use Rattle.phase_moves.proofs.Words.{generates_for, runs_in, cell_of_section, wait_of, Running, CellRow, Draft, GuardRow, PartyRow, Rows, Standing, answered, changes_at}
-use Rattle.phase_moves.proofs.Words.{content_back, run_in, runner_of, seen_by, guard_row, party_row, CountsWaits, KeepsDraft, AreInside, AreNumbered, AreShown, AreSized}
-use Rattle.phase_moves.proofs.Words.{IsCell, IsExit, Stands, seen_at, held_of, run_kept, running_kept, running_of, shown_by, value_drafted, value_kept, Rests, find, Phase}
-use Rattle.phase_moves.proofs.Words.{phase_of, runs, Want, initializes, seeks, seeks_run, Change, effect, Last, none_without, Target, IsMet, IsAttempting, IsTook}
-use Rattle.phase_moves.proofs.Words.{MayWait_of_tries as MayWait, WaitsAt, ask_of, Given, Answer, Taken}
+use Rattle.phase_moves.proofs.Words.{slice_get, MatchBool, Option, Holders, LockerKind, CellPlan, Guard, guard_of, numbered, own, cell_at, Section, innermost, cell_of_section}
+use Rattle.phase_moves.proofs.Words.{wait_of, Running, CellRow, Draft, GuardRow, PartyRow, Rows, Standing, answered, changes_at, content_back, run_in, runner_of, seen_by}
+use Rattle.phase_moves.proofs.Words.{guard_row, party_row, CountsWaits, KeepsDraft, AreInside, AreNumbered, AreShown, AreSized, IsCell, IsExit, Stands, seen_at, held_of}
+use Rattle.phase_moves.proofs.Words.{run_kept, running_kept, running_of, shown_by, value_drafted, value_kept, Rests, Phase, phase_of, runs, Want, initializes, seeks}
+use Rattle.phase_moves.proofs.Words.{seeks_run, Change, effect, none_without, Target, IsMet, IsAttempting, IsTook, MayWait_of_tries as MayWait, WaitsAt, ask_of, Given, Taken}
 use Rattle.phase_moves.proofs.{Innermost.row_run, Places.read_at, Runs.inside_found, Hand.row_shown, Admitting.runs_same, Admitting.turned_so, Asked.none_sought}
 
 is_there : {X : Type 0} (xs : List X) (i : ℕ) → i < length xs → slice_get xs i ≡ None → ⊥
@@ -61,14 +60,7 @@ module _ {L : Type 0} (held : L → Holders) (place : L → LockerKind) (m : Sta
 
 -- one that was turned back
 pub met_turned : (m : Standing) (p : ℕ) (t : Target) → (initializes (cell_at m.plans t.cell).kind t.want && runs p (runner_of (run_in t.cell m.sections))) ≡ true → IsMet p t Taken.Cyclic Given.Nobody m
-met_turned m p t turned =
-    record {
-      moment = Last;
-      chosen = false;
-      answered = sym (turned_so (initializes (cell_at m.plans t.cell).kind t.want && generates_for p (find (runs_in t.cell) m.sections)) Answer.Cyclic _ (ap (λ b. initializes (cell_at m.plans t.cell).kind t.want && b) (sym (runs_same p t.cell m.sections)) ∙ turned));
-      gives = refl;
-      wanted = refl;
-    }
+met_turned m p t turned = grind (arith, turned_so, runs_same)
 
 -- it is answered by what the cell holds
 pub met_looked : (m : Standing) (p : ℕ) (t : Target) → seeks (cell_at m.plans t.cell).kind t.want ≡ None → wait_of p m.waits ≡ None → IsMet p t (Taken.Nothing (phase_of (m.content t.cell).phase)) Given.Nobody m

@@ -2,13 +2,13 @@
 use Rattle.phase_moves.proofs.Words.{◌≡◌, ◌≢◌, ◌<◌, ◌∙◌, ℕ, List, length, ap, sym, subst, refl, arith, Bool, true, false, None, Some, inl, inr, ◌&&◌, ◌||◌, cases_lt, ◌⊎◌}
 use Rattle.phase_moves.proofs.Words.{MatchBool, if◌then◌else◌, nat_lt, find, Option, Holders, has, initialized, number, Registry, Given, How, Who, LockerKind, LockNature}
 use Rattle.phase_moves.proofs.Words.{bars, got, Parking, row_of, freed, MayHand, MayShare, rows_handed, MayWait, given_up, keeps as row_keeps, Ask, Sought, Begun, asks_run}
-use Rattle.phase_moves.proofs.Words.{run_sought, nature_of, shall_init, wake_of, begun_of, is_cyclic, is_run, flags_refused, is_refused, CellPlan, Turns}
-use Rattle.phase_moves.proofs.Words.{answer_admitted, answer_barred, answer_of_attempt, drains_by, way_parked, is_accessible, is_owned, initializes, is_fast, wakes_as}
-use Rattle.phase_moves.proofs.Words.{Content, count, is_barred, keeps_of_holds as keeps, wants_to_write, cell_at, tolerance_of, First, Last, generates_for, runs_in, Wait}
-use Rattle.phase_moves.proofs.Words.{drains_on, is_drain, wait_of, without_wait, most_parties, IsListed, given_on, listed_hand, listed_share, claims_shown, shares_shown}
-use Rattle.phase_moves.proofs.Words.{Target, registry_for, IsGift, MayGive, stand_on, GivesDown, GivesFirst, GivesLast, IsMet, IsOf, IsReaching, answer_taken, holding_in}
-use Rattle.phase_moves.proofs.Words.{keeps_in, meets, wanted_in, writers_in, Standing, answered, changes_at, content_tried, reads_in, run_in, runner_of, writes_in, AreShown}
-use Rattle.phase_moves.proofs.Words.{IsLocked, kind_at, is_quick, taken_of, Answer}
+use Rattle.phase_moves.proofs.Words.{run_sought, nature_of, shall_init, wake_of, begun_of, is_cyclic, is_run, flags_refused, is_refused, CellPlan, Turns, answer_admitted}
+use Rattle.phase_moves.proofs.Words.{answer_barred, answer_of_attempt, drains_by, way_parked, is_accessible, is_owned, initializes, is_fast, wakes_as, Content, count}
+use Rattle.phase_moves.proofs.Words.{is_barred, keeps_of_holds as keeps, wants_to_write, cell_at, tolerance_of, First, Last, generates_for, runs_in, Wait, drains_on, is_drain}
+use Rattle.phase_moves.proofs.Words.{wait_of, without_wait, most_parties, IsListed, given_on, listed_hand, listed_share, claims_shown, shares_shown, Target, registry_for}
+use Rattle.phase_moves.proofs.Words.{IsGift, MayGive, stand_on, GivesDown, GivesFirst, GivesLast, IsMet, IsOf, IsReaching, answer_taken, holding_in, keeps_in, meets}
+use Rattle.phase_moves.proofs.Words.{wanted_in, writers_in, Standing, answered, changes_at, content_tried, reads_in, run_in, runner_of, writes_in, AreShown, IsLocked, kind_at}
+use Rattle.phase_moves.proofs.Words.{is_quick, taken_of, Answer}
 use Rattle.phase_moves.proofs.Asked.{IsAsked, asked_left, declines_same, own_same, wakes_same, wanted_same}
 use Rattle.phase_moves.proofs.Barring.{barred_same, locked_same, misses_due, readers_same, row_kept, waits_due}
 use Rattle.phase_moves.proofs.Judged.{IsBarred, IsClear, IsJudged, IsKept, IsWaiting}
@@ -93,9 +93,7 @@ module _ (n : ℕ) (k : LockerKind) (h : Holders) (s : Parking) (m : Standing) (
     own_no = sym (own_same x t.want ask asked (generates_for p (find (runs_in t.cell) m.sections))) ∙ ap (λ b. run_sought ask.want && b) (sym (runs_same p t.cell m.sections)) ∙ calm
 
     kept_due : (e : Begun) (g : Given) (ws : List Wait) → IsKept k who ask h s e g → IsDue (begun_settled ask o h.phase e) ws false
-    kept_due e g ws kept =
-        admitted_is e kept.begins
-        ∙ sym (turned_no (initializes x.kind t.want && generates_for p (find (runs_in t.cell) m.sections)) (keeps_in p t.cell t.want m) (is_barred wanted (holding_in t.cell ws m)) Answer.Cyclic (answer_barred (is_fast t.want) x.place (way_parked x.kind t.want (drains_by wanted (holding_in t.cell ws m) false))) (answer_admitted x.kind (tolerance_of x) t.cell m.registry.is_open t.want y) own_no (sym kept_is ∙ kept.kept))
+    kept_due e g ws kept = grind (arith, admitted_is, turned_no, own_no, kept_is)
 
     judged_due : (e : Begun) (g : Given) → (j : IsJudged k who ask h s e g) → IsDue (begun_settled ask o h.phase e) (given_on t.cell g others) (waits_by e)
     judged_due e g j = by (bars j.mid (nature_of ask h.phase)) refl j.judged where

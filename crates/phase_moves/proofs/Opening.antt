@@ -1,6 +1,6 @@
 -- A guard is opened, put into its row, and taken out of it.
-use Rattle.phase_moves.proofs.Words.{◌≡◌, ◌≢◌, ◌==◌, ◌<◌, ◌≤◌, ◌+◌, ◌∙◌, ℕ, List, [], ◌∷◌, ◌++◌, length, set, ap, sym, subst, refl, arith, Bool, true, false, None, Some}
-use Rattle.phase_moves.proofs.Words.{inl, inr, length-set, cases_eq, cases_lt, common_steps, gets, slice_get, ◌⊎◌, if◌then◌else◌, Option, Holders, LockerKind, Section, Guard}
+use Rattle.phase_moves.proofs.Words.{◌≡◌, ◌≢◌, ◌==◌, ◌<◌, ◌≤◌, ◌+◌, ◌∙◌, ℕ, List, [], ◌∷◌, ◌++◌, length, set, ap, sym, subst, refl, arith, Bool, true, false, None, Some, inl}
+use Rattle.phase_moves.proofs.Words.{inr, length-set, cases_eq, cases_lt, common_steps, gets, slice_get, ◌⊎◌, if◌then◌else◌, Option, Holders, LockerKind, Section, Guard}
 use Rattle.phase_moves.proofs.Words.{numbered, reader, Change, cell_at, GuardRow, Rows, Standing, guarded, run_in, reads_in, writes_in, writer_asked, opened, Stands, IsCell}
 use Rattle.phase_moves.proofs.Words.{IsExit, AreShown, AreSized, AreInside, seen_at, slot_row, guard_row, Parking, Rests, Who, IsWriteOpen, Begun, BegunStands, begins_write}
 use Rattle.phase_moves.proofs.{Drafts.found_beside, Guards.once_with, Guards.reads_elsewhere, Guards.writes_elsewhere, Moved.IsMoved, Places.slice_get_set_same}
@@ -21,40 +21,7 @@ seen_writer n p c chs m = grind arith
 module _ {L : Type 0} (held : L → Holders) (place : L → LockerKind) where
   -- after a move that left the hand empty, a guard is opened
   pub guard_opened : (c hand hand' n : ℕ) (m m' : Standing) (v v' : Rows L) (y : Guard) → IsMoved held place c hand hand' m m' v v' → y.number ≡ n → y.cell ≡ c → length v.guards.items ≤ n → numbered n m'.guards ≡ None → numbered hand' m'.guards ≡ None → c < length v.cells.items → IsMoved held place c hand n m (guarded y m') v v'
-  guard_opened c hand hand' n m m' v v' y k number at room fresh empty lt =
-      record {
-        around = λ d ne. around d ne ∙ k.around d ne;
-        counts = k.counts;
-        drafts = drafts;
-        others = k.others;
-        same = k.same;
-        lists = k.lists;
-        guards = k.guards;
-        slots = λ g l. slots g l ∙ k.slots g l;
-        exit = record { registry_is = k.exit.registry_is; owner_is = k.exit.owner_is; turns_are = k.exit.turns_are; cells_are = k.exit.cells_are };
-        waits = k.waits;
-        numbers =
-            record {
-              once = λ g. once_with y g m'.guards (ap (λ i. numbered i m'.guards) number ∙ fresh) (k.numbers.once g);
-              in_rows = λ g x e ne. k.numbers.in_rows g x (sym (numbered_with y g m'.guards (λ q. ne (q ∙ number))) ∙ e) (other g x (sym (numbered_with y g m'.guards (λ q. ne (q ∙ number))) ∙ e));
-              in_cells = λ g x e. here g x e (cases_eq g y.number);
-            };
-        sections = k.sections;
-      } where
-        around : (d : ℕ) → d ≢ c → seen_at d (guarded y m') ≡ seen_at d m'
-        around d ne = let r = reads_elsewhere y d (λ e. ne (e ∙ at)) in let w = writes_elsewhere y d (λ e. ne (e ∙ at)) in rw (r, w) refl
-
-        slots : (g : ℕ) → g < length v.guards.items → slot_row n (guarded y m') g ≡ slot_row hand' m' g
-        slots g l = grind arith
-
-        drafts : (g : ℕ) (x : Guard) → numbered g (y ∷ m'.guards) ≡ Some x → x.writes ≡ true → x.cell ≢ c → numbered g m.guards ≡ Some x
-        drafts g x e w ne = elim (found_beside y g m'.guards x e) [ inl q ↦ absurd (ne (ap (λ (z : Guard). z.cell) (sym q) ∙ at)) | inr f ↦ k.drafts g x f w ne ]
-
-        other : (g : ℕ) (x : Guard) → numbered g m'.guards ≡ Some x → g ≢ hand'
-        other g x e = λ q. let n : None ≡ Some x = sym empty ∙ ap (λ i. numbered i m'.guards) (sym q) ∙ e in absurd (cc)
-
-        here : (g : ℕ) (x : Guard) → numbered g (y ∷ m'.guards) ≡ Some x → (g ≡ y.number) ⊎ (g ≢ y.number) → x.cell < length v.cells.items
-        here g x e f = grind arith
+  guard_opened c hand hand' n m m' v v' y k number at room fresh empty lt = grind (arith, once_with, numbered_with, cases_eq, reads_elsewhere, writes_elsewhere, found_beside)
 
   -- only the rows of guards change
   reslotted : (hand n : ℕ) (m : Standing) (v v' : Rows L) → Stands held place hand m v → v'.cells ≡ v.cells → v'.parties ≡ v.parties → v'.parks ≡ v.parks → v'.exit ≡ v.exit

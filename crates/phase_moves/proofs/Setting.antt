@@ -1,8 +1,8 @@
 -- The holder of a write guard sets a value.
-use Rattle.phase_moves.proofs.Words.{◌≡◌, ◌≢◌, ◌==◌, ◌<◌, ◌≤◌, ◌+◌, ◌∙◌, ℕ, List, [], ◌∷◌, length, set, get_or, ap, sym, subst, refl, arith, None, Some, inl, inr, cases_eq}
-use Rattle.phase_moves.proofs.Words.{slice_get, ◌⊎◌, if◌then◌else◌, Holders, LockerKind, Parking, OthersStay, others_refl, count, cell_at, runs_in, Guard, numbered, put_in}
-use Rattle.phase_moves.proofs.Words.{writes_cell, with_value, numbered_put, numbered_put_other, reads_put, writes_put, CellRow, Draft, Rows, Standing, put, run_in, seen_by}
-use Rattle.phase_moves.proofs.Words.{KeepsDraft, draft_of, guard_row, Seen, seen_at, slot_row, AreShown, IsCell, Stands, Rests, IsOpenWriter, GuardRow}
+use Rattle.phase_moves.proofs.Words.{◌≡◌, ◌≢◌, ◌==◌, ◌<◌, ◌≤◌, ◌∙◌, ℕ, List, [], ◌∷◌, length, set, get_or, ap, sym, subst, refl, arith, None, Some, inl, inr, cases_eq}
+use Rattle.phase_moves.proofs.Words.{slice_get, ◌⊎◌, Holders, LockerKind, Parking, OthersStay, others_refl, count, Guard, numbered, put_in, writes_cell, with_value}
+use Rattle.phase_moves.proofs.Words.{numbered_put, numbered_put_other, reads_put, writes_put, CellRow, Draft, Rows, Standing, put, seen_by, KeepsDraft, draft_of, Seen}
+use Rattle.phase_moves.proofs.Words.{seen_at, slot_row, AreShown, IsCell, Stands, Rests, IsOpenWriter}
 use Rattle.phase_moves.proofs.{Drafts.alone, Guards.found_itself, Guards.its_number, Guards.slots_same, Moved.IsMoved, Moved.moved, Moved.exit_kept, Moved.parties_same}
 use Rattle.phase_moves.proofs.Places.{read_at}
 
@@ -18,10 +18,7 @@ module _ {L : Type 0} (held : L → Holders) (place : L → LockerKind) (m : Sta
 
   -- a guard with a number has it still: it is that of the value, or another
   found_put : (j : ℕ) (y : Guard) → numbered j (put_in g value m.guards) ≡ Some y → ((j ≡ g) × (with_value value x ≡ y)) ⊎ ((j ≢ g) × (numbered j m.guards ≡ Some y))
-  found_put j y e = elim (cases_eq j g) [
-    | inl q ↦ inl (let f : Some (with_value value x) ≡ Some y = sym (numbered_put g value m.guards x is.found) ∙ ap (λ i. numbered i (put_in g value m.guards)) (sym q) ∙ e in (q, (cc)))
-    | inr ne ↦ inr (ne, sym (numbered_put_other g j value m.guards ne) ∙ e)
-  ]
+  found_put j y e = grind (arith, cases_eq, with_value, numbered_put, numbered_put_other)
 
   -- it was there, on its cell
   number_put : (j : ℕ) (y : Guard) → numbered j (put_in g value m.guards) ≡ Some y → (P : ℕ → Type 0) → ((z : Guard) → numbered j m.guards ≡ Some z → P z.cell) → P y.cell
@@ -35,16 +32,10 @@ module _ {L : Type 0} (held : L → Holders) (place : L → LockerKind) (m : Sta
     row_at = read_at v.cells.items c row set_inside row_is
 
     seen_put : (d : ℕ) → seen_at d (put g value m) ≡ seen_at d m
-    seen_put d =
-        let r = reads_put d g value m.guards in
-        let w = writes_put d g value m.guards in
-        λ i. record { plan = cell_at m.plans d; content = m.content d; reads = r i; writes = w i + count (runs_in d) m.sections; run = run_in d m.sections }
+    seen_put d = grind (arith, reads_put, writes_put)
 
     slot_put : (j : ℕ) → slot_row n (put g value m) j ≡ slot_row n m j
-    slot_put j = elim (cases_eq j g) [
-      | inl q ↦ ap (λ o. if j == n then GuardRow.Free else guard_row o) (ap (λ i. numbered i (put_in g value m.guards)) q ∙ numbered_put g value m.guards x is.found) ∙ ap (λ o. if j == n then GuardRow.Free else guard_row o) (sym is.found ∙ ap (λ i. numbered i m.guards) (sym q))
-      | inr ne ↦ slots_same m (put g value m) n j (λ e. numbered_put_other g j value m.guards ne)
-    ]
+    slot_put j = grind (arith, cases_eq, numbered_put, slots_same, numbered_put_other)
 
     -- the row of its cell
     cell_put : IsCell held place (seen_at c (put g value m)) v'.parks c row'

@@ -1,10 +1,9 @@
 -- What is given for the share or drain of a call that is taken away may be given, and beside a lock to write nothing is.
 use Rattle.phase_moves.proofs.Words.{◌≡◌, ◌≢◌, ◌<◌, ◌+◌, ◌∙◌, ℕ, List, length, ap, sym, subst, refl, arith, true, false, None, Some, inl, inr, cases_lt, Option, Holders}
-use Rattle.phase_moves.proofs.Words.{Given, Row, Who, LockerKind, Parking, row_of, freed, left, IsIdle, NobodyParked, is_park, open_reads, MayHand, rows_handed, given_up}
-use Rattle.phase_moves.proofs.Words.{Holds, gives_up_freed, given_up_reads, left_writes, Ask, CellPlan, Place, count, has_own, cell_at, is_parking, Wait, drains_on, wait_of}
-use Rattle.phase_moves.proofs.Words.{without_wait, most_parties, IsListed, given_on, wait_row, waiting_of, gave_share, listed_hand, reaches_given, claims_shown, shares_shown}
-use Rattle.phase_moves.proofs.Words.{Taken, Target, GivesFirst, GivesLast, IsReaching, keeps_in, readers_in, writers_in, Standing, reads_in, writes_in, AreShown, IsLocked}
-use Rattle.phase_moves.proofs.Words.{kind_at}
+use Rattle.phase_moves.proofs.Words.{Given, Row, Who, LockerKind, Parking, row_of, freed, left, IsIdle, NobodyParked, open_reads, MayHand, rows_handed, given_up, Holds}
+use Rattle.phase_moves.proofs.Words.{gives_up_freed, given_up_reads, left_writes, Ask, CellPlan, count, has_own, cell_at, is_parking, Wait, drains_on, wait_of, without_wait}
+use Rattle.phase_moves.proofs.Words.{most_parties, IsListed, given_on, wait_row, waiting_of, gave_share, listed_hand, reaches_given, claims_shown, shares_shown, Taken, Target}
+use Rattle.phase_moves.proofs.Words.{GivesFirst, GivesLast, IsReaching, keeps_in, readers_in, writers_in, Standing, reads_in, writes_in, AreShown, IsLocked, kind_at}
 use Rattle.phase_moves.proofs.{Giving.idle_at, Judged.IsClear, Parking.shown_called, GivenUp.nobody_left, GivenUp.not_listed, GivenUp.own_or_not}
 
 -- what gives nothing then may do so
@@ -40,10 +39,7 @@ module _ (n : ℕ) (k : LockerKind) (h : Holders) (s : Parking) (m : Standing) (
     by (Some w) f r = subst (λ (z : Row). NobodyParked (left z.waiting z.cell p s) t.cell) (sym r) (subst (λ d. NobodyParked (left (waiting_of w.way w.woken) d p s) t.cell) (sym (waited w f)) (nobody_left (waiting_of w.way w.woken) t.cell p s cell_in sizes e))
 
   parks : (g : Given) → IsListed t.cell freed_p g → g ≢ Given.Nobody → is_parking x.place ≡ true
-  parks g listed ne = by x.place placed where
-    by : (z : Place) → k ≡ kind_at z → is_parking z ≡ true
-    by Place.Park e = refl
-    by _ e = absurd (not_listed t.cell freed_p g (nobody_freed (locked.fits.still (ap is_park e)).0) listed ne)
+  parks g listed ne = grind (arith, not_listed, nobody_freed)
 
   pub reaching : (g : Given) → IsListed t.cell freed_p g → g ≢ Given.Nobody → IsReaching p t.cell g m
   reaching g listed ne = record { parks = parks g listed ne; reach = reaches_given t.cell g others freed_p shown_freed.shows listed }

@@ -101,33 +101,7 @@ module _ {L : Type 0} (held : L → Holders) (place : L → LockerKind) where
       -- what holds of the number of readers, and what it met
       module _ (few : (held row'.seq.locker).readers ≤ most_readers) (tell : (z : Taken) → taken_of b ≡ z → IsMet p t z g m) where
         locked_called : (q : ℕ) → (held row'.seq.locker).phase ≡ phase_of q → IsLocked (place row'.seq.locker) (held row'.seq.locker) v'.parks t.cell (reads_in t.cell m + reads_begun b) (writes_in t.cell m + writes_begun b) q
-        locked_called q phase = by (begins_write b) refl where
-          by : (o : Bool) → begins_write b ≡ o → IsLocked (place row'.seq.locker) (held row'.seq.locker) v'.parks t.cell (reads_in t.cell m + reads_begun b) (writes_in t.cell m + writes_begun b) q
-          by false e =
-              let l = cell_here.locked in
-              let z : writes_begun b ≡ 0 = as_many b false e in
-              record {
-                fits = k.fits;
-                phase_is = phase;
-                reads_are = (let a = l.reads_are in let c = op.reads in omega (arith, a, c));
-                write_is = λ lt. op.writes (l.write_is (omega (arith, z, lt)));
-                write_was = λ w. (let lt = l.write_was (op.only e w) in omega (arith, lt));
-                one = (let o = l.one in omega (arith, o, z));
-                limit = few;
-              }
-          by true e =
-              let l = cell_here.locked in
-              let z : writes_begun b ≡ 1 = as_many b true e in
-              let none = was_none (wrote_all _ b e) in
-              record {
-                fits = k.fits;
-                phase_is = phase;
-                reads_are = (let a = l.reads_are in let c = op.reads in omega (arith, a, c));
-                write_is = λ lt. opens who b _ _ _ e stands;
-                write_was = λ w. omega (arith, z);
-                one = omega (arith, z, none);
-                limit = few;
-              }
+        locked_called q phase = grind (arith, writes_begun, cell_here, as_many, was_none, wrote_all, opens)
 
         -- the row of the cell
         cell_as : (m' : Standing) (z : Content) (o : Option Run) → seen_at t.cell m' ≡ record { plan = x; content = z; reads = reads_in t.cell m + reads_begun b; writes = writes_in t.cell m + writes_begun b; run = o }
@@ -215,13 +189,7 @@ module _ {L : Type 0} (held : L → Holders) (place : L → LockerKind) where
 
         -- the section that runs was asked at the phase that is published: where that changes none runs
         runs_now : wrote true b ≡ true → row'.run ≡ row.run → row'.run ≡ open_run x t.cell (effect x chs y).phase (run_in t.cell m.sections)
-        runs_now had e = e ∙ cell_here.runs ∙ by (declined x t.want m.registry.is_open y.phase) refl where
-          by : (o : Bool) → declined x t.want m.registry.is_open y.phase ≡ o → open_run x t.cell y.phase (run_in t.cell m.sections) ≡ open_run x t.cell (effect x chs y).phase (run_in t.cell m.sections)
-          by false f = ap (λ (z : Content). open_run x t.cell z.phase (run_in t.cell m.sections)) (sym (left_is ∙ ap (λ b. record { phase = if b then flags_refused else y.phase; value = y.value }) f))
-          by true f =
-              let none = was_none (ap (λ b'. wrote b' b) (d_is ∙ f) ∙ had) in
-              let no_run = none_runs t.cell m.sections (omega (arith, none)) in
-              ap (open_run x t.cell y.phase) no_run ∙ ap (open_run x t.cell (effect x chs y).phase) (sym no_run)
+        runs_now had e = grind (arith, cell_here, declined, left_is, was_none, wrote, d_is, none_runs)
 
         abbrev seen_as : Content → ℕ → ℕ → Option Run → Seen
         seen_as z r w o = record { plan = x; content = z; reads = reads_in t.cell m + r; writes = writes_in t.cell m + w; run = o }

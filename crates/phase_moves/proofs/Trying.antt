@@ -1,7 +1,6 @@
 -- What the code reads of the cell before an attempt.
-use Rattle.phase_moves.proofs.Words.{◌≡◌, ◌∙◌, ℕ, get_or, ap, sym, subst, arith, Bool, true, false, None, Some, inl, inr, MatchBool, cases_lt}
-use Rattle.phase_moves.proofs.Words.{Holders, number, LockerKind, Fits, IsWriteOpen, MayCall, MayCallAgain, Ask, MayRegister, CellPlan, is_finalizable, cell_at}
-use Rattle.phase_moves.proofs.Words.{wait_of, CellRow, Target, Rows, Calling, Standing, writes_in, seen_at, IsCell, IsAttempting, WaitsAt, ask_of}
+use Rattle.phase_moves.proofs.Words.{◌≡◌, ◌∙◌, ℕ, get_or, ap, arith, Bool, true, false, None, Some, MatchBool, cases_lt, Holders, LockerKind, Fits, MayCall, MayCallAgain, Ask}
+use Rattle.phase_moves.proofs.Words.{MayRegister, CellPlan, is_finalizable, wait_of, CellRow, Target, Rows, Calling, Standing, seen_at, IsCell, IsAttempting, WaitsAt, ask_of}
 use Rattle.phase_moves.proofs.Words.{has_want, is_quick}
 use Rattle.phase_moves.proofs.{Asked.is_asked, Places.read_at}
 
@@ -26,10 +25,4 @@ module _ {L : Type 0} (held : L → Holders) (place : L → LockerKind) (m : Sta
     by b w = grind arith
 
   pub may_register : is_finalizable row.plan.kind ≡ true → MayRegister t.cell (held row.seq.locker) v.parks v.exit.registry
-  may_register e =
-      let x = is.rests.stands.exit in
-      let sure : is_finalizable (cell_at m.plans t.cell).kind ≡ true = ap (λ (c : CellPlan). is_finalizable c.kind) (sym here.planned) ∙ e in
-      subst (λ r. MayRegister t.cell (held row.seq.locker) v.parks r) (sym x.registry_is)
-      (record { inside = (let a = is.cell in let c = x.cells_are in omega (arith, a, c)); unknown = λ z closed. is.unknown sure (sym (ap number here.locked.phase_is) ∙ z) (none closed) }) where
-        none : (IsWriteOpen (held row.seq.locker) v.parks t.cell → ⊥) → writes_in t.cell m ≡ 0
-        none closed = elim (cases_lt 0 (writes_in t.cell m)) [ inl lt ↦ absurd (closed (here.locked.write_is lt)) | inr le ↦ omega (arith, le) ]
+  may_register e = grind (arith, here, cases_lt)

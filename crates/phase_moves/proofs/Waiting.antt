@@ -1,9 +1,9 @@
 -- How many calls and turns wait at a cell.
 use Rattle.phase_moves.proofs.Words.{◌∷◌, ◌≡◌, ◌≢◌, ◌==◌, ◌<◌, ◌≤◌, ◌+◌, ◌∙◌, ℕ, List, length, refl, arith, Bool, true, false, cond, None, Some, count_by-le-length, MatchBool}
 use Rattle.phase_moves.proofs.Words.{if◌then◌else◌, is_some, Option, Given, Row, Waiting, Parking, Parking as Rows, row_of, free_row, readers_of, occurs, shared, reads_at}
-use Rattle.phase_moves.proofs.Words.{shares_at, IsSound, HasFree, count, Wait, wait_of, waits_at, without_wait, wait_woken, wake_reader, wake_writer, given_on, IsSingle}
-use Rattle.phase_moves.proofs.Words.{Shows, wait_row, count_map, count_without, one_of, count_test, count_rows, target_of, WaitsAt, waiting_with, get_or, set, length-set}
-use Rattle.phase_moves.proofs.Words.{count-set, shares-shared, share_is, free_is, all_read, length-shared, row-shared_other, most_readers}
+use Rattle.phase_moves.proofs.Words.{shares_at, IsSound, HasFree, count, Wait, wait_of, waits_at, without_wait, wait_woken, given_on, IsSingle, Shows, wait_row, count_map}
+use Rattle.phase_moves.proofs.Words.{count_without, one_of, count_test, count_rows, target_of, WaitsAt, waiting_with, get_or, set, length-set, count-set, shares-shared}
+use Rattle.phase_moves.proofs.Words.{share_is, free_is, all_read, length-shared, row-shared_other, most_readers}
 
 -- ---- a gift leaves it
 
@@ -11,9 +11,7 @@ woken_there : (d : ℕ) (b : Bool) (w : Wait) → waits_at d (cond b (wait_woken
 woken_there d b w = grind arith
 
 pub count_given : (d c : ℕ) (g : Given) (ws : List Wait) → count (waits_at d) (given_on c g ws) ≡ count (waits_at d) ws
-count_given d c Given.Nobody ws = refl
-count_given d c (Given.Writer q) ws = count_map (waits_at d) (waits_at d) (wake_writer q) ws (λ w. woken_there d _ w)
-count_given d c Given.Readers ws = count_map (waits_at d) (waits_at d) (wake_reader c) ws (λ w. woken_there d _ w)
+count_given d c g ws = grind (arith, count_map, woken_there)
 
 -- ---- there are not more than parties
 
@@ -49,9 +47,7 @@ waited_here waits c o k w e = grind arith
 module _ (p c : ℕ) (ws : List Wait) (single : IsSingle ws) (g : Given) (at : (w : Wait) → wait_of p ws ≡ Some w → w.cell ≡ c) where
   -- at another cell as many wait
   pub count_beside : (d : ℕ) → d ≢ c → count (waits_at d) (given_on c g (without_wait p ws)) ≡ count (waits_at d) ws
-  count_beside d ne = count_given d c g (without_wait p ws) ∙ (let less = count_without (waits_at d) p ws single in let none = by (wait_of p ws) refl in omega (arith, less, none)) where
-    by : (o : Option Wait) → wait_of p ws ≡ o → one_of (waits_at d) o ≡ 0
-    by o e = grind arith
+  count_beside d ne = grind (arith, count_given, count_without, one_of)
 
   -- and here one less, where the party waited
   pub count_here : count (waits_at c) ws ≡ count (waits_at c) (given_on c g (without_wait p ws)) + (if is_some (target_of (wait_of p ws)) then 1 else 0)

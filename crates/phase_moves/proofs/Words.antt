@@ -15,7 +15,7 @@ pub use Rattle.phase_locker.proofs.Standing.{given_up_reads, hands_reads, hands_
 pub use Rattle.phase_locker.specs.{Left.Left, Natures.admitted, Natures.bars, Natures.got, Natures.read_ticket, Natures.write_ticket, Others.OthersStay, Others.SameAt}
 pub use Rattle.phase_locker.specs.Stands.{MayCall, MayCallAgain, Opens}
 pub use Rattle.phase_locker.specs.Attempts.{given_up, GivesUp, Judged, Keeps, keeps, MayWait, rows_waiting}
-pub use Rattle.phase_locker.specs.Fits.{Fits, flagged, is_park, IsIdle, IsWriteOpen, KeepsFit, NobodyParked, open_reads}
+pub use Rattle.phase_locker.specs.Fits.{Fits, flagged, IsIdle, IsWriteOpen, KeepsFit, NobodyParked, open_reads}
 pub use Rattle.phase_locker.specs.Gifts.{Downgrades, Hands, held_handed, MayHand, MayShare, rows_handed}
 pub use Rattle.phase_locker.specs.Rows.{claims, drains, drains_at, free_row, freed, HasFree, is_drain as is_drain_of_rows, IsSound, left, no_rows, occurs, readers_of}
 pub use Rattle.phase_locker.specs.Rows.{reads_at, row_of, Rows as Parking, SameSize, shared, shares, shares_at}
@@ -55,20 +55,19 @@ pub use Rattle.phase_seq.specs.declared.{sequentializer.LazySequentializer.LazyS
 pub use Rattle.schedule_rules.proofs.Found.{found_counts, found_passes, none_counted, none_found}
 pub use Rattle.schedule_rules.proofs.Opened.{count_ended, count_removed, guard_kept, innermost_kept, numbered_put, numbered_put_other, put as with_value, reads_put, wait_kept}
 pub use Rattle.schedule_rules.proofs.Opened.{wait_removed, writes_put}
-pub use Rattle.schedule_rules.specs.{Deeds.Finishes as Finishes_of_deeds, Deeds.Makes, Due.answer_of_look, Forms.form_of, Forms.is_to_read, Gifts.reaches, History.accepts}
-pub use Rattle.schedule_rules.specs.{History.count, History.Event, Kinds.cell_at, Kinds.is_owned, Kinds.is_parking, Kinds.tolerance_of, Legal.First, Legal.Last}
-pub use Rattle.schedule_rules.specs.{Refusals.is_other, Replay.back_of_guard, Replay.back_of_section, Replay.content_after_back, Replay.replay, Transcripts.most_parties}
+pub use Rattle.schedule_rules.specs.{Due.answer_of_look, Exits.ended_turns, Exits.finishing, Exits.owner, Exits.owner_by, Exits.registry, Forms.form_of, Forms.is_to_read}
+pub use Rattle.schedule_rules.specs.{History.accepts, History.count, History.Event, Kinds.cell_at, Kinds.is_owned, Kinds.is_parking, Kinds.tolerance_of, Legal.First}
+pub use Rattle.schedule_rules.specs.{Legal.Last, Refusals.is_other, Replay.content_after_back, Replay.replay, Transcripts.most_parties}
 pub use Rattle.schedule_rules.specs.Answers.{answer_admitted, answer_at, answer_barred, answer_of_attempt, begins_run, drains_by, turn_answer_admitted, way_parked}
 pub use Rattle.schedule_rules.specs.Calls.{asks, initializes, is_fast, lock_asked, lock_wanted, run_asked, seeks, seeks_run, wakes_as, woken_as}
 pub use Rattle.schedule_rules.specs.Changes.{Asked, asks_to_lend, Change, Content, content_after, content_asked, content_of_run, effect, Ended, is_declined, Put, Ran}
 pub use Rattle.schedule_rules.specs.Changes.{RanIfAsked}
-pub use Rattle.schedule_rules.specs.Exits.{ended_turns, finishing, owner, owner_by, registry, turn_of_section}
-pub use Rattle.schedule_rules.specs.Guards.{Guard, guard_of, guards, numbered, own, put_in, reader, reader_beside, reader_made, without_guard, writer_made}
+pub use Rattle.schedule_rules.specs.Guards.{Guard, guard_of, guards, numbered, own, put_in, reader, reader_beside, without_guard}
 pub use Rattle.schedule_rules.specs.Holds.{has_own, Holding, is_barred, keeps as keeps_of_holds, reads_cell, wants_to_write, writes_cell}
 pub use Rattle.schedule_rules.specs.Phases.{flags_kept, is_accessible, NoRun, phase_finalized, phase_reached, runs_generator, tries_registration, value_finalized}
 pub use Rattle.schedule_rules.specs.Sections.{generates_for, innermost, is_turn, runs_in, Section, sections, without_innermost}
-pub use Rattle.schedule_rules.specs.Waits.{cell_concerned_with, cell_of_guard, cell_of_section, drains_on, is_drain, shares_read, shares_write, Wait, wait_of, wait_woken}
-pub use Rattle.schedule_rules.specs.Waits.{waits, waits_at, waits_given_with, wake_reader, wake_writer, with_wait, without_wait}
+pub use Rattle.schedule_rules.specs.Waits.{cell_concerned_with, cell_of_section, drains_on, is_drain, shares_read, shares_write, Wait, wait_of, wait_woken, waits, waits_at}
+pub use Rattle.schedule_rules.specs.Waits.{waits_given_with, with_wait, without_wait}
 pub use Rattle.schedule_rules.specs.declared.{form.Form.Form, form.Form.TheVariants.Told, line.Answer.Answer, line.Refusal.Refusal, plan.CellPlan.CellPlan, plan.Place.Place}
 pub use Rattle.schedule_rules.specs.declared.{plan.Plan.Plan, step.Act.Act, step.Want.Want, step.Want.TheVariants.Calls, step.Want.TheVariants.Turns}
 pub use Rattle.std.proofs.{Math.ListN.length-replicate, lemmas.Bool.cases_eq, lemmas.Bool.cases_lt, lemmas.Grind.common_steps, lemmas.List.set-get_or}
@@ -77,11 +76,11 @@ pub use Rattle.std.proofs.lemmas.Option.{slice_get_within}
 pub use Rattle.std.proofs.Common.{[], ap, arith, Bool, cond, false, get_or, inl, inr, length, length-set, List, None, not, refl, replicate, set, Some, subst, sym, true, ℕ}
 pub use Rattle.std.proofs.Common.{◌&&◌, ◌++◌, ◌+◌, ◌<◌, ◌==◌, ◌^◌, ◌||◌, ◌∙◌, ◌∷◌, ◌≡◌, ◌≢◌, ◌≤◌}
 pub use Rattle.std.specs.{List.find, Option.is_some as is_some_of_option, Option.unwrap_or, Vec.with_item}
-pub use Rattle.std.specs.Prelude.{if◌then◌else◌, is_some, IsNone, MatchBool, nat_lt, OnSome, slice_get, vec_capacity, ◌-◌, ◌↔◌, ◌⊎◌}
+pub use Rattle.std.specs.Prelude.{if◌then◌else◌, is_some, IsNone, MatchBool, nat_lt, OnSome, slice_get, vec_capacity, ◌↔◌, ◌⊎◌}
 pub use Rattle.std.specs.declared.option.Option.{Option}
 pub use Rattle.waiting_rows.proofs.{Counted.count_map, Counted.count_without, Counted.none_without, Counted.one_of, Finding.changed as changed_of_finding}
 pub use Rattle.waiting_rows.proofs.{Finding.wait_readers, Finding.wait_writer, Gave.gave_share, Passing.count_test, RowCounts.claims_shown, RowCounts.count_rows}
-pub use Rattle.waiting_rows.proofs.{RowCounts.never_free, RowCounts.shares_shown, ShowsFreed.shows_freed, ShowsWaiting.shows_waiting_at, Single.single_with}
-pub use Rattle.waiting_rows.proofs.{Single.single_without, Sound.sound_of, Within.shows_fresh, Within.within_with, Within.within_without}
+pub use Rattle.waiting_rows.proofs.{RowCounts.shares_shown, ShowsFreed.shows_freed, ShowsWaiting.shows_waiting_at, Single.single_with, Single.single_without, Sound.sound_of}
+pub use Rattle.waiting_rows.proofs.Within.{shows_fresh, within_with, within_without}
 pub use Rattle.waiting_rows.proofs.GivenOn.{given_concerned, listed_hand, listed_share, none_on, reaches_given, shows_on, single_on, within_on}
 pub use Rattle.waiting_rows.specs.{Given.given_on, Given.IsListed, Shown.IsSingle, Shown.Shows, Shown.wait_row, Shown.waiting_of}
