@@ -20,10 +20,4 @@ module _ (c : ℕ) where
 
   -- a gift that reaches those that it is for leaves a share on the cell
   pub gave_share : (g : Given) (ws : List Wait) → reaches c g ws ≡ true → g ≢ Given.Nobody → 0 < count (shares_read c) (given_on c g ws) + count (shares_write c) (given_on c g ws)
-  gave_share Given.Nobody ws e some = absurd (some refl)
-  gave_share (Given.Writer q) ws e some =
-      let one : 0 < count (shares_write c) (map (wake_writer q) ws) = one_shares (λ w. (w.party == q) && parks_to_write c w) (shares_write c) (wake_writer q) (wakes_writer q) ws e in
-      omega (arith, one)
-  gave_share Given.Readers ws e some =
-      let one : 0 < count (shares_read c) (map (wake_reader c) ws) = one_shares (parks_to_read c) (shares_read c) (wake_reader c) wakes_reader ws e in
-      omega (arith, one)
+  gave_share g ws e some = grind (arith, one_shares, wakes_writer, wakes_reader)

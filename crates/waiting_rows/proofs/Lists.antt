@@ -53,8 +53,7 @@ listed_without t p (w ∷ ws) = by (w.party == p) refl (listed_without t p ws) �
   one b e s = grind arith
 
   by : (e : Bool) → (w.party == p) ≡ e → listed t (without_wait p ws) ≡ without p (listed t ws) → listed t (cond (not e) (w ∷ without_wait p ws) (without_wait p ws)) ≡ without p (listed t ws) ++ without p (party_if (t w) w.party)
-  by true s ih = rw (one (t w) true s) (rw append-nil ih)
-  by false s ih = rw (one (t w) false s) (ap (λ ps. ps ++ party_if (t w) w.party) ih)
+  by e s ih = grind (arith, one, append-nil)
 
 -- the parked readers
 pub readers_without : (c p : ℕ) (ws : List Wait) → parked_readers c (without_wait p ws) ≡ without p (parked_readers c ws)

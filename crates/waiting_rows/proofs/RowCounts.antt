@@ -20,8 +20,7 @@ free_party p ws s shows none lt = record { party = p; inside = lt; free = ap (λ
 
 -- a party whose call waits has a row
 pub waits_inside : (p : ℕ) (rows : List Row) (w : Wait) → get_or rows p free_row ≡ wait_row (Some w) → p < length rows
-waits_inside p rows w e =
-    elim (cases_lt p (length rows)) [ inl k ↦ k | inr k ↦ absurd (never_free w.way w.woken (ap (λ (r : Row). r.waiting) (sym e ∙ get_or_past rows p free_row k))) ]
+waits_inside p rows w e = grind (arith, cases_lt, never_free, get_or_past)
 
 -- ---- counts
 

@@ -6,16 +6,11 @@ use Rattle.waiting_rows.proofs.{Lists.readers_without, Lists.writers_without, Sl
 
 -- a party that is not parked to read at the cell is not in its list
 pub unlisted_reader : (d p : ℕ) (s : Rows) → IsSound s → reads_at d (row_of s p) ≡ false → without p (readers_of s d) ≡ readers_of s d
-unlisted_reader d p s sound e =
-    elim (cases_lt d (length s.readers)) [ inl k ↦ without_absent p (readers_of s d) (sound.readers d p k ∙ rw e refl) | inr k ↦ rw (get_or_past s.readers d [] k) refl ]
+unlisted_reader d p s sound e = grind (arith, cases_lt, without_absent, get_or_past)
 
 -- nor one that is not parked to write
 pub unlisted_writer : (d p : ℕ) (s : Rows) → IsSound s → writes_at d (row_of s p) ≡ false → without p (writers_of s d) ≡ writers_of s d
-unlisted_writer d p s sound e =
-    elim (cases_lt d (length s.readers)) [
-      | inl k ↦ without_absent p (writers_of s d) (sound.writers d p k ∙ rw e refl)
-      | inr k ↦ let past : length s.writers ≤ d = omega (arith, k, sound.cells) in rw (get_or_past s.writers d [] past) refl
-    ]
+unlisted_writer d p s sound e = grind (arith, cases_lt, without_absent, get_or_past)
 
 -- a parked reader of one cell is none of another
 pub reads_here : (c d : ℕ) (r : Row) → r ≡ record { waiting = Waiting.ParkedRead; cell = c } → d ≢ c → reads_at d r ≡ false

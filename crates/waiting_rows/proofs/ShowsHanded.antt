@@ -17,20 +17,7 @@ row_asleep c w e = grind (arith, e)
 
 -- the row of a party after the shares of readers
 pub row_readers : (c p : ℕ) (ws : List Wait) (s : Rows) → c < length s.readers → IsSound s → Shows ws s → row_of (rows_to_readers c s) p ≡ wait_row (wait_of p (map (wake_reader c) ws))
-row_readers c p ws s inside sound shows = by (wait_of p ws) (shows.row p) ∙ ap wait_row (sym (wait_readers c p ws)) where
-  out : reads_at c (row_of s p) ≡ false → row_of (rows_to_readers c s) p ≡ row_of s p
-  out e = row-shared_other c (readers_of s c) s.rows p (sound.readers c p inside ∙ rw e refl)
-
-  call : (w : Wait) (b : Bool) → parks_to_read c w ≡ b → row_of s p ≡ wait_row (Some w) → row_of (rows_to_readers c s) p ≡ wait_row (Some (wake_reader c w))
-  call w true k row =
-      let reads : reads_at c (row_of s p) ≡ true = ap (reads_at c) row ∙ row_reads c (Some w) ∙ k in
-      let one : occurs p (readers_of s c) ≡ 1 = sound.readers c p inside ∙ rw reads refl in
-      row-shared_same c (readers_of s c) s.rows p (all_read c s inside sound) (omega (arith, one)) ∙ sym (row_woken c w k)
-  call w false k row = out (ap (reads_at c) row ∙ row_reads c (Some w) ∙ k) ∙ row ∙ ap (λ (v : Wait). wait_row (Some v)) (sym (row_asleep c w k))
-
-  by : (o : Option Wait) → row_of s p ≡ wait_row o → row_of (rows_to_readers c s) p ≡ wait_row (changed (wake_reader c) o)
-  by None row = out (ap (reads_at c) row) ∙ row
-  by (Some w) row = call w (parks_to_read c w) refl row
+row_readers c p ws s inside sound shows = grind (arith, wait_readers, row-shared_other, row_reads, row-shared_same, all_read, row_woken, row_asleep, changed)
 
 -- the parked readers of the cell are given shares
 pub shows_handed_readers : (c : ℕ) (ws : List Wait) (s : Rows) → c < length s.readers → IsSound s → Shows ws s → Shows (map (wake_reader c) ws) (rows_handed c Given.Readers s)
@@ -42,10 +29,7 @@ shows_handed_readers c ws s inside sound shows = record {
 
 -- the waits of other parties than the writer stay
 pub changed_other : (q p : ℕ) (ws : List Wait) → p ≢ q → changed (wake_writer q) (wait_of p ws) ≡ wait_of p ws
-changed_other q p ws ne = by (wait_of p ws) refl where
-  by : (o : Option Wait) → wait_of p ws ≡ o → changed (wake_writer q) o ≡ o
-  by None e = refl
-  by (Some w) e = let own : w.party ≡ p = wait_party p ws w e in ap Some (writer_other q w (grind (arith, own, ne)))
+changed_other q p ws ne = grind (arith, changed, wait_party, writer_other)
 
 -- the row of a writer with its share
 pub row_writer : (q c : ℕ) (w : Wait) → w.party ≡ q → parks_to_write c w ≡ true → wait_row (Some (wake_writer q w)) ≡ record { waiting = Waiting.ShareWrite; cell = c }
