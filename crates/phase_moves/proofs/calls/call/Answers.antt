@@ -1,6 +1,4 @@
-use Rattle.std.proofs.Common.{◌≡◌, true, ◌∙◌, sym}
-use Rattle.lazy_cells.specs.Kinds.{is_finalizable}
-use Rattle.phase_seq.specs.Exactly.{is_run}
+use Rattle.phase_moves.proofs.Words.{◌≡◌, true, ◌∙◌, sym, is_finalizable, is_run}
 use Rattle.phase_moves.proofs.Registering.{asked_as_run, some_same}
 use Rattle.phase_moves.proofs.calls.call.Goals as goal
 

@@ -1,9 +1,6 @@
-use Rattle.std.proofs.Common.{◌∙◌, refl, sym, ap}
-use Rattle.std.specs.Vec.{with_item}
-use Rattle.phase_moves.proofs.Places.{set_there}
-use Rattle.phase_moves.proofs.Arms.{counted_few, counted_some, does, none_before}
+use Rattle.phase_moves.proofs.Words.{◌∙◌, refl, sym, ap, with_item}
 use Rattle.phase_moves.proofs.Trying.{call_fits, may_ask, may_call, may_register, may_wait}
-use Rattle.phase_moves.proofs.Looking.{looks}
+use Rattle.phase_moves.proofs.{Places.set_there, Arms.counted_few, Arms.counted_some, Arms.does, Arms.none_before, Looking.looks}
 use Rattle.phase_moves.proofs.rows.Rows.attempt.Goals as goal
 
 pub call-begun-requires-clause-calls : goal.call-begun-requires-clause-calls

@@ -1,7 +1,6 @@
-use Rattle.std.proofs.Common.{◌∙◌, ◌<◌, length, refl, sym, ap, arith}
-use Rattle.phase_moves.specs.declared.rows.CellRow.{CellRow}
-use Rattle.phase_moves.proofs.Innermost.{end_inside, end_cell, end_fits, has_run}
+use Rattle.phase_moves.proofs.Words.{◌∙◌, ◌<◌, length, refl, sym, ap, arith, CellRow}
 use Rattle.phase_moves.proofs.Ending.{end_running, end_room, is_made, ends_failed, ends_read, ends_write, ends_phase}
+use Rattle.phase_moves.proofs.Innermost.{end_inside, end_cell, end_fits, has_run}
 use Rattle.phase_moves.proofs.rows.Rows.end.Goals as goal
 
 pub index_mut-row-requires : goal.index_mut-row-requires

@@ -1,8 +1,5 @@
-use Rattle.std.proofs.Common.{◌∙◌, ◌<◌, [], ◌∷◌, ◌++◌, length, refl, sym, ap, arith}
-use Rattle.schedule_rules.specs.Phases.{value_finalized}
-use Rattle.phase_moves.specs.declared.rows.CellRow.{CellRow}
-use Rattle.phase_moves.proofs.Innermost.{end_inside, end_cell, end_fits, has_run}
-use Rattle.phase_moves.proofs.Finalizing.{final_running, finalizes_as}
+use Rattle.phase_moves.proofs.Words.{◌∙◌, ◌<◌, [], ◌∷◌, ◌++◌, length, refl, sym, ap, arith, value_finalized, CellRow}
+use Rattle.phase_moves.proofs.{Innermost.end_inside, Innermost.end_cell, Innermost.end_fits, Innermost.has_run, Finalizing.final_running, Finalizing.finalizes_as}
 use Rattle.phase_moves.proofs.rows.Rows.finalize.Goals as goal
 
 pub index_mut-row-requires : goal.index_mut-row-requires

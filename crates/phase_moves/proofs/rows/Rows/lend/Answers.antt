@@ -1,4 +1,4 @@
-use Rattle.std.proofs.Common.{◌∙◌, refl, ap, arith}
+use Rattle.phase_moves.proofs.Words.{◌∙◌, refl, ap, arith}
 use Rattle.phase_moves.proofs.Lending.{got_fits, got_open, lend_kind, lends, none_waits, stays_held}
 use Rattle.phase_moves.proofs.rows.Rows.lend.Goals as goal
 
