@@ -1,30 +1,11 @@
 -- A step that attempts something is a legal step.
-use Rattle.std.proofs.Common.{◌≡◌, ◌∙◌, ℕ, List, length, ap, sym, subst, refl, Bool, true, false, ◌&&◌, None, Some}
-use Rattle.std.specs.Prelude.{is_none}
-use Rattle.std.specs.declared.option.Option.{Option}
-use Rattle.exit_registry.specs.Registry.{Registry}
-use Rattle.phase_bits.specs.declared.holders.Holders.{Holders}
-use Rattle.phase_locker.specs.declared.ways.LockerKind.{LockerKind}
+use Rattle.phase_acts.proofs.Words.{◌&&◌, ◌∙◌, ◌≡◌, accepts, Act, answer_settled, ap, Bool, Call, Calls, CellPlan, Event, false, given_first, GivesSettled, HasStepped, Holders}
+use Rattle.phase_acts.proofs.Words.{is_none, IsLegalLine, IsNext, IsSettled, IsTaking, IsTried, KeptWith, length, Line, List, LockerKind, None, Option, refl, refusal, Registry}
+use Rattle.phase_acts.proofs.Words.{registry, Rows, Some, step_of, subst, sym, true, Turns, wait_of, waits, Want, ℕ}
 use Rattle.schedule_rules.specs.declared.line.Answer.TheVariants as answer
-use Rattle.schedule_rules.specs.declared.line.Line.{Line}
-use Rattle.lazy_cells.specs.declared.call.Call.{Call}
-use Rattle.schedule_rules.specs.declared.plan.CellPlan.{CellPlan}
-use Rattle.schedule_rules.specs.declared.step.Act.{Act}
-use Rattle.schedule_rules.specs.declared.step.Want.{Want}
-use Rattle.schedule_rules.specs.declared.step.Want.TheVariants.{Calls, Turns}
-use Rattle.schedule_rules.specs.Exits.{registry}
-use Rattle.schedule_rules.specs.History.{Event, accepts}
-use Rattle.schedule_rules.specs.Legal.{IsLegalLine}
-use Rattle.schedule_rules.specs.Refusals.{refusal}
 use Rattle.schedule_rules.specs.Causes.{is_cyclic, is_attempted, is_of_own_run}
-use Rattle.schedule_rules.specs.Waits.{wait_of, waits}
 use Rattle.schedule_rules.proofs.Causes.{cyclic_where_own}
-use Rattle.phase_moves.specs.declared.rows.Rows.{Rows}
 use Rattle.phase_moves.specs.declared.rows.Taken.TheVariants as taken
-use Rattle.phase_moves.specs.Moves.{KeptWith}
-use Rattle.phase_acts.specs.Settles.{IsSettled, answer_settled, GivesSettled}
-use Rattle.phase_acts.specs.Steps.{IsNext, HasStepped, given_first, step_of}
-use Rattle.phase_acts.specs.Tries.{IsTaking, IsTried}
 use Rattle.phase_acts.proofs.Stepping.{stepped}
 use Rattle.phase_acts.proofs.Tried.{after_tried}
 use Rattle.phase_acts.proofs.TriedLegal.{legal_tried, gift_reaches}
@@ -33,7 +14,7 @@ use Rattle.phase_acts.proofs.Trying.{IsAttempt, standing_at}
 module _ {L : Type 0} (held : L → Holders) (place : L → LockerKind) (cells : List CellPlan) (h : List Event) (old new : Rows L) (p : ℕ) (a : Act) (c : ℕ) (w : Want) (r : Registry) (o : Option ℕ) (k : IsAttempt cells h p a c w r o) (next : IsNext held place cells h old (step_of p a)) (free : refusal cells h (step_of p a) ≡ None) (accepted : accepts h ≡ r.is_open) (same : (j : Call) → w ≡ Calls j → r ≡ registry cells h) where
   -- it was tried: the rows follow the step
   pub tried_steps : (l : Line) → IsTried held place (length old.guards.items) (standing_at cells h r o) p (record { cell = c; want = w }) l new → KeptWith 1 old new → (IsLegalLine cells h (step_of p a) l → l.answer ≡ answer.Cyclic → wait_of p (waits cells h) ≡ None) → HasStepped held place cells h old (step_of p a) l new
-  tried_steps l tried kept alone = subst (λ x. HasStepped held place cells h old (step_of p a) x new) (sym s.line) (stepped held place cells h old new (step_of p a) next line _ (after_tried cells h p a c w r o k accepted same tried.first s.last (gift_reaches cells h p a c w r o k accepted same free tried.taken tried.first s.last taking.told taking.met gives) tried.taken taking.met.wanted gives turned) s.rests kept legal)
+  tried_steps l tried kept alone = subst (λ x. HasStepped held place cells h old (step_of p a) x new) (sym s.line) (stepped next line _ (after_tried cells h p a c w r o k accepted same tried.first s.last (gift_reaches cells h p a c w r o k accepted same free tried.taken tried.first s.last taking.told taking.met gives) tried.taken taking.met.wanted gives turned) s.rests kept legal)
     where
       s : IsSettled held place (length h) (standing_at cells h r o) p (record { cell = c; want = w }) tried.taken tried.first l new
       s = subst (λ i. IsSettled held place i (standing_at cells h r o) p (record { cell = c; want = w }) tried.taken tried.first l new) next.follows.steps tried.settled

@@ -1,42 +1,18 @@
 -- Who may attempt what: a call, one more attempt of a call or a turn that waits, and the first attempt of a turn.
-use Rattle.std.proofs.Common.{◌≡◌, ◌∙◌, ◌<◌, ◌≤◌, ℕ, List, length, ap, sym, subst, refl, arith, true, false, None, Some}
-use Rattle.std.specs.Prelude.{◌||◌, vec_capacity, is_some}
-use Rattle.std.specs.declared.option.Option.{Option}
-use Rattle.exit_registry.specs.Registry.{after_turn, first_of}
-use Rattle.phase_bits.specs.declared.holders.Holders.{Holders}
-use Rattle.phase_locker.specs.declared.ways.LockerKind.{LockerKind}
-use Rattle.schedule_rules.specs.declared.line.Line.{Line}
-use Rattle.lazy_cells.specs.declared.call.Call.{Call}
-use Rattle.schedule_rules.specs.declared.plan.CellPlan.{CellPlan}
+use Rattle.phase_acts.proofs.Words.{◌<◌, ◌||◌, ◌∙◌, ◌≡◌, ◌≤◌, after_turn, ap, arith, attempt, attempt_of_turn, attempt_of_wait, Call, Calls, cell_at, cell_of_attempt, CellPlan}
+use Rattle.phase_acts.proofs.Words.{ended_turns, Event, false, first_of, guards, has_want, HasStepped, Holders, is_fast, is_owned, is_some, IsAwake, IsNext, IsTried, IsTrying}
+use Rattle.phase_acts.proofs.Words.{KeptGuards, KeptWith, latest_act, length, Line, List, LockerKind, MayWait, None, numbered, open-accepts, Option, owner, owner_by, refl, refusal}
+use Rattle.phase_acts.proofs.Words.{refusal_by, refusal_free, registry, room-taken, Rows, Some, Standing, standing, Stands, step_of, subst, sym, Target, target_of, true, Turns}
+use Rattle.phase_acts.proofs.Words.{vec_capacity, Wait, wait_of, waits, WaitsAt, Want, ℕ}
 use Rattle.schedule_rules.specs.declared.step.Act.TheVariants as act
-use Rattle.schedule_rules.specs.declared.step.Want.TheVariants.{Calls, Turns}
-use Rattle.schedule_rules.specs.declared.step.Want.{Want}
-use Rattle.schedule_rules.specs.Calls.{is_fast, seeks}
-use Rattle.schedule_rules.specs.Kinds.{is_owned}
-use Rattle.schedule_rules.specs.Kinds.{cell_at}
-use Rattle.schedule_rules.specs.Exits.{registry, owner, owner_by, ended_turns}
-use Rattle.schedule_rules.specs.Guards.{guards, numbered}
-use Rattle.schedule_rules.specs.History.{Event, latest_act}
-use Rattle.schedule_rules.specs.Refusals.{refusal, refusal_by, refusal_free}
-use Rattle.schedule_rules.specs.Waits.{Wait, wait_of, waits, attempt, attempt_of_wait, attempt_of_turn, cell_of_attempt}
-use Rattle.schedule_rules.proofs.Accepts.{open-accepts}
+use Rattle.schedule_rules.specs.Calls.{seeks}
 use Rattle.schedule_rules.proofs.GoesOn.{Matches, wait-matches}
 use Rattle.schedule_rules.proofs.NotCyclic.{again-not-cyclic}
 use Rattle.schedule_rules.proofs.Registered.{fresh-unknown, left-finalizable}
-use Rattle.schedule_rules.proofs.TurnRoom.{room-taken}
 use Rattle.schedule_rules.proofs.WaitsToLock.{attempted-has, waiting-asks, waiting-shared, waiting-slow}
-use Rattle.phase_moves.specs.declared.rows.Rows.{Rows}
-use Rattle.phase_moves.specs.declared.rows.Target.{Target}
-use Rattle.phase_moves.specs.Histories.{standing}
-use Rattle.phase_moves.specs.Moves.{KeptGuards, KeptWith}
-use Rattle.phase_moves.specs.Standing.{Standing}
-use Rattle.phase_moves.specs.Stands.{Stands, target_of}
-use Rattle.phase_moves.specs.Tries.{MayWait, WaitsAt, has_want}
-use Rattle.phase_acts.specs.Steps.{IsAwake, IsNext, HasStepped, step_of}
-use Rattle.phase_acts.specs.Tries.{IsTried, IsTrying}
 use Rattle.phase_acts.proofs.Attempting.{tried_steps}
 use Rattle.phase_acts.proofs.Calling.{below}
-use Rattle.phase_acts.proofs.Keeping.{guards_with}
+use Rattle.phase_acts.proofs.Stepping.{guards_with, same_guards}
 use Rattle.phase_acts.proofs.Lines.{refusal_awake}
 use Rattle.phase_acts.proofs.Trying.{IsAttempt, standing_at}
 
@@ -164,23 +140,16 @@ module _ {L : Type 0} (held : L → Holders) (place : L → LockerKind) (cells :
   -- ---- the first attempt of a turn
 
   module _ (c : ℕ) (is : IsAwake held place cells h old p act.Exit) (first : first_of (registry cells h).left ≡ Some c) (mine : owner_by p true (owner h) ≡ Some p) (free : refusal cells h (step_of p act.Exit) ≡ None) where
-    -- what stands open once the turn is taken
-    abbrev taken_so : Standing
-    taken_so = standing_at cells h (after_turn (registry cells h)) (Some p)
-
     turn_attempts : IsAttempt cells h p act.Exit c Turns (after_turn (registry cells h)) (Some p)
     turn_attempts = record { attempted = ap attempt_of_turn first; concerned = first; does = refl; tries = λ vs chosen. refl; taken = refl; owned = mine }
 
     module _ (mid : Rows L) (between : KeptGuards old mid) (stands : Stands held place (length old.guards.items) (standing_at cells h (after_turn (registry cells h)) (Some p)) mid) (inside : c < length old.cells.items) where
-      mid_n : length mid.guards.items ≡ length old.guards.items
-      mid_n = ap (λ (v : _). length v.items) between.guards
-
       pub turn_trying : IsTrying held place (standing_at cells h (after_turn (registry cells h)) (Some p)) mid p (record { cell = c; want = Turns }) false
       turn_trying =
           record {
             attempting =
                 record {
-                  rests = record { stands = subst (λ i. Stands held place i (standing_at cells h (after_turn (registry cells h)) (Some p)) mid) (sym mid_n) stands; empty = ap (λ i. numbered i (guards h)) mid_n ∙ is.next.follows.rests.empty };
+                  rests = record { stands = subst (λ i. Stands held place i (standing_at cells h (after_turn (registry cells h)) (Some p)) mid) (sym (same_guards between)) stands; empty = ap (λ i. numbered i (guards h)) (same_guards between) ∙ is.next.follows.rests.empty };
                   party = (let a = is.next.known.party in let b = between.kept.parties in omega (arith, a, b));
                   cell = (let b = between.kept.cells in omega (arith, inside, b));
                   had = refl;
@@ -195,4 +164,4 @@ module _ {L : Type 0} (held : L → Holders) (place : L → LockerKind) (cells :
       pub turn_steps : (l : Line) (new : Rows L) → IsTried held place (length mid.guards.items) (standing_at cells h (after_turn (registry cells h)) (Some p)) p (record { cell = c; want = Turns }) l new → KeptWith 1 mid new → HasStepped held place cells h old (step_of p act.Exit) l new
       turn_steps l new tried kept =
           tried_steps held place cells h old new p act.Exit c Turns (after_turn (registry cells h)) (Some p) turn_attempts is.next free (sym (open-accepts cells h is.next.follows.legal)) (λ j e. absurd (turn_no_call j e)) l
-          (subst (λ i. IsTried held place i (standing_at cells h (after_turn (registry cells h)) (Some p)) p (record { cell = c; want = Turns }) l new) mid_n tried) (guards_with old mid new 1 between kept) (λ legal e. is.awake)
+          (subst (λ i. IsTried held place i (standing_at cells h (after_turn (registry cells h)) (Some p)) p (record { cell = c; want = Turns }) l new) (same_guards between) tried) (guards_with between kept) (λ legal e. is.awake)

@@ -1,49 +1,23 @@
 -- A value is lent: it is refused as a call is, and where the cell is in use.
-use Rattle.std.proofs.Common.{◌≡◌, ◌≢◌, ◌<◌, ◌∙◌, ℕ, List, length, get_or, ap, sym, subst, refl, Bool, true, false, None, Some}
-use Rattle.std.specs.Prelude.{IsTrue, nat_lt, if◌then◌else◌}
-use Rattle.phase_bits.specs.declared.holders.Holders.{Holders}
+use Rattle.phase_acts.proofs.Words.{◌<◌, ◌∙◌, ◌≡◌, ◌≢◌, accepts, answer_at, answer_lent, ap, Bool, cell_at, CellPlan, CellRow, Content, due_answer, Event, false, get_or}
+use Rattle.phase_acts.proofs.Words.{HasStepped, Holders, if◌then◌else◌, is_accessible, is_of_other, IsAwake, IsTrue, KeptGuards, KeptWith, Kind, length, lent_at_once, Line, List}
+use Rattle.phase_acts.proofs.Words.{LockerKind, names_known_cell, nat_lt, no_call, no_lending, None, numbered, open-accepts, Option, other_waits, pushed_free, Pushes, read_at}
+use Rattle.phase_acts.proofs.Words.{refl, refusal, refusal_free, refusal_to_lend, refused_stays, registry, replay, Rests, Rows, Some, Standing, standing, step_of, subst, sym, true}
+use Rattle.phase_acts.proofs.Words.{Wait, ℕ}
 use Rattle.phase_locker.specs.declared.ways.Given.TheVariants as given
-use Rattle.phase_locker.specs.declared.ways.LockerKind.{LockerKind}
 use Rattle.lazy_cells.specs.Kinds.{lends_value}
-use Rattle.lazy_cells.specs.declared.kind.Kind.{Kind}
 use Rattle.schedule_rules.specs.declared.form.Form.TheVariants.{Shown}
 use Rattle.schedule_rules.specs.declared.line.Answer.TheVariants as answer
-use Rattle.schedule_rules.specs.declared.line.Line.{Line}
 use Rattle.schedule_rules.specs.declared.line.Refusal.TheVariants as refused
-use Rattle.schedule_rules.specs.declared.plan.CellPlan.{CellPlan}
 use Rattle.schedule_rules.specs.declared.step.Act.TheVariants as act
-use Rattle.std.specs.declared.option.Option.{Option}
-use Rattle.schedule_rules.specs.Answers.{answer_at, answer_lent}
-use Rattle.schedule_rules.specs.Phases.{is_accessible}
-use Rattle.schedule_rules.specs.Changes.{Content}
-use Rattle.schedule_rules.specs.Due.{due_answer}
-use Rattle.schedule_rules.specs.Exits.{registry}
-use Rattle.schedule_rules.specs.Guards.{numbered}
-use Rattle.schedule_rules.specs.History.{Event, accepts}
-use Rattle.schedule_rules.specs.Kinds.{cell_at, is_of_other}
-use Rattle.schedule_rules.specs.Refusals.{no_call, no_lending, refusal, refusal_free, refusal_to_lend}
-use Rattle.schedule_rules.specs.Replay.{replay}
-use Rattle.schedule_rules.specs.Transcripts.{names_known_cell}
-use Rattle.schedule_rules.specs.Waits.{Wait, other_waits}
-use Rattle.schedule_rules.proofs.Accepts.{open-accepts}
 use Rattle.phase_moves.specs.declared.lend.Lent.{Lent}
 use Rattle.phase_moves.specs.declared.lend.Lent.TheVariants as lent
 use Rattle.phase_moves.specs.declared.lend.Loan.{Loan}
-use Rattle.phase_moves.specs.declared.rows.CellRow.{CellRow}
 use Rattle.phase_moves.specs.declared.rows.GuardRow.TheVariants as guard
-use Rattle.phase_moves.specs.declared.rows.Rows.{Rows}
-use Rattle.phase_moves.specs.Histories.{standing}
 use Rattle.phase_moves.specs.Lends.{IsLending, IsLent, Lends, MayLend, answer_due, answer_of, in_use, lending, lent_in, was_used}
-use Rattle.phase_moves.specs.Moves.{KeptGuards, KeptWith, Pushes, Rests}
-use Rattle.phase_moves.specs.Standing.{Standing}
-use Rattle.phase_moves.proofs.Hand.{pushed_free}
-use Rattle.phase_moves.proofs.Histories.{lent_at_once, refused_stays}
-use Rattle.phase_moves.proofs.Places.{read_at}
-use Rattle.phase_acts.specs.Steps.{IsAwake, HasStepped, step_of}
 use Rattle.phase_acts.proofs.Calling.{below}
-use Rattle.phase_acts.proofs.Keeping.{guards_with}
-use Rattle.phase_acts.proofs.Lines.{legal_last, legal_refused, refusal_awake}
-use Rattle.phase_acts.proofs.Stepping.{stepped}
+use Rattle.phase_acts.proofs.Lines.{legal_refused, refusal_awake}
+use Rattle.phase_acts.proofs.Stepping.{ended_so, guards_with, stepped}
 
 -- the cell is one of the cells
 names_cell : (n c : ℕ) (l : Loan) → IsTrue (names_known_cell n (lending c l)) → IsTrue (nat_lt c n)
@@ -109,13 +83,11 @@ module _ {L : Type 0} (held : L → Holders) (place : L → LockerKind) (cells :
           k = lends (length old.guards.items) m is_lending
 
           all_kept : KeptWith 1 old new
-          all_kept = guards_with old mid new 1 between last
+          all_kept = guards_with between last
 
           empty : (z : Lent) → numbered (length old.guards.items) (lent_in c l z m).guards ≡ None
           empty lent.InUse = is.next.follows.rests.empty
-          empty (lent.Denied q) = is.next.follows.rests.empty
-          empty lent.Failed = is.next.follows.rests.empty
-          empty (lent.Found v) = is.next.follows.rests.empty
+          empty z = is.next.follows.rests.empty
 
           rests : Rests held place (lent_in c l r m) new
           rests = pushed_free held place (length old.guards.items) (lent_in c l r m) mid new k.stands (empty r) push
@@ -123,14 +95,14 @@ module _ {L : Type 0} (held : L → Holders) (place : L → LockerKind) (cells :
           -- it is in use
           used_line : r ≡ lent.InUse → HasStepped held place cells h old (step_of p (lending c l)) (record { answer = answer.Refused refused.InUse; given = given.Nobody }) new
           used_line q =
-              stepped held place cells h old new (step_of p (lending c l)) is.next _ m (refused_stays cells h p (lending c l) refused.InUse given.Nobody) (subst (λ (z : Lent). Rests held place (lent_in c l z m) new) q rests) all_kept
+              stepped is.next _ m (refused_stays cells h p (lending c l) refused.InUse given.Nobody) (subst (λ (z : Lent). Rests held place (lent_in c l z m) new) q rests) all_kept
               (legal_refused cells h (step_of p (lending c l)) refused.InUse (refusal_used true (ap was_used (sym q) ∙ k.used)))
 
           -- it is not
           free_line : was_used r ≡ false → HasStepped held place cells h old (step_of p (lending c l)) (record { answer = answer_of r; given = given.Nobody }) new
           free_line free =
-              stepped held place cells h old new (step_of p (lending c l)) is.next _ (lent_in c l r m) (lent_at_once cells h p is.awake c l r agrees free fine) rests all_kept
-              (legal_last cells h (step_of p (lending c l)) (answer_of r) given.Nobody (refusal_used false (sym free ∙ k.used)) (due_lending (other_waits cells h (step_of p (lending c l))) ∙ ap (λ o. answer_due (cell_at cells c) l o (replay cells c h)) agrees ∙ k.due free) refl)
+              ended_so is (refusal_used false (sym free ∙ k.used)) (answer_of r) given.Nobody (due_lending (other_waits cells h (step_of p (lending c l))) ∙ ap (λ o. answer_due (cell_at cells c) l o (replay cells c h)) agrees ∙ k.due free) _ refl all_kept
+              (lent_in c l r m) (lent_at_once cells h p is.awake c l r agrees free fine) rests refl
             where
               agrees : accepts h ≡ (registry cells h).is_open
               agrees = sym (open-accepts cells h is.next.follows.legal)
@@ -153,6 +125,4 @@ module _ {L : Type 0} (held : L → Holders) (place : L → LockerKind) (cells :
             where
               by : (z : Lent) → r ≡ z → HasStepped held place cells h old (step_of p (lending c l)) (record { answer = answer_of r; given = given.Nobody }) new
               by lent.InUse q = subst (λ (z : Lent). HasStepped held place cells h old (step_of p (lending c l)) (record { answer = answer_of z; given = given.Nobody }) new) (sym q) (used_line q)
-              by (lent.Denied u) q = free_line (ap was_used q)
-              by lent.Failed q = free_line (ap was_used q)
-              by (lent.Found v) q = free_line (ap was_used q)
+              by z q = free_line (ap was_used q)

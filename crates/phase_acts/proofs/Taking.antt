@@ -1,31 +1,12 @@
 -- What was taken may be settled.
-use Rattle.std.proofs.Common.{◌≡◌, ◌∙◌, ℕ, length, ap, sym, subst, refl, arith}
-use Rattle.phase_bits.specs.declared.holders.Holders.{Holders}
-use Rattle.phase_locker.specs.declared.ways.Given.{Given}
-use Rattle.phase_locker.specs.declared.ways.LockerKind.{LockerKind}
-use Rattle.schedule_rules.specs.declared.line.Line.{Line}
-use Rattle.schedule_rules.specs.declared.step.Want.{Want}
-use Rattle.schedule_rules.specs.Guards.{numbered}
-use Rattle.phase_moves.specs.declared.rows.Rows.{Rows}
-use Rattle.phase_moves.specs.declared.rows.Taken.{Taken}
+use Rattle.phase_acts.proofs.Words.{◌∙◌, ◌≡◌, ap, arith, Given, Holders, IsSettled, IsSettling, IsTook, IsTried, IsTrying, KeptGuards, length, Line, LockerKind, numbered, refl}
+use Rattle.phase_acts.proofs.Words.{Rows, Standing, Stands, subst, sym, Taken, Target, took, Want, ℕ}
 use Rattle.phase_moves.specs.declared.rows.Taken.TheVariants as taken
-use Rattle.phase_moves.specs.declared.rows.Target.{Target}
-use Rattle.phase_moves.specs.Moves.{KeptGuards}
-use Rattle.phase_moves.specs.Standing.{Standing, took}
-use Rattle.phase_moves.specs.Stands.{Stands}
-use Rattle.phase_moves.specs.Tries.{IsTook}
-use Rattle.phase_acts.specs.Settles.{IsSettling, IsSettled}
-use Rattle.phase_acts.specs.Tries.{IsTried, IsTrying}
 
 -- no turn ends as something is taken
 same_turns : (n p c : ℕ) (w : Want) (g : Given) (b : Taken) (m : Standing) → (took n p c w g b m).turns ≡ m.turns
-same_turns n p c w g (taken.Wait how) m = refl
-same_turns n p c w g taken.Missed m = refl
-same_turns n p c w g taken.Cyclic m = refl
-same_turns n p c w g (taken.Nothing q) m = refl
-same_turns n p c w g (taken.Read t q) m = refl
-same_turns n p c w g (taken.Write t q) m = refl
 same_turns n p c w g taken.Runs m = refl
+same_turns n p c w g b m = refl
 
 module _ {L : Type 0} (held : L → Holders) (place : L → LockerKind) (m : Standing) (old mid : Rows L) (p : ℕ) (t : Target) (waits : _) (b : Taken) (g : Given) (is : IsTrying held place m old p t waits) (k : IsTook held place m old p t b g mid) (kept : KeptGuards old mid) where
   mid_n : length mid.guards.items ≡ length old.guards.items
