@@ -1,9 +1,9 @@
 -- What holds of the answers that are due, by what holds of each that may be.
-use Rattle.schedule_rules.proofs.Words.{ℕ, ◌≡◌, List, arith, Bool, true, refl, false, Some, ◌∙◌, ap, None, ◌&&◌, if◌then◌else◌, is_none, Option, Phase, LockNature, Given, How}
-use Rattle.schedule_rules.proofs.Words.{Tolerance, Call, Kind, Form, Held, Told, Shown, Answer, Line, Refusal, CellPlan, Place, Step, Calls, Turns, cell_at, is_owned, form_of}
-use Rattle.schedule_rules.proofs.Words.{is_accessible, Content, asks_to_lend, content_asked, content_to_lend, Event, Section, Guard, Wait, is_barred, holding_with, refusal}
-use Rattle.schedule_rules.proofs.Words.{answer_barred, answer_made_to_lend, answer_lent, answer_made, answer_opened, call_answer_admitted, answer_denied, answer_of_made}
-use Rattle.schedule_rules.proofs.Words.{begins_run, due_answer, due_clone, due_made, due_finished, phase_made, due_look, IsLegalLine, answer_of, due_at, Moment, waits_judged}
+use Rattle.schedule_rules.proofs.Words.{ℕ, arith, List, ◌≡◌, Bool, true, refl, false, Some, ◌∙◌, ap, None, ◌&&◌, if◌then◌else◌, is_none, Option, Phase, Given, How, Tolerance, Call}
+use Rattle.schedule_rules.proofs.Words.{Kind, Form, Held, Shown, Told, Answer, Line, Refusal, CellPlan, Place, Step, is_owned, is_accessible, Content, asks_to_lend}
+use Rattle.schedule_rules.proofs.Words.{content_to_lend, Event, Section, Guard, Wait, refusal, answer_barred, answer_lent, answer_made_to_lend, answer_opened, answer_made}
+use Rattle.schedule_rules.proofs.Words.{answer_denied, call_answer_admitted, due_answer, due_clone, due_finished, due_made, due_look, IsLegalLine, answer_of, due_at, Moment}
+use Rattle.schedule_rules.proofs.Words.{waits_judged}
 
 -- the answer that is due, where these calls of others wait
 pub due_at-judged : (cells : List CellPlan) (m : Moment) (h : List Event) (s : Step) (g : Given) (chosen : Bool)
@@ -46,9 +46,7 @@ module _ (P : Answer → Type 0) where
 
   -- of one that is admitted
   pub admitted : IsTold → P Answer.Running → (q : Kind) (t : Tolerance) (o : Bool) (k : Call) (y : Content) → P (call_answer_admitted q t o k y)
-  admitted k r q t o c y =
-      either (begins_run q t o c y.phase) Answer.Running _ r
-      (either (is_accessible q (content_asked q t o c y).phase) _ _ (opened k.shown (form_of q c) (content_asked q t o c y)) (denied k (form_of q c) (content_asked q t o c y).phase))
+  admitted k r q t o c y = grind (arith, either, opened, denied)
 
   -- of a value that is lent
   pub lent : ((v : ℕ) → P (Answer.Value v)) → ((p : Phase) → P (Answer.Access p)) → (q : Kind) (y : Content) → P (answer_lent q y)
@@ -76,10 +74,7 @@ module _ (P : Answer → Type 0) where
   module _ (cells : List CellPlan) (h : List Event) where
     -- that of a value made
     pub made : IsShown → (v : ℕ) (o : Option Section) → P Answer.Done → P Answer.Failed → P (due_made cells h v o)
-    made k v None d f = d
-    made k v (Some s) d f =
-        elim (s.want) as (λ u. P (answer_of_made (cell_at cells s.cell).kind u v (phase_made cells h s)))
-        [ Calls j ↦ made_so k (form_of (cell_at cells s.cell).kind j) v (phase_made cells h s) | Turns ↦ f ]
+    made k v k1 d f = grind (arith, made_so)
 
     -- that of a finalizer that ends
     pub finished : IsShown → (fine : Bool) (o : Option Section) → P Answer.Done → P (due_finished cells h fine o)
@@ -93,8 +88,7 @@ module _ (P : Answer → Type 0) where
 
     -- that of a clone
     pub cloned : (ws : List Wait) (o : Option Guard) → P Answer.Done → P Answer.Borrowed → P Answer.ReadGuard → P (due_clone cells h ws o)
-    cloned ws None d b r = d
-    cloned ws (Some x) d b r = either (is_barred LockNature.Read (holding_with x.cell h ws)) Answer.Borrowed Answer.ReadGuard b r
+    cloned ws k1 d b r = grind (arith, either)
 
 -- a test that no refusal passes is passed exactly by the due answer of a step that is not refused
 pub legal_by : (t : Answer → Bool) → ((q : Refusal) → t (Answer.Refused q) ≡ false) → (cells : List CellPlan) (h : List Event) (s : Step) (l : Line) (k : IsLegalLine cells h s l)

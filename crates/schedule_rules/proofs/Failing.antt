@@ -1,12 +1,12 @@
 -- What a failed run leaves; and of a value that is lent, that nobody uses its cell, and what the step leaves.
-use Rattle.schedule_rules.proofs.Words.{ℕ, ◌≡◌, List, arith, Bool, true, refl, false, Some, ◌∷◌, ◌∙◌, [], sym, ap, None, subst, ◌&&◌, ◌⊎◌, inl, inr, length, ◌≢◌, list_any, ◌==◌}
+use Rattle.schedule_rules.proofs.Words.{ℕ, arith, List, ◌≡◌, Bool, true, refl, false, Some, ◌∷◌, [], ◌∙◌, sym, ap, None, subst, ◌⊎◌, ◌&&◌, inl, inr, length, ◌≢◌, list_any, ◌==◌}
 use Rattle.schedule_rules.proofs.Words.{if◌then◌else◌, is_none, is_some, Option, Given, Answer, Line, Refusal, CellPlan, Act, Step, cell_at, tolerance_at, is_parking}
 use Rattle.schedule_rules.proofs.Words.{is_accessible, Content, Change, effect, Ran, Put, RanIfAsked, Makes, Event, deed_of, accepts, count, sections, Section, innermost}
-use Rattle.schedule_rules.proofs.Words.{sections_by, guards, guards_by, replay, Back, back_of_step, content_after_back, back_of_section, Wait, waits, wait_of, attempt_with}
-use Rattle.schedule_rules.proofs.Words.{without_wait, waits_given_with, cell_concerned, waits_answered, waits_at, cell_of_section, other_waits, cell_concerned_with, refusal}
-use Rattle.schedule_rules.proofs.Words.{refusal_by, due_answer, may_give_first, may_give_last, may_give_on, reaches, IsLegalLine, answer_of, due_at, Moment, may_give, lends_at}
-use Rattle.schedule_rules.proofs.Words.{waits_judged, is_failed, is_failure, is_refused_in_use, lends_in_use, is_step_in_use, is_lent, IsFailedRun, RunsAtOnce, ChangesCellAlone}
-use Rattle.schedule_rules.proofs.Words.{IsUnused, EndsRun, Leaves}
+use Rattle.schedule_rules.proofs.Words.{sections_by, guards, guards_by, replay, Back, back_of_step, back_of_section, content_after_back, Wait, waits, wait_of, without_wait}
+use Rattle.schedule_rules.proofs.Words.{cell_concerned, waits_given_with, attempt_with, waits_answered, cell_of_section, other_waits, waits_at, cell_concerned_with, refusal}
+use Rattle.schedule_rules.proofs.Words.{refusal_by, due_answer, may_give_last, may_give_first, may_give_on, reaches, IsLegalLine, answer_of, due_at, Moment, may_give, lends_at}
+use Rattle.schedule_rules.proofs.Words.{waits_judged, is_failed, lends_in_use, is_refused_in_use, is_failure, is_step_in_use, is_lent, IsUnused, IsFailedRun, EndsRun}
+use Rattle.schedule_rules.proofs.Words.{ChangesCellAlone, RunsAtOnce, Leaves}
 use Rattle.schedule_rules.proofs.Cases.{step, IsTrying, trying, Lendable, Case, calling-tries, turning-tries}
 use Rattle.schedule_rules.proofs.Steps.{lendable, lendable_so, allowed}
 use Rattle.schedule_rules.proofs.Finds.{LendsSo, Both, finds, tells}
@@ -118,12 +118,7 @@ module _ (c : ℕ) where
 module _ (cells : List CellPlan) (h : List Event) (s : Step) (c : ℕ) (lends : lends_at c s.act ≡ true) (free : is_none (refusal cells h s) ≡ true) where
   -- its cell is of a kind that lends, and nobody uses it
   lends_free : Lendable cells h s.party c
-  lends_free = by s.act lends (none_where (refusal cells h s) free)
-    where
-      by : (a : Act) → lends_at c a ≡ true → refusal cells h (record { party = s.party; act = a }) ≡ None → Lendable cells h s.party c
-      by (Act.GetMut z made left) e n = let at : z ≡ c = number_found z c e in subst (Lendable cells h s.party) at (lendable cells h s.party z made left n)
-      by (Act.TryGetMut z left) e n = let at : z ≡ c = number_found z c e in subst (Lendable cells h s.party) at (lendable_so cells h s.party z left n)
-      by _ e n = absurd (apart (sym e))
+  lends_free = grind (arith, none_where, Lendable, number_found, lendable, lendable_so)
 
   pub lent-unused : IsUnused cells h c
   lent-unused = record { unread = lends_free.unread; unheld = lends_free.unheld; unwaited = lends_free.unwaited }

@@ -1,7 +1,7 @@
 -- A waiting call goes on with what its party did last: its wait says the same call as the party's latest act.
-use Rattle.schedule_rules.proofs.Words.{ℕ, ◌≡◌, List, arith, Bool, true, refl, false, Some, ◌∷◌, ◌∙◌, [], sym, ap, None, subst, ◌==◌, if◌then◌else◌, map, Option, first_of, Given}
+use Rattle.schedule_rules.proofs.Words.{ℕ, arith, List, ◌≡◌, Bool, true, refl, false, Some, ◌∷◌, [], ◌∙◌, sym, ap, None, subst, ◌==◌, if◌then◌else◌, map, Option, first_of, Given}
 use Rattle.schedule_rules.proofs.Words.{How, Answer, Refusal, CellPlan, Act, Step, Event, latest_act, latest_act_after, newer_act, registry, Wait, waits, wait_of, Attempt, attempt}
-use Rattle.schedule_rules.proofs.Words.{attempt_of_wait, attempt_with, attempt_of_turn, without_wait, waits_given_with, waits_answered, with_wait, act_for, wait_woken}
+use Rattle.schedule_rules.proofs.Words.{attempt_of_wait, attempt_of_turn, without_wait, waits_given_with, attempt_with, waits_answered, with_wait, act_for, wait_woken}
 use Rattle.schedule_rules.proofs.Facts.{same_number, numbers_apart, number_found}
 use Rattle.schedule_rules.proofs.Opened.{wait_removed, wait_kept}
 
@@ -55,20 +55,13 @@ module _ (cells : List CellPlan) where
         others = waits_given_with cells (waits cells h) h e.step e.line.given (without_wait e.step.party (waits cells h))
 
         left_over : (b : Bool) → (e.step.party == p) ≡ b → Of (T (e ∷ h) p) (attempt_of_wait (wait_of p others))
-        left_over true is = rw (attempt_given (waits cells h) h e.step e.line.given p (without_wait e.step.party (waits cells h))) (rw (number_found e.step.party p is) (rw (wait_removed p (waits cells h)) tt))
-        left_over false is =
-            rw (attempt_given (waits cells h) h e.step e.line.given p (without_wait e.step.party (waits cells h))) (rw (wait_kept e.step.party p (waits cells h) (numbers_apart e.step.party p is))
-            (each_of (T h p) (T (e ∷ h) p) (λ a t. k.other h e p a l is t) (waiting h p) (IH p)))
+        left_over b is = grind (arith, attempt_given, number_found, wait_removed, wait_kept, numbers_apart, each_of)
 
         again : (way : How) (b : Bool) → (e.step.party == p) ≡ b → (o : Option Attempt) → (b ≡ true → Of (T (e ∷ h) p) o) → Of (T (e ∷ h) p) (attempt_of_wait (wait_of p (with_wait e.step.party way o others)))
-        again way b is None f = left_over b is
-        again way false is (Some a) f = rw is (left_over false is)
-        again way true is (Some a) f = rw is (f refl)
+        again way b o k1 f = grind (arith, left_over)
 
         after : (r : Answer) → e.line.answer ≡ r → Of (T (e ∷ h) p) (attempt_of_wait (wait_of p (waits_answered cells h e.step e.line.given r (waits cells h))))
-        after (Answer.Refused q) is = each_of (T h p) (T (e ∷ h) p) (λ a t. k.refused h e p a q is t) (waiting h p) (IH p)
-        after (Answer.Waiting way) is = again way (e.step.party == p) refl (attempt cells h e.step) (λ own. subst (λ q. Of (T (e ∷ h) q) (attempt cells h e.step)) (number_found e.step.party p own) (k.now h e way l is (IH e.step.party)))
-        after _ is = left_over (e.step.party == p) refl
+        after r is = grind (arith, each_of, again, number_found, left_over)
 
       -- so it is said of all that waits
       pub waits_so : (h : List Event) (p : ℕ) → L h → Of (T h p) (waiting h p)

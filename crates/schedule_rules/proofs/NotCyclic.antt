@@ -1,5 +1,5 @@
 -- A call that waits asks for no run of a generator that its own party is running.
-use Rattle.schedule_rules.proofs.Words.{ℕ, ◌≡◌, List, arith, Bool, true, refl, false, Some, ◌∷◌, ◌∙◌, [], sym, ap, None, subst, ◌&&◌, not, ◌≢◌, ◌≤◌, ◌==◌, is_none, Option, How}
+use Rattle.schedule_rules.proofs.Words.{ℕ, arith, List, ◌≡◌, Bool, true, refl, false, Some, ◌∷◌, [], ◌∙◌, sym, ap, None, subst, ◌&&◌, not, ◌≢◌, ◌≤◌, ◌==◌, is_none, Option, How}
 use Rattle.schedule_rules.proofs.Words.{Answer, Line, CellPlan, Act, Step, cell_at, initializes, Deed, deed_waiting, Event, deed_of, count, is_exit, sections, Section, is_turn}
 use Rattle.schedule_rules.proofs.Words.{runs_in, without_innermost, sections_by, runs, Wait, waits, wait_of, Attempt, attempt, attempt_of_wait, refusal, IsLegal, IsLegalLine}
 use Rattle.schedule_rules.proofs.Words.{IsExclusive, waits_judged, is_attempted, is_waiting, is_cyclic, is_cyclic_step, is_made_to_wait}
