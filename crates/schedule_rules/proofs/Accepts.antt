@@ -20,7 +20,7 @@ module _ (cells : List CellPlan) where
 
   module _ (h : List Event) where
     length_by : (d : Deed) (m : Registry) → length (registry_by cells h d m).known ≡ length m.known
-    length_by k1 m = grind (arith, length_run, length_taken)
+    length_by d m = grind (arith, length_run, length_taken)
 
     module _ (p : ℕ) where
       opens : (d : Deed) → Finds cells h p d → (registry cells h).is_open ≡ accepts h → (registry_by cells h d (registry cells h)).is_open ≡ not (closed_by d (is_closed h))

@@ -72,10 +72,10 @@ module _ (cells : List CellPlan) where
   -- a value that is to be lent, and may not be accessed, stays
   module _ (h : List Event) (p : ℕ) (i : Given) (q : Phase) where
     lent_here : (a : Act) (c d : ℕ) → lends_at c a ≡ true → cell_concerned cells h (record { party = p; act = a }) ≡ Some d → c ≡ d
-    lent_here k1 c d e n = grind arith
+    lent_here a c d e n = grind arith
 
     unlent_stays : (a : Act) (c d : ℕ) → lends_at c a ≡ true → replay cells d (event h p i a (Answer.Access q) ∷ h) ≡ replay cells d h
-    unlent_stays k1 c d e = grind arith
+    unlent_stays a c d e = grind arith
 
     unlent : (a : Act) (c : ℕ) → Unlent cells h p a q → cell_concerned cells h (record { party = p; act = a }) ≡ Some c → IsTurnedAway cells h (event h p i a (Answer.Access q)) c q
     unlent a c m n =

@@ -8,7 +8,7 @@ use Rattle.schedule_rules.proofs.Words.{waits_judged}
 -- the answer that is due, where these calls of others wait
 pub due_at-judged : (cells : List CellPlan) (m : Moment) (h : List Event) (s : Step) (g : Given) (chosen : Bool)
     → due_at cells m h s g chosen ≡ due_answer cells h s (waits_judged cells m h s g) chosen
-due_at-judged cells k1 h s g chosen = grind arith
+due_at-judged cells m h s g chosen = grind arith
 
 module _ (P : Answer → Type 0) where
   -- one of two answers
@@ -74,7 +74,7 @@ module _ (P : Answer → Type 0) where
   module _ (cells : List CellPlan) (h : List Event) where
     -- that of a value made
     pub made : IsShown → (v : ℕ) (o : Option Section) → P Answer.Done → P Answer.Failed → P (due_made cells h v o)
-    made k v k1 d f = grind (arith, made_so)
+    made k v o d f = grind (arith, made_so)
 
     -- that of a finalizer that ends
     pub finished : IsShown → (fine : Bool) (o : Option Section) → P Answer.Done → P (due_finished cells h fine o)
@@ -88,7 +88,7 @@ module _ (P : Answer → Type 0) where
 
     -- that of a clone
     pub cloned : (ws : List Wait) (o : Option Guard) → P Answer.Done → P Answer.Borrowed → P Answer.ReadGuard → P (due_clone cells h ws o)
-    cloned ws k1 d b r = grind (arith, either)
+    cloned ws o d b r = grind (arith, either)
 
 -- a test that no refusal passes is passed exactly by the due answer of a step that is not refused
 pub legal_by : (t : Answer → Bool) → ((q : Refusal) → t (Answer.Refused q) ≡ false) → (cells : List CellPlan) (h : List Event) (s : Step) (l : Line) (k : IsLegalLine cells h s l)
@@ -97,4 +97,4 @@ legal_by t fails cells h s l k =
     ap t (k.answered ∙ ap (answer_of (refusal cells h s)) (due_at-judged cells k.moment h s l.given k.chosen)) ∙ by (refusal cells h s) _
   where
     by : (o : Option Refusal) (a : Answer) → t (answer_of o a) ≡ (is_none o && t a)
-    by k1 a = grind arith
+    by o a = grind arith

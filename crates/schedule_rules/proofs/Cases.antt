@@ -67,7 +67,7 @@ module _ (cells : List CellPlan) (h : List Event) (p : ℕ) where
   Tries a c Turns = Turning a c
 
   pub trying : (a : Act) (c : ℕ) (w : Want) → Tries a c w → IsTrying a
-  trying a c k1 t = grind (arith, calling-tries, turning-tries)
+  trying a c w t = grind (arith, calling-tries, turning-tries)
 
   -- a generator is asked at the cell, and runs there or not, and no guard and no section of the cell is open where holds
   -- exclude each other

@@ -113,7 +113,7 @@ module _ (c : ℕ) where
   elsewhere b d e = grind arith
 
   pub none_reached : (g : Given) (ws : List Wait) → count (waits_at c) ws ≡ 0 → reaches c g ws ≡ true → g ≡ Given.Nobody
-  none_reached k1 ws n e = grind (arith, none_any, elsewhere, no_more)
+  none_reached g ws n e = grind (arith, none_any, elsewhere, no_more)
 
 module _ (cells : List CellPlan) (h : List Event) (s : Step) (c : ℕ) (lends : lends_at c s.act ≡ true) (free : is_none (refusal cells h s) ≡ true) where
   -- its cell is of a kind that lends, and nobody uses it
@@ -192,7 +192,7 @@ module _ (cells : List CellPlan) (h : List Event) (s : Step) (c : ℕ) (lends : 
       where
         leaves : (z : ℕ) (chs : List Change) (left : ℕ) (a : Act) (r : Answer) → z ≡ c → (effect (cell_at cells z) chs (replay cells z h)).value ≡ Some left → is_failed r ≡ false → LendsSo cells h s.party a r z chs
             → (content : Content) → content ≡ effect (cell_at cells c) chs (replay cells c h) → (content.value ≡ Some left) × (is_accessible (cell_at cells c).kind content.phase ≡ true)
-        leaves z chs left a r content is fine t k1 e = grind arith
+        leaves z chs left a r content is fine t x e = grind arith
 
         by : (a : Act) → lends_at c a ≡ true → Both cells h s.party a (Answer.Value v) (deed_of h (step cells h s.party a) (Answer.Value v))
             → Leaves cells (record { step = step cells h s.party a; line = record { answer = Answer.Value v; given = l.given } } ∷ h) c a
@@ -218,7 +218,7 @@ is_in_use_reason _ = false
 
 module _ (cells : List CellPlan) (h : List Event) where
   used_by : (p : ℕ) (a : Act) (o : Option Wait) → is_in_use_reason (refusal_by cells (is_some o) h p a) ≡ (is_none o && lends_in_use cells h p a)
-  used_by p a k1 = grind arith
+  used_by p a o = grind arith
 
   unrefused : (r : Answer) → is_refused r ≡ false → is_refused_in_use r ≡ false
   unrefused r e = grind arith

@@ -117,7 +117,7 @@ module _ (cells : List CellPlan) (h : List Event) (p : ℕ) where
   visits a c k reads t f e = let v : Visit c (Asked (accepts h) k ∷ []) reads = record { asked = k; does = refl; finds = f; falls = e } in (v, (v, t))
 
   runs_nothing : {c : ℕ} {k : Call} {q : Phase} {T : Type 0} → Visiting cells h p c k q T → Asking cells h p c k false ⊎ Resting cells h p c k
-  runs_nothing k1 = grind arith
+  runs_nothing either = grind arith
 
   inside : {t : Section} {k : Call} → Generating cells h p t k → Inside false
   inside {t} g = record { section = t; found = g.found; kind = ap (λ w. is_turn w) g.kind }

@@ -16,7 +16,7 @@ use Rattle.schedule_rules.proofs.Facts.{apart, same_number, other_number}
 
 -- a finalizer's section needs a value
 pub needs-value : (w : Want) (x : CellPlan) (p : ℕ) → is_turn w ≡ true → Needs w x p → has p initialized ≡ true
-needs-value k1 x p d n = grind arith
+needs-value w x p d n = grind arith
 
 -- what a finalizer adds says how it ended
 same_outcome : (a fine : Bool) (p : ℕ) → has p (final_outcome fine) ≡ false → has (bit_or p (final_outcome a)) (final_outcome fine) ≡ true → a ≡ fine

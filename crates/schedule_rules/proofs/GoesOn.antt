@@ -34,7 +34,7 @@ each_of T U f (Some a) t = f a t
 module _ (cells : List CellPlan) where
   -- a gift changes no attempt
   pub attempt_given : (all : List Wait) (h : List Event) (s : Step) (g : Given) (p : ℕ) (ws : List Wait) → attempt_of_wait (wait_of p (waits_given_with cells all h s g ws)) ≡ attempt_of_wait (wait_of p ws)
-  attempt_given all h s k1 p ws = grind (arith, attempt_mapped, woken_party, woken_attempt)
+  attempt_given all h s g p ws = grind (arith, attempt_mapped, woken_party, woken_attempt)
 
   -- what waits for the party
   abbrev pub waiting : List Event → ℕ → Option Attempt
@@ -58,7 +58,7 @@ module _ (cells : List CellPlan) where
         left_over b is = grind (arith, attempt_given, number_found, wait_removed, wait_kept, numbers_apart, each_of)
 
         again : (way : How) (b : Bool) → (e.step.party == p) ≡ b → (o : Option Attempt) → (b ≡ true → Of (T (e ∷ h) p) o) → Of (T (e ∷ h) p) (attempt_of_wait (wait_of p (with_wait e.step.party way o others)))
-        again way b o k1 f = grind (arith, left_over)
+        again way b o x f = grind (arith, left_over)
 
         after : (r : Answer) → e.line.answer ≡ r → Of (T (e ∷ h) p) (attempt_of_wait (wait_of p (waits_answered cells h e.step e.line.given r (waits cells h))))
         after r is = grind (arith, each_of, again, number_found, left_over)
@@ -90,7 +90,7 @@ module _ (cells : List CellPlan) where
   of_matches h p (Some a) t = t
 
   latest_other : (r : Answer) (a older : Act) → latest_act_after r false a older ≡ older
-  latest_other k1 a older = grind arith
+  latest_other r a older = grind arith
 
   pub wait-matches : (p : ℕ) (h : List Event) → Matches (attempt_of_wait (wait_of p (waits cells h))) (latest_act p h)
   wait-matches p h = matches_of h p (waiting h p) (waits_so (λ h. Unit {0}) (λ e h l. tt) Says (record { other = other; refused = refused; now = now }) h p tt)

@@ -24,7 +24,7 @@ Needs Turns x p = has p initialized ≡ true
 
 -- a generator's section needs a phase that lacks INITIALIZED
 pub needs-lacks : (w : Want) (x : CellPlan) (p : ℕ) → is_turn w ≡ false → Needs w x p → has p initialized ≡ false
-needs-lacks k1 x p d n = grind arith
+needs-lacks w x p d n = grind arith
 
 -- a generator ended in the section
 abbrev pub HasRun : List Change → Type 0
@@ -60,7 +60,7 @@ module _ (cells : List CellPlan) where
     Sees y x = x.writes ≡ true → SeesValue (cell_at cells x.cell) x y
 
     new : (d : Deed) (f : Finds cells h p d) → NewOf cells h p alone Stands Stands Sees Sees d f
-    new k1 f = grind (arith, accessed_there, has_made, needs-lacks)
+    new d f = grind (arith, accessed_there, has_made, needs-lacks)
 
     says : (d : Deed) (f : Finds cells h p d) → Says cells h p alone Stands Stands Sees Sees d f
     says d f = grind (arith, new)
@@ -90,7 +90,7 @@ module _ (cells : List CellPlan) where
       lends c chs f r = grind (arith, AsksToLend, Comes, Reach)
 
       gives : (d : Deed) (f : Finds cells h p d) → GivesOf cells h p alone Keeps d f
-      gives k1 f = grind (arith, lacks, has_more, has_made, ready, visits, lends)
+      gives d f = grind (arith, lacks, has_more, has_made, ready, visits, lends)
 
       pub kept-after : (d : Deed) (f : Finds cells h p d) (c : ℕ) → Keeps c (replay cells c h) (left_at cells h p d c)
       kept-after d f c = moves cells h p alone Keeps d f (λ z n r. r) (gives d f) c

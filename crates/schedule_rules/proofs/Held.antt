@@ -23,7 +23,7 @@ HasEnded (ch ∷ chs) = HasEnded chs
 
 module _ (x : CellPlan) where
   ran_touches : (o : Bool) (made : Option ℕ) (y : Content) → (content_after x (Ran o made) y).phase ≢ 0
-  ran_touches o k1 y = grind (arith, with_flag)
+  ran_touches o made y = grind (arith, with_flag)
 
   ended_touches : (fine : Bool) (left : Option ℕ) (y : Content) → (content_after x (Ended fine left) y).phase ≢ 0
   ended_touches fine left y = grind (arith, with_flag y.phase 64, with_flag y.phase 128)
@@ -86,7 +86,7 @@ module _ (cells : List CellPlan) where
 
   module _ (h : List Event) (p : ℕ) (alone : (c : ℕ) → IsExclusive cells h c) where
     new : (d : Deed) (f : Finds cells h p d) → NewOf cells h p alone IsAny IsAny IsGood IsGood d f
-    new k1 f = grind (arith, has_none, accessed_there)
+    new d f = grind (arith, has_none, accessed_there)
 
     good-after : (d : Deed) (f : Finds cells h p d) → AllGood h → AllByRecursion (λ x. IsGood (left_at cells h p d x.cell) x) (guards_left cells h p d)
     good-after d f k =

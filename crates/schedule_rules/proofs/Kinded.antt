@@ -13,11 +13,11 @@ use Rattle.schedule_rules.proofs.WaitsToLock.{attempted-has}
 
 -- no plain kind has one that does
 written_not_plain : (q : Kind) (k : Call) → has_call q k ≡ true → writes (form_of q k) ≡ true → is_plain q ≡ false
-written_not_plain q k1 e f = grind arith
+written_not_plain q k e f = grind arith
 
 -- a primed kind alone has one that falls back
 falls_primed : (q : Kind) (k : Call) → has_call q k ≡ true → errs (form_of q k) ≡ true → is_primed q ≡ true
-falls_primed q k1 e f = grind arith
+falls_primed q k e f = grind arith
 
 module _ (cells : List CellPlan) where
   -- the kind of the cell has the call

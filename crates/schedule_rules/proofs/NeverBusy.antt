@@ -9,13 +9,13 @@ one_more ts c t other before =
     All-append NotBusy ts _ before (All-cons NotBusy (record { cell = c; turn = t }) [] other (All-nil NotBusy))
 
 of_section : (t : Turn) (s : Option Section) (ts : List Turned) → t ≢ Turn.Busy → NoneBusy ts → NoneBusy (turn_of_section t s ts)
-of_section t k1 ts other before = grind (arith, one_more)
+of_section t s ts other before = grind (arith, one_more)
 
 not_busy : (fine : Bool) → turn_of fine ≢ Turn.Busy
 not_busy fine = grind arith
 
 after : (p : ℕ) (d : Deed) (ss : List Section) (ts : List Turned) → NoneBusy ts → NoneBusy (turns_by p d ss ts)
-after p k1 ss ts before = grind (arith, one_more, of_section, not_busy)
+after p d ss ts before = grind (arith, one_more, of_section, not_busy)
 
 ended : (h : List Event) → NoneBusy (ended_turns h)
 ended [] = All-nil (λ t. t.turn ≢ Turn.Busy)

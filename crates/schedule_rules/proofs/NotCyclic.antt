@@ -25,7 +25,7 @@ module _ (p : ℕ) where
 
   -- another's deed opens none of the party's
   others_fewer : (h : List Event) (q : ℕ) (d : Deed) (c : ℕ) (ss : List Section) → (q == p) ≡ false → own_runs p c (sections_by h q d ss) ≤ own_runs p c ss
-  others_fewer h q k1 c ss e = grind (arith, ended_fewer)
+  others_fewer h q d c ss e = grind (arith, ended_fewer)
 
   -- what waits opens and ends none
   waiting_fewer : (h : List Event) (q : ℕ) (b : Bool) (c : ℕ) (ss : List Section) → own_runs p c (sections_by h q (deed_waiting b) ss) ≤ own_runs p c ss

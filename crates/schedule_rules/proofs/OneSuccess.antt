@@ -29,13 +29,13 @@ module _ (cells : List CellPlan) (c : ℕ) where
     stays d f z none n = by (writing cells h p (alone cells h legal) d f z)
       where
         by : Writing cells h p (alone cells h legal) d z → (has (phase_at cells z h) initialized ≡ true) ⊎ (0 < count (writes_cell z) (guards_left cells h p d))
-        by k1 = grind arith
+        by x = grind arith
 
     seen : (g : ℕ) (x : Guard) → numbered g (guards h) ≡ Some x → x.writes ≡ true → has (effect (cell_at cells x.cell) x.changes (replay cells x.cell h)).phase initialized ≡ true
     seen g x f w = (each_found (λ y. y.number == g) (IsReady cells h) (guards h) x f (sound cells h legal).ready w).0
 
     gives : (d : Deed) (f : Finds cells h p d) → GivesOf cells h p (alone cells h legal) (Publishes d) d f
-    gives k1 f = grind (arith, has_made, seen)
+    gives d f = grind (arith, has_made, seen)
 
     keeps : (d : Deed) (f : Finds cells h p d) → 0 < count (writes_cell c) (guards h) → MadeBy d
     keeps d f n = moves cells h p (alone cells h legal) (Publishes d) d f (stays d f) (gives d f) c n
@@ -115,11 +115,11 @@ module _ (cells : List CellPlan) (c : ℕ) where
       makes (inr s) = at_once h e.step.party k.2 e.step.act e.line.answer (f, tells cells h e.step e.line k.0) (first _ _ s) (second (is_lent_at c e.step.act e.line.answer) _ s)
 
       made_stays : IsMade h → IsMade (e ∷ h)
-      made_stays k1 = grind (arith, initialized-stays, keeps, d, f)
+      made_stays x = grind (arith, initialized-stays, keeps, d, f)
 
       by : (b : Bool) → (is_success c d (innermost e.step.party (sections h)) || (is_lent_at c e.step.act e.line.answer && runs_to_lend cells h e.step.act)) ≡ b → IsCounted h
           → (cond b (successes cells c h + 1) (successes cells c h) ≡ 0) ⊎ ((cond b (successes cells c h + 1) (successes cells c h) ≡ 1) × IsMade (e ∷ h))
-      by b ok k1 = grind (arith, makes, one_of, made_stays)
+      by b ok x = grind (arith, makes, one_of, made_stays)
 
   -- at most one generator of the cell ends by a value
   pub one-success : (h : List Event) → IsLegal cells h → successes cells c h ≤ 1

@@ -40,18 +40,18 @@ module _ (cells : List CellPlan) (spins : NoneParks cells) where
         one_answer (cell_at cells a.cell) a.want (meeting cells h p a ws) b d (never_parks a.cell)
 
     due_alike : (p : ℕ) (a : Act) (ws : List Wait) (b d : Bool) → due_answer cells h (record { party = p; act = a }) ws b ≡ due_answer cells h (record { party = p; act = a }) ws d
-    due_alike p k1 ws b d = grind (arith, tried_alike)
+    due_alike p a ws b d = grind (arith, tried_alike)
 
     -- nothing may be given at the first moment
     never_first : (o : Option Attempt) (g : Given) → may_give_first cells h s o g ≡ false
-    never_first k1 g = grind (arith, never_parks)
+    never_first o g = grind (arith, never_parks)
 
     -- nor at the last
     never_on : (o : Option ℕ) (a : Answer) (g : Given) → may_give_on cells h s o a g ≡ false
-    never_on k1 a g = grind (arith, never_parks)
+    never_on o a g = grind (arith, never_parks)
 
     nothing_last : (a : Answer) (g : Given) → may_give_last cells h s a g ≡ true → g ≡ Given.Nobody
-    nothing_last a k1 d = grind (arith, never_on)
+    nothing_last a g d = grind (arith, never_on)
 
     nobody : (g : Given) → is_nobody g ≡ true → g ≡ Given.Nobody
     nobody g d = grind arith

@@ -23,7 +23,7 @@ pub record IsOpened (n : ℕ) (x : Guard) : Type 0 where
 
 module _ (Q : Guard → Type 0) (h : List Event) (opens : (x : Guard) → IsOpened (length h) x → Q x) (puts : (v : ℕ) (x : Guard) → Q x → Q (put v x)) where
   each_by : (p : ℕ) (d : Deed) (gs : List Guard) → AllByRecursion Q gs → AllByRecursion Q (guards_by (length h) p d (sections h) gs)
-  each_by p k1 gs ks = grind (arith, each_removed, each_put)
+  each_by p d gs ks = grind (arith, each_removed, each_put)
 
   -- what holds of each guard, of each with a value set, and of what is opened, holds of each after the event
   pub each_after : (e : Event) → AllByRecursion Q (guards h) → AllByRecursion Q (guards (e ∷ h))

@@ -35,13 +35,13 @@ module _ (cells : List CellPlan) (h : List Event) (s : Step) (r : Answer) (legal
   Stays c y w = (w ≡ y) ⊎ (read_guards c h ≡ 0)
 
   untouches : (d : Deed) (f : Finds cells h s.party d) → GivesOf cells h s.party (alone cells h legal) Stays d f
-  untouches k1 f = grind (arith, unread, ran, wrote, alone, rests)
+  untouches d f = grind (arith, unread, ran, wrote, alone, rests)
 
   pub untouched : (d : Deed) (f : Finds cells h s.party d) (c : ℕ) → Stays c (replay cells c h) (left_at cells h s.party d c)
   untouched d f c = moves cells h s.party (alone cells h legal) Stays d f (λ z none. inl refl) (untouches d f) c
 
   gives : (d : Deed) (f : Finds cells h s.party d) → GivesOf cells h s.party (alone cells h legal) (WasHeld d) d f
-  gives k1 f = grind (arith, ran, wrote)
+  gives d f = grind (arith, ran, wrote)
 
   held : (d : Deed) (f : Finds cells h s.party d) (c : ℕ) → WasHeld d c (replay cells c h) (left_at cells h s.party d c)
   held d f c = moves cells h s.party (alone cells h legal) (WasHeld d) d f (λ z none ne. absurd (ne refl)) (gives d f) c
@@ -55,11 +55,11 @@ module _ (cells : List CellPlan) (h : List Event) (s : Step) (r : Answer) (legal
     one_less d f ne was = (by (settles cells h s.party (alone cells h legal) d f c), unread c was)
       where
         by : Settles cells h s.party d c → (holds_left cells h s.party d c < write_holds c h) ⊎ (DeclinesAt cells h s c ⊎ LendsAt s r c)
-        by k1 = grind arith
+        by x = grind arith
 
     -- a call that leaves nothing open is declined
     visits : (z : ℕ) (chs : List Change) (reads : Bool) → Tells cells h s.party s.act r (Visits z chs reads) → (left_at cells h s.party (Visits z chs reads) c).phase ≢ phase_at cells c h → IsGiven (Visits z chs reads)
-    visits z chs reads k1 ne = grind (arith, Asking, alone, number_found, Resting, left_at, rests)
+    visits z chs reads x ne = grind (arith, Asking, alone, number_found, Resting, left_at, rests)
 
     -- a value that is lent
     lends : (z : ℕ) (chs : List Change) → Lending cells h s.party z chs → LendsSo cells h s.party s.act r z chs → (left_at cells h s.party (Lends z chs) c).phase ≢ phase_at cells c h → IsGiven (Lends z chs)

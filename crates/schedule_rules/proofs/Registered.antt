@@ -23,7 +23,7 @@ module _ (cells : List CellPlan) where
   -- what is known after a deed, was known before, or the section that it opens is in the cell
   known_by : (c : ℕ) (h : List Event) (p : ℕ) (d : Deed) → is_known (registry_by cells h d (registry cells h)) c ≡ true
       → (is_known (registry cells h) c ≡ true) ⊎ (0 < count (runs_in c) (sections_by h p d (sections h)))
-  known_by c h p k1 known = grind (arith, known_more, known_taken)
+  known_by c h p d known = grind (arith, known_more, known_taken)
 
   -- what is known after an event was known before it, or is held after it
   known_before : (c : ℕ) (e : Event) (h : List Event) → is_known (registry cells (e ∷ h)) c ≡ true → (is_known (registry cells h) c ≡ true) ⊎ IsHeld cells (e ∷ h) c
@@ -56,7 +56,7 @@ module _ (cells : List CellPlan) where
   takes false m k = k
 
   registered_by : (h : List Event) (d : Deed) (m : Registry) → AreRegistered m → AreRegistered (registry_by cells h d m)
-  registered_by h k1 m k = grind (arith, registers, takes)
+  registered_by h d m k = grind (arith, registers, takes)
 
   are_registered : (h : List Event) → AreRegistered (registry cells h)
   are_registered [] = record { pending = tt; left = tt }

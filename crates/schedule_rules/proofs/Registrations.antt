@@ -85,7 +85,7 @@ module _ (cells : List CellPlan) (c : ℕ) where
   counted (e ∷ h) k = by (shows_registration cells c h e.step e.line.answer) refl (counted h k.2)
     where
       never : (phase_at cells c h ≡ 0) × (write_holds c h ≡ 0) × IsHeld cells (e ∷ h) c → IsHeld cells h c → ⊥
-      never f k1 = grind arith
+      never f x = grind arith
 
       by : (b : Bool) → shows_registration cells c h e.step e.line.answer ≡ b → IsTried h
           → (cond b (registrations_shown cells c h + 1) (registrations_shown cells c h) ≡ 0) ⊎ ((cond b (registrations_shown cells c h + 1) (registrations_shown cells c h) ≡ 1) × IsHeld cells (e ∷ h) c)

@@ -87,7 +87,7 @@ module _ (cells : List CellPlan) (h : List Event) (p : ℕ) (legal : IsLegal cel
 
   -- a deed lends a value by an act that is to lend it
   lent_by : (a : Act) (r : Answer) (d : Deed) (c : ℕ) → Tells cells h p a r d → lends_at c a ≡ false → lends_to c d ≡ false
-  lent_by a r k1 c t n = grind arith
+  lent_by a r d c t n = grind arith
 
 -- the value of a plain cell stays once its phase has INITIALIZED, while no step is to lend it
 pub plain-stays : (cells : List CellPlan) (h later : List Event) (c : ℕ) → IsLegal cells (later ++ h) → All (λ e. lends_at c e.step.act ≡ false) later → is_plain (cell_at cells c).kind ≡ true → has (phase_at cells c h) initialized ≡ true

@@ -38,7 +38,7 @@ module _ (cells : List CellPlan) (h : List Event) (e : Event) (only : (c : ℕ) 
   now c = ap (replay cells c) (before_more (length h) e h (omega arith) ∙ before_now h)
 
   new : (d : Deed) (f : Finds cells h e.step.party d) → NewOf cells h e.step.party only (SteadySection cells h) (SteadySection cells (e ∷ h)) (SteadyGuard cells h) (SteadyGuard cells (e ∷ h)) d f
-  new k1 f = grind (arith, now, later)
+  new d f = grind (arith, now, later)
 
   says : (d : Deed) (f : Finds cells h e.step.party d) → Says cells h e.step.party only (SteadySection cells h) (SteadySection cells (e ∷ h)) (SteadyGuard cells h) (SteadyGuard cells (e ∷ h)) d f
   says d f = grind (arith, later, new)

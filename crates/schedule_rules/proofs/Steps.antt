@@ -18,7 +18,7 @@ ends_so b f = grind arith
 -- what is not refused for want of a guard names an open one
 is_opened : (f : Option Bool → Option Refusal) (p : ℕ) (o : Option Guard) → (f None ≡ None → ⊥) → f (writes_of (own p o)) ≡ None
     → (x : Guard) × (o ≡ Some x) × (f (Some x.writes) ≡ None)
-is_opened f p k1 none e = grind arith
+is_opened f p o none e = grind arith
 
 -- a guard that is needed to write, writes
 is_writer : (b : Bool) → no_writer (Some b) ≡ None → b ≡ true
@@ -48,7 +48,7 @@ lent_unprimed q e = grind arith
 
 -- a value that is made to be lent may be accessed
 pub made_accessible : (q : Kind) (o : Bool) (p : ℕ) → lends_value q ≡ true → is_accessible q (phase_reached q o p Success) ≡ true
-made_accessible k1 o p e = grind arith
+made_accessible q o p e = grind arith
 
 module _ (cells : List CellPlan) (h : List Event) (p : ℕ) where
   -- nobody uses a cell whose value is lent

@@ -173,7 +173,7 @@ fails_barred t m b k fast x w = grind (arith, k)
 
 -- a call that does not initialize asks for no run
 pub calls_not : (q : Kind) (t : Tolerance) (k : Call) (p : ℕ) → is_initializing k ≡ false → asks q t (Calls k) p ≡ false
-calls_not q t k1 p e = grind arith
+calls_not q t k p e = grind arith
 
 -- ---- a value that is lent
 
@@ -185,7 +185,7 @@ is_unlent cells h _ = false
 
 -- where it is not refused, exactly where that is so
 pub unlent_where_denied : (cells : List CellPlan) (h : List Event) (p : ℕ) (a : Act) → refusal cells h (record { party = p; act = a }) ≡ None → is_unlent cells h a ≡ is_denied_to_lend cells h a
-unlent_where_denied cells h p k1 n = grind arith
+unlent_where_denied cells h p a n = grind arith
 
 module _ (t : Answer → Bool) {denies : Bool} (is : IsOfTries t denies) where
   -- of a value that is lent

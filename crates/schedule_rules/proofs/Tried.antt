@@ -64,7 +64,7 @@ module _ (cells : List CellPlan) (c : ℕ) where
     -- one that runs nothing, and says so where it is declined
     visited : (a : Act) (d : ℕ) (j : Call) (q : Phase) (T : Type 0) (r : Answer) → Calling cells h p a d j → Visiting cells h p d j q T → is_back r ≡ false
         → deed_registers cells c h (deed_by (accepts h) (is_exit a) (Act.Call d j) r) ≡ asks_of d j → (q ≡ phase_of flags_refused → tells_declined r ≡ true) → Tried a r
-    visited a d j q k1 r t v on is tells = grind (arith, called, Visiting)
+    visited a d j q T r t v on is tells = grind (arith, called, Visiting)
 
     -- one that gets what the cell holds
     shows_what_is : (a : Act) (d : ℕ) (j : Call) (r : Answer) → Calling cells h p a d j → Resting cells h p d j → deed_registers cells c h (deed_by (accepts h) (is_exit a) (Act.Call d j) r) ≡ false → Tried a r
@@ -107,7 +107,7 @@ module _ (cells : List CellPlan) (c : ℕ) where
 
     -- what is due for a step that attempts this
     due_of : (a : Act) (x : Attempt) → attempt_with cells (waits cells h) h s.party a ≡ Some x → due_answer cells h (record { party = s.party; act = a }) ws k.chosen ≡ due_attempt cells h s.party x ws k.chosen
-    due_of k1 x e = grind arith
+    due_of a x e = grind arith
 
     -- it is not put off exactly where it is admitted
     not_back : (not (is_back l.answer) && asks_so cells c h (attempt cells h s)) ≡ tries_to_register cells c h s l.given k.moment

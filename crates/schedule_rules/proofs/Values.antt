@@ -48,7 +48,7 @@ module _ (x : CellPlan) where
       [ true ↦ λ e. absurd (apart (sym e)) | false ↦ t ]
 
   ran_true : (o : Bool) (made : Option ℕ) (y : Content) → IsTrue (content_after x (Ran o made) y)
-  ran_true o k1 y = grind (arith, first, has_more, kept_lacks)
+  ran_true o made y = grind (arith, first, has_more, kept_lacks)
 
   lent_true : (o : Bool) (made : Option ℕ) (y : Content) → IsTrue y → IsTrue (content_after x (RanIfAsked o made) y)
   lent_true o made y t = elim (asks_to_lend x.kind (tolerance_of x) y.phase) as (λ b. IsTrue (if b then content_of_run x.kind o made y else y)) [ true ↦ ran_true o made y | false ↦ t ]
@@ -83,7 +83,7 @@ module _ (x : CellPlan) where
 
 module _ (cells : List CellPlan) where
   back_true : (c : ℕ) (o : Option Back) (y : Content) → IsTrue (cell_at cells c) y → IsTrue (cell_at cells c) (content_after_back cells c o y)
-  back_true c k1 y t = grind (arith, effect_true)
+  back_true c o y t = grind (arith, effect_true)
 
   -- so it is with what is published: where it may be accessed, it has a value
   pub accessed-value : (c : ℕ) (h : List Event) → IsTrue (cell_at cells c) (replay cells c h)
@@ -103,7 +103,7 @@ module _ (cells : List CellPlan) where
     dropped_stays g x f v = effect_stays (cell_at cells x.cell) x.changes (replay cells x.cell h) (each_found (λ y. y.number == g) IsRunning (guards h) x f (guards-run h)) v
 
     keeps_primed : (d : Deed) (f : Finds cells h p d) → GivesOf cells h p (alone cells h legal) KeepsPrimed d f
-    keeps_primed k1 f = grind (arith, effect_stays, primed_left, dropped_stays, asked_stays, lent_unprimed)
+    keeps_primed d f = grind (arith, effect_stays, primed_left, dropped_stays, asked_stays, lent_unprimed)
 
     -- ---- what the holder of a write guard sees
 
@@ -114,7 +114,7 @@ module _ (cells : List CellPlan) where
     Sees y x = x.writes ≡ true → HasValue (effect (cell_at cells x.cell) x.changes y)
 
     new : (d : Deed) (f : Finds cells h p d) → NewOf cells h p (alone cells h legal) Any Any Sees Sees d f
-    new k1 f = grind (arith, accessed-value)
+    new d f = grind (arith, accessed-value)
 
     sees_after : (d : Deed) (f : Finds cells h p d) → AllByRecursion (λ x. Sees (replay cells x.cell h) x) (guards h)
         → AllByRecursion (λ x. Sees (left_at cells h p d x.cell) x) (guards_by (length h) p d (sections h) (guards h))

@@ -34,7 +34,7 @@ module _ (cells : List CellPlan) where
       not_so b e = grind arith
 
       sought : (a : Attempt) (o : Option Sought) (x : _) → is_barred (lock_asked (asking o (is_fast a.want) (tolerance_at cells a.cell)) (phase_met cells h s.party a)) x ≡ true → is_some o ≡ true
-      sought a k1 x e = grind arith
+      sought a o x e = grind arith
 
       by : (o : Option Attempt) → is_attempted (is_made_to_wait cells h s.party (waits_judged cells k.moment h s l.given)) o ≡ true → Of (Waits cells) o
       by None f = tt
@@ -70,7 +70,7 @@ module _ (cells : List CellPlan) where
 
   -- so where a step is not refused
   allowed : (h : List Event) (s : Step) → refusal cells h s ≡ None → Of HasCall (waiting cells h s.party) → Of HasCall (attempt cells h s)
-  allowed h s n k1 = grind (arith, Of, turns_not)
+  allowed h s n x = grind (arith, Of, turns_not)
 
   -- what waits is a call that the kind of its cell has
   has-waiting : (h : List Event) (p : ℕ) → IsLegal cells h → Of HasCall (waiting cells h p)
