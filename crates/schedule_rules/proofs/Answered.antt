@@ -1,8 +1,8 @@
 -- What holds of the answers that are due, by what holds of each that may be.
-use Rattle.schedule_rules.proofs.Words.{ℕ, arith, List, ◌≡◌, Bool, true, refl, false, Some, ◌∙◌, ap, None, ◌&&◌, if◌then◌else◌, is_none, Option, Phase, Given, How, Tolerance, Call}
+use Rattle.schedule_rules.proofs.Words.{ℕ, List, ◌≡◌, arith, Bool, true, refl, false, Some, ◌∙◌, ap, None, ◌&&◌, if◌then◌else◌, is_none, Option, Phase, Given, How, Tolerance, Call}
 use Rattle.schedule_rules.proofs.Words.{Kind, Form, Held, Shown, Told, Answer, Line, Refusal, CellPlan, Place, Step, is_owned, is_accessible, Content, asks_to_lend}
-use Rattle.schedule_rules.proofs.Words.{content_to_lend, Event, Section, Guard, Wait, refusal, answer_barred, answer_lent, answer_made_to_lend, answer_opened, answer_made}
-use Rattle.schedule_rules.proofs.Words.{answer_denied, call_answer_admitted, due_answer, due_clone, due_finished, due_made, due_look, IsLegalLine, answer_of, due_at, Moment}
+use Rattle.schedule_rules.proofs.Words.{content_to_lend, Event, Section, Guard, Wait, refusal, answer_barred, answer_made_to_lend, answer_lent, answer_denied, answer_made}
+use Rattle.schedule_rules.proofs.Words.{answer_opened, call_answer_admitted, due_answer, due_clone, due_made, due_finished, due_look, IsLegalLine, answer_of, due_at, Moment}
 use Rattle.schedule_rules.proofs.Words.{waits_judged}
 
 -- the answer that is due, where these calls of others wait

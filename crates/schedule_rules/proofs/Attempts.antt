@@ -1,10 +1,10 @@
 -- What an attempt at a cell is answered, case by case.
-use Rattle.schedule_rules.proofs.Words.{ℕ, arith, List, ◌≡◌, Bool, true, refl, false, Some, ◌∷◌, [], ◌∙◌, sym, ap, None, subst, ◌&&◌, inl, ◌<◌, inr, not, if◌then◌else◌, is_some}
+use Rattle.schedule_rules.proofs.Words.{ℕ, List, ◌≡◌, arith, Bool, true, refl, false, Some, ◌∷◌, [], ◌∙◌, sym, ap, None, subst, ◌&&◌, inl, ◌<◌, inr, not, if◌then◌else◌, is_some}
 use Rattle.schedule_rules.proofs.Words.{Option, has, initialized, phase_of, first_of, look_at, LockNature, How, shall_init, flags_refused, Tolerance, asking, Call, Kind, Form}
-use Rattle.schedule_rules.proofs.Words.{Held, Shown, Told, Answer, CellPlan, Act, Want, Calls, Turns, cell_at, tolerance_at, form_of, is_accessible, runs_generator, asks, is_fast}
+use Rattle.schedule_rules.proofs.Words.{Held, Shown, Told, Answer, CellPlan, Act, Want, Turns, Calls, cell_at, tolerance_at, form_of, is_accessible, runs_generator, asks, is_fast}
 use Rattle.schedule_rules.proofs.Words.{lock_wanted, initializes, Content, Event, accepts, latest_act, runs, replay, phase_at, registry, Wait, waits, wait_of, attempt_of_wait}
-use Rattle.schedule_rules.proofs.Words.{attempt_of_turn, act_for, write_holds, is_barred, read_guards, holding_with, keeps, readers, refusal, refusal_by, refusal_free}
-use Rattle.schedule_rules.proofs.Words.{refusal_waiting, answer_barred, answer_admitted, answer_at, answer_opened, turn_answer_admitted, answer_denied, call_answer_admitted}
+use Rattle.schedule_rules.proofs.Words.{attempt_of_turn, act_for, write_holds, read_guards, is_barred, holding_with, keeps, readers, refusal, refusal_by, refusal_waiting}
+use Rattle.schedule_rules.proofs.Words.{refusal_free, answer_barred, answer_at, answer_admitted, turn_answer_admitted, answer_denied, answer_opened, call_answer_admitted}
 use Rattle.schedule_rules.proofs.Words.{due_tried, answer_of_look, due_attempt, IsExclusive}
 use Rattle.schedule_rules.proofs.Found.{found_counts}
 use Rattle.schedule_rules.proofs.GoesOn.{Matches, wait-matches}
@@ -168,16 +168,7 @@ module _ (cells : List CellPlan) (h : List Event) (p : ℕ) where
       mine v g = let same : Some v ≡ Some w = sym g ∙ e in cc
 
       tries : (u : Want) → w.want ≡ u → Tries cells h p Act.Again w.cell u
-      tries (Calls j) d = record {
-        tried = ap attempt_of_wait e ∙ ap (λ u. Some (record { cell = w.cell; want = u })) d;
-        does = does ∙ ap (act_for w.cell) d;
-        acts = tt;
-      }
-      tries Turns d = record {
-        tried = ap attempt_of_wait e ∙ ap (λ u. Some (record { cell = w.cell; want = u })) d;
-        does = does ∙ ap (act_for w.cell) d;
-        acts = tt;
-      }
+      tries u d = grind (arith, does)
 
   -- a step of the exit
   pub exits : (o : Option ℕ) → first_of (registry cells h).left ≡ o → wait_of p (waits cells h) ≡ None → (ws : List Wait) (chosen : Bool)

@@ -1,8 +1,8 @@
 -- A waiting call goes on with what its party did last: its wait says the same call as the party's latest act.
-use Rattle.schedule_rules.proofs.Words.{ℕ, arith, List, ◌≡◌, Bool, true, refl, false, Some, ◌∷◌, [], ◌∙◌, sym, ap, None, subst, ◌==◌, if◌then◌else◌, map, Option, first_of, Given}
-use Rattle.schedule_rules.proofs.Words.{How, Answer, Refusal, CellPlan, Act, Step, Event, latest_act, latest_act_after, newer_act, registry, Wait, waits, wait_of, Attempt, attempt}
-use Rattle.schedule_rules.proofs.Words.{attempt_of_wait, attempt_of_turn, without_wait, waits_given_with, attempt_with, waits_answered, with_wait, act_for, wait_woken}
-use Rattle.schedule_rules.proofs.Facts.{same_number, numbers_apart, number_found}
+use Rattle.schedule_rules.proofs.Words.{ℕ, List, ◌≡◌, arith, Bool, true, refl, false, Some, ◌∷◌, [], ◌∙◌, None, ◌==◌, if◌then◌else◌, map, Option, first_of, Given, How, Answer}
+use Rattle.schedule_rules.proofs.Words.{Refusal, CellPlan, Act, Step, Event, latest_act, latest_act_after, newer_act, registry, Wait, waits, wait_of, attempt, Attempt}
+use Rattle.schedule_rules.proofs.Words.{attempt_of_wait, without_wait, attempt_of_turn, attempt_with, waits_given_with, waits_answered, with_wait, wait_woken, act_for}
+use Rattle.schedule_rules.proofs.Facts.{numbers_apart, number_found}
 use Rattle.schedule_rules.proofs.Opened.{wait_removed, wait_kept}
 
 module _ (f : Wait → Wait) (same_party : (w : Wait) → (f w).party ≡ w.party) (same_attempt : (w : Wait) → attempt_of_wait (Some (f w)) ≡ attempt_of_wait (Some w)) where
@@ -102,9 +102,4 @@ module _ (cells : List CellPlan) where
       refused h e p a r is t = rw is t
 
       now : (h : List Event) (e : Event) (way : How) → Unit {0} → e.line.answer ≡ Answer.Waiting way → Of (Says h e.step.party) (waiting h e.step.party) → Of (Says (e ∷ h) e.step.party) (attempt cells h e.step)
-      now h e way l is t =
-          of_matches (e ∷ h) e.step.party (attempt cells h e.step)
-          (subst (Matches (attempt cells h e.step)) (sym latest) (matches_now (waits cells h) h e.step (latest_act e.step.party h) (matches_of h e.step.party (waiting h e.step.party) t)))
-        where
-          latest : latest_act e.step.party (e ∷ h) ≡ newer_act true e.step.act (latest_act e.step.party h)
-          latest = ap (λ r. latest_act_after r (e.step.party == e.step.party) e.step.act (latest_act e.step.party h)) is ∙ ap (λ b. newer_act b e.step.act (latest_act e.step.party h)) (same_number e.step.party e.step.party refl)
+      now h e way l is t = grind (arith, of_matches, matches_now, matches_of)

@@ -1,10 +1,10 @@
 -- What a deed leaves: what is given back changes its own cell, what is published changes only where nothing holds the cell to
 -- write afterwards, and what stands open keeps what is said of it.
-use Rattle.schedule_rules.proofs.Words.{ℕ, arith, List, ◌≡◌, Bool, true, refl, false, Some, ◌∷◌, [], ◌∙◌, sym, ap, None, subst, ◌⊎◌, inl, ◌<◌, inr, length, ◌+◌, ◌≤◌, cond}
+use Rattle.schedule_rules.proofs.Words.{ℕ, List, ◌≡◌, arith, Bool, true, refl, false, Some, ◌∷◌, [], ◌∙◌, sym, ap, None, subst, ◌⊎◌, inl, ◌<◌, inr, length, ◌+◌, cond, ◌≤◌}
 use Rattle.schedule_rules.proofs.Words.{AllByRecursion, ◌==◌, if◌then◌else◌, Option, Call, CellPlan, cell_at, Content, Change, effect, Asked, Ended, content_after, Deed, Visits}
-use Rattle.schedule_rules.proofs.Words.{Makes, EndsToRead, Ends, Finishes, Lends, EndsToWrite, DropsToRead, Opens, Drops, Holds, Puts, Beside, Ending, Event, accepts, count}
-use Rattle.schedule_rules.proofs.Words.{sections, Section, innermost, runs_in, without_innermost, sections_by, Guard, guards, numbered, without_guard, guards_by, reader_beside}
-use Rattle.schedule_rules.proofs.Words.{reader, reader_made, writer_made, writer, carrier, replay, Back, back_by, back_of_section, content_after_back, back_of_guard, change_of}
+use Rattle.schedule_rules.proofs.Words.{Makes, EndsToRead, Lends, Finishes, Ends, EndsToWrite, Opens, Drops, DropsToRead, Holds, Beside, Puts, Ending, Event, accepts, count}
+use Rattle.schedule_rules.proofs.Words.{sections, Section, innermost, runs_in, without_innermost, sections_by, Guard, guards, numbered, without_guard, guards_by, writer_made}
+use Rattle.schedule_rules.proofs.Words.{reader, reader_made, reader_beside, carrier, writer, replay, Back, back_by, back_of_section, content_after_back, back_of_guard, change_of}
 use Rattle.schedule_rules.proofs.Words.{write_holds, writes_cell, IsExclusive}
 use Rattle.schedule_rules.proofs.Facts.{whether, apart, same_number, at_least}
 use Rattle.schedule_rules.proofs.Found.{each_counted, each_found, each_ended, each_removed, each_put}
@@ -139,9 +139,7 @@ module _ (cells : List CellPlan) (h : List Event) (p : ℕ) where
         left none = let one : _ = count_removed (writes_cell c) g (guards h) x f in inl (omega (arith, one, none, less))
 
         by : (b z : Bool) → x.writes ≡ b → (x.cell == c) ≡ z → Writing d c
-        by true true w here = inr (record { back = record { cell = x.cell; changes = x.changes }; given = e ∙ ap back_of_guard f ∙ ap (λ b. cond b (Some (record { cell = x.cell; changes = x.changes })) None) w; here = here })
-        by true false w other = left (rw w (ap one_if other))
-        by false z w other = left (rw w refl)
+        by b z w here = grind (arith, left, one_if)
 
     pub writing : (d : Deed) → Finds cells h p d → (c : ℕ) → Writing d c
     writing d f c = grind (arith, at_least, drops_write, writes_put)

@@ -1,7 +1,7 @@
 -- A legal line shows that its step tried to register a cell exactly where it did.
-use Rattle.schedule_rules.proofs.Words.{ℕ, arith, List, ◌≡◌, Bool, true, refl, false, Some, ◌∷◌, [], ◌∙◌, sym, ap, None, subst, ◌⊎◌, ◌&&◌, inl, not, ◌+◌, ◌≤◌, ◌||◌, ◌==◌}
+use Rattle.schedule_rules.proofs.Words.{ℕ, List, ◌≡◌, arith, Bool, true, refl, false, Some, ◌∷◌, [], ◌∙◌, sym, ap, None, subst, ◌⊎◌, ◌&&◌, inl, not, ◌+◌, ◌≤◌, ◌||◌, ◌==◌}
 use Rattle.schedule_rules.proofs.Words.{if◌then◌else◌, is_none, Option, phase_of, Phase, first_of, is_known, How, flags_refused, Call, Answer, Line, Refusal, CellPlan, Place, Act}
-use Rattle.schedule_rules.proofs.Words.{Step, Calls, Turns, deed_waiting, deed_by, Event, accepts, is_exit, replay, registry, Wait, waits, Attempt, attempt, attempt_of_turn}
+use Rattle.schedule_rules.proofs.Words.{Step, Turns, Calls, deed_waiting, deed_by, Event, accepts, is_exit, replay, registry, Wait, waits, attempt, Attempt, attempt_of_turn}
 use Rattle.schedule_rules.proofs.Words.{attempt_with, refusal, answer_of_value, answer_barred, due_answer, due_attempt, IsLegal, IsLegalLine, answer_of, waits_judged, is_attempted}
 use Rattle.schedule_rules.proofs.Words.{is_admitted, asks_registration, tries_to_register, tells_declined, registrations}
 use Rattle.schedule_rules.proofs.Cases.{Visiting, step, Calling, Resting, Case}

@@ -1,11 +1,11 @@
 -- Each registered cell has one turn: to come, waiting, going on or ended.
-use Rattle.schedule_rules.proofs.Words.{ℕ, arith, List, ◌≡◌, Bool, true, refl, false, Some, ◌∷◌, [], ◌∙◌, sym, ap, None, subst, ◌&&◌, ◌<◌, length, ◌+◌, cond, get_or-set_other}
-use Rattle.schedule_rules.proofs.Words.{get_or-set_same, ◌==◌, if◌then◌else◌, Option, cells_of_turns, first_of, is_known, rest_of, after_register, occurs, due, registered, Given}
-use Rattle.schedule_rules.proofs.Words.{is_finalizable, Call, Answer, Refusal, CellPlan, Act, Calls, Turns, cell_at, is_owned, tries_registration, Deed, Makes, EndsToRead, Ends}
-use Rattle.schedule_rules.proofs.Words.{Finishes, EndsToWrite, Opens, deed_waiting, deed_by, Skips, Takes, Looks, Event, deed_of, accepts, count, is_exit, sections, Section}
-use Rattle.schedule_rules.proofs.Words.{innermost, without_innermost, sections_by, replay, phase_at, registry, registry_by, ended_turns, registry_taken, turn_of_section, turn_of}
-use Rattle.schedule_rules.proofs.Words.{turns_by, Wait, waits, wait_of, without_wait, waits_given_with, attempt_with, with_wait, refusal, refusal_waiting, answer_of_value, IsLegal}
-use Rattle.schedule_rules.proofs.Words.{turns_of, waits_to_turn, finalizes_in}
+use Rattle.schedule_rules.proofs.Words.{ℕ, List, ◌≡◌, arith, Bool, true, refl, false, Some, ◌∷◌, [], ◌∙◌, sym, ap, None, subst, ◌&&◌, ◌<◌, length, ◌+◌, cond, get_or-set_other}
+use Rattle.schedule_rules.proofs.Words.{get_or-set_same, ◌==◌, if◌then◌else◌, Option, cells_of_turns, first_of, is_known, rest_of, occurs, due, registered, Given, Call, Answer}
+use Rattle.schedule_rules.proofs.Words.{Refusal, CellPlan, Act, Turns, Calls, cell_at, is_owned, tries_registration, Deed, Makes, EndsToRead, Finishes, Ends, EndsToWrite, Opens}
+use Rattle.schedule_rules.proofs.Words.{deed_waiting, Skips, deed_by, Looks, Takes, Event, deed_of, accepts, count, is_exit, sections, Section, innermost, without_innermost}
+use Rattle.schedule_rules.proofs.Words.{sections_by, replay, phase_at, registry, registry_by, registry_taken, ended_turns, turn_of, turn_of_section, turns_by, Wait, waits, wait_of}
+use Rattle.schedule_rules.proofs.Words.{without_wait, attempt_with, waits_given_with, with_wait, refusal, refusal_waiting, answer_of_value, IsLegal, turns_of, waits_to_turn}
+use Rattle.schedule_rules.proofs.Words.{finalizes_in}
 use Rattle.schedule_rules.proofs.Facts.{whether, first, second, apart}
 use Rattle.schedule_rules.proofs.Exclusion.{alone}
 use Rattle.schedule_rules.proofs.Opened.{count_ended}
@@ -97,9 +97,7 @@ module _ (cells : List CellPlan) (c : ℕ) where
         from_wait (w, e, at, is) = grind (arith, others_count Act.Again, own_count w e)
 
         by : (a : Act) → IsTurning a → attempt_with cells (waits cells h) h p a ≡ Some (record { cell = d; want = Turns }) → IsAllowed a → Took d (is_exit a) (count (waits_to_turn c) (others a))
-        by Act.Exit t e f = (first_so (first_of (registry cells h).left) d e, rests_count Act.Exit (rests cells h p Act.Exit (λ x. cc) f).0)
-        by Act.Again t e f = from_wait (waits_so (wait_of p (waits cells h)) d Turns e)
-        by _ t e f = absurd t
+        by a t e f = grind (arith, first_so, rests_count, rests, from_wait, waits_so)
 
     -- and where it waits
     turn_waits : (a : Act) (d : ℕ) (way : _) → Turning cells h p a d → IsAllowed a → WaitsSo (deed_waiting (is_exit a)) (count (waits_to_turn c) (waits cells (event a (Answer.Waiting way) ∷ h)))
@@ -234,15 +232,7 @@ module _ (cells : List CellPlan) (c : ℕ) where
       running q = by (tries_registration (cell_at cells d).kind (phase_at cells d h)) (registry cells h).is_open refl refl
         where
           by : (x o : Bool) → tries_registration (cell_at cells d).kind (phase_at cells d h) ≡ x → (registry cells h).is_open ≡ o → HasTurnBy (Opens d (Calls j) b) n
-          by false o e f = stays (ap (λ (x : Bool). if x then after_register d (registry cells h) else registry cells h) e)
-          by true false e f =
-              stays (ap (λ (x : Bool). if x then after_register d (registry cells h) else registry cells h) e ∙ ap (λ (x : Bool). if x then registered d (registry cells h) else registry cells h) f)
-          by true true e f =
-              let empty : (phase_at cells d h == 0) ≡ true = second (is_finalizable (cell_at cells d).kind) _ e in
-              let zero : phase_at cells d h ≡ 0 = grind arith in
-              let inside : d < length cells = finalizable-inside cells d (first _ _ e) in
-              registers (fresh-unknown cells h d legal zero (q.unheld (alone cells h legal d))) (omega (arith, inside, known-length cells h))
-              (ap (λ (x : Bool). if x then after_register d (registry cells h) else registry cells h) e ∙ ap (λ (x : Bool). if x then registered d (registry cells h) else registry cells h) f)
+          by x o e f = grind (arith, stays, second, finalizable-inside, first, registers, fresh-unknown, alone, known-length)
 
     has_turn : (d : Deed) (n : ℕ) → Finds cells h p d → WaitsSo h p i shared d n → HasTurnBy d n
     has_turn (Opens d (Calls j) taken) n f w = running d j taken n w f

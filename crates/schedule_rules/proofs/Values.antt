@@ -1,10 +1,10 @@
 -- A value that is shown is there.
-use Rattle.schedule_rules.proofs.Words.{ℕ, arith, List, ◌≡◌, Bool, true, refl, false, Some, ◌∷◌, [], ◌∙◌, sym, ap, None, subst, ◌⊎◌, ◌&&◌, inl, ◌<◌, inr, length, not, ◌||◌}
+use Rattle.schedule_rules.proofs.Words.{ℕ, List, ◌≡◌, arith, Bool, true, refl, false, Some, ◌∷◌, [], ◌∙◌, sym, ap, None, subst, ◌⊎◌, ◌&&◌, inl, ◌<◌, inr, length, not, ◌||◌}
 use Rattle.schedule_rules.proofs.Words.{and_assoc, and_or_self, and_le_r, AllByRecursion, ◌==◌, if◌then◌else◌, is_some, Option, has, initialized, is_primed, is_plain, is_hard}
-use Rattle.schedule_rules.proofs.Words.{Call, Answer, Line, CellPlan, Act, Step, cell_at, tolerance_of, is_accessible, finishes_so, flags_kept, Content, Change, effect, Ran, Asked}
-use Rattle.schedule_rules.proofs.Words.{Put, Ended, content_after, RanIfAsked, asks_to_lend, content_of_run, is_declined, Deed, Visits, Makes, EndsToRead, EndsToWrite, DropsToRead}
-use Rattle.schedule_rules.proofs.Words.{Drops, Holds, Puts, Beside, Event, deed_of, sections, Section, Guard, guards, numbered, without_guard, guards_by, reader_beside}
-use Rattle.schedule_rules.proofs.Words.{reader_made, writer_made, replay, phase_at, Back, back_of_step, back_by, back_of_section, content_after_back, inside, back_of_guard}
+use Rattle.schedule_rules.proofs.Words.{Call, Answer, Line, CellPlan, Act, Step, cell_at, tolerance_of, is_accessible, flags_kept, finishes_so, Content, Change, effect, Ran, Put}
+use Rattle.schedule_rules.proofs.Words.{Asked, Ended, content_after, asks_to_lend, RanIfAsked, content_of_run, is_declined, Deed, Visits, Makes, EndsToRead, EndsToWrite, Drops}
+use Rattle.schedule_rules.proofs.Words.{DropsToRead, Holds, Beside, Puts, Event, deed_of, sections, Section, Guard, guards, numbered, without_guard, guards_by, writer_made}
+use Rattle.schedule_rules.proofs.Words.{reader_made, reader_beside, replay, phase_at, Back, back_of_step, back_by, back_of_section, content_after_back, inside, back_of_guard}
 use Rattle.schedule_rules.proofs.Words.{change_of, read_guards, reads_cell, answer_of_value, IsLegal, IsLegalLine, lends_at, runs_to_lend, ShowsValue}
 use Rattle.std.specs.Option.{unwrap_or}
 use Rattle.schedule_rules.proofs.Cases.{step, Reach, Case}

@@ -1,9 +1,9 @@
 -- What waits: a call for a lock or a turn, which is not fast, at a cell of no party's own, whose kind has the call.
-use Rattle.schedule_rules.proofs.Words.{ℕ, arith, List, ◌≡◌, Bool, true, refl, false, Some, ◌∙◌, sym, ap, None, subst, not, find, ◌==◌, is_none, is_some, Option, asking, has_call}
-use Rattle.schedule_rules.proofs.Words.{lends_value, Call, Answer, Line, Refusal, CellPlan, Act, Step, Calls, Turns, cell_at, tolerance_at, is_owned, is_of_other, is_fast}
-use Rattle.schedule_rules.proofs.Words.{lock_asked, seeks, Event, count, Wait, waits, wait_of, Attempt, attempt, attempt_of_wait, is_barred, holding_with, is_in_use, refusal}
-use Rattle.schedule_rules.proofs.Words.{refusal_by, no_lending, refusal_free, no_call, IsLegal, IsLegalLine, answer_of, due_at, lends_at, waits_judged, is_attempted, is_waiting}
-use Rattle.schedule_rules.proofs.Words.{is_made_to_wait, phase_met, ChangesNothing}
+use Rattle.schedule_rules.proofs.Words.{ℕ, List, ◌≡◌, arith, Bool, true, refl, false, Some, ◌∙◌, sym, ap, None, subst, not, find, ◌==◌, is_none, is_some, Option, asking, has_call}
+use Rattle.schedule_rules.proofs.Words.{lends_value, Call, Answer, Line, Refusal, CellPlan, Act, Step, Turns, Calls, cell_at, tolerance_at, is_owned, is_of_other, is_fast, seeks}
+use Rattle.schedule_rules.proofs.Words.{lock_asked, Event, count, Wait, waits, wait_of, attempt, Attempt, attempt_of_wait, is_barred, is_in_use, refusal, refusal_by, no_lending}
+use Rattle.schedule_rules.proofs.Words.{no_call, refusal_free, IsLegal, IsLegalLine, answer_of, due_at, lends_at, waits_judged, is_attempted, is_waiting, is_made_to_wait}
+use Rattle.schedule_rules.proofs.Words.{phase_met, ChangesNothing}
 use Rattle.phase_seq.specs.declared.ask.Want.{Want as Sought}
 use Rattle.schedule_rules.proofs.Facts.{first, second, apart, same_number}
 use Rattle.schedule_rules.proofs.Found.{found_passes, only_one, none_counted}
@@ -37,13 +37,7 @@ module _ (cells : List CellPlan) where
       sought a o x e = grind arith
 
       by : (o : Option Attempt) → is_attempted (is_made_to_wait cells h s.party (waits_judged cells k.moment h s l.given)) o ≡ true → Of (Waits cells) o
-      by None f = tt
-      by (Some a) f =
-          let ways : _ = second _ _ f in (
-            sought a (seeks (cell_at cells a.cell).kind a.want) (holding_with a.cell h (waits_judged cells k.moment h s l.given)) (second _ _ (second _ _ (first _ _ f))),
-            not_so _ (first _ _ ways),
-            not_so _ (second _ _ ways),
-          )
+      by o f = grind (arith, second, sought, first, not_so)
 
   waits-so : (h : List Event) (p : ℕ) (w : Wait) → IsLegal cells h → wait_of p (waits cells h) ≡ Some w → Waits cells (record { cell = w.cell; want = w.want })
   waits-so h p w k f = subst (λ o. Of (Waits cells) (attempt_of_wait o)) f (each_waits cells (Waits cells) (λ h s l k w i. barred h s l k w) h p k)
