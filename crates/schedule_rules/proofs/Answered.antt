@@ -1,9 +1,8 @@
 -- What holds of the answers that are due, by what holds of each that may be.
-use Rattle.schedule_rules.proofs.Words.{ℕ, List, ◌≡◌, arith, Bool, true, refl, false, Some, ◌∙◌, ap, None, ◌&&◌, if◌then◌else◌, is_none, Option, Phase, Given, How, Tolerance, Call}
-use Rattle.schedule_rules.proofs.Words.{Kind, Form, Held, Shown, Told, Answer, Line, Refusal, CellPlan, Place, Step, is_owned, is_accessible, Content, asks_to_lend}
-use Rattle.schedule_rules.proofs.Words.{content_to_lend, Event, Section, Guard, Wait, refusal, answer_barred, answer_made_to_lend, answer_lent, answer_denied, answer_made}
-use Rattle.schedule_rules.proofs.Words.{answer_opened, call_answer_admitted, due_answer, due_clone, due_made, due_finished, due_look, IsLegalLine, answer_of, due_at, Moment}
-use Rattle.schedule_rules.proofs.Words.{waits_judged}
+use Rattle.schedule_rules.proofs.Words.{ℕ, arith, ◌≡◌, List, Bool, true, refl, false, ◌∙◌, ap, ◌&&◌, if◌then◌else◌, is_none, Option, Phase, Given, How, Tolerance, Call, Kind, Form}
+use Rattle.schedule_rules.proofs.Words.{Answer, Line, Refusal, CellPlan, Place, Step, is_owned, is_accessible, Content, asks_to_lend, content_to_lend, Event, Section, Guard, Wait}
+use Rattle.schedule_rules.proofs.Words.{refusal, answer_barred, answer_lent, answer_made_to_lend, answer_made, answer_denied, answer_opened, call_answer_admitted, due_answer}
+use Rattle.schedule_rules.proofs.Words.{due_clone, due_made, due_finished, due_look, IsLegalLine, answer_of, due_at, Moment, waits_judged}
 
 -- the answer that is due, where these calls of others wait
 pub due_at-judged : (cells : List CellPlan) (m : Moment) (h : List Event) (s : Step) (g : Given) (chosen : Bool)
@@ -31,18 +30,11 @@ module _ (P : Answer → Type 0) where
 
   -- so of a call that may access the value
   pub opened : IsShown → (f : Form) (y : Content) → P (answer_opened f y)
-  opened k (Told tests) y = k.phase _
-  opened k Shown y = k.value _
-  opened k (Held true falls_back) y = k.write_guard
-  opened k (Held false falls_back) y = k.read_guard
+  opened k f y = grind arith
 
   -- of one that may not
   pub denied : IsTold → (f : Form) (p : ℕ) → P (answer_denied f p)
-  denied k (Told true) p = k.access _
-  denied k (Told false) p = k.shown.phase _
-  denied k Shown p = k.access _
-  denied k (Held writes true) p = k.err_guard
-  denied k (Held writes false) p = k.access _
+  denied k f p = grind arith
 
   -- of one that is admitted
   pub admitted : IsTold → P Answer.Running → (q : Kind) (t : Tolerance) (o : Bool) (k : Call) (y : Content) → P (call_answer_admitted q t o k y)
@@ -66,10 +58,7 @@ module _ (P : Answer → Type 0) where
 
   -- of a run that made a value
   pub made_so : IsShown → (f : Form) (v p : ℕ) → P (answer_made f v p)
-  made_so k (Told tests) v p = k.phase _
-  made_so k Shown v p = k.value v
-  made_so k (Held true falls_back) v p = k.write_guard
-  made_so k (Held false falls_back) v p = k.read_guard
+  made_so k f v p = grind arith
 
   module _ (cells : List CellPlan) (h : List Event) where
     -- that of a value made
@@ -78,13 +67,11 @@ module _ (P : Answer → Type 0) where
 
     -- that of a finalizer that ends
     pub finished : IsShown → (fine : Bool) (o : Option Section) → P Answer.Done → P (due_finished cells h fine o)
-    finished k fine None d = d
-    finished k fine (Some s) d = k.phase _
+    finished k fine o d = grind arith
 
     -- that of a look
     pub looked : IsShown → (o : Option Guard) → P Answer.Done → P (due_look cells h o)
-    looked k None d = d
-    looked k (Some x) d = k.value _
+    looked k o d = grind arith
 
     -- that of a clone
     pub cloned : (ws : List Wait) (o : Option Guard) → P Answer.Done → P Answer.Borrowed → P Answer.ReadGuard → P (due_clone cells h ws o)

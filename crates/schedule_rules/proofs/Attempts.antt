@@ -1,11 +1,11 @@
 -- What an attempt at a cell is answered, case by case.
-use Rattle.schedule_rules.proofs.Words.{ℕ, List, ◌≡◌, arith, Bool, true, refl, false, Some, ◌∷◌, [], ◌∙◌, sym, ap, None, subst, ◌&&◌, inl, ◌<◌, inr, not, if◌then◌else◌, is_some}
+use Rattle.schedule_rules.proofs.Words.{ℕ, arith, ◌≡◌, List, Bool, true, refl, false, Some, ◌∷◌, [], ◌∙◌, sym, ap, None, subst, inl, ◌<◌, inr, ◌&&◌, not, if◌then◌else◌, is_some}
 use Rattle.schedule_rules.proofs.Words.{Option, has, initialized, phase_of, first_of, look_at, LockNature, How, shall_init, flags_refused, Tolerance, asking, Call, Kind, Form}
 use Rattle.schedule_rules.proofs.Words.{Held, Shown, Told, Answer, CellPlan, Act, Want, Turns, Calls, cell_at, tolerance_at, form_of, is_accessible, runs_generator, asks, is_fast}
 use Rattle.schedule_rules.proofs.Words.{lock_wanted, initializes, Content, Event, accepts, latest_act, runs, replay, phase_at, registry, Wait, waits, wait_of, attempt_of_wait}
-use Rattle.schedule_rules.proofs.Words.{attempt_of_turn, act_for, write_holds, read_guards, is_barred, holding_with, keeps, readers, refusal, refusal_by, refusal_waiting}
-use Rattle.schedule_rules.proofs.Words.{refusal_free, answer_barred, answer_at, answer_admitted, turn_answer_admitted, answer_denied, answer_opened, call_answer_admitted}
-use Rattle.schedule_rules.proofs.Words.{due_tried, answer_of_look, due_attempt, IsExclusive}
+use Rattle.schedule_rules.proofs.Words.{attempt_of_turn, act_for, write_holds, is_barred, read_guards, holding_with, readers, keeps, refusal, refusal_by, refusal_waiting}
+use Rattle.schedule_rules.proofs.Words.{refusal_free, answer_barred, answer_admitted, answer_at, turn_answer_admitted, answer_denied, answer_opened, call_answer_admitted}
+use Rattle.schedule_rules.proofs.Words.{due_attempt, due_tried, answer_of_look, IsExclusive}
 use Rattle.schedule_rules.proofs.Found.{found_counts}
 use Rattle.schedule_rules.proofs.GoesOn.{Matches, wait-matches}
 use Rattle.schedule_rules.proofs.Answered.{barred}
@@ -56,8 +56,7 @@ call_admitted Q q t o k y running declined opened denied = by (asks q t (Calls k
     content b g = if b && not g then record { phase = flags_refused; value = y.value } else y
 
     rested : asks q t (Calls k) y.phase ≡ false → (b : Bool) → is_accessible q y.phase ≡ b → Q (answer_at (form_of q k) b y)
-    rested e true f = opened e f
-    rested e false f = denied e f
+    rested e b f = grind arith
 
     by : (b g : Bool) → asks q t (Calls k) y.phase ≡ b → runs_generator q t o y.phase ≡ g
         → Q (if b && g then Answer.Running else answer_at (form_of q k) (is_accessible q (content b g).phase) (content b g))

@@ -1,5 +1,5 @@
 -- What a legal step may be, case by case.
-use Rattle.schedule_rules.proofs.Words.{ℕ, List, ◌≡◌, arith, Bool, true, false, Some, ◌∷◌, [], None, ◌⊎◌, length, if◌then◌else◌, Option, has, initialized, phase_of, Phase, How}
+use Rattle.schedule_rules.proofs.Words.{ℕ, arith, ◌≡◌, List, Bool, true, false, Some, ◌∷◌, [], None, ◌⊎◌, length, if◌then◌else◌, Option, has, initialized, phase_of, Phase, How}
 use Rattle.schedule_rules.proofs.Words.{shall_init, flags_refused, lends_value, Call, Form, Held, Answer, CellPlan, Act, Step, Want, Turns, Calls, cell_at, tolerance_at, is_owned}
 use Rattle.schedule_rules.proofs.Words.{form_of, is_accessible, finishes_so, runs_generator, phase_finalized, asks, is_fast, initializes, asks_to_lend, Event, accepts, count}
 use Rattle.schedule_rules.proofs.Words.{act_of, sections, Section, innermost, is_turn, Guard, guards, numbered, replay, phase_at, inside, registry, finishing, waits, attempt}
@@ -25,14 +25,10 @@ IsTrying Act.Exit = Unit {0}
 IsTrying _ = ⊥
 
 pub calling-tries : (a : Act) → IsCalling a → IsTrying a
-calling-tries (Act.Call c j) t = tt
-calling-tries Act.Again t = tt
-calling-tries _ t = absurd t
+calling-tries a t = grind arith
 
 pub turning-tries : (a : Act) → IsTurning a → IsTrying a
-turning-tries Act.Exit t = tt
-turning-tries Act.Again t = tt
-turning-tries _ t = absurd t
+turning-tries a t = grind arith
 
 -- a call of this form gets a guard to read where the value may not be accessed
 abbrev pub errs : Form → Bool

@@ -1,13 +1,13 @@
 -- Which answer a legal line has, by its cause.
-use Rattle.schedule_rules.proofs.Words.{ℕ, List, ◌≡◌, arith, Bool, true, refl, false, Some, ◌∙◌, sym, ap, None, ◌&&◌, not, ◌≢◌, ◌||◌, if◌then◌else◌, is_none, is_some, Option}
+use Rattle.schedule_rules.proofs.Words.{ℕ, arith, ◌≡◌, List, Bool, true, refl, false, Some, ◌∙◌, sym, ap, None, ◌&&◌, ◌≢◌, not, ◌||◌, if◌then◌else◌, is_none, is_some, Option}
 use Rattle.schedule_rules.proofs.Words.{first_of, look_at, Given, How, Call, Answer, Line, Refusal, CellPlan, Place, Act, Step, Turns, Calls, cell_at, tolerance_at, is_owned, asks}
 use Rattle.schedule_rules.proofs.Words.{is_fast, lock_wanted, Event, accepts, is_exit, sections, innermost, Guard, guards, numbered, replay, phase_at, registry, Wait, waits}
-use Rattle.schedule_rules.proofs.Words.{wait_of, attempt, Attempt, attempt_of_wait, attempt_of_turn, is_barred, holding_with, refusal, refusal_by, answer_barred, answer_admitted}
-use Rattle.schedule_rules.proofs.Words.{way_parked, drains_by, due_answer, due_tried, answer_of_look, due_attempt, due_clone, keeps_own, is_nobody, IsLegalLine, answer_of, due_at}
-use Rattle.schedule_rules.proofs.Words.{Moment, may_give, waits_judged, is_attempted, is_waiting, is_cyclic, is_finalizing, is_cyclic_step, is_admitted, is_closing}
-use Rattle.schedule_rules.proofs.Words.{is_denied_to_lend, is_skipped, is_running, is_access, is_round, is_borrowed, is_missed, is_barred_attempt, is_turn_step, is_borrowing_step}
-use Rattle.schedule_rules.proofs.Words.{is_of_own_run, is_step_of, is_barred_clone, is_running_step, is_barred_step, is_missing_step, is_round_step, is_closing_step}
-use Rattle.schedule_rules.proofs.Words.{is_access_step, looks, is_initializing}
+use Rattle.schedule_rules.proofs.Words.{wait_of, Attempt, attempt, attempt_of_wait, attempt_of_turn, is_barred, holding_with, refusal, refusal_by, answer_barred, answer_admitted}
+use Rattle.schedule_rules.proofs.Words.{drains_by, way_parked, due_answer, due_clone, due_attempt, due_tried, answer_of_look, keeps_own, is_nobody, IsLegalLine, answer_of, due_at}
+use Rattle.schedule_rules.proofs.Words.{Moment, may_give, waits_judged, is_attempted, is_waiting, is_cyclic, is_cyclic_step, is_borrowed, is_access, is_closing, is_finalizing}
+use Rattle.schedule_rules.proofs.Words.{is_denied_to_lend, is_skipped, is_missed, is_round, is_admitted, is_running, is_missing_step, is_round_step, is_barred_clone}
+use Rattle.schedule_rules.proofs.Words.{is_barred_attempt, is_of_own_run, looks, is_closing_step, is_borrowing_step, is_running_step, is_access_step, is_step_of, is_turn_step}
+use Rattle.schedule_rules.proofs.Words.{is_barred_step, is_initializing}
 use Rattle.schedule_rules.proofs.Tests.{none_asked, none_kept, look_closes, look_rounds, barred_borrows, barred_misses, barred_waits, parts_of_borrowing, parts_of_look}
 use Rattle.schedule_rules.proofs.Tests.{not_admitted, only_own, only_admitted, only_barred, is_refused, IsBeyond, IsOfTries, of_running, of_access, of_cyclic, of_finalizing}
 use Rattle.schedule_rules.proofs.Tests.{of_skipped, of_round, of_closing, of_waiting, of_missed, of_borrowed, of_refused, no_more, same_both, nothing_else, neither, unless_first}

@@ -1,7 +1,7 @@
 -- A waiting call goes on with what its party did last: its wait says the same call as the party's latest act.
-use Rattle.schedule_rules.proofs.Words.{ℕ, List, ◌≡◌, arith, Bool, true, refl, false, Some, ◌∷◌, [], ◌∙◌, None, ◌==◌, if◌then◌else◌, map, Option, first_of, Given, How, Answer}
-use Rattle.schedule_rules.proofs.Words.{Refusal, CellPlan, Act, Step, Event, latest_act, latest_act_after, newer_act, registry, Wait, waits, wait_of, attempt, Attempt}
-use Rattle.schedule_rules.proofs.Words.{attempt_of_wait, without_wait, attempt_of_turn, attempt_with, waits_given_with, waits_answered, with_wait, wait_woken, act_for}
+use Rattle.schedule_rules.proofs.Words.{ℕ, arith, ◌≡◌, List, Bool, true, refl, false, Some, ◌∷◌, [], ◌∙◌, None, ◌==◌, if◌then◌else◌, map, Option, Given, How, Answer, Refusal}
+use Rattle.schedule_rules.proofs.Words.{CellPlan, Act, Step, Event, latest_act, newer_act, latest_act_after, Wait, waits, wait_of, Attempt, attempt, attempt_of_wait, without_wait}
+use Rattle.schedule_rules.proofs.Words.{waits_given_with, attempt_with, with_wait, waits_answered, act_for, wait_woken}
 use Rattle.schedule_rules.proofs.Facts.{numbers_apart, number_found}
 use Rattle.schedule_rules.proofs.Opened.{wait_removed, wait_kept}
 
@@ -28,8 +28,7 @@ Of T None = Unit {0}
 Of T (Some a) = T a
 
 pub each_of : (T U : Attempt → Type 0) → ((a : Attempt) → T a → U a) → (o : Option Attempt) → Of T o → Of U o
-each_of T U f None t = tt
-each_of T U f (Some a) t = f a t
+each_of T U f o t = grind arith
 
 module _ (cells : List CellPlan) where
   -- a gift changes no attempt
@@ -69,25 +68,17 @@ module _ (cells : List CellPlan) where
       waits_so (e ∷ h) p l = after h e p l (λ q. waits_so h q (earlier e h l)) e.line.answer refl
 
   matches_now : (ws : List Wait) (h : List Event) (s : Step) (older : Act) → Matches (attempt_of_wait (wait_of s.party ws)) older → Matches (attempt_with cells ws h s.party s.act) (newer_act true s.act older)
-  matches_now ws h s older IH = by s.act
-    where
-      by : (a : Act) → Matches (attempt_with cells ws h s.party a) (newer_act true a older)
-      by (Act.Call c k) = refl
-      by Act.Again = IH
-      by Act.Exit = elim (first_of (registry cells h).left) as (λ o. Matches (attempt_of_turn o) Act.Exit) [ None ↦ tt | Some c ↦ refl ]
-      by _ = tt
+  matches_now ws h s older x = grind arith
 
   -- a party's wait and its latest act say the same call
   abbrev Says : List Event → ℕ → Attempt → Type 0
   Says h p a = latest_act p h ≡ act_for a.cell a.want
 
   matches_of : (h : List Event) (p : ℕ) (o : Option Attempt) → Of (Says h p) o → Matches o (latest_act p h)
-  matches_of h p None t = tt
-  matches_of h p (Some a) t = t
+  matches_of h p o t = grind arith
 
   of_matches : (h : List Event) (p : ℕ) (o : Option Attempt) → Matches o (latest_act p h) → Of (Says h p) o
-  of_matches h p None t = tt
-  of_matches h p (Some a) t = t
+  of_matches h p o t = grind arith
 
   latest_other : (r : Answer) (a older : Act) → latest_act_after r false a older ≡ older
   latest_other r a older = grind arith

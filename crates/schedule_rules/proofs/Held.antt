@@ -1,8 +1,8 @@
 -- A phase that is not 0 never is 0 again; and a cell that was touched stays so: its phase is not 0, or a section runs in it,
 -- or a guard writes it.
-use Rattle.schedule_rules.proofs.Words.{ℕ, List, ◌≡◌, arith, Bool, true, false, Some, ◌∷◌, [], ◌∙◌, sym, None, subst, ◌⊎◌, inl, ◌<◌, inr, ◌≢◌, cond, and_or_self, bit_or, bit_and}
-use Rattle.schedule_rules.proofs.Words.{AllByRecursion, ◌==◌, Option, has, initialized, CellPlan, cell_at, Content, Change, effect, Ran, Put, Asked, Ended, content_after}
-use Rattle.schedule_rules.proofs.Words.{RanIfAsked, Deed, Visits, Makes, EndsToRead, Lends, Finishes, Ends, Drops, DropsToRead, Event, deed_of, sections, Section, Guard, guards}
+use Rattle.schedule_rules.proofs.Words.{ℕ, arith, ◌≡◌, List, Bool, true, false, Some, ◌∷◌, [], ◌∙◌, sym, None, subst, ◌⊎◌, inl, ◌<◌, inr, ◌≢◌, cond, and_or_self, bit_or, bit_and}
+use Rattle.schedule_rules.proofs.Words.{AllByRecursion, ◌==◌, Option, has, initialized, CellPlan, cell_at, Content, Change, effect, Ran, Asked, Put, Ended, content_after}
+use Rattle.schedule_rules.proofs.Words.{RanIfAsked, Deed, Visits, Makes, EndsToRead, Finishes, Ends, Lends, DropsToRead, Drops, Event, deed_of, sections, Section, Guard, guards}
 use Rattle.schedule_rules.proofs.Words.{numbered, replay, phase_at, Back, back_of_step, content_after_back, write_holds, IsLegal, IsExclusive}
 use Rattle.schedule_rules.proofs.Exclusion.{alone}
 use Rattle.schedule_rules.proofs.Found.{each_of, each_found}

@@ -1,6 +1,6 @@
 -- The sections and the guards of a legal history are of calls that the kinds of their cells have.
-use Rattle.schedule_rules.proofs.Words.{ℕ, List, ◌≡◌, arith, Bool, true, false, Some, ◌∷◌, [], sym, None, subst, AllByRecursion, has_call, is_primed, is_plain, Call, Kind, Answer}
-use Rattle.schedule_rules.proofs.Words.{CellPlan, Act, Turns, Calls, cell_at, form_of, Content, Deed, Visits, EndsToWrite, Opens, Holds, deed_waiting, deed_by, Event, deed_of}
+use Rattle.schedule_rules.proofs.Words.{ℕ, arith, ◌≡◌, List, Bool, true, false, Some, ◌∷◌, [], sym, None, subst, AllByRecursion, has_call, is_primed, is_plain, Call, Kind, Answer}
+use Rattle.schedule_rules.proofs.Words.{CellPlan, Act, Turns, Calls, cell_at, form_of, Content, Deed, Visits, Opens, EndsToWrite, deed_waiting, Holds, deed_by, Event, deed_of}
 use Rattle.schedule_rules.proofs.Words.{accepts, is_exit, sections, Section, innermost, Guard, guards, replay, refusal, answer_of_value, IsLegal}
 use Rattle.schedule_rules.proofs.Finds.{Finds, finds}
 use Rattle.schedule_rules.proofs.Exclusion.{alone}

@@ -1,10 +1,10 @@
 -- What a deed leaves: what is given back changes its own cell, what is published changes only where nothing holds the cell to
 -- write afterwards, and what stands open keeps what is said of it.
-use Rattle.schedule_rules.proofs.Words.{ℕ, List, ◌≡◌, arith, Bool, true, refl, false, Some, ◌∷◌, [], ◌∙◌, sym, ap, None, subst, ◌⊎◌, inl, ◌<◌, inr, length, ◌+◌, cond, ◌≤◌}
+use Rattle.schedule_rules.proofs.Words.{ℕ, arith, ◌≡◌, List, Bool, true, refl, false, Some, ◌∷◌, [], ◌∙◌, sym, ap, None, subst, ◌⊎◌, inl, ◌<◌, inr, length, ◌+◌, cond, ◌≤◌}
 use Rattle.schedule_rules.proofs.Words.{AllByRecursion, ◌==◌, if◌then◌else◌, Option, Call, CellPlan, cell_at, Content, Change, effect, Asked, Ended, content_after, Deed, Visits}
-use Rattle.schedule_rules.proofs.Words.{Makes, EndsToRead, Lends, Finishes, Ends, EndsToWrite, Opens, Drops, DropsToRead, Holds, Beside, Puts, Ending, Event, accepts, count}
-use Rattle.schedule_rules.proofs.Words.{sections, Section, innermost, runs_in, without_innermost, sections_by, Guard, guards, numbered, without_guard, guards_by, writer_made}
-use Rattle.schedule_rules.proofs.Words.{reader, reader_made, reader_beside, carrier, writer, replay, Back, back_by, back_of_section, content_after_back, back_of_guard, change_of}
+use Rattle.schedule_rules.proofs.Words.{Makes, EndsToRead, Finishes, Ends, Lends, DropsToRead, Opens, EndsToWrite, Drops, Holds, Beside, Puts, Ending, Event, accepts, count}
+use Rattle.schedule_rules.proofs.Words.{sections, Section, innermost, runs_in, without_innermost, sections_by, Guard, guards, numbered, without_guard, guards_by, reader_beside}
+use Rattle.schedule_rules.proofs.Words.{reader_made, reader, writer_made, writer, carrier, replay, Back, back_by, back_of_section, content_after_back, change_of, back_of_guard}
 use Rattle.schedule_rules.proofs.Words.{write_holds, writes_cell, IsExclusive}
 use Rattle.schedule_rules.proofs.Facts.{whether, apart, same_number, at_least}
 use Rattle.schedule_rules.proofs.Found.{each_counted, each_found, each_ended, each_removed, each_put}
@@ -146,8 +146,7 @@ module _ (cells : List CellPlan) (h : List Event) (p : ℕ) where
 
     -- where the sections stay
     stays_hold : (d : Deed) (c : ℕ) → count (runs_in c) (sections h) ≤ count (runs_in c) (sections_left d) → Writing d c → Holding d c
-    stays_hold d c m (inl n) = inl (omega (arith, m, n))
-    stays_hold d c m (inr g) = inr g
+    stays_hold d c m x = grind arith
 
     goes_on : (v : ℕ) (t : Section) (c : ℕ) → innermost p (sections h) ≡ Some t → write_holds c h ≤ count (writes_cell c) (carrier (length h) p v t ∷ guards h) + count (runs_in c) (without_innermost p (sections h))
     goes_on v t c f = by (t.cell == c) (count_ended (runs_in c) p (sections h) t f)

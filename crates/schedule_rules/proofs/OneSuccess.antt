@@ -1,8 +1,8 @@
 -- A generator of a cell succeeds at most once.
-use Rattle.schedule_rules.proofs.Words.{ℕ, List, ◌≡◌, arith, Bool, true, refl, false, Some, ◌∷◌, [], ◌∙◌, sym, ap, None, subst, ◌⊎◌, ◌&&◌, inl, ◌<◌, inr, ◌+◌, cond, ◌≤◌, ◌||◌}
-use Rattle.schedule_rules.proofs.Words.{◌==◌, has, initialized, Answer, CellPlan, Act, cell_at, flags_kept, Content, Change, effect, Ran, Deed, Makes, EndsToRead, Lends, Finishes}
-use Rattle.schedule_rules.proofs.Words.{Ends, EndsToWrite, Event, deed_of, count, sections, Section, innermost, is_turn, runs_in, Guard, guards, numbered, replay, phase_at}
-use Rattle.schedule_rules.proofs.Words.{back_by, back_of_section, writes_cell, IsLegal, lends_at, runs_to_lend, is_failed, is_lent_at, is_success, successes}
+use Rattle.schedule_rules.proofs.Words.{ℕ, arith, ◌≡◌, List, Bool, true, refl, false, Some, ◌∷◌, [], ◌∙◌, sym, ap, None, subst, ◌⊎◌, inl, ◌<◌, inr, ◌&&◌, ◌+◌, cond, ◌≤◌, ◌||◌}
+use Rattle.schedule_rules.proofs.Words.{◌==◌, has, initialized, Answer, CellPlan, Act, cell_at, flags_kept, Content, Change, effect, Ran, Deed, Makes, EndsToRead, Finishes, Ends}
+use Rattle.schedule_rules.proofs.Words.{Lends, EndsToWrite, Event, deed_of, count, sections, Section, innermost, is_turn, runs_in, Guard, guards, numbered, replay, phase_at}
+use Rattle.schedule_rules.proofs.Words.{back_by, back_of_section, writes_cell, IsLegal, lends_at, runs_to_lend, is_failed, is_success, successes, is_lent_at}
 use Rattle.schedule_rules.proofs.Exclusion.{alone}
 use Rattle.schedule_rules.proofs.Found.{found_counts, each_found}
 use Rattle.schedule_rules.proofs.Leaves.{back_here, left_at, guards_left, GivenAt, Writing, writing, GivesOf, moves}

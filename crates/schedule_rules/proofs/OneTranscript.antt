@@ -1,8 +1,8 @@
 -- A schedule of cells that do not park has at most one legal transcript.
-use Rattle.schedule_rules.proofs.Words.{ℕ, List, ◌≡◌, arith, Bool, true, refl, false, Some, ◌∷◌, [], ◌∙◌, sym, ap, None, subst, ◌<◌, length, get_or_past, same_lists, Option, Given}
-use Rattle.schedule_rules.proofs.Words.{Answer, Line, Refusal, CellPlan, Act, Step, Want, cell_at, is_parking, Event, ended_turns, Wait, attempt, Attempt, other_waits, refusal}
-use Rattle.schedule_rules.proofs.Words.{answer_of_attempt, Meeting, due_answer, due_tried, meeting, may_give_first, may_give_last, may_give_on, is_nobody, IsLegal, IsLegalLine}
-use Rattle.schedule_rules.proofs.Words.{answer_of, due_at, Moment, may_give, First, Last, IsLegalTranscript, Account, told, Schedule, final_of, AreFinals, NoneParks}
+use Rattle.schedule_rules.proofs.Words.{ℕ, arith, ◌≡◌, List, Bool, true, refl, false, Some, ◌∷◌, [], ◌∙◌, sym, ap, None, subst, ◌<◌, length, get_or_past, same_lists, Option, Given}
+use Rattle.schedule_rules.proofs.Words.{Answer, Line, Refusal, CellPlan, Act, Step, Want, cell_at, is_parking, Event, ended_turns, Wait, Attempt, attempt, other_waits, refusal}
+use Rattle.schedule_rules.proofs.Words.{Meeting, answer_of_attempt, due_answer, due_tried, meeting, may_give_last, may_give_on, may_give_first, is_nobody, IsLegal, IsLegalLine}
+use Rattle.schedule_rules.proofs.Words.{answer_of, due_at, Moment, may_give, Last, First, told, Schedule, Account, IsLegalTranscript, final_of, AreFinals, NoneParks}
 use Rattle.std.proofs.lemmas.Option.{get_or_from_slice_get}
 use Rattle.schedule_rules.specs.declared.transcript.Final.{Final}
 

@@ -1,8 +1,8 @@
 -- What holds of each open guard: what happened in its section, that it bears the number of an earlier step, and that no
 -- section of a cell is open while a guard reads it.
-use Rattle.schedule_rules.proofs.Words.{ℕ, List, ◌≡◌, arith, Bool, true, refl, false, Some, ◌∷◌, [], ◌∙◌, sym, ap, None, ◌<◌, length, ◌++◌, and_or_apart, and_assoc, bit_and}
-use Rattle.schedule_rules.proofs.Words.{AllByRecursion, ◌==◌, is_some, ◌^◌, ◌-◌, Option, has, Given, final_outcome, CellPlan, Step, flags_kept, Content, Change, effect, Ran, Put}
-use Rattle.schedule_rules.proofs.Words.{Asked, Deed, Event, deed_of, sections, Guard, guards, numbered, guards_by, reader, cell_concerned, write_holds, read_guards, reads_cell}
+use Rattle.schedule_rules.proofs.Words.{ℕ, arith, ◌≡◌, List, Bool, true, refl, false, Some, ◌∷◌, [], ◌∙◌, sym, ap, None, ◌<◌, length, ◌++◌, and_or_apart, and_assoc, bit_and}
+use Rattle.schedule_rules.proofs.Words.{AllByRecursion, ◌==◌, is_some, ◌^◌, ◌-◌, Option, has, Given, final_outcome, CellPlan, Step, flags_kept, Content, Change, effect, Ran, Asked}
+use Rattle.schedule_rules.proofs.Words.{Put, Deed, Event, deed_of, sections, Guard, guards, numbered, guards_by, reader, cell_concerned, write_holds, read_guards, reads_cell}
 use Rattle.schedule_rules.proofs.Words.{turns_to_read, IsLegal, read_at}
 use Rattle.schedule_rules.proofs.Opened.{put}
 use Rattle.schedule_rules.proofs.Found.{each_removed, each_put, each_mapped, each_found, found_counts, found_passes}
@@ -49,8 +49,7 @@ pub record IsBeside (f : ℕ) : Type 0 where
 
 -- what a finalizer sets is such a flag
 pub beside : (fine : Bool) → IsBeside (final_outcome fine)
-beside true = record { made = refl; failed = refl; stays = refl; nothing = refl; registered = refl; refused = refl; declined = refl }
-beside false = record { made = refl; failed = refl; stays = refl; nothing = refl; registered = refl; refused = refl; declined = refl }
+beside fine = grind arith
 
 module _ (f : ℕ) (is : IsBeside f) where
   -- it is among the flags that stay only where it was

@@ -1,5 +1,5 @@
 -- What a step registers.
-use Rattle.schedule_rules.proofs.Words.{ℕ, List, ◌≡◌, arith, Bool, true, false, ◌∷◌, ◌∙◌, sym, ap, ◌&&◌, ◌||◌, get_or-set_other, get_or-set_same, is_known, Call, CellPlan, Turns}
+use Rattle.schedule_rules.proofs.Words.{ℕ, arith, ◌≡◌, List, Bool, true, false, ◌∷◌, ◌∙◌, sym, ap, ◌&&◌, ◌||◌, get_or-set_other, get_or-set_same, is_known, Call, CellPlan, Turns}
 use Rattle.schedule_rules.proofs.Words.{Calls, Change, Deed, Visits, Opens, Skips, Event, deed_of, accepts, registry, registry_by, registry_taken, IsLegal}
 use Rattle.schedule_rules.proofs.Registrations.{visit_registers, deed_registers, shows_registration}
 use Rattle.schedule_rules.proofs.Facts.{first}

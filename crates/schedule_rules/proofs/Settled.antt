@@ -1,7 +1,7 @@
 -- A phase that has INITIALIZED changes only where a finalizer of its cell ends, and of a plain cell the value stays.
-use Rattle.schedule_rules.proofs.Words.{ℕ, List, ◌≡◌, arith, Bool, true, refl, false, Some, ◌∷◌, [], ◌∙◌, sym, ap, ◌⊎◌, inl, inr, ◌≢◌, ◌++◌, All, All-head, All-tail, ◌==◌}
+use Rattle.schedule_rules.proofs.Words.{ℕ, arith, ◌≡◌, List, Bool, true, refl, false, Some, ◌∷◌, [], ◌∙◌, sym, ap, ◌⊎◌, inl, inr, ◌≢◌, ◌++◌, All, All-head, All-tail, ◌==◌}
 use Rattle.schedule_rules.proofs.Words.{if◌then◌else◌, has, initialized, is_plain, is_hard, Kind, Answer, CellPlan, Act, cell_at, Content, Change, effect, Ran, Put, Deed, Visits}
-use Rattle.schedule_rules.proofs.Words.{Makes, EndsToRead, Lends, Finishes, Ends, Drops, DropsToRead, Event, deed_of, sections, innermost, Guard, guards, numbered, replay}
+use Rattle.schedule_rules.proofs.Words.{Makes, EndsToRead, Finishes, Ends, Lends, DropsToRead, Drops, Event, deed_of, sections, innermost, Guard, guards, numbered, replay}
 use Rattle.schedule_rules.proofs.Words.{phase_at, cell_of_section, IsLegal, lends_at, IsEndedTurn}
 use Rattle.schedule_rules.proofs.Exclusion.{alone}
 use Rattle.schedule_rules.proofs.Found.{each_found}

@@ -1,10 +1,10 @@
 -- What holds in each case, holds of each legal step.
-use Rattle.schedule_rules.proofs.Words.{ℕ, List, ◌≡◌, arith, Bool, true, refl, false, Some, ◌∙◌, sym, ap, None, subst, ◌&&◌, not, ◌==◌, if◌then◌else◌, is_none, Option, phase_of}
-use Rattle.schedule_rules.proofs.Words.{first_of, LockNature, lends_value, is_finalizable, is_primed, Call, Kind, Form, Held, Shown, Told, Answer, Line, Refusal, CellPlan, Act}
-use Rattle.schedule_rules.proofs.Words.{Step, Calls, cell_at, tolerance_at, is_accessible, finishes_so, Success, phase_reached, asks_to_lend, content_of_run, Event, accepts}
+use Rattle.schedule_rules.proofs.Words.{ℕ, arith, ◌≡◌, List, Bool, true, refl, false, Some, ◌∙◌, sym, ap, None, subst, ◌&&◌, not, ◌==◌, if◌then◌else◌, is_none, Option, phase_of}
+use Rattle.schedule_rules.proofs.Words.{first_of, LockNature, is_primed, lends_value, is_finalizable, Call, Kind, Form, Held, Shown, Told, Answer, Line, Refusal, CellPlan, Act}
+use Rattle.schedule_rules.proofs.Words.{Step, Calls, cell_at, tolerance_at, is_accessible, finishes_so, phase_reached, Success, asks_to_lend, content_of_run, Event, accepts}
 use Rattle.schedule_rules.proofs.Words.{sections, Section, innermost, is_turn, Guard, guards, numbered, own, replay, phase_at, registry, finishing, Wait, waits, wait_of, is_barred}
-use Rattle.schedule_rules.proofs.Words.{holding_with, refusal, no_lending, no_call, no_guard, ends_turn, ends_run, refusal_to_lend, no_outcome, writes_of, no_writer, no_reader}
-use Rattle.schedule_rules.proofs.Words.{answer_of_value, answer_at, answer_made_to_lend, answer_lent, answer_made, answer_of_made, due_answer, due_clone, due_made, due_finished}
+use Rattle.schedule_rules.proofs.Words.{holding_with, refusal, no_lending, no_call, no_writer, no_outcome, ends_run, writes_of, no_reader, refusal_to_lend, no_guard, ends_turn}
+use Rattle.schedule_rules.proofs.Words.{answer_of_value, answer_lent, answer_made_to_lend, answer_at, answer_made, answer_of_made, due_answer, due_clone, due_made, due_finished}
 use Rattle.schedule_rules.proofs.Words.{phase_made, IsLegalLine, answer_of, due_at, waits_judged}
 use Rattle.schedule_rules.proofs.Cases.{step, Case, Generating, Lendable, AsksToLend, Reach, form_at, writes}
 use Rattle.schedule_rules.proofs.Attempts.{rests, mine_where_none, attempted, again, exits}

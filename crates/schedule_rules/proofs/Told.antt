@@ -1,9 +1,9 @@
 -- A phase that is not empty tells whether its cell is registered: which flags tell it, what runs and finalizers leave of them,
 -- and that it is so in legal histories.
-use Rattle.schedule_rules.proofs.Words.{ℕ, List, ◌≡◌, arith, Bool, true, refl, false, Some, ◌∷◌, [], ◌∙◌, sym, ap, None, subst, ◌⊎◌, ◌&&◌, inl, inr, not, ◌≢◌, ◌||◌, and_or_apart}
+use Rattle.schedule_rules.proofs.Words.{ℕ, arith, ◌≡◌, List, Bool, true, refl, false, Some, ◌∷◌, [], ◌∙◌, sym, ap, None, subst, ◌⊎◌, inl, inr, ◌&&◌, ◌≢◌, not, ◌||◌, and_or_apart}
 use Rattle.schedule_rules.proofs.Words.{and_assoc, bit_or, bit_and, AllByRecursion, ◌==◌, if◌then◌else◌, Option, has, initialized, is_known, registration, is_finalizable, Call}
 use Rattle.schedule_rules.proofs.Words.{CellPlan, Turns, Calls, cell_at, tolerance_at, tolerance_of, flags_kept, runs_generator, tries_registration, asks, Content, Change, effect}
-use Rattle.schedule_rules.proofs.Words.{Ran, Ended, content_after, is_declined, Deed, Visits, Makes, EndsToRead, Lends, Finishes, Ends, EndsToWrite, Opens, Drops, DropsToRead}
+use Rattle.schedule_rules.proofs.Words.{Ran, Ended, content_after, is_declined, Deed, Visits, Makes, EndsToRead, Finishes, Ends, Lends, DropsToRead, Opens, EndsToWrite, Drops}
 use Rattle.schedule_rules.proofs.Words.{Holds, Skips, Event, deed_of, accepts, sections, Section, is_turn, runs_in, Guard, guards, numbered, replay, phase_at, registry}
 use Rattle.schedule_rules.proofs.Words.{registry_by, write_holds, writes_cell, IsLegal, TellsRegistration}
 use Rattle.schedule_rules.proofs.Facts.{apart}
@@ -25,10 +25,7 @@ told_more b p m e f t = grind (arith, and_or_apart)
 
 -- what a registration sets tells whether it came in time
 told_now : (o b : Bool) → o ≡ b → TellsRegistration b (registration o)
-told_now true true e = record { taken = refl; refused = refl }
-told_now false false e = record { taken = refl; refused = refl }
-told_now true false e = absurd (apart e)
-told_now false true e = absurd (apart (sym e))
+told_now o b e = grind arith
 
 -- the flags that stay beside those of a run tell it too
 told_kept : (x : CellPlan) (o b : Bool) (p : ℕ) → is_finalizable x.kind ≡ true → (p ≡ 0 → o ≡ b) → (p ≢ 0 → TellsRegistration b p) → TellsRegistration b (flags_kept x.kind o p)

@@ -1,9 +1,9 @@
 -- A legal line shows that its step tried to register a cell exactly where it did.
-use Rattle.schedule_rules.proofs.Words.{ℕ, List, ◌≡◌, arith, Bool, true, refl, false, Some, ◌∷◌, [], ◌∙◌, sym, ap, None, subst, ◌⊎◌, ◌&&◌, inl, not, ◌+◌, ◌≤◌, ◌||◌, ◌==◌}
+use Rattle.schedule_rules.proofs.Words.{ℕ, arith, ◌≡◌, List, Bool, true, refl, false, Some, ◌∷◌, [], ◌∙◌, sym, ap, None, subst, ◌⊎◌, inl, ◌&&◌, not, ◌+◌, ◌≤◌, ◌||◌, ◌==◌}
 use Rattle.schedule_rules.proofs.Words.{if◌then◌else◌, is_none, Option, phase_of, Phase, first_of, is_known, How, flags_refused, Call, Answer, Line, Refusal, CellPlan, Place, Act}
-use Rattle.schedule_rules.proofs.Words.{Step, Turns, Calls, deed_waiting, deed_by, Event, accepts, is_exit, replay, registry, Wait, waits, attempt, Attempt, attempt_of_turn}
+use Rattle.schedule_rules.proofs.Words.{Step, Turns, Calls, deed_waiting, deed_by, Event, accepts, is_exit, replay, registry, Wait, waits, Attempt, attempt, attempt_of_turn}
 use Rattle.schedule_rules.proofs.Words.{attempt_with, refusal, answer_of_value, answer_barred, due_answer, due_attempt, IsLegal, IsLegalLine, answer_of, waits_judged, is_attempted}
-use Rattle.schedule_rules.proofs.Words.{is_admitted, asks_registration, tries_to_register, tells_declined, registrations}
+use Rattle.schedule_rules.proofs.Words.{is_admitted, asks_registration, registrations, tells_declined, tries_to_register}
 use Rattle.schedule_rules.proofs.Cases.{Visiting, step, Calling, Resting, Case}
 use Rattle.schedule_rules.proofs.Registrations.{asks_so, deed_registers, shows_registration, registrations_shown, tries-unknown, registered-once}
 use Rattle.schedule_rules.proofs.Answered.{due_at-judged, denied}
@@ -29,13 +29,7 @@ barred_back false Place.Spin w = refl
 barred_back false (Place.Own p) w = refl
 
 beyond_back : IsBeyond is_back
-beyond_back = record {
-  tries = record { shown = record { phase = λ p. refl; value = λ v. refl; read_guard = refl; write_guard = refl }; access = λ p. refl; done = refl; failed = refl };
-  err_guard = refl;
-  running = refl;
-  finalizing = λ c. refl;
-  skipped = λ c. refl;
-}
+beyond_back = grind arith
 
 no_more : (b : Bool) → false ≡ (b && false)
 no_more b = grind arith

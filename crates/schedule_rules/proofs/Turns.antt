@@ -1,11 +1,11 @@
 -- Each registered cell has one turn: to come, waiting, going on or ended.
-use Rattle.schedule_rules.proofs.Words.{ℕ, List, ◌≡◌, arith, Bool, true, refl, false, Some, ◌∷◌, [], ◌∙◌, sym, ap, None, subst, ◌&&◌, ◌<◌, length, ◌+◌, cond, get_or-set_other}
-use Rattle.schedule_rules.proofs.Words.{get_or-set_same, ◌==◌, if◌then◌else◌, Option, cells_of_turns, first_of, is_known, rest_of, occurs, due, registered, Given, Call, Answer}
-use Rattle.schedule_rules.proofs.Words.{Refusal, CellPlan, Act, Turns, Calls, cell_at, is_owned, tries_registration, Deed, Makes, EndsToRead, Finishes, Ends, EndsToWrite, Opens}
-use Rattle.schedule_rules.proofs.Words.{deed_waiting, Skips, deed_by, Looks, Takes, Event, deed_of, accepts, count, is_exit, sections, Section, innermost, without_innermost}
-use Rattle.schedule_rules.proofs.Words.{sections_by, replay, phase_at, registry, registry_by, registry_taken, ended_turns, turn_of, turn_of_section, turns_by, Wait, waits, wait_of}
-use Rattle.schedule_rules.proofs.Words.{without_wait, attempt_with, waits_given_with, with_wait, refusal, refusal_waiting, answer_of_value, IsLegal, turns_of, waits_to_turn}
-use Rattle.schedule_rules.proofs.Words.{finalizes_in}
+use Rattle.schedule_rules.proofs.Words.{ℕ, arith, ◌≡◌, List, Bool, true, refl, false, Some, ◌∷◌, [], ◌∙◌, sym, ap, None, subst, ◌<◌, ◌&&◌, length, ◌+◌, cond, get_or-set_other}
+use Rattle.schedule_rules.proofs.Words.{get_or-set_same, ◌==◌, if◌then◌else◌, Option, cells_of_turns, first_of, is_known, occurs, rest_of, due, registered, Given, Call, Answer}
+use Rattle.schedule_rules.proofs.Words.{Refusal, CellPlan, Act, Turns, Calls, cell_at, is_owned, tries_registration, Deed, Makes, EndsToRead, Finishes, Ends, Opens, EndsToWrite}
+use Rattle.schedule_rules.proofs.Words.{deed_waiting, deed_by, Skips, Takes, Looks, Event, deed_of, accepts, count, is_exit, sections, Section, innermost, without_innermost}
+use Rattle.schedule_rules.proofs.Words.{sections_by, replay, phase_at, registry, registry_by, ended_turns, registry_taken, turn_of_section, turn_of, turns_by, Wait, waits, wait_of}
+use Rattle.schedule_rules.proofs.Words.{without_wait, waits_given_with, attempt_with, with_wait, refusal, refusal_waiting, answer_of_value, IsLegal, turns_of, finalizes_in}
+use Rattle.schedule_rules.proofs.Words.{waits_to_turn}
 use Rattle.schedule_rules.proofs.Facts.{whether, first, second, apart}
 use Rattle.schedule_rules.proofs.Exclusion.{alone}
 use Rattle.schedule_rules.proofs.Opened.{count_ended}

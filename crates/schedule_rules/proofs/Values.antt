@@ -1,11 +1,11 @@
 -- A value that is shown is there.
-use Rattle.schedule_rules.proofs.Words.{ℕ, List, ◌≡◌, arith, Bool, true, refl, false, Some, ◌∷◌, [], ◌∙◌, sym, ap, None, subst, ◌⊎◌, ◌&&◌, inl, ◌<◌, inr, length, not, ◌||◌}
-use Rattle.schedule_rules.proofs.Words.{and_assoc, and_or_self, and_le_r, AllByRecursion, ◌==◌, if◌then◌else◌, is_some, Option, has, initialized, is_primed, is_plain, is_hard}
-use Rattle.schedule_rules.proofs.Words.{Call, Answer, Line, CellPlan, Act, Step, cell_at, tolerance_of, is_accessible, flags_kept, finishes_so, Content, Change, effect, Ran, Put}
-use Rattle.schedule_rules.proofs.Words.{Asked, Ended, content_after, asks_to_lend, RanIfAsked, content_of_run, is_declined, Deed, Visits, Makes, EndsToRead, EndsToWrite, Drops}
-use Rattle.schedule_rules.proofs.Words.{DropsToRead, Holds, Beside, Puts, Event, deed_of, sections, Section, Guard, guards, numbered, without_guard, guards_by, writer_made}
-use Rattle.schedule_rules.proofs.Words.{reader_made, reader_beside, replay, phase_at, Back, back_of_step, back_by, back_of_section, content_after_back, inside, back_of_guard}
-use Rattle.schedule_rules.proofs.Words.{change_of, read_guards, reads_cell, answer_of_value, IsLegal, IsLegalLine, lends_at, runs_to_lend, ShowsValue}
+use Rattle.schedule_rules.proofs.Words.{ℕ, arith, ◌≡◌, List, Bool, true, refl, false, Some, ◌∷◌, [], ◌∙◌, sym, ap, None, subst, ◌⊎◌, inl, ◌<◌, inr, length, and_assoc, and_or_self}
+use Rattle.schedule_rules.proofs.Words.{and_le_r, AllByRecursion, ◌==◌, if◌then◌else◌, is_some, Option, has, initialized, is_primed, is_plain, Call, Answer, Line, CellPlan, Act}
+use Rattle.schedule_rules.proofs.Words.{Step, cell_at, tolerance_of, is_accessible, flags_kept, finishes_so, Content, Change, effect, Ran, Asked, Put, Ended, content_after}
+use Rattle.schedule_rules.proofs.Words.{asks_to_lend, RanIfAsked, content_of_run, is_declined, Deed, Visits, Makes, EndsToRead, DropsToRead, EndsToWrite, Drops, Holds, Beside}
+use Rattle.schedule_rules.proofs.Words.{Puts, Event, deed_of, sections, Section, Guard, guards, numbered, without_guard, guards_by, reader_beside, reader_made, writer_made, replay}
+use Rattle.schedule_rules.proofs.Words.{phase_at, Back, back_of_step, back_by, back_of_section, content_after_back, inside, change_of, back_of_guard, read_guards, reads_cell}
+use Rattle.schedule_rules.proofs.Words.{answer_of_value, IsLegal, IsLegalLine, lends_at, runs_to_lend, ShowsValue}
 use Rattle.std.specs.Option.{unwrap_or}
 use Rattle.schedule_rules.proofs.Cases.{step, Reach, Case}
 use Rattle.schedule_rules.proofs.Steps.{lent_unprimed, of_legal}
@@ -76,10 +76,7 @@ module _ (x : CellPlan) where
 
   -- nor by a finalizer of a primed kind, which leaves one where it takes it out of reach
   primed_left : (fine : Bool) (left : Option ℕ) (y : Content) → is_primed x.kind ≡ true → finishes_so x.kind fine left ≡ true → HasValue y → HasValue (content_after x (Ended fine left) y)
-  primed_left fine left y p so v = by (is_hard x.kind) (is_primed x.kind) p so
-    where
-      by : (h q : Bool) → q ≡ true → ((if h && q then is_some left else not (is_some left)) && (fine || (not h || q))) ≡ true → is_some (if h then left else y.value) ≡ true
-      by h q e f = grind arith
+  primed_left fine left y p so v = grind arith
 
 module _ (cells : List CellPlan) where
   back_true : (c : ℕ) (o : Option Back) (y : Content) → IsTrue (cell_at cells c) y → IsTrue (cell_at cells c) (content_after_back cells c o y)
