@@ -1,6 +1,6 @@
 -- The registry is open as long as a cell may be registered, and knows of each cell whether it was registered.
-use Rattle.schedule_rules.proofs.Words.{ℕ, ◌≡◌, List, arith, Bool, true, refl, false, ◌∷◌, ◌∙◌, [], not, length, length-replicate, length-set, closed, after_register, Registry}
-use Rattle.schedule_rules.proofs.Words.{CellPlan, Deed, Event, deed_of, accepts, is_closed, closed_by, registry, registry_by, registry_taken, registry_of_run, IsLegal}
+use Rattle.schedule_rules.proofs.Words.{ℕ, arith, ◌≡◌, List, Bool, true, refl, false, ◌∷◌, [], ◌∙◌, length, not, length-replicate, length-set, closed, Registry, after_register}
+use Rattle.schedule_rules.proofs.Words.{CellPlan, Deed, Event, deed_of, accepts, closed_by, is_closed, registry, registry_by, registry_taken, registry_of_run, IsLegal}
 use Rattle.schedule_rules.proofs.Finds.{Finds, finds}
 
 -- a registration changes neither whether the registry is open nor of how many cells it knows
@@ -20,7 +20,7 @@ module _ (cells : List CellPlan) where
 
   module _ (h : List Event) where
     length_by : (d : Deed) (m : Registry) → length (registry_by cells h d m).known ≡ length m.known
-    length_by k1 m = grind (arith, length_run, length_taken)
+    length_by d m = grind (arith, length_run, length_taken)
 
     module _ (p : ℕ) where
       opens : (d : Deed) → Finds cells h p d → (registry cells h).is_open ≡ accepts h → (registry_by cells h d (registry cells h)).is_open ≡ not (closed_by d (is_closed h))

@@ -1,8 +1,8 @@
 -- Where a generator runs, and where a value may not be accessed.
-use Rattle.schedule_rules.proofs.Words.{ℕ, ◌≡◌, List, arith, Bool, true, refl, false, Some, ◌∷◌, ◌∙◌, [], sym, ap, subst, ◌&&◌, inl, inr, not, length, ◌≢◌, if◌then◌else◌, has}
-use Rattle.schedule_rules.proofs.Words.{initialized, phase_of, Phase, Given, shall_init, Tolerance, Call, Answer, Line, CellPlan, Act, Step, cell_at, tolerance_at, runs_generator}
-use Rattle.schedule_rules.proofs.Words.{Asked, is_declined, content_asked, deed_visited, Event, accepts, act_of, sections, sections_by, runs, guards, guards_by, replay, phase_at}
-use Rattle.schedule_rules.proofs.Words.{Back, back_of_step, content_after_back, back_by, cell_concerned, IsLegal, IsLegalLine, lends_at, runs_to_lend, KeepsValues, IsTurnedAway}
+use Rattle.schedule_rules.proofs.Words.{ℕ, arith, ◌≡◌, List, Bool, true, refl, false, Some, ◌∷◌, [], ◌∙◌, sym, ap, subst, inl, inr, ◌≢◌, not, if◌then◌else◌, has, initialized}
+use Rattle.schedule_rules.proofs.Words.{phase_of, Phase, Given, shall_init, Tolerance, Call, Answer, Line, CellPlan, Act, Step, cell_at, tolerance_at, Asked, is_declined}
+use Rattle.schedule_rules.proofs.Words.{content_asked, deed_visited, Event, accepts, sections, runs, guards, replay, phase_at, Back, back_of_step, back_by, cell_concerned, IsLegal}
+use Rattle.schedule_rules.proofs.Words.{IsLegalLine, lends_at, runs_to_lend, KeepsValues, IsTurnedAway}
 use Rattle.schedule_rules.proofs.Means.{Began, Unlent, Means, means}
 use Rattle.schedule_rules.proofs.Found.{found_passes, each_found}
 use Rattle.schedule_rules.proofs.Leaves.{back_here, asked_value}
@@ -54,24 +54,7 @@ module _ (cells : List CellPlan) where
         chosen b e = here ∙ ap (λ (d : Bool). if d then record { phase = 36; value = (replay cells c h).value } else replay cells c h) e
 
         pub denies : Resting cells h p c j → Reach cells h p c false → q ≡ record { bits = phase_at cells c h } → IsTurnedAway cells h (event a (Answer.Access q)) c q
-        denies r lacks e = record {
-          shown = e ∙ ap (λ y. record { bits = y.phase }) (sym stays);
-          others_stay = others;
-          reason = inl (
-            stays,
-            inl (record {
-              call = j;
-              tried = t.tried;
-              shown = e;
-              lacks = lacks;
-              once = λ u none. once-where-unwanted (tolerance_at cells c) (phase_at cells c h) (r.unwanted u) none;
-              ended = λ u. ended-where-unwanted (tolerance_at cells c) (phase_at cells c h) (r.unwanted u);
-            }),
-          );
-        }
-          where
-            stays : replay cells c (event a (Answer.Access q) ∷ h) ≡ replay cells c h
-            stays = chosen false (ap (λ (b : Bool). b && not (runs_generator (cell_at cells c).kind (tolerance_at cells c) (accepts h) (phase_at cells c h))) r.unasked)
+        denies r lacks e = grind (arith, others, once-where-unwanted, ended-where-unwanted, chosen)
 
         pub declines : Asking cells h p c j false → q ≡ record { bits = 36 } → IsTurnedAway cells h (event a (Answer.Access q)) c q
         declines r e = record {
@@ -89,10 +72,10 @@ module _ (cells : List CellPlan) where
   -- a value that is to be lent, and may not be accessed, stays
   module _ (h : List Event) (p : ℕ) (i : Given) (q : Phase) where
     lent_here : (a : Act) (c d : ℕ) → lends_at c a ≡ true → cell_concerned cells h (record { party = p; act = a }) ≡ Some d → c ≡ d
-    lent_here k1 c d e n = grind arith
+    lent_here a c d e n = grind arith
 
     unlent_stays : (a : Act) (c d : ℕ) → lends_at c a ≡ true → replay cells d (event h p i a (Answer.Access q) ∷ h) ≡ replay cells d h
-    unlent_stays k1 c d e = grind arith
+    unlent_stays a c d e = grind arith
 
     unlent : (a : Act) (c : ℕ) → Unlent cells h p a q → cell_concerned cells h (record { party = p; act = a }) ≡ Some c → IsTurnedAway cells h (event h p i a (Answer.Access q)) c q
     unlent a c m n =
@@ -134,13 +117,4 @@ module _ (cells : List CellPlan) where
 
 -- what may not access the value leaves every value, and what is open
 pub keeps_values : (cells : List CellPlan) (h : List Event) (s : Step) (p : Phase) (g : Given) → KeepsValues cells h (record { step = s; line = record { answer = Answer.Access p; given = g } })
-keeps_values cells h s p g = record { sections_stay = same_sections (act_of h s); guards_stay = same_guards (act_of h s); values_stay = λ c. by c (act_of h s) }
-  where
-    same_sections : (a : Act) → sections_by h s.party (deed_visited (accepts h) false a) (sections h) ≡ sections h
-    same_sections a = grind arith
-
-    same_guards : (a : Act) → guards_by (length h) s.party (deed_visited (accepts h) false a) (sections h) (guards h) ≡ guards h
-    same_guards a = grind arith
-
-    by : (c : ℕ) (a : Act) → (content_after_back cells c (back_by s.party (deed_visited (accepts h) false a) (sections h) (guards h)) (replay cells c h)).value ≡ (replay cells c h).value
-    by c k1 = grind (arith, asked_value)
+keeps_values cells h s p g = grind (arith, asked_value)

@@ -1,14 +1,13 @@
 -- What holds of the answers that are due, by what holds of each that may be.
-use Rattle.schedule_rules.proofs.Words.{ℕ, ◌≡◌, List, arith, Bool, true, refl, false, Some, ◌∙◌, ap, None, ◌&&◌, if◌then◌else◌, is_none, Option, Phase, LockNature, Given, How}
-use Rattle.schedule_rules.proofs.Words.{Tolerance, Call, Kind, Form, Held, Told, Shown, Answer, Line, Refusal, CellPlan, Place, Step, Calls, Turns, cell_at, is_owned, form_of}
-use Rattle.schedule_rules.proofs.Words.{is_accessible, Content, asks_to_lend, content_asked, content_to_lend, Event, Section, Guard, Wait, is_barred, holding_with, refusal}
-use Rattle.schedule_rules.proofs.Words.{answer_barred, answer_made_to_lend, answer_lent, answer_made, answer_opened, call_answer_admitted, answer_denied, answer_of_made}
-use Rattle.schedule_rules.proofs.Words.{begins_run, due_answer, due_clone, due_made, due_finished, phase_made, due_look, IsLegalLine, answer_of, due_at, Moment, waits_judged}
+use Rattle.schedule_rules.proofs.Words.{ℕ, arith, ◌≡◌, List, Bool, true, refl, false, ◌∙◌, ap, ◌&&◌, if◌then◌else◌, is_none, Option, Phase, Given, How, Tolerance, Call, Kind, Form}
+use Rattle.schedule_rules.proofs.Words.{Answer, Line, Refusal, CellPlan, Place, Step, is_owned, is_accessible, Content, asks_to_lend, content_to_lend, Event, Section, Guard, Wait}
+use Rattle.schedule_rules.proofs.Words.{refusal, answer_barred, answer_lent, answer_made_to_lend, answer_made, answer_denied, answer_opened, call_answer_admitted, due_answer}
+use Rattle.schedule_rules.proofs.Words.{due_clone, due_made, due_finished, due_look, IsLegalLine, answer_of, due_at, Moment, waits_judged}
 
 -- the answer that is due, where these calls of others wait
 pub due_at-judged : (cells : List CellPlan) (m : Moment) (h : List Event) (s : Step) (g : Given) (chosen : Bool)
     → due_at cells m h s g chosen ≡ due_answer cells h s (waits_judged cells m h s g) chosen
-due_at-judged cells k1 h s g chosen = grind arith
+due_at-judged cells m h s g chosen = grind arith
 
 module _ (P : Answer → Type 0) where
   -- one of two answers
@@ -31,24 +30,15 @@ module _ (P : Answer → Type 0) where
 
   -- so of a call that may access the value
   pub opened : IsShown → (f : Form) (y : Content) → P (answer_opened f y)
-  opened k (Told tests) y = k.phase _
-  opened k Shown y = k.value _
-  opened k (Held true falls_back) y = k.write_guard
-  opened k (Held false falls_back) y = k.read_guard
+  opened k f y = grind arith
 
   -- of one that may not
   pub denied : IsTold → (f : Form) (p : ℕ) → P (answer_denied f p)
-  denied k (Told true) p = k.access _
-  denied k (Told false) p = k.shown.phase _
-  denied k Shown p = k.access _
-  denied k (Held writes true) p = k.err_guard
-  denied k (Held writes false) p = k.access _
+  denied k f p = grind arith
 
   -- of one that is admitted
   pub admitted : IsTold → P Answer.Running → (q : Kind) (t : Tolerance) (o : Bool) (k : Call) (y : Content) → P (call_answer_admitted q t o k y)
-  admitted k r q t o c y =
-      either (begins_run q t o c y.phase) Answer.Running _ r
-      (either (is_accessible q (content_asked q t o c y).phase) _ _ (opened k.shown (form_of q c) (content_asked q t o c y)) (denied k (form_of q c) (content_asked q t o c y).phase))
+  admitted k r q t o c y = grind (arith, either, opened, denied)
 
   -- of a value that is lent
   pub lent : ((v : ℕ) → P (Answer.Value v)) → ((p : Phase) → P (Answer.Access p)) → (q : Kind) (y : Content) → P (answer_lent q y)
@@ -68,33 +58,24 @@ module _ (P : Answer → Type 0) where
 
   -- of a run that made a value
   pub made_so : IsShown → (f : Form) (v p : ℕ) → P (answer_made f v p)
-  made_so k (Told tests) v p = k.phase _
-  made_so k Shown v p = k.value v
-  made_so k (Held true falls_back) v p = k.write_guard
-  made_so k (Held false falls_back) v p = k.read_guard
+  made_so k f v p = grind arith
 
   module _ (cells : List CellPlan) (h : List Event) where
     -- that of a value made
     pub made : IsShown → (v : ℕ) (o : Option Section) → P Answer.Done → P Answer.Failed → P (due_made cells h v o)
-    made k v None d f = d
-    made k v (Some s) d f =
-        elim (s.want) as (λ u. P (answer_of_made (cell_at cells s.cell).kind u v (phase_made cells h s)))
-        [ Calls j ↦ made_so k (form_of (cell_at cells s.cell).kind j) v (phase_made cells h s) | Turns ↦ f ]
+    made k v o d f = grind (arith, made_so)
 
     -- that of a finalizer that ends
     pub finished : IsShown → (fine : Bool) (o : Option Section) → P Answer.Done → P (due_finished cells h fine o)
-    finished k fine None d = d
-    finished k fine (Some s) d = k.phase _
+    finished k fine o d = grind arith
 
     -- that of a look
     pub looked : IsShown → (o : Option Guard) → P Answer.Done → P (due_look cells h o)
-    looked k None d = d
-    looked k (Some x) d = k.value _
+    looked k o d = grind arith
 
     -- that of a clone
     pub cloned : (ws : List Wait) (o : Option Guard) → P Answer.Done → P Answer.Borrowed → P Answer.ReadGuard → P (due_clone cells h ws o)
-    cloned ws None d b r = d
-    cloned ws (Some x) d b r = either (is_barred LockNature.Read (holding_with x.cell h ws)) Answer.Borrowed Answer.ReadGuard b r
+    cloned ws o d b r = grind (arith, either)
 
 -- a test that no refusal passes is passed exactly by the due answer of a step that is not refused
 pub legal_by : (t : Answer → Bool) → ((q : Refusal) → t (Answer.Refused q) ≡ false) → (cells : List CellPlan) (h : List Event) (s : Step) (l : Line) (k : IsLegalLine cells h s l)
@@ -103,4 +84,4 @@ legal_by t fails cells h s l k =
     ap t (k.answered ∙ ap (answer_of (refusal cells h s)) (due_at-judged cells k.moment h s l.given k.chosen)) ∙ by (refusal cells h s) _
   where
     by : (o : Option Refusal) (a : Answer) → t (answer_of o a) ≡ (is_none o && t a)
-    by k1 a = grind arith
+    by o a = grind arith

@@ -1,11 +1,11 @@
 -- What an attempt at a cell is answered, case by case.
-use Rattle.schedule_rules.proofs.Words.{ℕ, ◌≡◌, List, arith, Bool, true, refl, false, Some, ◌∷◌, ◌∙◌, [], sym, ap, None, subst, ◌&&◌, inl, ◌<◌, inr, not, if◌then◌else◌, is_some}
+use Rattle.schedule_rules.proofs.Words.{ℕ, arith, ◌≡◌, List, Bool, true, refl, false, Some, ◌∷◌, [], ◌∙◌, sym, ap, None, subst, inl, ◌<◌, inr, ◌&&◌, not, if◌then◌else◌, is_some}
 use Rattle.schedule_rules.proofs.Words.{Option, has, initialized, phase_of, first_of, look_at, LockNature, How, shall_init, flags_refused, Tolerance, asking, Call, Kind, Form}
-use Rattle.schedule_rules.proofs.Words.{Held, Told, Shown, Answer, CellPlan, Act, Want, Calls, Turns, cell_at, tolerance_at, form_of, is_accessible, runs_generator, asks, is_fast}
+use Rattle.schedule_rules.proofs.Words.{Held, Shown, Told, Answer, CellPlan, Act, Want, Turns, Calls, cell_at, tolerance_at, form_of, is_accessible, runs_generator, asks, is_fast}
 use Rattle.schedule_rules.proofs.Words.{lock_wanted, initializes, Content, Event, accepts, latest_act, runs, replay, phase_at, registry, Wait, waits, wait_of, attempt_of_wait}
-use Rattle.schedule_rules.proofs.Words.{attempt_of_turn, act_for, write_holds, is_barred, read_guards, holding_with, readers, keeps, refusal, refusal_by, refusal_free}
-use Rattle.schedule_rules.proofs.Words.{refusal_waiting, answer_barred, answer_admitted, answer_at, answer_opened, turn_answer_admitted, call_answer_admitted, answer_denied}
-use Rattle.schedule_rules.proofs.Words.{due_attempt, answer_of_look, due_tried, IsExclusive}
+use Rattle.schedule_rules.proofs.Words.{attempt_of_turn, act_for, write_holds, is_barred, read_guards, holding_with, readers, keeps, refusal, refusal_by, refusal_waiting}
+use Rattle.schedule_rules.proofs.Words.{refusal_free, answer_barred, answer_admitted, answer_at, turn_answer_admitted, answer_denied, answer_opened, call_answer_admitted}
+use Rattle.schedule_rules.proofs.Words.{due_attempt, due_tried, answer_of_look, IsExclusive}
 use Rattle.schedule_rules.proofs.Found.{found_counts}
 use Rattle.schedule_rules.proofs.GoesOn.{Matches, wait-matches}
 use Rattle.schedule_rules.proofs.Answered.{barred}
@@ -56,14 +56,11 @@ call_admitted Q q t o k y running declined opened denied = by (asks q t (Calls k
     content b g = if b && not g then record { phase = flags_refused; value = y.value } else y
 
     rested : asks q t (Calls k) y.phase ≡ false → (b : Bool) → is_accessible q y.phase ≡ b → Q (answer_at (form_of q k) b y)
-    rested e true f = opened e f
-    rested e false f = denied e f
+    rested e b f = grind arith
 
     by : (b g : Bool) → asks q t (Calls k) y.phase ≡ b → runs_generator q t o y.phase ≡ g
         → Q (if b && g then Answer.Running else answer_at (form_of q k) (is_accessible q (content b g).phase) (content b g))
-    by true true e f = running e f
-    by true false e f = declined e f
-    by false g e f = rested e (is_accessible q y.phase) refl
+    by b g e f = grind (arith, rested)
 
 module _ (cells : List CellPlan) (h : List Event) (p : ℕ) where
   -- what gets the lock to write finds no hold to write
@@ -131,15 +128,7 @@ module _ (cells : List CellPlan) (h : List Event) (p : ℕ) where
       u = tolerance_at cells c
 
       asking : (b : Bool) → asks q u (Calls j) (phase_at cells c h) ≡ true → runs_generator q u (accepts h) (phase_at cells c h) ≡ b → Asking cells h p c j b
-      asking b e g =
-          let written : IsFree c ws LockNature.Write = subst (IsFree c ws) (asks_writes q u j (phase_at cells c h) e) free in
-          record {
-            asked = e;
-            wanted = asks_due q u j (phase_at cells c h) e;
-            generates = g;
-            unheld = λ alone. unheld c alone (readers cells c h) ws mine written;
-            unread = λ alone. unread c alone ws mine written;
-          }
+      asking b e g = grind (arith, asks_writes, q, u, asks_due, unheld, unread)
 
       resting : asks q u (Calls j) (phase_at cells c h) ≡ false → Resting cells h p c j
       resting e = record { unasked = e; unwanted = asks_none q u j (phase_at cells c h) e }
@@ -178,16 +167,7 @@ module _ (cells : List CellPlan) (h : List Event) (p : ℕ) where
       mine v g = let same : Some v ≡ Some w = sym g ∙ e in cc
 
       tries : (u : Want) → w.want ≡ u → Tries cells h p Act.Again w.cell u
-      tries (Calls j) d = record {
-        tried = ap attempt_of_wait e ∙ ap (λ u. Some (record { cell = w.cell; want = u })) d;
-        does = does ∙ ap (act_for w.cell) d;
-        acts = tt;
-      }
-      tries Turns d = record {
-        tried = ap attempt_of_wait e ∙ ap (λ u. Some (record { cell = w.cell; want = u })) d;
-        does = does ∙ ap (act_for w.cell) d;
-        acts = tt;
-      }
+      tries u d = grind (arith, does)
 
   -- a step of the exit
   pub exits : (o : Option ℕ) → first_of (registry cells h).left ≡ o → wait_of p (waits cells h) ≡ None → (ws : List Wait) (chosen : Bool)

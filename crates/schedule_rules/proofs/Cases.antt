@@ -1,7 +1,7 @@
 -- What a legal step may be, case by case.
-use Rattle.schedule_rules.proofs.Words.{ℕ, ◌≡◌, List, Bool, true, false, Some, ◌∷◌, [], None, ◌⊎◌, length, if◌then◌else◌, Option, has, initialized, phase_of, Phase, How}
-use Rattle.schedule_rules.proofs.Words.{shall_init, flags_refused, lends_value, Call, Form, Held, Answer, CellPlan, Act, Step, Want, Calls, Turns, cell_at, tolerance_at, is_owned}
-use Rattle.schedule_rules.proofs.Words.{form_of, is_accessible, runs_generator, finishes_so, phase_finalized, asks, is_fast, initializes, asks_to_lend, Event, accepts, count}
+use Rattle.schedule_rules.proofs.Words.{ℕ, arith, ◌≡◌, List, Bool, true, false, Some, ◌∷◌, [], None, ◌⊎◌, length, if◌then◌else◌, Option, has, initialized, phase_of, Phase, How}
+use Rattle.schedule_rules.proofs.Words.{shall_init, flags_refused, lends_value, Call, Form, Held, Answer, CellPlan, Act, Step, Want, Turns, Calls, cell_at, tolerance_at, is_owned}
+use Rattle.schedule_rules.proofs.Words.{form_of, is_accessible, finishes_so, runs_generator, phase_finalized, asks, is_fast, initializes, asks_to_lend, Event, accepts, count}
 use Rattle.schedule_rules.proofs.Words.{act_of, sections, Section, innermost, is_turn, Guard, guards, numbered, replay, phase_at, inside, registry, finishing, waits, attempt}
 use Rattle.schedule_rules.proofs.Words.{waits_at, write_holds, read_guards, answer_of_value, IsExclusive}
 
@@ -25,14 +25,10 @@ IsTrying Act.Exit = Unit {0}
 IsTrying _ = ⊥
 
 pub calling-tries : (a : Act) → IsCalling a → IsTrying a
-calling-tries (Act.Call c j) t = tt
-calling-tries Act.Again t = tt
-calling-tries _ t = absurd t
+calling-tries a t = grind arith
 
 pub turning-tries : (a : Act) → IsTurning a → IsTrying a
-turning-tries Act.Exit t = tt
-turning-tries Act.Again t = tt
-turning-tries _ t = absurd t
+turning-tries a t = grind arith
 
 -- a call of this form gets a guard to read where the value may not be accessed
 abbrev pub errs : Form → Bool
@@ -67,8 +63,7 @@ module _ (cells : List CellPlan) (h : List Event) (p : ℕ) where
   Tries a c Turns = Turning a c
 
   pub trying : (a : Act) (c : ℕ) (w : Want) → Tries a c w → IsTrying a
-  trying a c (Calls k) t = calling-tries a t.acts
-  trying a c Turns t = turning-tries a t.acts
+  trying a c w t = grind (arith, calling-tries, turning-tries)
 
   -- a generator is asked at the cell, and runs there or not, and no guard and no section of the cell is open where holds
   -- exclude each other

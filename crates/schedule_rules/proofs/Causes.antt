@@ -1,13 +1,13 @@
 -- Which answer a legal line has, by its cause.
-use Rattle.schedule_rules.proofs.Words.{ℕ, ◌≡◌, List, arith, Bool, true, refl, false, Some, ◌∙◌, sym, ap, None, ◌&&◌, not, ◌≢◌, ◌||◌, if◌then◌else◌, is_none, is_some, Option}
-use Rattle.schedule_rules.proofs.Words.{first_of, look_at, Given, How, Call, Answer, Line, Refusal, CellPlan, Place, Act, Step, Calls, Turns, cell_at, tolerance_at, is_owned, asks}
+use Rattle.schedule_rules.proofs.Words.{ℕ, arith, ◌≡◌, List, Bool, true, refl, false, Some, ◌∙◌, sym, ap, None, ◌&&◌, ◌≢◌, not, ◌||◌, if◌then◌else◌, is_none, is_some, Option}
+use Rattle.schedule_rules.proofs.Words.{first_of, look_at, Given, How, Call, Answer, Line, Refusal, CellPlan, Place, Act, Step, Turns, Calls, cell_at, tolerance_at, is_owned, asks}
 use Rattle.schedule_rules.proofs.Words.{is_fast, lock_wanted, Event, accepts, is_exit, sections, innermost, Guard, guards, numbered, replay, phase_at, registry, Wait, waits}
 use Rattle.schedule_rules.proofs.Words.{wait_of, Attempt, attempt, attempt_of_wait, attempt_of_turn, is_barred, holding_with, refusal, refusal_by, answer_barred, answer_admitted}
-use Rattle.schedule_rules.proofs.Words.{way_parked, drains_by, due_answer, due_attempt, answer_of_look, due_clone, due_tried, keeps_own, is_nobody, IsLegalLine, answer_of, due_at}
-use Rattle.schedule_rules.proofs.Words.{Moment, may_give, waits_judged, is_attempted, is_waiting, is_cyclic, is_finalizing, is_missed, is_borrowed, is_admitted, is_cyclic_step}
-use Rattle.schedule_rules.proofs.Words.{is_access, is_skipped, is_round, is_running, is_denied_to_lend, is_closing, is_barred_clone, is_barred_step, is_turn_step, is_closing_step}
-use Rattle.schedule_rules.proofs.Words.{is_barred_attempt, looks, is_round_step, is_step_of, is_borrowing_step, is_access_step, is_running_step, is_missing_step, is_of_own_run}
-use Rattle.schedule_rules.proofs.Words.{is_initializing}
+use Rattle.schedule_rules.proofs.Words.{drains_by, way_parked, due_answer, due_clone, due_attempt, due_tried, answer_of_look, keeps_own, is_nobody, IsLegalLine, answer_of, due_at}
+use Rattle.schedule_rules.proofs.Words.{Moment, may_give, waits_judged, is_attempted, is_waiting, is_cyclic, is_cyclic_step, is_borrowed, is_access, is_closing, is_finalizing}
+use Rattle.schedule_rules.proofs.Words.{is_denied_to_lend, is_skipped, is_missed, is_round, is_admitted, is_running, is_missing_step, is_round_step, is_barred_clone}
+use Rattle.schedule_rules.proofs.Words.{is_barred_attempt, is_of_own_run, looks, is_closing_step, is_borrowing_step, is_running_step, is_access_step, is_step_of, is_turn_step}
+use Rattle.schedule_rules.proofs.Words.{is_barred_step, is_initializing}
 use Rattle.schedule_rules.proofs.Tests.{none_asked, none_kept, look_closes, look_rounds, barred_borrows, barred_misses, barred_waits, parts_of_borrowing, parts_of_look}
 use Rattle.schedule_rules.proofs.Tests.{not_admitted, only_own, only_admitted, only_barred, is_refused, IsBeyond, IsOfTries, of_running, of_access, of_cyclic, of_finalizing}
 use Rattle.schedule_rules.proofs.Tests.{of_skipped, of_round, of_closing, of_waiting, of_missed, of_borrowed, of_refused, no_more, same_both, nothing_else, neither, unless_first}
@@ -72,7 +72,7 @@ module _ (t : Answer → Bool) (cells : List CellPlan) (h : List Event) (p : ℕ
 module _ (t : Answer → Bool) {denies : Bool} (is : IsOfTries t denies) (cells : List CellPlan) (cause : Attempt → Bool) (h : List Event) (ws : List Wait) (chosen : Bool) where
   -- a clone is answered so where it is barred, and Borrowed is
   clones : (g : ℕ) (o : Option Guard) → numbered g (guards h) ≡ o → t (due_clone cells h ws o) ≡ (is_barred_clone cells h (Act.Clone g) ws && t Answer.Borrowed)
-  clones g k1 e = grind arith
+  clones g o e = grind arith
 
   -- each act, where what is attempted is answered so exactly by this cause
   due : (p : ℕ) → ((o : Option Attempt) → t (due_tried cells h p o ws chosen) ≡ is_attempted cause o) → (a : Act)
@@ -192,7 +192,7 @@ module _ (cells : List CellPlan) (h : List Event) (s : Step) (l : Line) (k : IsL
           cyclic_alone is_refused cells h s.party (waits_judged cells m h s g) chosen false refl (fails_barred is_refused refl refl (λ w. refl)) of_refused a ∙ no_more _
 
       none : (o : Option Attempt) (b d : Bool) → (is_attempted (λ a. false) o || ((b && false) || (d && false))) ≡ false
-      none k1 b d = grind arith
+      none o b d = grind arith
 
   -- a line that is refused gives nothing
   pub refused_gives_nothing : (r : Refusal) → l.answer ≡ Answer.Refused r → l.given ≡ Given.Nobody

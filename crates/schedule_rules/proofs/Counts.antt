@@ -1,7 +1,7 @@
 -- How many calls wait and how many turns there are, after one is taken off or added.
-use Rattle.schedule_rules.proofs.Words.{ℕ, ◌≡◌, List, arith, Bool, refl, Some, ◌∷◌, [], None, ◌+◌, cond, ◌≤◌, ◌++◌, ◌==◌, if◌then◌else◌, map, Option, cells_of_turns, first_of}
-use Rattle.schedule_rules.proofs.Words.{rest_of, occurs, Turn, Turned, Given, Answer, CellPlan, Step, Want, Turns, Event, count, Wait, waits, wait_of, Attempt, attempt_of_wait}
-use Rattle.schedule_rules.proofs.Words.{attempt_of_turn, without_wait, waits_given_with, waits_answered, with_wait, wait_woken}
+use Rattle.schedule_rules.proofs.Words.{ℕ, arith, ◌≡◌, List, Bool, refl, Some, ◌∷◌, [], None, ◌+◌, cond, ◌≤◌, ◌++◌, ◌==◌, if◌then◌else◌, map, Option, cells_of_turns, first_of}
+use Rattle.schedule_rules.proofs.Words.{occurs, rest_of, Turn, Turned, Given, Answer, CellPlan, Step, Want, Turns, Event, count, Wait, waits, wait_of, Attempt, attempt_of_wait}
+use Rattle.schedule_rules.proofs.Words.{without_wait, attempt_of_turn, waits_given_with, with_wait, waits_answered, wait_woken}
 
 -- 1 where the test holds
 abbrev pub one_if : Bool → ℕ
@@ -29,7 +29,7 @@ module _ (t : Wait → Bool) (keeps : (w : Wait) → t (wait_woken w) ≡ t w) w
   woken b w = grind (arith, keeps)
 
   pub count_given : (cells : List CellPlan) (all : List Wait) (h : List Event) (s : Step) (g : Given) (ws : List Wait) → count t (waits_given_with cells all h s g ws) ≡ count t ws
-  count_given cells all h s k1 ws = grind (arith, count_mapped, woken)
+  count_given cells all h s g ws = grind (arith, count_mapped, woken)
 
 -- where the party does not wait, all are others
 pub without_none : (p : ℕ) (ws : List Wait) → wait_of p ws ≡ None → without_wait p ws ≡ ws
@@ -69,7 +69,7 @@ module _ (cells : List CellPlan) (p : ℕ) where
     few = let m : _ = without_fewer (λ w. w.party == p) s.party ws in omega (arith, given_others, m, n)
 
     one_more : (way : _) (o : Option Attempt) → count (λ w. w.party == p) (with_wait s.party way o others) ≤ 1
-    one_more way k1 = grind (arith, few, none_own, given_others)
+    one_more way o = grind (arith, few, none_own, given_others)
 
     one_answered : (r : Answer) → count (λ w. w.party == p) (waits_answered cells h s g r ws) ≤ 1
     one_answered r = grind (arith, one_more, few)
@@ -81,11 +81,11 @@ module _ (cells : List CellPlan) (p : ℕ) where
 
 -- what has a first begins with it
 pub begins : (cs : List ℕ) (d : ℕ) → first_of cs ≡ Some d → cs ≡ d ∷ rest_of cs
-begins k1 d e = grind arith
+begins cs d e = grind arith
 
 pub waits_so : (o : Option Wait) (d : ℕ) (v : Want) → attempt_of_wait o ≡ Some (record { cell = d; want = v }) → (w : Wait) × (o ≡ Some w) × (w.cell ≡ d) × (w.want ≡ v)
-waits_so k1 d v e = grind arith
+waits_so o d v e = grind arith
 
 -- a turn that is attempted is the first left
 pub first_so : (o : Option ℕ) (d : ℕ) → attempt_of_turn o ≡ Some (record { cell = d; want = Turns }) → o ≡ Some d
-first_so k1 d e = grind arith
+first_so o d e = grind arith

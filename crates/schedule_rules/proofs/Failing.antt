@@ -1,12 +1,12 @@
 -- What a failed run leaves; and of a value that is lent, that nobody uses its cell, and what the step leaves.
-use Rattle.schedule_rules.proofs.Words.{ℕ, ◌≡◌, List, arith, Bool, true, refl, false, Some, ◌∷◌, ◌∙◌, [], sym, ap, None, subst, ◌&&◌, ◌⊎◌, inl, inr, length, ◌≢◌, list_any, ◌==◌}
+use Rattle.schedule_rules.proofs.Words.{ℕ, arith, ◌≡◌, List, Bool, true, refl, false, Some, ◌∷◌, [], ◌∙◌, sym, ap, None, subst, ◌⊎◌, inl, inr, ◌&&◌, ◌≢◌, length, list_any, ◌==◌}
 use Rattle.schedule_rules.proofs.Words.{if◌then◌else◌, is_none, is_some, Option, Given, Answer, Line, Refusal, CellPlan, Act, Step, cell_at, tolerance_at, is_parking}
 use Rattle.schedule_rules.proofs.Words.{is_accessible, Content, Change, effect, Ran, Put, RanIfAsked, Makes, Event, deed_of, accepts, count, sections, Section, innermost}
-use Rattle.schedule_rules.proofs.Words.{sections_by, guards, guards_by, replay, Back, back_of_step, content_after_back, back_of_section, Wait, waits, wait_of, attempt_with}
-use Rattle.schedule_rules.proofs.Words.{without_wait, waits_given_with, cell_concerned, waits_answered, waits_at, cell_of_section, other_waits, cell_concerned_with, refusal}
-use Rattle.schedule_rules.proofs.Words.{refusal_by, due_answer, may_give_first, may_give_last, may_give_on, reaches, IsLegalLine, answer_of, due_at, Moment, may_give, lends_at}
-use Rattle.schedule_rules.proofs.Words.{waits_judged, is_failed, is_failure, is_refused_in_use, lends_in_use, is_step_in_use, is_lent, IsFailedRun, RunsAtOnce, ChangesCellAlone}
-use Rattle.schedule_rules.proofs.Words.{IsUnused, EndsRun, Leaves}
+use Rattle.schedule_rules.proofs.Words.{sections_by, guards, guards_by, replay, Back, back_of_step, back_of_section, content_after_back, Wait, waits, wait_of, without_wait}
+use Rattle.schedule_rules.proofs.Words.{cell_concerned, waits_given_with, attempt_with, cell_of_section, waits_answered, other_waits, waits_at, cell_concerned_with, refusal}
+use Rattle.schedule_rules.proofs.Words.{refusal_by, due_answer, may_give_last, may_give_on, may_give_first, reaches, IsLegalLine, answer_of, due_at, Moment, may_give, lends_at}
+use Rattle.schedule_rules.proofs.Words.{waits_judged, is_failed, is_failure, lends_in_use, is_refused_in_use, is_step_in_use, is_lent, RunsAtOnce, EndsRun, IsUnused}
+use Rattle.schedule_rules.proofs.Words.{ChangesCellAlone, IsFailedRun, Leaves}
 use Rattle.schedule_rules.proofs.Cases.{step, IsTrying, trying, Lendable, Case, calling-tries, turning-tries}
 use Rattle.schedule_rules.proofs.Steps.{lendable, lendable_so, allowed}
 use Rattle.schedule_rules.proofs.Finds.{LendsSo, Both, finds, tells}
@@ -113,17 +113,12 @@ module _ (c : ℕ) where
   elsewhere b d e = grind arith
 
   pub none_reached : (g : Given) (ws : List Wait) → count (waits_at c) ws ≡ 0 → reaches c g ws ≡ true → g ≡ Given.Nobody
-  none_reached k1 ws n e = grind (arith, none_any, elsewhere, no_more)
+  none_reached g ws n e = grind (arith, none_any, elsewhere, no_more)
 
 module _ (cells : List CellPlan) (h : List Event) (s : Step) (c : ℕ) (lends : lends_at c s.act ≡ true) (free : is_none (refusal cells h s) ≡ true) where
   -- its cell is of a kind that lends, and nobody uses it
   lends_free : Lendable cells h s.party c
-  lends_free = by s.act lends (none_where (refusal cells h s) free)
-    where
-      by : (a : Act) → lends_at c a ≡ true → refusal cells h (record { party = s.party; act = a }) ≡ None → Lendable cells h s.party c
-      by (Act.GetMut z made left) e n = let at : z ≡ c = number_found z c e in subst (Lendable cells h s.party) at (lendable cells h s.party z made left n)
-      by (Act.TryGetMut z left) e n = let at : z ≡ c = number_found z c e in subst (Lendable cells h s.party) at (lendable_so cells h s.party z left n)
-      by _ e n = absurd (apart (sym e))
+  lends_free = grind (arith, none_where, Lendable, number_found, lendable, lendable_so)
 
   pub lent-unused : IsUnused cells h c
   lent-unused = record { unread = lends_free.unread; unheld = lends_free.unheld; unwaited = lends_free.unwaited }
@@ -197,17 +192,11 @@ module _ (cells : List CellPlan) (h : List Event) (s : Step) (c : ℕ) (lends : 
       where
         leaves : (z : ℕ) (chs : List Change) (left : ℕ) (a : Act) (r : Answer) → z ≡ c → (effect (cell_at cells z) chs (replay cells z h)).value ≡ Some left → is_failed r ≡ false → LendsSo cells h s.party a r z chs
             → (content : Content) → content ≡ effect (cell_at cells c) chs (replay cells c h) → (content.value ≡ Some left) × (is_accessible (cell_at cells c).kind content.phase ≡ true)
-        leaves z chs left a r content is fine t k1 e = grind arith
+        leaves z chs left a r content is fine t x e = grind arith
 
         by : (a : Act) → lends_at c a ≡ true → Both cells h s.party a (Answer.Value v) (deed_of h (step cells h s.party a) (Answer.Value v))
             → Leaves cells (record { step = step cells h s.party a; line = record { answer = Answer.Value v; given = l.given } } ∷ h) c a
-        by (Act.GetMut z made left) is b =
-            let at : z ≡ c = number_found z c is in
-            leaves z _ left (Act.GetMut z made left) (Answer.Value v) at refl refl b.1 _ (back_here cells c _ (record { cell = z; changes = Put left ∷ RanIfAsked (accepts h) made ∷ [] }) (replay cells c h) refl is)
-        by (Act.TryGetMut z left) is b =
-            let at : z ≡ c = number_found z c is in
-            leaves z _ left (Act.TryGetMut z left) (Answer.Value v) at refl refl b.1 _ (back_here cells c _ (record { cell = z; changes = Put left ∷ [] }) (replay cells c h) refl is)
-        by _ is b = absurd (apart (sym is))
+        by a is b = grind (arith, number_found, leaves, back_here)
 
 -- a value that is shown was not refused
 pub lent-leaves : (cells : List CellPlan) (h : List Event) (s : Step) (l : Line) (c v : ℕ) → IsLegalLine cells h s l → lends_at c s.act ≡ true → l.answer ≡ Answer.Value v
@@ -223,7 +212,7 @@ is_in_use_reason _ = false
 
 module _ (cells : List CellPlan) (h : List Event) where
   used_by : (p : ℕ) (a : Act) (o : Option Wait) → is_in_use_reason (refusal_by cells (is_some o) h p a) ≡ (is_none o && lends_in_use cells h p a)
-  used_by p a k1 = grind arith
+  used_by p a o = grind arith
 
   unrefused : (r : Answer) → is_refused r ≡ false → is_refused_in_use r ≡ false
   unrefused r e = grind arith

@@ -1,8 +1,8 @@
 -- What a legal step finds, deed by deed.
-use Rattle.schedule_rules.proofs.Words.{ℕ, ◌≡◌, List, arith, Bool, true, refl, false, Some, ◌∷◌, ◌∙◌, [], sym, ap, None, subst, ◌⊎◌, inl, inr, if◌then◌else◌, Option, has}
-use Rattle.schedule_rules.proofs.Words.{initialized, Phase, Call, Answer, Line, CellPlan, Act, Step, Calls, Turns, cell_at, is_accessible, finishes_so, Change, effect, Ran, Put}
-use Rattle.schedule_rules.proofs.Words.{Asked, content_after, RanIfAsked, content_of_run, Deed, Visits, Makes, Finishes, EndsToRead, Ends, DropsToRead, Drops, EndsToWrite, Lends}
-use Rattle.schedule_rules.proofs.Words.{Opens, Holds, Skips, deed_waiting, Puts, deed_by, Beside, Looks, Takes, Quiet, Event, deed_of, accepts, is_exit, act_of, sections, Section}
+use Rattle.schedule_rules.proofs.Words.{ℕ, arith, ◌≡◌, List, Bool, true, refl, false, Some, ◌∷◌, [], ◌∙◌, sym, ap, None, subst, ◌⊎◌, inl, inr, if◌then◌else◌, Option, has}
+use Rattle.schedule_rules.proofs.Words.{initialized, Phase, Call, Answer, Line, CellPlan, Act, Step, Turns, Calls, cell_at, is_accessible, finishes_so, Change, effect, Ran, Asked}
+use Rattle.schedule_rules.proofs.Words.{Put, content_after, RanIfAsked, content_of_run, Deed, Visits, Makes, EndsToRead, Finishes, Ends, Lends, DropsToRead, Opens, EndsToWrite}
+use Rattle.schedule_rules.proofs.Words.{Drops, deed_waiting, Holds, deed_by, Skips, Beside, Puts, Takes, Looks, Quiet, Event, deed_of, accepts, is_exit, act_of, sections, Section}
 use Rattle.schedule_rules.proofs.Words.{innermost, is_turn, Guard, guards, numbered, replay, phase_at, registry, finishing, write_holds, answer_of_value, IsLegalLine, IsExclusive}
 use Rattle.schedule_rules.proofs.Words.{lends_at, is_failed, is_lent}
 use Rattle.schedule_rules.proofs.Cases.{Calling, step, Asking, Resting, Lendable, AsksToLend, Reach, form_at, Generating, Finalizing, Case, Visiting, errs}
@@ -117,7 +117,7 @@ module _ (cells : List CellPlan) (h : List Event) (p : ℕ) where
   visits a c k reads t f e = let v : Visit c (Asked (accepts h) k ∷ []) reads = record { asked = k; does = refl; finds = f; falls = e } in (v, (v, t))
 
   runs_nothing : {c : ℕ} {k : Call} {q : Phase} {T : Type 0} → Visiting cells h p c k q T → Asking cells h p c k false ⊎ Resting cells h p c k
-  runs_nothing k1 = grind arith
+  runs_nothing either = grind arith
 
   inside : {t : Section} {k : Call} → Generating cells h p t k → Inside false
   inside {t} g = record { section = t; found = g.found; kind = ap (λ w. is_turn w) g.kind }

@@ -1,7 +1,7 @@
 -- A finalizer that ends marks the phase of its cell, and nothing else does.
-use Rattle.schedule_rules.proofs.Words.{ℕ, ◌≡◌, List, arith, Bool, true, refl, false, Some, ◌∷◌, ◌∙◌, [], sym, ap, subst, ◌⊎◌, inl, inr, and_or_apart, bit_or, ◌==◌, Option, has}
+use Rattle.schedule_rules.proofs.Words.{ℕ, arith, ◌≡◌, List, Bool, true, refl, false, Some, ◌∷◌, [], ◌∙◌, sym, ap, subst, ◌⊎◌, inl, inr, and_or_apart, bit_or, ◌==◌, Option, has}
 use Rattle.schedule_rules.proofs.Words.{initialized, phase_of, Phase, Given, final_outcome, Answer, Line, CellPlan, Act, Step, Want, cell_at, phase_finalized, Content, Change}
-use Rattle.schedule_rules.proofs.Words.{effect, Ran, Ended, Deed, Visits, Makes, Finishes, EndsToRead, Ends, DropsToRead, Drops, Lends, Event, deed_of, accepts, sections, Section}
+use Rattle.schedule_rules.proofs.Words.{effect, Ran, Ended, Deed, Visits, Makes, EndsToRead, Finishes, Ends, Lends, DropsToRead, Drops, Event, deed_of, accepts, sections, Section}
 use Rattle.schedule_rules.proofs.Words.{innermost, is_turn, Guard, guards, numbered, replay, phase_at, Back, back_of_step, finishing, cell_concerned, cell_of_section, IsLegal}
 use Rattle.schedule_rules.proofs.Words.{IsLegalLine, IsEndedTurn}
 use Rattle.schedule_rules.specs.Laws.{Finishes as Finishes_so}
@@ -16,7 +16,7 @@ use Rattle.schedule_rules.proofs.Facts.{apart, same_number, other_number}
 
 -- a finalizer's section needs a value
 pub needs-value : (w : Want) (x : CellPlan) (p : ℕ) → is_turn w ≡ true → Needs w x p → has p initialized ≡ true
-needs-value k1 x p d n = grind arith
+needs-value w x p d n = grind arith
 
 -- what a finalizer adds says how it ended
 same_outcome : (a fine : Bool) (p : ℕ) → has p (final_outcome fine) ≡ false → has (bit_or p (final_outcome a)) (final_outcome fine) ≡ true → a ≡ fine

@@ -1,5 +1,5 @@
 -- What a test finds in a list, how many pass it, and what holds of each.
-use Rattle.schedule_rules.proofs.Words.{ℕ, ◌≡◌, List, arith, Bool, true, refl, false, Some, ◌∷◌, [], None, subst, ◌<◌, ◌+◌, cond, ◌≤◌, AllByRecursion, find, ◌==◌, count, Section}
+use Rattle.schedule_rules.proofs.Words.{ℕ, arith, ◌≡◌, List, Bool, true, refl, false, Some, ◌∷◌, [], None, subst, ◌<◌, ◌+◌, cond, ◌≤◌, AllByRecursion, find, ◌==◌, count, Section}
 use Rattle.schedule_rules.proofs.Words.{without_innermost, Guard, without_guard, put_in}
 use Rattle.schedule_rules.proofs.Facts.{whether}
 use Rattle.schedule_rules.proofs.Opened.{put}
@@ -65,8 +65,7 @@ each_found {X} q P (y ∷ xs) x e ps = by (q y) e (λ k. each_found q P xs x k p
     same u w k p = let s : u ≡ w = cc in subst P s p
 
     by : (b : Bool) → cond b (Some y) (find q xs) ≡ Some x → (find q xs ≡ Some x → P x) → P x
-    by true k rest = same y x k ps.0
-    by false k rest = rest k
+    by b k rest = grind (arith, same)
 
 -- without the party's innermost section
 pub each_ended : (P : Section → Type 0) (p : ℕ) (ss : List Section) → AllByRecursion P ss → AllByRecursion P (without_innermost p ss)

@@ -1,8 +1,8 @@
 -- A waiting call goes on with what its party did last: its wait says the same call as the party's latest act.
-use Rattle.schedule_rules.proofs.Words.{ℕ, ◌≡◌, List, arith, Bool, true, refl, false, Some, ◌∷◌, ◌∙◌, [], sym, ap, None, subst, ◌==◌, if◌then◌else◌, map, Option, first_of, Given}
-use Rattle.schedule_rules.proofs.Words.{How, Answer, Refusal, CellPlan, Act, Step, Event, latest_act, latest_act_after, newer_act, registry, Wait, waits, wait_of, Attempt, attempt}
-use Rattle.schedule_rules.proofs.Words.{attempt_of_wait, attempt_with, attempt_of_turn, without_wait, waits_given_with, waits_answered, with_wait, act_for, wait_woken}
-use Rattle.schedule_rules.proofs.Facts.{same_number, numbers_apart, number_found}
+use Rattle.schedule_rules.proofs.Words.{ℕ, arith, ◌≡◌, List, Bool, true, refl, false, Some, ◌∷◌, [], ◌∙◌, None, ◌==◌, if◌then◌else◌, map, Option, Given, How, Answer, Refusal}
+use Rattle.schedule_rules.proofs.Words.{CellPlan, Act, Step, Event, latest_act, newer_act, latest_act_after, Wait, waits, wait_of, Attempt, attempt, attempt_of_wait, without_wait}
+use Rattle.schedule_rules.proofs.Words.{waits_given_with, attempt_with, with_wait, waits_answered, act_for, wait_woken}
+use Rattle.schedule_rules.proofs.Facts.{numbers_apart, number_found}
 use Rattle.schedule_rules.proofs.Opened.{wait_removed, wait_kept}
 
 module _ (f : Wait → Wait) (same_party : (w : Wait) → (f w).party ≡ w.party) (same_attempt : (w : Wait) → attempt_of_wait (Some (f w)) ≡ attempt_of_wait (Some w)) where
@@ -28,13 +28,12 @@ Of T None = Unit {0}
 Of T (Some a) = T a
 
 pub each_of : (T U : Attempt → Type 0) → ((a : Attempt) → T a → U a) → (o : Option Attempt) → Of T o → Of U o
-each_of T U f None t = tt
-each_of T U f (Some a) t = f a t
+each_of T U f o t = grind arith
 
 module _ (cells : List CellPlan) where
   -- a gift changes no attempt
   pub attempt_given : (all : List Wait) (h : List Event) (s : Step) (g : Given) (p : ℕ) (ws : List Wait) → attempt_of_wait (wait_of p (waits_given_with cells all h s g ws)) ≡ attempt_of_wait (wait_of p ws)
-  attempt_given all h s k1 p ws = grind (arith, attempt_mapped, woken_party, woken_attempt)
+  attempt_given all h s g p ws = grind (arith, attempt_mapped, woken_party, woken_attempt)
 
   -- what waits for the party
   abbrev pub waiting : List Event → ℕ → Option Attempt
@@ -55,20 +54,13 @@ module _ (cells : List CellPlan) where
         others = waits_given_with cells (waits cells h) h e.step e.line.given (without_wait e.step.party (waits cells h))
 
         left_over : (b : Bool) → (e.step.party == p) ≡ b → Of (T (e ∷ h) p) (attempt_of_wait (wait_of p others))
-        left_over true is = rw (attempt_given (waits cells h) h e.step e.line.given p (without_wait e.step.party (waits cells h))) (rw (number_found e.step.party p is) (rw (wait_removed p (waits cells h)) tt))
-        left_over false is =
-            rw (attempt_given (waits cells h) h e.step e.line.given p (without_wait e.step.party (waits cells h))) (rw (wait_kept e.step.party p (waits cells h) (numbers_apart e.step.party p is))
-            (each_of (T h p) (T (e ∷ h) p) (λ a t. k.other h e p a l is t) (waiting h p) (IH p)))
+        left_over b is = grind (arith, attempt_given, number_found, wait_removed, wait_kept, numbers_apart, each_of)
 
         again : (way : How) (b : Bool) → (e.step.party == p) ≡ b → (o : Option Attempt) → (b ≡ true → Of (T (e ∷ h) p) o) → Of (T (e ∷ h) p) (attempt_of_wait (wait_of p (with_wait e.step.party way o others)))
-        again way b is None f = left_over b is
-        again way false is (Some a) f = rw is (left_over false is)
-        again way true is (Some a) f = rw is (f refl)
+        again way b o x f = grind (arith, left_over)
 
         after : (r : Answer) → e.line.answer ≡ r → Of (T (e ∷ h) p) (attempt_of_wait (wait_of p (waits_answered cells h e.step e.line.given r (waits cells h))))
-        after (Answer.Refused q) is = each_of (T h p) (T (e ∷ h) p) (λ a t. k.refused h e p a q is t) (waiting h p) (IH p)
-        after (Answer.Waiting way) is = again way (e.step.party == p) refl (attempt cells h e.step) (λ own. subst (λ q. Of (T (e ∷ h) q) (attempt cells h e.step)) (number_found e.step.party p own) (k.now h e way l is (IH e.step.party)))
-        after _ is = left_over (e.step.party == p) refl
+        after r is = grind (arith, each_of, again, number_found, left_over)
 
       -- so it is said of all that waits
       pub waits_so : (h : List Event) (p : ℕ) → L h → Of (T h p) (waiting h p)
@@ -76,28 +68,20 @@ module _ (cells : List CellPlan) where
       waits_so (e ∷ h) p l = after h e p l (λ q. waits_so h q (earlier e h l)) e.line.answer refl
 
   matches_now : (ws : List Wait) (h : List Event) (s : Step) (older : Act) → Matches (attempt_of_wait (wait_of s.party ws)) older → Matches (attempt_with cells ws h s.party s.act) (newer_act true s.act older)
-  matches_now ws h s older IH = by s.act
-    where
-      by : (a : Act) → Matches (attempt_with cells ws h s.party a) (newer_act true a older)
-      by (Act.Call c k) = refl
-      by Act.Again = IH
-      by Act.Exit = elim (first_of (registry cells h).left) as (λ o. Matches (attempt_of_turn o) Act.Exit) [ None ↦ tt | Some c ↦ refl ]
-      by _ = tt
+  matches_now ws h s older x = grind arith
 
   -- a party's wait and its latest act say the same call
   abbrev Says : List Event → ℕ → Attempt → Type 0
   Says h p a = latest_act p h ≡ act_for a.cell a.want
 
   matches_of : (h : List Event) (p : ℕ) (o : Option Attempt) → Of (Says h p) o → Matches o (latest_act p h)
-  matches_of h p None t = tt
-  matches_of h p (Some a) t = t
+  matches_of h p o t = grind arith
 
   of_matches : (h : List Event) (p : ℕ) (o : Option Attempt) → Matches o (latest_act p h) → Of (Says h p) o
-  of_matches h p None t = tt
-  of_matches h p (Some a) t = t
+  of_matches h p o t = grind arith
 
   latest_other : (r : Answer) (a older : Act) → latest_act_after r false a older ≡ older
-  latest_other k1 a older = grind arith
+  latest_other r a older = grind arith
 
   pub wait-matches : (p : ℕ) (h : List Event) → Matches (attempt_of_wait (wait_of p (waits cells h))) (latest_act p h)
   wait-matches p h = matches_of h p (waiting h p) (waits_so (λ h. Unit {0}) (λ e h l. tt) Says (record { other = other; refused = refused; now = now }) h p tt)
@@ -109,9 +93,4 @@ module _ (cells : List CellPlan) where
       refused h e p a r is t = rw is t
 
       now : (h : List Event) (e : Event) (way : How) → Unit {0} → e.line.answer ≡ Answer.Waiting way → Of (Says h e.step.party) (waiting h e.step.party) → Of (Says (e ∷ h) e.step.party) (attempt cells h e.step)
-      now h e way l is t =
-          of_matches (e ∷ h) e.step.party (attempt cells h e.step)
-          (subst (Matches (attempt cells h e.step)) (sym latest) (matches_now (waits cells h) h e.step (latest_act e.step.party h) (matches_of h e.step.party (waiting h e.step.party) t)))
-        where
-          latest : latest_act e.step.party (e ∷ h) ≡ newer_act true e.step.act (latest_act e.step.party h)
-          latest = ap (λ r. latest_act_after r (e.step.party == e.step.party) e.step.act (latest_act e.step.party h)) is ∙ ap (λ b. newer_act b e.step.act (latest_act e.step.party h)) (same_number e.step.party e.step.party refl)
+      now h e way l is t = grind (arith, of_matches, matches_now, matches_of)

@@ -1,14 +1,12 @@
 -- What a legal step leaves: each section stands on the phase that it needs, each holder of a write guard sees a value, and
 -- INITIALIZED is never cleared.
-use Rattle.schedule_rules.proofs.Words.{ℕ, ◌≡◌, List, arith, Bool, true, refl, false, Some, ◌∷◌, ◌∙◌, [], sym, ap, ◌⊎◌, and_or_apart, and_or_self, bit_or, bit_and, AllByRecursion}
-use Rattle.schedule_rules.proofs.Words.{◌==◌, Option, has, initialized, phase_of, shall_init, CellPlan, Want, Calls, Turns, cell_at, tolerance_of, flags_kept, Content, Change}
-use Rattle.schedule_rules.proofs.Words.{effect, Ran, Put, Deed, Visits, Makes, Finishes, EndsToRead, Ends, DropsToRead, Drops, EndsToWrite, Lends, Opens, Holds, Event, deed_of}
-use Rattle.schedule_rules.proofs.Words.{accepts, sections, Section, is_turn, Guard, guards, numbered, replay, phase_at, IsLegal, IsExclusive}
+use Rattle.schedule_rules.proofs.Words.{ℕ, arith, ◌≡◌, List, Bool, true, refl, false, Some, ◌∷◌, [], ap, and_or_apart, and_or_self, bit_or, bit_and, AllByRecursion, ◌==◌, has}
+use Rattle.schedule_rules.proofs.Words.{initialized, phase_of, shall_init, CellPlan, Want, Turns, Calls, cell_at, tolerance_of, Content, Change, effect, Ran, Deed, Event, deed_of}
+use Rattle.schedule_rules.proofs.Words.{sections, Section, is_turn, Guard, guards, numbered, replay, phase_at, IsLegal, IsExclusive}
 use Rattle.schedule_rules.proofs.Found.{each_found}
 use Rattle.schedule_rules.proofs.Cases.{Asking, Resting, AsksToLend, Reach}
 use Rattle.schedule_rules.proofs.Finds.{Inside, Visit, Comes, Lending, accessed_there, Finds, finds}
 use Rattle.schedule_rules.proofs.Leaves.{left_at, sections_left, guards_left, NewOf, Says, sections_say, guards_say, GivesOf, moves}
-use Rattle.schedule_rules.proofs.Facts.{apart}
 use Rattle.schedule_rules.proofs.Exclusion.{alone}
 
 -- a run that succeeds sets it
@@ -26,7 +24,7 @@ Needs Turns x p = has p initialized ≡ true
 
 -- a generator's section needs a phase that lacks INITIALIZED
 pub needs-lacks : (w : Want) (x : CellPlan) (p : ℕ) → is_turn w ≡ false → Needs w x p → has p initialized ≡ false
-needs-lacks k1 x p d n = grind arith
+needs-lacks w x p d n = grind arith
 
 -- a generator ended in the section
 abbrev pub HasRun : List Change → Type 0
@@ -62,24 +60,10 @@ module _ (cells : List CellPlan) where
     Sees y x = x.writes ≡ true → SeesValue (cell_at cells x.cell) x y
 
     new : (d : Deed) (f : Finds cells h p d) → NewOf cells h p alone Stands Stands Sees Sees d f
-    new (Opens c (Calls k) taken) f = f.wanted
-    new (Opens c Turns taken) f = f.value
-    new (Holds c true) f = λ w. (accessed_there cells h c f, λ n. absurd n)
-    new (EndsToWrite v) f = λ u w. (
-      has_made (flags_kept (cell_at cells f.section.cell).kind f.section.is_open (phase_at cells f.section.cell h)),
-      λ n. needs-lacks f.section.want (cell_at cells f.section.cell) (phase_at cells f.section.cell h) f.kind u,
-    )
-    new _ f = tt
+    new d f = grind (arith, accessed_there, has_made, needs-lacks)
 
     says : (d : Deed) (f : Finds cells h p d) → Says cells h p alone Stands Stands Sees Sees d f
-    says d f = record {
-      section = λ s u. u;
-      guard = λ x u. u;
-      beside = λ y x e u w. absurd (apart (sym w ∙ e));
-      reads = λ y c w. absurd (cc);
-      sets = λ v y x u. u;
-      new = new d f;
-    }
+    says d f = grind (arith, new)
 
     module _ (k : IsSound h) where
       pub sound-after : (d : Deed) (f : Finds cells h p d) → AllByRecursion (λ s. Stands (left_at cells h p d s.cell) s) (sections_left cells h p d) × AllByRecursion (λ x. Sees (left_at cells h p d x.cell) x) (guards_left cells h p d)
@@ -100,28 +84,13 @@ module _ (cells : List CellPlan) where
       ready g x f w r = (each_found (λ y. y.number == g) (IsReady h) (guards h) x f k.ready w).0
 
       visits : (c : ℕ) (chs : List Change) (reads : Bool) (v : Visit cells h p c chs reads) → Keeps c (replay cells c h) (effect (cell_at cells c) chs (replay cells c h))
-      visits c chs reads v r = by v.finds
-        where
-          by : Asking cells h p c v.asked false ⊎ Resting cells h p c v.asked → has (effect (cell_at cells c) chs (replay cells c h)).phase initialized ≡ true
-          by k1 = grind arith
+      visits c chs reads v r = grind (arith, Asking, Resting)
 
       lends : (c : ℕ) (chs : List Change) (f : Lending cells h p c chs) → Keeps c (replay cells c h) (effect (cell_at cells c) chs (replay cells c h))
-      lends c chs f r = by f.does
-        where
-          by : (AsksToLend cells h p c true × ((made : Option ℕ) × Comes cells h p c chs (Ran (accepts h) made))) ⊎ (Reach cells h p c true × ((left : ℕ) × Comes cells h p c chs (Put left)))
-              → has (effect (cell_at cells c) chs (replay cells c h)).phase initialized ≡ true
-          by k1 = grind arith
+      lends c chs f r = grind (arith, AsksToLend, Comes, Reach)
 
       gives : (d : Deed) (f : Finds cells h p d) → GivesOf cells h p alone Keeps d f
-      gives (Ends (Makes made)) f = λ r. absurd (apart (sym r ∙ lacks f))
-      gives (Ends (Finishes true left)) f = λ r. has_more (phase_at cells f.section.cell h) 64 refl ∙ r
-      gives (Ends (Finishes false left)) f = λ r. has_more (phase_at cells f.section.cell h) 128 refl ∙ r
-      gives (EndsToRead v) f = λ r. has_made (flags_kept (cell_at cells f.section.cell).kind f.section.is_open (phase_at cells f.section.cell h))
-      gives (Drops g) f = ready g f.guard f.found
-      gives (DropsToRead g) f = ready g f.guard f.found f.way
-      gives (Visits c chs reads) f = visits c chs reads f
-      gives (Lends c chs) f = lends c chs f
-      gives _ f = tt
+      gives d f = grind (arith, lacks, has_more, has_made, ready, visits, lends)
 
       pub kept-after : (d : Deed) (f : Finds cells h p d) (c : ℕ) → Keeps c (replay cells c h) (left_at cells h p d c)
       kept-after d f c = moves cells h p alone Keeps d f (λ z n r. r) (gives d f) c

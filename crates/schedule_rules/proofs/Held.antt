@@ -1,9 +1,9 @@
 -- A phase that is not 0 never is 0 again; and a cell that was touched stays so: its phase is not 0, or a section runs in it,
 -- or a guard writes it.
-use Rattle.schedule_rules.proofs.Words.{ℕ, ◌≡◌, List, arith, Bool, true, false, Some, ◌∷◌, ◌∙◌, [], sym, None, subst, ◌⊎◌, inl, ◌<◌, inr, ◌≢◌, cond, and_or_self, bit_or, bit_and}
-use Rattle.schedule_rules.proofs.Words.{AllByRecursion, ◌==◌, Option, has, initialized, CellPlan, cell_at, Content, Change, effect, Ran, Put, Asked, content_after, Ended}
-use Rattle.schedule_rules.proofs.Words.{RanIfAsked, Deed, Visits, Makes, Finishes, EndsToRead, Ends, DropsToRead, Drops, EndsToWrite, Lends, Holds, Event, deed_of, sections}
-use Rattle.schedule_rules.proofs.Words.{Section, Guard, guards, numbered, replay, phase_at, Back, back_of_step, content_after_back, write_holds, IsLegal, IsExclusive}
+use Rattle.schedule_rules.proofs.Words.{ℕ, arith, ◌≡◌, List, Bool, true, false, Some, ◌∷◌, [], ◌∙◌, sym, None, subst, ◌⊎◌, inl, ◌<◌, inr, ◌≢◌, cond, and_or_self, bit_or, bit_and}
+use Rattle.schedule_rules.proofs.Words.{AllByRecursion, ◌==◌, Option, has, initialized, CellPlan, cell_at, Content, Change, effect, Ran, Asked, Put, Ended, content_after}
+use Rattle.schedule_rules.proofs.Words.{RanIfAsked, Deed, Visits, Makes, EndsToRead, Finishes, Ends, Lends, DropsToRead, Drops, Event, deed_of, sections, Section, Guard, guards}
+use Rattle.schedule_rules.proofs.Words.{numbered, replay, phase_at, Back, back_of_step, content_after_back, write_holds, IsLegal, IsExclusive}
 use Rattle.schedule_rules.proofs.Exclusion.{alone}
 use Rattle.schedule_rules.proofs.Found.{each_of, each_found}
 use Rattle.schedule_rules.proofs.Finds.{Finds, accessed_there, finds}
@@ -23,7 +23,7 @@ HasEnded (ch ∷ chs) = HasEnded chs
 
 module _ (x : CellPlan) where
   ran_touches : (o : Bool) (made : Option ℕ) (y : Content) → (content_after x (Ran o made) y).phase ≢ 0
-  ran_touches o k1 y = grind (arith, with_flag)
+  ran_touches o made y = grind (arith, with_flag)
 
   ended_touches : (fine : Bool) (left : Option ℕ) (y : Content) → (content_after x (Ended fine left) y).phase ≢ 0
   ended_touches fine left y = grind (arith, with_flag y.phase 64, with_flag y.phase 128)
@@ -86,9 +86,7 @@ module _ (cells : List CellPlan) where
 
   module _ (h : List Event) (p : ℕ) (alone : (c : ℕ) → IsExclusive cells h c) where
     new : (d : Deed) (f : Finds cells h p d) → NewOf cells h p alone IsAny IsAny IsGood IsGood d f
-    new (Holds c true) f = λ w. inl (has_none (phase_at cells c h) (accessed_there cells h c f))
-    new (EndsToWrite v) f = λ u w. inr tt
-    new _ f = tt
+    new d f = grind (arith, has_none, accessed_there)
 
     good-after : (d : Deed) (f : Finds cells h p d) → AllGood h → AllByRecursion (λ x. IsGood (left_at cells h p d x.cell) x) (guards_left cells h p d)
     good-after d f k =
@@ -101,16 +99,10 @@ module _ (cells : List CellPlan) where
     Touches d c y z = 0 < write_holds c h → (z.phase ≢ 0) ⊎ (0 < holds_left cells h p d c)
 
     stays : (d : Deed) (f : Finds cells h p d) (c : ℕ) → (GivenAt cells h p d c → ⊥) → Touches d c (replay cells c h) (replay cells c h)
-    stays d f c none n = by (holding cells h p alone d f c)
-      where
-        by : Holding cells h p alone d c → (phase_at cells c h ≢ 0) ⊎ (0 < holds_left cells h p d c)
-        by k1 = grind arith
+    stays d f c none n = grind (arith, holding, alone, Holding, holds_left)
 
     dropped : (d : Deed) (g : ℕ) (x : Guard) → numbered g (guards h) ≡ Some x → AllGood h → x.writes ≡ true → Touches d x.cell (replay cells x.cell h) (effect (cell_at cells x.cell) x.changes (replay cells x.cell h))
-    dropped d g x f k w n = inl (by (each_found (λ y. y.number == g) (λ x. IsGood (replay cells x.cell h) x) (guards h) x f k w))
-      where
-        by : (phase_at cells x.cell h ≢ 0) ⊎ HasEnded x.changes → (effect (cell_at cells x.cell) x.changes (replay cells x.cell h)).phase ≢ 0
-        by k1 = grind (arith, effect_keeps, effect_touches)
+    dropped d g x f k w n = grind (arith, each_found, effect_keeps, effect_touches)
 
     gives : (d : Deed) (f : Finds cells h p d) → AllGood h → GivesOf cells h p alone (Touches d) d f
     gives (Ends (Makes made)) f k = λ n. inl (effect_touches (cell_at cells f.section.cell) (Ran f.section.is_open made ∷ []) (replay cells f.section.cell h) tt)

@@ -1,7 +1,7 @@
 -- The sections and the guards of a legal history are of calls that the kinds of their cells have.
-use Rattle.schedule_rules.proofs.Words.{ℕ, ◌≡◌, List, arith, Bool, true, false, Some, ◌∷◌, ◌∙◌, [], sym, None, subst, AllByRecursion, has_call, is_plain, is_primed, Call, Kind}
-use Rattle.schedule_rules.proofs.Words.{Answer, CellPlan, Act, Calls, Turns, cell_at, form_of, Content, Deed, Visits, EndsToWrite, Opens, Holds, deed_waiting, deed_by, Event}
-use Rattle.schedule_rules.proofs.Words.{deed_of, accepts, is_exit, sections, Section, innermost, Guard, guards, replay, refusal, answer_of_value, IsLegal}
+use Rattle.schedule_rules.proofs.Words.{ℕ, arith, ◌≡◌, List, Bool, true, false, Some, ◌∷◌, [], sym, None, subst, AllByRecursion, has_call, is_primed, is_plain, Call, Kind, Answer}
+use Rattle.schedule_rules.proofs.Words.{CellPlan, Act, Turns, Calls, cell_at, form_of, Content, Deed, Visits, Opens, EndsToWrite, deed_waiting, Holds, deed_by, Event, deed_of}
+use Rattle.schedule_rules.proofs.Words.{accepts, is_exit, sections, Section, innermost, Guard, guards, replay, refusal, answer_of_value, IsLegal}
 use Rattle.schedule_rules.proofs.Finds.{Finds, finds}
 use Rattle.schedule_rules.proofs.Exclusion.{alone}
 use Rattle.schedule_rules.proofs.Leaves.{guards_left, sections_left, guards_say, sections_say, Says, NewOf}
@@ -13,11 +13,11 @@ use Rattle.schedule_rules.proofs.WaitsToLock.{attempted-has}
 
 -- no plain kind has one that does
 written_not_plain : (q : Kind) (k : Call) → has_call q k ≡ true → writes (form_of q k) ≡ true → is_plain q ≡ false
-written_not_plain q k1 e f = grind arith
+written_not_plain q k e f = grind arith
 
 -- a primed kind alone has one that falls back
 falls_primed : (q : Kind) (k : Call) → has_call q k ≡ true → errs (form_of q k) ≡ true → is_primed q ≡ true
-falls_primed q k1 e f = grind arith
+falls_primed q k e f = grind arith
 
 module _ (cells : List CellPlan) where
   -- the kind of the cell has the call
@@ -49,9 +49,7 @@ module _ (cells : List CellPlan) where
     called a c k r t f n = subst (λ b. Kinds (deed_by (accepts h) (is_exit a) b r)) (sym t.does) (f (attempted-has cells h (step cells h p a) c k legal n t.tried))
 
     made : (v : ℕ) (t : Section) (k : Call) → Generating cells h p t k → writes (form_at cells h p t.cell k) ≡ true → Kinds (EndsToWrite v)
-    made v t k g w s f =
-        let e : Some t ≡ Some s = sym g.found ∙ f in
-        let same : t ≡ s = cc in subst (λ u. (j : Call) × (u.want ≡ Calls j) × (writes (form_of (cell_at cells u.cell).kind j) ≡ true)) same (k, g.kind, w)
+    made v t k g w s f = grind (arith, writes)
 
     waited : (b : Bool) → Kinds (deed_waiting b)
     waited b = elim b as (λ b. Kinds (deed_waiting b)) [ true ↦ tt | false ↦ tt ]

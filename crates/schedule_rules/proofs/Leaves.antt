@@ -1,10 +1,10 @@
 -- What a deed leaves: what is given back changes its own cell, what is published changes only where nothing holds the cell to
 -- write afterwards, and what stands open keeps what is said of it.
-use Rattle.schedule_rules.proofs.Words.{ℕ, ◌≡◌, List, arith, Bool, true, refl, false, Some, ◌∷◌, ◌∙◌, [], sym, ap, None, subst, ◌⊎◌, inl, ◌<◌, inr, length, ◌+◌, cond, ◌≤◌}
-use Rattle.schedule_rules.proofs.Words.{AllByRecursion, ◌==◌, if◌then◌else◌, Option, Call, CellPlan, cell_at, Content, Change, effect, Asked, content_after, Ended, Deed, Visits}
-use Rattle.schedule_rules.proofs.Words.{Makes, Finishes, EndsToRead, Ends, DropsToRead, Drops, EndsToWrite, Lends, Opens, Holds, Puts, Beside, Ending, Event, accepts, count}
-use Rattle.schedule_rules.proofs.Words.{sections, Section, innermost, runs_in, without_innermost, sections_by, Guard, guards, numbered, without_guard, guards_by, writer_made}
-use Rattle.schedule_rules.proofs.Words.{reader_beside, reader_made, reader, carrier, writer, replay, Back, content_after_back, back_of_section, back_by, change_of, back_of_guard}
+use Rattle.schedule_rules.proofs.Words.{ℕ, arith, ◌≡◌, List, Bool, true, refl, false, Some, ◌∷◌, [], ◌∙◌, sym, ap, None, subst, ◌⊎◌, inl, ◌<◌, inr, length, ◌+◌, cond, ◌≤◌}
+use Rattle.schedule_rules.proofs.Words.{AllByRecursion, ◌==◌, if◌then◌else◌, Option, Call, CellPlan, cell_at, Content, Change, effect, Asked, Ended, content_after, Deed, Visits}
+use Rattle.schedule_rules.proofs.Words.{Makes, EndsToRead, Finishes, Ends, Lends, DropsToRead, Opens, EndsToWrite, Drops, Holds, Beside, Puts, Ending, Event, accepts, count}
+use Rattle.schedule_rules.proofs.Words.{sections, Section, innermost, runs_in, without_innermost, sections_by, Guard, guards, numbered, without_guard, guards_by, reader_beside}
+use Rattle.schedule_rules.proofs.Words.{reader_made, reader, writer_made, writer, carrier, replay, Back, back_by, back_of_section, content_after_back, change_of, back_of_guard}
 use Rattle.schedule_rules.proofs.Words.{write_holds, writes_cell, IsExclusive}
 use Rattle.schedule_rules.proofs.Facts.{whether, apart, same_number, at_least}
 use Rattle.schedule_rules.proofs.Found.{each_counted, each_found, each_ended, each_removed, each_put}
@@ -61,10 +61,7 @@ module _ (cells : List CellPlan) (h : List Event) (p : ℕ) where
     -- one that gives back what held its cell
     gives : (d : Deed) (b : Back) (c : ℕ) → back_by p d (sections h) (guards h) ≡ Some b
         → (count (runs_in b.cell) (sections_left d) ≡ 0) × (count (writes_cell b.cell) (guards_left d) ≡ 0) → Settles d c
-    gives d b c e none =
-        whether (b.cell == c)
-        (λ same. let at : b.cell ≡ c = grind arith in inr (subst (λ z. (count (runs_in z) (sections_left d) ≡ 0) × (count (writes_cell z) (guards_left d) ≡ 0)) at none))
-        (λ other. inl (elsewhere d b c e other))
+    gives d b c e none = grind (arith, whether, elsewhere)
 
     -- a guard that is taken off
     drops : (d : Deed) (g : ℕ) (x : Guard) (c : ℕ) → numbered g (guards h) ≡ Some x → back_by p d (sections h) (guards h) ≡ back_of_guard (numbered g (guards h))
@@ -142,27 +139,14 @@ module _ (cells : List CellPlan) (h : List Event) (p : ℕ) where
         left none = let one : _ = count_removed (writes_cell c) g (guards h) x f in inl (omega (arith, one, none, less))
 
         by : (b z : Bool) → x.writes ≡ b → (x.cell == c) ≡ z → Writing d c
-        by true true w here = inr (record { back = record { cell = x.cell; changes = x.changes }; given = e ∙ ap back_of_guard f ∙ ap (λ b. cond b (Some (record { cell = x.cell; changes = x.changes })) None) w; here = here })
-        by true false w other = left (rw w (ap one_if other))
-        by false z w other = left (rw w refl)
+        by b z w here = grind (arith, left, one_if)
 
     pub writing : (d : Deed) → Finds cells h p d → (c : ℕ) → Writing d c
-    writing (EndsToRead v) f c = inl (let e : _ = f.found in rw e (omega arith))
-    writing (EndsToWrite v) f c = inl (let e : _ = f.found in rw e (at_least (f.section.cell == c) (count (writes_cell c) (guards h))))
-    writing (Drops g) f c = drops_write (Drops g) g f.guard c f.found refl refl
-    writing (DropsToRead g) f c = drops_write (DropsToRead g) g f.guard c f.found refl (let e : _ = f.found in rw e refl)
-    writing (Holds z true) f c = inl (at_least (z == c) (count (writes_cell c) (guards h)))
-    writing (Holds z false) f c = inl (omega arith)
-    writing (Visits z chs true) f c = inl (omega arith)
-    writing (Visits z chs false) f c = inl (omega arith)
-    writing (Beside g) f c = inl (let e : _ = f.found in rw e (omega arith))
-    writing (Puts g v) f c = inl (let s : _ = writes_put c g v (guards h) in omega (arith, s))
-    writing d f c = inl (omega arith)
+    writing d f c = grind (arith, at_least, drops_write, writes_put)
 
     -- where the sections stay
     stays_hold : (d : Deed) (c : ℕ) → count (runs_in c) (sections h) ≤ count (runs_in c) (sections_left d) → Writing d c → Holding d c
-    stays_hold d c m (inl n) = inl (omega (arith, m, n))
-    stays_hold d c m (inr g) = inr g
+    stays_hold d c m x = grind arith
 
     goes_on : (v : ℕ) (t : Section) (c : ℕ) → innermost p (sections h) ≡ Some t → write_holds c h ≤ count (writes_cell c) (carrier (length h) p v t ∷ guards h) + count (runs_in c) (without_innermost p (sections h))
     goes_on v t c f = by (t.cell == c) (count_ended (runs_in c) p (sections h) t f)

@@ -1,7 +1,6 @@
 -- No turn of the exit that ended is Busy.
-use Rattle.schedule_rules.proofs.Words.{ℕ, List, arith, Bool, Some, ◌∷◌, [], None, ◌≢◌, ◌++◌, All-cons, All-nil, All-append, Option, Turn, Turned, Deed, Makes, Finishes, Ends}
-use Rattle.schedule_rules.proofs.Words.{Skips, Event, deed_of, sections, Section, innermost, ended_turns, turn_of, turns_by, turn_of_section, NoneBusy, IsLegalTranscript, told}
-use Rattle.schedule_rules.proofs.Words.{Schedule, Account}
+use Rattle.schedule_rules.proofs.Words.{ℕ, arith, List, Bool, ◌∷◌, [], ◌≢◌, ◌++◌, All-nil, All-cons, All-append, Option, Turn, Turned, Deed, Event, deed_of, sections, Section}
+use Rattle.schedule_rules.proofs.Words.{ended_turns, turn_of_section, turn_of, turns_by, NoneBusy, told, Schedule, Account, IsLegalTranscript}
 
 -- behind turns of which none is Busy, one more that is not
 one_more : (ts : List Turned) (c : ℕ) (t : Turn) → t ≢ Turn.Busy → NoneBusy ts → NoneBusy (ts ++ record { cell = c; turn = t } ∷ [])
@@ -10,17 +9,13 @@ one_more ts c t other before =
     All-append NotBusy ts _ before (All-cons NotBusy (record { cell = c; turn = t }) [] other (All-nil NotBusy))
 
 of_section : (t : Turn) (s : Option Section) (ts : List Turned) → t ≢ Turn.Busy → NoneBusy ts → NoneBusy (turn_of_section t s ts)
-of_section t None ts other before = before
-of_section t (Some s) ts other before = one_more ts s.cell t other before
+of_section t s ts other before = grind (arith, one_more)
 
 not_busy : (fine : Bool) → turn_of fine ≢ Turn.Busy
 not_busy fine = grind arith
 
 after : (p : ℕ) (d : Deed) (ss : List Section) (ts : List Turned) → NoneBusy ts → NoneBusy (turns_by p d ss ts)
-after p (Skips c taken) ss ts before = one_more ts c Turn.Skipped (λ e. cc) before
-after p (Ends (Finishes fine left)) ss ts before = of_section (turn_of fine) (innermost p ss) ts (not_busy fine) before
-after p (Ends (Makes made)) ss ts before = before
-after p _ ss ts before = before
+after p d ss ts before = grind (arith, one_more, of_section, not_busy)
 
 ended : (h : List Event) → NoneBusy (ended_turns h)
 ended [] = All-nil (λ t. t.turn ≢ Turn.Busy)

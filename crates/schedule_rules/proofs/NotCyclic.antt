@@ -1,8 +1,8 @@
 -- A call that waits asks for no run of a generator that its own party is running.
-use Rattle.schedule_rules.proofs.Words.{ℕ, ◌≡◌, List, arith, Bool, true, refl, false, Some, ◌∷◌, ◌∙◌, [], sym, ap, None, subst, ◌&&◌, not, ◌≢◌, ◌≤◌, ◌==◌, is_none, Option, How}
-use Rattle.schedule_rules.proofs.Words.{Answer, Line, CellPlan, Act, Step, cell_at, initializes, Deed, deed_waiting, Event, deed_of, count, is_exit, sections, Section, is_turn}
-use Rattle.schedule_rules.proofs.Words.{runs_in, without_innermost, sections_by, runs, Wait, waits, wait_of, Attempt, attempt, attempt_of_wait, refusal, IsLegal, IsLegalLine}
-use Rattle.schedule_rules.proofs.Words.{IsExclusive, waits_judged, is_attempted, is_waiting, is_cyclic, is_cyclic_step, is_made_to_wait}
+use Rattle.schedule_rules.proofs.Words.{ℕ, arith, ◌≡◌, List, Bool, true, refl, false, Some, ◌∷◌, [], ◌∙◌, sym, ap, subst, ◌&&◌, ◌≢◌, not, ◌≤◌, ◌==◌, is_none, Option, How, Answer}
+use Rattle.schedule_rules.proofs.Words.{Line, CellPlan, Act, Step, cell_at, initializes, Deed, deed_waiting, Event, deed_of, count, is_exit, sections, Section, is_turn, runs_in}
+use Rattle.schedule_rules.proofs.Words.{without_innermost, sections_by, runs, Wait, waits, wait_of, Attempt, attempt, attempt_of_wait, refusal, IsLegal, IsLegalLine, IsExclusive}
+use Rattle.schedule_rules.proofs.Words.{waits_judged, is_attempted, is_waiting, is_cyclic, is_cyclic_step, is_made_to_wait}
 use Rattle.schedule_rules.proofs.Exclusion.{alone}
 use Rattle.schedule_rules.proofs.Facts.{first, second, apart}
 use Rattle.schedule_rules.proofs.Found.{found_counts, found_passes, none_counted, only_one}
@@ -25,7 +25,7 @@ module _ (p : ℕ) where
 
   -- another's deed opens none of the party's
   others_fewer : (h : List Event) (q : ℕ) (d : Deed) (c : ℕ) (ss : List Section) → (q == p) ≡ false → own_runs p c (sections_by h q d ss) ≤ own_runs p c ss
-  others_fewer h q k1 c ss e = grind (arith, ended_fewer)
+  others_fewer h q d c ss e = grind (arith, ended_fewer)
 
   -- what waits opens and ends none
   waiting_fewer : (h : List Event) (q : ℕ) (b : Bool) (c : ℕ) (ss : List Section) → own_runs p c (sections_by h q (deed_waiting b) ss) ≤ own_runs p c ss
@@ -55,8 +55,7 @@ module _ (cells : List CellPlan) where
       not_both i o rest f e = grind arith
 
       by : (o : Option Attempt) → is_attempted (is_made_to_wait cells h s.party (waits_judged cells k.moment h s l.given)) o ≡ true → Of (Apart h s.party) o
-      by None f = tt
-      by (Some a) f = λ i. none_own h s.party a.cell (alone cells h legal a.cell) (not_both (initializes (cell_at cells a.cell).kind a.want) (runs s.party a.cell h) _ (first _ _ f) i)
+      by o f = grind (arith, none_own, alone, not_both, first)
 
   goes : Goes cells (IsLegal cells) (λ e h l. l.2) Apart
   goes = record {

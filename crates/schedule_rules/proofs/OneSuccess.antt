@@ -1,9 +1,8 @@
 -- A generator of a cell succeeds at most once.
-use Rattle.schedule_rules.proofs.Words.{ℕ, ◌≡◌, List, arith, Bool, true, refl, false, Some, ◌∷◌, ◌∙◌, [], sym, ap, None, subst, ◌&&◌, ◌⊎◌, inl, ◌<◌, inr, ◌+◌, cond, ◌≤◌, ◌||◌}
-use Rattle.schedule_rules.proofs.Words.{◌==◌, has, initialized, Answer, CellPlan, Act, cell_at, flags_kept, Content, Change, effect, Ran, Deed, Visits, Makes, Finishes, EndsToRead}
-use Rattle.schedule_rules.proofs.Words.{Ends, DropsToRead, Drops, EndsToWrite, Lends, Event, deed_of, count, sections, Section, innermost, is_turn, runs_in, Guard, guards}
-use Rattle.schedule_rules.proofs.Words.{numbered, replay, phase_at, back_of_section, back_by, writes_cell, IsLegal, lends_at, runs_to_lend, is_failed, is_success, successes}
-use Rattle.schedule_rules.proofs.Words.{is_lent_at}
+use Rattle.schedule_rules.proofs.Words.{ℕ, arith, ◌≡◌, List, Bool, true, refl, false, Some, ◌∷◌, [], ◌∙◌, sym, ap, None, subst, ◌⊎◌, inl, ◌<◌, inr, ◌&&◌, ◌+◌, cond, ◌≤◌, ◌||◌}
+use Rattle.schedule_rules.proofs.Words.{◌==◌, has, initialized, Answer, CellPlan, Act, cell_at, flags_kept, Content, Change, effect, Ran, Deed, Makes, EndsToRead, Finishes, Ends}
+use Rattle.schedule_rules.proofs.Words.{Lends, EndsToWrite, Event, deed_of, count, sections, Section, innermost, is_turn, runs_in, Guard, guards, numbered, replay, phase_at}
+use Rattle.schedule_rules.proofs.Words.{back_by, back_of_section, writes_cell, IsLegal, lends_at, runs_to_lend, is_failed, is_success, successes, is_lent_at}
 use Rattle.schedule_rules.proofs.Exclusion.{alone}
 use Rattle.schedule_rules.proofs.Found.{found_counts, each_found}
 use Rattle.schedule_rules.proofs.Leaves.{back_here, left_at, guards_left, GivenAt, Writing, writing, GivesOf, moves}
@@ -30,21 +29,13 @@ module _ (cells : List CellPlan) (c : ℕ) where
     stays d f z none n = by (writing cells h p (alone cells h legal) d f z)
       where
         by : Writing cells h p (alone cells h legal) d z → (has (phase_at cells z h) initialized ≡ true) ⊎ (0 < count (writes_cell z) (guards_left cells h p d))
-        by k1 = grind arith
+        by x = grind arith
 
     seen : (g : ℕ) (x : Guard) → numbered g (guards h) ≡ Some x → x.writes ≡ true → has (effect (cell_at cells x.cell) x.changes (replay cells x.cell h)).phase initialized ≡ true
     seen g x f w = (each_found (λ y. y.number == g) (IsReady cells h) (guards h) x f (sound cells h legal).ready w).0
 
     gives : (d : Deed) (f : Finds cells h p d) → GivesOf cells h p (alone cells h legal) (Publishes d) d f
-    gives (Ends (Makes made)) f = λ n. inr n
-    gives (Ends e) f = λ n. inr n
-    gives (EndsToRead v) f = λ n. inl (has_made (flags_kept (cell_at cells f.section.cell).kind f.section.is_open (phase_at cells f.section.cell h)))
-    gives (Drops g) f = λ w n. inl (seen g f.guard f.found w)
-    gives (DropsToRead g) f = λ n. inl (seen g f.guard f.found f.way)
-    gives (Visits z chs true) f = λ n. inr (omega (arith, n))
-    gives (Visits z chs false) f = λ n. inr n
-    gives (Lends z chs) f = λ n. inr n
-    gives _ f = tt
+    gives d f = grind (arith, has_made, seen)
 
     keeps : (d : Deed) (f : Finds cells h p d) → 0 < count (writes_cell c) (guards h) → MadeBy d
     keeps d f n = moves cells h p (alone cells h legal) (Publishes d) d f (stays d f) (gives d f) c n
@@ -95,16 +86,7 @@ module _ (cells : List CellPlan) (c : ℕ) where
 
     -- one that is made to be lent
     lent_here : (z : ℕ) (chs : List Change) (a : Act) (r : Answer) → Lending cells h p z chs → LendsSo cells h p a r z chs → (z == c) ≡ true → AsksToLend cells h p z true → is_failed r ≡ false → Makes_one (Lends z chs)
-    lent_here z chs a r f t same e fine = (never, inl made)
-      where
-        at : z ≡ c
-        at = grind arith
-
-        never : IsMade h → ⊥
-        never k1 = grind arith
-
-        made : has (left_at cells h p (Lends z chs) c).phase initialized ≡ true
-        made = grind arith
+    lent_here z chs a r f t same e fine = grind (arith, left_at)
 
     at_once : (a : Act) (r : Answer) → Both cells h p a r (deed_of h (step cells h p a) r) → is_lent_at c a r ≡ true → runs_to_lend cells h a ≡ true → Makes_one (deed_of h (step cells h p a) r)
     at_once a (Answer.Value v) = by a
@@ -133,12 +115,11 @@ module _ (cells : List CellPlan) (c : ℕ) where
       makes (inr s) = at_once h e.step.party k.2 e.step.act e.line.answer (f, tells cells h e.step e.line k.0) (first _ _ s) (second (is_lent_at c e.step.act e.line.answer) _ s)
 
       made_stays : IsMade h → IsMade (e ∷ h)
-      made_stays (inl r) = inl (initialized-stays cells h e c k r)
-      made_stays (inr w) = keeps h e.step.party k.2 d f w
+      made_stays x = grind (arith, initialized-stays, keeps, d, f)
 
       by : (b : Bool) → (is_success c d (innermost e.step.party (sections h)) || (is_lent_at c e.step.act e.line.answer && runs_to_lend cells h e.step.act)) ≡ b → IsCounted h
           → (cond b (successes cells c h + 1) (successes cells c h) ≡ 0) ⊎ ((cond b (successes cells c h + 1) (successes cells c h) ≡ 1) × IsMade (e ∷ h))
-      by b ok k1 = grind (arith, makes, one_of, made_stays)
+      by b ok x = grind (arith, makes, one_of, made_stays)
 
   -- at most one generator of the cell ends by a value
   pub one-success : (h : List Event) → IsLegal cells h → successes cells c h ≤ 1

@@ -1,8 +1,8 @@
 -- A schedule of cells that do not park has at most one legal transcript.
-use Rattle.schedule_rules.proofs.Words.{ℕ, ◌≡◌, List, arith, Bool, true, refl, false, Some, ◌∷◌, ◌∙◌, [], sym, ap, None, subst, ◌<◌, length, get_or_past, same_lists, Option, Given}
+use Rattle.schedule_rules.proofs.Words.{ℕ, arith, ◌≡◌, List, Bool, true, refl, false, Some, ◌∷◌, [], ◌∙◌, sym, ap, None, subst, ◌<◌, length, get_or_past, same_lists, Option, Given}
 use Rattle.schedule_rules.proofs.Words.{Answer, Line, Refusal, CellPlan, Act, Step, Want, cell_at, is_parking, Event, ended_turns, Wait, Attempt, attempt, other_waits, refusal}
-use Rattle.schedule_rules.proofs.Words.{answer_of_attempt, Meeting, due_answer, due_tried, meeting, may_give_first, may_give_last, is_nobody, may_give_on, IsLegal, IsLegalLine}
-use Rattle.schedule_rules.proofs.Words.{answer_of, due_at, Moment, may_give, Last, First, IsLegalTranscript, told, Schedule, Account, AreFinals, final_of, NoneParks}
+use Rattle.schedule_rules.proofs.Words.{Meeting, answer_of_attempt, due_answer, due_tried, meeting, may_give_last, may_give_on, may_give_first, is_nobody, IsLegal, IsLegalLine}
+use Rattle.schedule_rules.proofs.Words.{answer_of, due_at, Moment, may_give, Last, First, told, Schedule, Account, IsLegalTranscript, final_of, AreFinals, NoneParks}
 use Rattle.std.proofs.lemmas.Option.{get_or_from_slice_get}
 use Rattle.schedule_rules.specs.declared.transcript.Final.{Final}
 
@@ -40,18 +40,18 @@ module _ (cells : List CellPlan) (spins : NoneParks cells) where
         one_answer (cell_at cells a.cell) a.want (meeting cells h p a ws) b d (never_parks a.cell)
 
     due_alike : (p : ℕ) (a : Act) (ws : List Wait) (b d : Bool) → due_answer cells h (record { party = p; act = a }) ws b ≡ due_answer cells h (record { party = p; act = a }) ws d
-    due_alike p k1 ws b d = grind (arith, tried_alike)
+    due_alike p a ws b d = grind (arith, tried_alike)
 
     -- nothing may be given at the first moment
     never_first : (o : Option Attempt) (g : Given) → may_give_first cells h s o g ≡ false
-    never_first k1 g = grind (arith, never_parks)
+    never_first o g = grind (arith, never_parks)
 
     -- nor at the last
     never_on : (o : Option ℕ) (a : Answer) (g : Given) → may_give_on cells h s o a g ≡ false
-    never_on k1 a g = grind (arith, never_parks)
+    never_on o a g = grind (arith, never_parks)
 
     nothing_last : (a : Answer) (g : Given) → may_give_last cells h s a g ≡ true → g ≡ Given.Nobody
-    nothing_last a k1 d = grind (arith, never_on)
+    nothing_last a g d = grind (arith, never_on)
 
     nobody : (g : Given) → is_nobody g ≡ true → g ≡ Given.Nobody
     nobody g d = grind arith

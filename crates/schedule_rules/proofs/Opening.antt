@@ -1,9 +1,8 @@
 -- What holds of each open guard: what happened in its section, that it bears the number of an earlier step, and that no
 -- section of a cell is open while a guard reads it.
-use Rattle.schedule_rules.proofs.Words.{ℕ, ◌≡◌, List, arith, Bool, true, refl, false, Some, ◌∷◌, ◌∙◌, [], sym, ap, None, ◌<◌, length, ◌++◌, and_or_apart, and_assoc, bit_and}
-use Rattle.schedule_rules.proofs.Words.{AllByRecursion, ◌==◌, is_some, ◌-◌, ◌^◌, Option, has, Given, final_outcome, CellPlan, Step, flags_kept, Content, Change, effect, Ran, Put}
-use Rattle.schedule_rules.proofs.Words.{Asked, Deed, Visits, EndsToRead, DropsToRead, Drops, EndsToWrite, Holds, Puts, Beside, Event, deed_of, sections, innermost, Guard, guards}
-use Rattle.schedule_rules.proofs.Words.{numbered, without_guard, guards_by, writer_made, reader_beside, reader_made, reader, cell_concerned, write_holds, read_guards, reads_cell}
+use Rattle.schedule_rules.proofs.Words.{ℕ, arith, ◌≡◌, List, Bool, true, refl, false, Some, ◌∷◌, [], ◌∙◌, sym, ap, None, ◌<◌, length, ◌++◌, and_or_apart, and_assoc, bit_and}
+use Rattle.schedule_rules.proofs.Words.{AllByRecursion, ◌==◌, is_some, ◌^◌, ◌-◌, Option, has, Given, final_outcome, CellPlan, Step, flags_kept, Content, Change, effect, Ran, Asked}
+use Rattle.schedule_rules.proofs.Words.{Put, Deed, Event, deed_of, sections, Guard, guards, numbered, guards_by, reader, cell_concerned, write_holds, read_guards, reads_cell}
 use Rattle.schedule_rules.proofs.Words.{turns_to_read, IsLegal, read_at}
 use Rattle.schedule_rules.proofs.Opened.{put}
 use Rattle.schedule_rules.proofs.Found.{each_removed, each_put, each_mapped, each_found, found_counts, found_passes}
@@ -24,19 +23,7 @@ pub record IsOpened (n : ℕ) (x : Guard) : Type 0 where
 
 module _ (Q : Guard → Type 0) (h : List Event) (opens : (x : Guard) → IsOpened (length h) x → Q x) (puts : (v : ℕ) (x : Guard) → Q x → Q (put v x)) where
   each_by : (p : ℕ) (d : Deed) (gs : List Guard) → AllByRecursion Q gs → AllByRecursion Q (guards_by (length h) p d (sections h) gs)
-  each_by p (Holds c false) gs ks = (opens _ (record { number = refl; runs = tt }), ks)
-  each_by p (Holds c true) gs ks = (opens _ (record { number = refl; runs = tt }), ks)
-  each_by p (Visits c chs true) gs ks = (opens _ (record { number = refl; runs = tt }), ks)
-  each_by p (Visits c chs false) gs ks = ks
-  each_by p (EndsToRead v) gs ks = elim (innermost p (sections h)) as (λ o. AllByRecursion Q (reader_made (length h) p o gs)) [ None ↦ ks | Some s ↦ (opens _ (record { number = refl; runs = tt }), ks) ]
-  each_by p (EndsToWrite v) gs ks = elim (innermost p (sections h)) as (λ o. AllByRecursion Q (writer_made (length h) p v o gs)) [ None ↦ ks | Some s ↦ (opens _ (record { number = refl; runs = tt }), ks) ]
-  each_by p (Drops g) gs ks = each_removed Q g gs ks
-  each_by p (DropsToRead g) gs ks =
-      elim (numbered g gs) as (λ o. AllByRecursion Q (reader_beside (length h) p o (without_guard g gs)))
-      [ None ↦ each_removed Q g gs ks | Some x ↦ (opens _ (record { number = refl; runs = tt }), each_removed Q g gs ks) ]
-  each_by p (Beside g) gs ks = elim (numbered g gs) as (λ o. AllByRecursion Q (reader_beside (length h) p o gs)) [ None ↦ ks | Some x ↦ (opens _ (record { number = refl; runs = tt }), ks) ]
-  each_by p (Puts g v) gs ks = each_put Q g v gs (puts v) ks
-  each_by p _ gs ks = ks
+  each_by p d gs ks = grind (arith, each_removed, each_put)
 
   -- what holds of each guard, of each with a value set, and of what is opened, holds of each after the event
   pub each_after : (e : Event) → AllByRecursion Q (guards h) → AllByRecursion Q (guards (e ∷ h))
@@ -62,8 +49,7 @@ pub record IsBeside (f : ℕ) : Type 0 where
 
 -- what a finalizer sets is such a flag
 pub beside : (fine : Bool) → IsBeside (final_outcome fine)
-beside true = record { made = refl; failed = refl; stays = refl; nothing = refl; registered = refl; refused = refl; declined = refl }
-beside false = record { made = refl; failed = refl; stays = refl; nothing = refl; registered = refl; refused = refl; declined = refl }
+beside fine = grind arith
 
 module _ (f : ℕ) (is : IsBeside f) where
   -- it is among the flags that stay only where it was

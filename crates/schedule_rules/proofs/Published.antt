@@ -1,8 +1,7 @@
 -- What is published changes only while no guard reads the cell, and its phase where a section of the cell is given back.
-use Rattle.schedule_rules.proofs.Words.{ℕ, ◌≡◌, List, arith, Bool, true, refl, false, Some, ◌∷◌, ◌∙◌, ap, subst, ◌⊎◌, inl, ◌<◌, inr, not, ◌≢◌, ◌==◌, if◌then◌else◌, Answer}
-use Rattle.schedule_rules.proofs.Words.{CellPlan, Step, Calls, cell_at, tolerance_at, Content, Change, effect, is_declined, Deed, Visits, Makes, Finishes, EndsToRead, Ends}
-use Rattle.schedule_rules.proofs.Words.{DropsToRead, Drops, Lends, Event, deed_of, accepts, count, sections, Section, innermost, runs_in, Guard, guards, numbered, replay, phase_at}
-use Rattle.schedule_rules.proofs.Words.{write_holds, writes_cell, read_guards, IsLegal, lends_at, LendsAt, DeclinesAt, GivesBack}
+use Rattle.schedule_rules.proofs.Words.{ℕ, arith, ◌≡◌, List, Bool, true, refl, Some, ◌∷◌, ap, subst, ◌⊎◌, inl, ◌<◌, inr, ◌≢◌, ◌==◌, if◌then◌else◌, Answer, CellPlan, Step, cell_at}
+use Rattle.schedule_rules.proofs.Words.{Content, Change, effect, Deed, Visits, Lends, Event, deed_of, count, sections, Section, innermost, runs_in, Guard, guards, numbered, replay}
+use Rattle.schedule_rules.proofs.Words.{phase_at, write_holds, writes_cell, read_guards, IsLegal, lends_at, LendsAt, GivesBack, DeclinesAt}
 use Rattle.schedule_rules.proofs.Facts.{whether, same_number, number_found}
 use Rattle.schedule_rules.proofs.Exclusion.{alone}
 use Rattle.schedule_rules.proofs.Found.{found_counts}
@@ -36,27 +35,13 @@ module _ (cells : List CellPlan) (h : List Event) (s : Step) (r : Answer) (legal
   Stays c y w = (w ≡ y) ⊎ (read_guards c h ≡ 0)
 
   untouches : (d : Deed) (f : Finds cells h s.party d) → GivesOf cells h s.party (alone cells h legal) Stays d f
-  untouches (Ends (Makes made)) f = inr (unread f.section.cell (ran f.section f.found))
-  untouches (Ends (Finishes fine left)) f = inr (unread f.section.cell (ran f.section f.found))
-  untouches (EndsToRead v) f = inr (unread f.section.cell (ran f.section f.found))
-  untouches (Drops g) f = λ w. inr (unread f.guard.cell (wrote g f.guard f.found w))
-  untouches (DropsToRead g) f = inr (unread f.guard.cell (wrote g f.guard f.found f.way))
-  untouches (Visits c chs reads) f = elim (f.finds) [ inl q ↦ inr (q.unread (alone cells h legal c)) | inr q ↦ inl (rests cells h s.party (alone cells h legal) c chs f.asked f.does q) ]
-  untouches (Lends c chs) f = inr f.free.unread
-  untouches _ f = tt
+  untouches d f = grind (arith, unread, ran, wrote, alone, rests)
 
   pub untouched : (d : Deed) (f : Finds cells h s.party d) (c : ℕ) → Stays c (replay cells c h) (left_at cells h s.party d c)
   untouched d f c = moves cells h s.party (alone cells h legal) Stays d f (λ z none. inl refl) (untouches d f) c
 
   gives : (d : Deed) (f : Finds cells h s.party d) → GivesOf cells h s.party (alone cells h legal) (WasHeld d) d f
-  gives (Ends (Makes made)) f = λ ne. inl (ran f.section f.found)
-  gives (Ends (Finishes fine left)) f = λ ne. inl (ran f.section f.found)
-  gives (EndsToRead v) f = λ ne. inl (ran f.section f.found)
-  gives (Drops g) f = λ w ne. inl (wrote g f.guard f.found w)
-  gives (DropsToRead g) f = λ ne. inl (wrote g f.guard f.found f.way)
-  gives (Visits c chs reads) f = λ ne. inr tt
-  gives (Lends c chs) f = λ ne. inr tt
-  gives _ f = tt
+  gives d f = grind (arith, ran, wrote)
 
   held : (d : Deed) (f : Finds cells h s.party d) (c : ℕ) → WasHeld d c (replay cells c h) (left_at cells h s.party d c)
   held d f c = moves cells h s.party (alone cells h legal) (WasHeld d) d f (λ z none ne. absurd (ne refl)) (gives d f) c
@@ -70,35 +55,11 @@ module _ (cells : List CellPlan) (h : List Event) (s : Step) (r : Answer) (legal
     one_less d f ne was = (by (settles cells h s.party (alone cells h legal) d f c), unread c was)
       where
         by : Settles cells h s.party d c → (holds_left cells h s.party d c < write_holds c h) ⊎ (DeclinesAt cells h s c ⊎ LendsAt s r c)
-        by k1 = grind arith
+        by x = grind arith
 
     -- a call that leaves nothing open is declined
     visits : (z : ℕ) (chs : List Change) (reads : Bool) → Tells cells h s.party s.act r (Visits z chs reads) → (left_at cells h s.party (Visits z chs reads) c).phase ≢ phase_at cells c h → IsGiven (Visits z chs reads)
-    visits z chs reads (v, t) ne = by (z == c) refl v.finds
-      where
-        declined : (z == c) ≡ true → Asking cells h s.party z v.asked false → IsGiven (Visits z chs reads)
-        declined same q = (
-          inr (inl (record {
-            call = v.asked;
-            tried = t.tried ∙ ap (λ y. Some (record { cell = y; want = Calls v.asked })) at;
-            declines = subst (λ y. is_declined (cell_at cells y).kind (tolerance_at cells y) v.asked (accepts h) (phase_at cells y h) ≡ true) at declines;
-          })),
-          subst (λ y. read_guards y h ≡ 0) at (q.unread (alone cells h legal z)),
-        )
-          where
-            at : z ≡ c
-            at = number_found z c same
-
-            declines : is_declined (cell_at cells z).kind (tolerance_at cells z) v.asked (accepts h) (phase_at cells z h) ≡ true
-            declines = rw q.asked (ap not q.generates)
-
-        still : (z == c) ≡ true → Resting cells h s.party z v.asked → (left_at cells h s.party (Visits z chs reads) c).phase ≡ phase_at cells c h
-        still same q = grind (arith, number_found, rests, alone)
-
-        by : (b : Bool) → (z == c) ≡ b → Asking cells h s.party z v.asked false ⊎ Resting cells h s.party z v.asked → IsGiven (Visits z chs reads)
-        by true same (inl q) = declined same q
-        by true same (inr q) = absurd (ne (still same q))
-        by false other q = absurd (ne (ap (λ (b : Bool). (if b then effect (cell_at cells c) chs (replay cells c h) else replay cells c h).phase) other))
+    visits z chs reads x ne = grind (arith, Asking, alone, number_found, Resting, left_at, rests)
 
     -- a value that is lent
     lends : (z : ℕ) (chs : List Change) → Lending cells h s.party z chs → LendsSo cells h s.party s.act r z chs → (left_at cells h s.party (Lends z chs) c).phase ≢ phase_at cells c h → IsGiven (Lends z chs)

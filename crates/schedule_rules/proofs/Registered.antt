@@ -1,8 +1,8 @@
 -- A cell that the registry knows was touched, and is registered at most once.
-use Rattle.schedule_rules.proofs.Words.{ℕ, ◌≡◌, List, arith, Bool, true, refl, false, Some, ◌∷◌, ◌∙◌, [], sym, ◌⊎◌, inl, ◌<◌, inr, length, get_or-set_other, get_or_past}
-use Rattle.schedule_rules.proofs.Words.{length-replicate, get_or-replicate, AllByRecursion, ◌==◌, if◌then◌else◌, slice_index_or, slice_set, replicate, first_of, is_known, rest_of}
-use Rattle.schedule_rules.proofs.Words.{after_register, Registry, is_finalizable, CellPlan, Calls, Turns, cell_at, tries_registration, Deed, Opens, Skips, Looks, Takes, Event}
-use Rattle.schedule_rules.proofs.Words.{deed_of, count, sections, runs_in, sections_by, phase_at, registry, registry_by, registry_taken, registry_of_run, write_holds, IsLegal}
+use Rattle.schedule_rules.proofs.Words.{ℕ, arith, ◌≡◌, List, Bool, true, refl, false, Some, ◌∷◌, [], ◌∙◌, sym, ◌⊎◌, inl, ◌<◌, inr, length, get_or_past, get_or-set_other}
+use Rattle.schedule_rules.proofs.Words.{length-replicate, get_or-replicate, AllByRecursion, ◌==◌, slice_index_or, replicate, first_of, is_known, rest_of, Registry, after_register}
+use Rattle.schedule_rules.proofs.Words.{is_finalizable, CellPlan, cell_at, Deed, Event, deed_of, count, sections, runs_in, sections_by, phase_at, registry, registry_by}
+use Rattle.schedule_rules.proofs.Words.{registry_taken, registry_of_run, write_holds, IsLegal}
 use Rattle.schedule_rules.proofs.Facts.{apart, first}
 use Rattle.schedule_rules.proofs.Held.{IsHeld, held-stays}
 
@@ -23,7 +23,7 @@ module _ (cells : List CellPlan) where
   -- what is known after a deed, was known before, or the section that it opens is in the cell
   known_by : (c : ℕ) (h : List Event) (p : ℕ) (d : Deed) → is_known (registry_by cells h d (registry cells h)) c ≡ true
       → (is_known (registry cells h) c ≡ true) ⊎ (0 < count (runs_in c) (sections_by h p d (sections h)))
-  known_by c h p k1 known = grind (arith, known_more, known_taken)
+  known_by c h p d known = grind (arith, known_more, known_taken)
 
   -- what is known after an event was known before it, or is held after it
   known_before : (c : ℕ) (e : Event) (h : List Event) → is_known (registry cells (e ∷ h)) c ≡ true → (is_known (registry cells h) c ≡ true) ⊎ IsHeld cells (e ∷ h) c
@@ -49,25 +49,14 @@ module _ (cells : List CellPlan) where
     pub left : AllByRecursion IsRegistered m.left
 
   registers : (c p : ℕ) (m : Registry) → AreRegistered m → AreRegistered (registry_of_run cells c p m)
-  registers c p m k = by (tries_registration (cell_at cells c).kind p) m.is_open refl
-    where
-      by : (b o : Bool) → tries_registration (cell_at cells c).kind p ≡ b
-          → AreRegistered (if b then (if o then record { pending = c ∷ m.pending; left = m.left; known = slice_set m.known c true; is_open = m.is_open } else m) else m)
-      by true true e = record { pending = (first _ _ e, k.pending); left = k.left }
-      by true false e = k
-      by false o e = k
+  registers c p m k = grind (arith, first)
 
   takes : (b : Bool) (m : Registry) → AreRegistered m → AreRegistered (registry_taken b m)
   takes true m k = record { pending = k.pending; left = (elim (m.left) as (λ cs. AllByRecursion IsRegistered cs → AllByRecursion IsRegistered (rest_of cs)) [ [] ↦ λ r. tt | c ∷ cs ↦ λ r. r.1 ]) k.left }
   takes false m k = k
 
   registered_by : (h : List Event) (d : Deed) (m : Registry) → AreRegistered m → AreRegistered (registry_by cells h d m)
-  registered_by h (Opens c (Calls j) taken) m k = registers c (phase_at cells c h) m k
-  registered_by h (Opens c Turns taken) m k = takes taken m k
-  registered_by h (Skips c taken) m k = takes taken m k
-  registered_by h Takes m k = takes true m k
-  registered_by h (Looks closes) m k = record { pending = tt; left = k.pending }
-  registered_by h _ m k = k
+  registered_by h d m k = grind (arith, registers, takes)
 
   are_registered : (h : List Event) → AreRegistered (registry cells h)
   are_registered [] = record { pending = tt; left = tt }

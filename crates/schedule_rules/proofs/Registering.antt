@@ -1,7 +1,6 @@
 -- What a step registers.
-use Rattle.schedule_rules.proofs.Words.{ℕ, ◌≡◌, List, arith, Bool, true, refl, false, ◌∷◌, ◌∙◌, sym, ap, ◌&&◌, ◌||◌, get_or-set_other, get_or-set_same, ◌==◌, if◌then◌else◌}
-use Rattle.schedule_rules.proofs.Words.{is_known, registered, Call, CellPlan, Calls, Turns, cell_at, tries_registration, Change, Deed, Visits, Opens, Skips, Event, deed_of}
-use Rattle.schedule_rules.proofs.Words.{accepts, phase_at, registry, registry_by, registry_taken, registry_of_run, IsLegal}
+use Rattle.schedule_rules.proofs.Words.{ℕ, arith, ◌≡◌, List, Bool, true, false, ◌∷◌, ◌∙◌, sym, ap, ◌&&◌, ◌||◌, get_or-set_other, get_or-set_same, is_known, Call, CellPlan, Turns}
+use Rattle.schedule_rules.proofs.Words.{Calls, Change, Deed, Visits, Opens, Skips, Event, deed_of, accepts, registry, registry_by, registry_taken, IsLegal}
 use Rattle.schedule_rules.proofs.Registrations.{visit_registers, deed_registers, shows_registration}
 use Rattle.schedule_rules.proofs.Facts.{first}
 use Rattle.schedule_rules.proofs.Cases.{Asking}
@@ -31,35 +30,7 @@ module _ (cells : List CellPlan) (c : ℕ) (h : List Event) (p : ℕ) (legal : I
 
   -- a call that begins a run
   run_registers : (d : ℕ) (j : Call) (taken : Bool) → Asking cells h p d j true → IsRegistering (Opens d (Calls j) taken)
-  run_registers d j taken q =
-      by (tries_registration (cell_at cells d).kind (phase_at cells d h)) (d == c) (registry cells h).is_open refl refl refl
-      ∙ ap (λ b. is_known (registry cells h) c || (((d == c) && (b && tries_registration (cell_at cells d).kind (phase_at cells d h))) && accepts h)) (sym q.asked)
-    where
-      -- what is known of the cell where this is so
-      known_by : (b o : Bool) → tries_registration (cell_at cells d).kind (phase_at cells d h) ≡ b → (registry cells h).is_open ≡ o
-          → is_known (registry_of_run cells d (phase_at cells d h) (registry cells h)) c ≡ is_known (if b && o then registered d (registry cells h) else registry cells h) c
-      known_by b o e g = grind arith
-
-      -- and what is said of it
-      said_by : (b same o : Bool) → tries_registration (cell_at cells d).kind (phase_at cells d h) ≡ b → (d == c) ≡ same → (registry cells h).is_open ≡ o
-          → ((same && b) && o) ≡ (((d == c) && (true && tries_registration (cell_at cells d).kind (phase_at cells d h))) && accepts h)
-      said_by b same o e f g = grind (arith, open-accepts)
-
-      same_cell : (d == c) ≡ true → tries_registration (cell_at cells d).kind (phase_at cells d h) ≡ true → is_known (registered d (registry cells h)) c ≡ true
-      same_cell same e = grind (arith, finalizable-inside, first, known-length, get_or-set_same)
-
-      other_cell : (d == c) ≡ false → is_known (registered d (registry cells h)) c ≡ is_known (registry cells h) c
-      other_cell other = get_or-set_other (registry cells h).known d c true false (grind arith)
-
-      -- the two are the same
-      meet : (b same o : Bool) → tries_registration (cell_at cells d).kind (phase_at cells d h) ≡ b → (d == c) ≡ same
-          → is_known (if b && o then registered d (registry cells h) else registry cells h) c ≡ (is_known (registry cells h) c || ((same && b) && o))
-      meet b same o e f = grind (arith, same_cell, or_all, other_cell, or_none)
-
-      by : (b same o : Bool) → tries_registration (cell_at cells d).kind (phase_at cells d h) ≡ b → (d == c) ≡ same → (registry cells h).is_open ≡ o
-          → is_known (registry_of_run cells d (phase_at cells d h) (registry cells h)) c
-          ≡ (is_known (registry cells h) c || (((d == c) && (true && tries_registration (cell_at cells d).kind (phase_at cells d h))) && accepts h))
-      by b same o e f g = known_by b o e g ∙ meet b same o e f ∙ ap (λ x. is_known (registry cells h) c || x) (said_by b same o e f g)
+  run_registers d j taken q = grind (arith, open-accepts, finalizable-inside, first, known-length, get_or-set_same, get_or-set_other, or_all, or_none)
 
   pub registering : (d : Deed) → Finds cells h p d → IsRegistering d
   registering (Opens d (Calls j) taken) f = run_registers d j taken f

@@ -1,5 +1,5 @@
 -- Which lines show that their step tried to register a cell, and that it is tried at most once at a cell.
-use Rattle.schedule_rules.proofs.Words.{ℕ, ◌≡◌, List, arith, Bool, true, refl, false, Some, ◌∷◌, [], subst, ◌⊎◌, inl, ◌<◌, inr, ◌≢◌, ◌+◌, cond, ◌≤◌, ◌==◌, if◌then◌else◌, Option}
+use Rattle.schedule_rules.proofs.Words.{ℕ, arith, ◌≡◌, List, Bool, true, refl, false, Some, ◌∷◌, [], subst, ◌⊎◌, inl, ◌<◌, inr, ◌≢◌, ◌+◌, cond, ◌≤◌, ◌==◌, if◌then◌else◌, Option}
 use Rattle.schedule_rules.proofs.Words.{is_known, Call, Answer, Line, CellPlan, Step, Calls, cell_at, tolerance_at, asks, Change, Asked, Deed, Visits, Opens, Event, deed_of}
 use Rattle.schedule_rules.proofs.Words.{phase_at, registry, Attempt, write_holds, IsLegal, IsLegalLine, IsExclusive, is_attempted, asks_registration}
 use Rattle.schedule_rules.proofs.Exclusion.{alone}
@@ -61,16 +61,10 @@ module _ (cells : List CellPlan) (c : ℕ) where
     running d j taken q e = asked d j (Opens d (Calls j) taken) q.unheld (λ here. inr (let same : (d == c) ≡ true = grind arith in rw same (omega arith))) (tried d j e)
 
     visits : (d : ℕ) (chs : List Change) (reads : Bool) → Visit cells h p d chs reads → IsFresh (Visits d chs reads)
-    visits d chs reads v e = by v.finds (tried d v.asked (subst (λ l. visit_registers cells c h d l ≡ true) v.does e))
-      where
-        by : Asking cells h p d v.asked false ⊎ Resting cells h p d v.asked → (d ≡ c) × (asks (cell_at cells d).kind (tolerance_at cells d) (Calls v.asked) (phase_at cells d h) ≡ true) × (phase_at cells d h ≡ 0)
-            → (phase_at cells c h ≡ 0) × (write_holds c h ≡ 0) × IsHeldBy (Visits d chs reads)
-        by k1 t = grind arith
+    visits d chs reads v e = grind (arith, tried, Asking, Resting)
 
     pub freshly : (d : Deed) → Finds cells h p d → IsFresh d
-    freshly (Opens d (Calls j) taken) f = running d j taken f
-    freshly (Visits d chs reads) f = visits d chs reads f
-    freshly _ f = λ e. absurd (cc)
+    freshly d f = grind (arith, running, visits)
 
   -- a legal line that tries to register the cell
   fresh : (h : List Event) (s : Step) (l : Line) → IsLegal cells h → IsLegalLine cells h s l → shows_registration cells c h s l.answer ≡ true
@@ -91,7 +85,7 @@ module _ (cells : List CellPlan) (c : ℕ) where
   counted (e ∷ h) k = by (shows_registration cells c h e.step e.line.answer) refl (counted h k.2)
     where
       never : (phase_at cells c h ≡ 0) × (write_holds c h ≡ 0) × IsHeld cells (e ∷ h) c → IsHeld cells h c → ⊥
-      never f k1 = grind arith
+      never f x = grind arith
 
       by : (b : Bool) → shows_registration cells c h e.step e.line.answer ≡ b → IsTried h
           → (cond b (registrations_shown cells c h + 1) (registrations_shown cells c h) ≡ 0) ⊎ ((cond b (registrations_shown cells c h + 1) (registrations_shown cells c h) ≡ 1) × IsHeld cells (e ∷ h) c)

@@ -1,7 +1,7 @@
 -- A phase that has INITIALIZED changes only where a finalizer of its cell ends, and of a plain cell the value stays.
-use Rattle.schedule_rules.proofs.Words.{ℕ, ◌≡◌, List, arith, Bool, true, refl, false, Some, ◌∷◌, ◌∙◌, [], sym, ap, ◌⊎◌, inl, inr, ◌≢◌, ◌++◌, All, All-head, All-tail, ◌==◌}
+use Rattle.schedule_rules.proofs.Words.{ℕ, arith, ◌≡◌, List, Bool, true, refl, false, Some, ◌∷◌, [], ◌∙◌, sym, ap, ◌⊎◌, inl, inr, ◌≢◌, ◌++◌, All, All-head, All-tail, ◌==◌}
 use Rattle.schedule_rules.proofs.Words.{if◌then◌else◌, has, initialized, is_plain, is_hard, Kind, Answer, CellPlan, Act, cell_at, Content, Change, effect, Ran, Put, Deed, Visits}
-use Rattle.schedule_rules.proofs.Words.{Makes, Finishes, EndsToRead, Ends, DropsToRead, Drops, Lends, Event, deed_of, sections, innermost, Guard, guards, numbered, replay}
+use Rattle.schedule_rules.proofs.Words.{Makes, EndsToRead, Finishes, Ends, Lends, DropsToRead, Drops, Event, deed_of, sections, innermost, Guard, guards, numbered, replay}
 use Rattle.schedule_rules.proofs.Words.{phase_at, cell_of_section, IsLegal, lends_at, IsEndedTurn}
 use Rattle.schedule_rules.proofs.Exclusion.{alone}
 use Rattle.schedule_rules.proofs.Found.{each_found}
@@ -44,10 +44,7 @@ module _ (cells : List CellPlan) (h : List Event) (p : ℕ) (legal : IsLegal cel
   -- no generator ended in the section of a guard that stands on a value
   dropped : (g : ℕ) (x : Guard) → numbered g (guards h) ≡ Some x → x.writes ≡ true → has (phase_at cells x.cell h) initialized ≡ true
       → (effect (cell_at cells x.cell) x.changes (replay cells x.cell h)).phase ≡ phase_at cells x.cell h
-  dropped g x f w r = by (puts_keep (cell_at cells x.cell) x.changes (replay cells x.cell h) (each_found (λ y. y.number == g) IsRunning (guards h) x f (guards-run h)))
-    where
-      by : HasRun x.changes ⊎ ((effect (cell_at cells x.cell) x.changes (replay cells x.cell h)).phase ≡ phase_at cells x.cell h) → (effect (cell_at cells x.cell) x.changes (replay cells x.cell h)).phase ≡ phase_at cells x.cell h
-      by k1 = grind (arith, each_found, IsReady, sound)
+  dropped g x f w r = grind (arith, puts_keep, each_found, IsRunning, guards-run, HasRun, IsReady, sound)
 
   gives : (d : Deed) (f : Finds cells h p d) → GivesOf cells h p (alone cells h legal) (Settles d) d f
   gives (Ends (Makes made)) f = λ r. absurd (apart (sym r ∙ lacks cells h p (alone cells h legal) (sound cells h legal) f))
@@ -90,7 +87,7 @@ module _ (cells : List CellPlan) (h : List Event) (p : ℕ) (legal : IsLegal cel
 
   -- a deed lends a value by an act that is to lend it
   lent_by : (a : Act) (r : Answer) (d : Deed) (c : ℕ) → Tells cells h p a r d → lends_at c a ≡ false → lends_to c d ≡ false
-  lent_by a r k1 c t n = grind arith
+  lent_by a r d c t n = grind arith
 
 -- the value of a plain cell stays once its phase has INITIALIZED, while no step is to lend it
 pub plain-stays : (cells : List CellPlan) (h later : List Event) (c : ℕ) → IsLegal cells (later ++ h) → All (λ e. lends_at c e.step.act ≡ false) later → is_plain (cell_at cells c).kind ≡ true → has (phase_at cells c h) initialized ≡ true

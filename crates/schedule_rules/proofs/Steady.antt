@@ -1,12 +1,10 @@
 -- What is published of a cell stays while a section of it is open.
-use Rattle.schedule_rules.proofs.Words.{ℕ, ◌≡◌, List, arith, true, refl, Some, ◌∷◌, ◌∙◌, [], sym, ap, ◌<◌, length, ◌≤◌, AllByRecursion, ◌==◌, CellPlan, cell_at, Content, effect}
-use Rattle.schedule_rules.proofs.Words.{Deed, EndsToWrite, Opens, Holds, Event, deed_of, before, sections, Section, innermost, Guard, guards, numbered, replay, inside, IsLegal}
-use Rattle.schedule_rules.proofs.Words.{IsExclusive, IsAsAt}
+use Rattle.schedule_rules.proofs.Words.{ℕ, arith, ◌≡◌, List, true, refl, Some, ◌∷◌, [], ◌∙◌, sym, ap, ◌<◌, length, ◌≤◌, AllByRecursion, ◌==◌, CellPlan, cell_at, Content, effect}
+use Rattle.schedule_rules.proofs.Words.{Deed, Event, deed_of, before, sections, Section, innermost, Guard, guards, numbered, replay, inside, IsLegal, IsExclusive, IsAsAt}
 use Rattle.schedule_rules.proofs.Exclusion.{alone}
 use Rattle.schedule_rules.proofs.Found.{each_found}
 use Rattle.schedule_rules.proofs.Finds.{Finds, finds}
 use Rattle.schedule_rules.proofs.Leaves.{NewOf, Says, sections_say, guards_say}
-use Rattle.schedule_rules.proofs.Facts.{apart}
 
 -- the events before an earlier step are the same after one more
 pub before_more : (n : ℕ) (e : Event) (h : List Event) → n ≤ length h → before n (e ∷ h) ≡ before n h
@@ -40,20 +38,10 @@ module _ (cells : List CellPlan) (h : List Event) (e : Event) (only : (c : ℕ) 
   now c = ap (replay cells c) (before_more (length h) e h (omega arith) ∙ before_now h)
 
   new : (d : Deed) (f : Finds cells h e.step.party d) → NewOf cells h e.step.party only (SteadySection cells h) (SteadySection cells (e ∷ h)) (SteadyGuard cells h) (SteadyGuard cells (e ∷ h)) d f
-  new (Opens c w taken) f = (omega arith, now c)
-  new (Holds c true) f = λ w. (omega arith, now c)
-  new (EndsToWrite v) f = λ k w. (let l : _ = k.0 in omega (arith, l), later f.section.start f.section.cell _ k.0 k.1)
-  new _ f = tt
+  new d f = grind (arith, now, later)
 
   says : (d : Deed) (f : Finds cells h e.step.party d) → Says cells h e.step.party only (SteadySection cells h) (SteadySection cells (e ∷ h)) (SteadyGuard cells h) (SteadyGuard cells (e ∷ h)) d f
-  says d f = record {
-    section = λ s k. (let l : _ = k.0 in omega (arith, l), later s.start s.cell _ k.0 k.1);
-    guard = λ x k w. let m : _ = k w in (let l : _ = m.0 in omega (arith, l), later x.start x.cell _ m.0 m.1);
-    beside = λ y x r k w. absurd (apart (sym w ∙ r));
-    reads = λ y c w. absurd (cc);
-    sets = λ v y x k. k;
-    new = new d f;
-  }
+  says d f = grind (arith, later, new)
 
 -- in a legal history
 steady : (cells : List CellPlan) (h : List Event) → IsLegal cells h → IsSteady cells h

@@ -1,12 +1,11 @@
 -- What holds in each case, holds of each legal step.
-use Rattle.schedule_rules.proofs.Words.{ℕ, ◌≡◌, List, arith, Bool, true, refl, false, Some, ◌∙◌, sym, ap, None, subst, ◌&&◌, not, ◌+◌, ◌==◌, if◌then◌else◌, is_none, Option}
-use Rattle.schedule_rules.proofs.Words.{phase_of, first_of, LockNature, is_finalizable, lends_value, is_primed, Call, Kind, Form, Held, Told, Shown, Answer, Line, Refusal}
-use Rattle.schedule_rules.proofs.Words.{CellPlan, Act, Step, Calls, cell_at, tolerance_at, is_of_other, is_accessible, finishes_so, Success, phase_reached, asks_to_lend}
-use Rattle.schedule_rules.proofs.Words.{content_of_run, Event, accepts, count, sections, Section, innermost, is_turn, Guard, guards, numbered, own, replay, phase_at, registry}
-use Rattle.schedule_rules.proofs.Words.{finishing, Wait, waits, wait_of, waits_at, write_holds, is_barred, read_guards, holding_with, is_in_use, refusal, no_lending, no_call}
-use Rattle.schedule_rules.proofs.Words.{no_writer, writes_of, ends_run, ends_turn, no_outcome, refusal_to_lend, no_reader, no_guard, answer_of_value, answer_made_to_lend}
-use Rattle.schedule_rules.proofs.Words.{answer_lent, answer_at, answer_made, answer_of_made, due_answer, due_clone, due_made, due_finished, phase_made, IsLegalLine, answer_of}
-use Rattle.schedule_rules.proofs.Words.{due_at, waits_judged}
+use Rattle.schedule_rules.proofs.Words.{ℕ, arith, ◌≡◌, List, Bool, true, refl, false, Some, ◌∙◌, sym, ap, None, subst, ◌&&◌, not, ◌==◌, if◌then◌else◌, is_none, Option, phase_of}
+use Rattle.schedule_rules.proofs.Words.{first_of, LockNature, is_primed, lends_value, is_finalizable, Call, Kind, Form, Held, Shown, Told, Answer, Line, Refusal, CellPlan, Act}
+use Rattle.schedule_rules.proofs.Words.{Step, Calls, cell_at, tolerance_at, is_accessible, finishes_so, phase_reached, Success, asks_to_lend, content_of_run, Event, accepts}
+use Rattle.schedule_rules.proofs.Words.{sections, Section, innermost, is_turn, Guard, guards, numbered, own, replay, phase_at, registry, finishing, Wait, waits, wait_of, is_barred}
+use Rattle.schedule_rules.proofs.Words.{holding_with, refusal, no_lending, no_call, no_writer, no_outcome, ends_run, writes_of, no_reader, refusal_to_lend, no_guard, ends_turn}
+use Rattle.schedule_rules.proofs.Words.{answer_of_value, answer_lent, answer_made_to_lend, answer_at, answer_made, answer_of_made, due_answer, due_clone, due_made, due_finished}
+use Rattle.schedule_rules.proofs.Words.{phase_made, IsLegalLine, answer_of, due_at, waits_judged}
 use Rattle.schedule_rules.proofs.Cases.{step, Case, Generating, Lendable, AsksToLend, Reach, form_at, writes}
 use Rattle.schedule_rules.proofs.Attempts.{rests, mine_where_none, attempted, again, exits}
 use Rattle.schedule_rules.proofs.Answered.{due_at-judged}
@@ -19,7 +18,7 @@ ends_so b f = grind arith
 -- what is not refused for want of a guard names an open one
 is_opened : (f : Option Bool → Option Refusal) (p : ℕ) (o : Option Guard) → (f None ≡ None → ⊥) → f (writes_of (own p o)) ≡ None
     → (x : Guard) × (o ≡ Some x) × (f (Some x.writes) ≡ None)
-is_opened f p k1 none e = grind arith
+is_opened f p o none e = grind arith
 
 -- a guard that is needed to write, writes
 is_writer : (b : Bool) → no_writer (Some b) ≡ None → b ≡ true
@@ -49,15 +48,12 @@ lent_unprimed q e = grind arith
 
 -- a value that is made to be lent may be accessed
 pub made_accessible : (q : Kind) (o : Bool) (p : ℕ) → lends_value q ≡ true → is_accessible q (phase_reached q o p Success) ≡ true
-made_accessible k1 o p e = grind arith
+made_accessible q o p e = grind arith
 
 module _ (cells : List CellPlan) (h : List Event) (p : ℕ) where
   -- nobody uses a cell whose value is lent
   free_to_lend : (c : ℕ) → refusal_to_lend cells h p c ≡ None → Lendable cells h p c
-  free_to_lend c e =
-      let is : _ = is_lendable (is_of_other (cell_at cells c).place p) (lends_value (cell_at cells c).kind) (is_in_use cells c h) e in
-      let none : _ = none_used (read_guards c h + write_holds c h + count (waits_at c) (waits cells h)) is.1 in
-      record { lends = is.0; unread = omega (arith, none); unheld = omega (arith, none); unwaited = omega (arith, none) }
+  free_to_lend c e = grind (arith, is_lendable, none_used)
 
   -- so it is with an act that is to lend it, and is not refused
   pub lendable : (c : ℕ) (made : Option ℕ) (left : ℕ) → refusal cells h (step cells h p (Act.GetMut c made left)) ≡ None → Lendable cells h p c
@@ -99,9 +95,7 @@ module _ (cells : List CellPlan) (h : List Event) (p : ℕ) where
   -- the value of the cell is lent as it is, where it may be accessed
   found : (a : Act) (c : ℕ) → (Reach cells h p c true → Case cells h p a (answer_of_value (replay cells c h))) → (Reach cells h p c false → Case cells h p a (Answer.Access (phase_of (phase_at cells c h))))
       → Case cells h p a (answer_lent (cell_at cells c).kind (replay cells c h))
-  found a c shows denies =
-      (elim (is_accessible (cell_at cells c).kind (phase_at cells c h)) as (λ b. is_accessible (cell_at cells c).kind (phase_at cells c h) ≡ b → Case cells h p a (answer_at Shown b (replay cells c h)))
-      [ true ↦ λ e. shows e | false ↦ λ e. denies e ]) refl
+  found a c shows denies = grind (arith, Case)
 
   -- or as a run makes it that is asked
   lends : (c : ℕ) (made : Option ℕ) (left : ℕ) → Lendable cells h p c

@@ -1,9 +1,9 @@
 -- Tests of answers, and which answers of what is admitted pass them.
-use Rattle.schedule_rules.proofs.Words.{ℕ, ◌≡◌, List, arith, Bool, true, refl, false, sym, None, ◌&&◌, not, length, ◌||◌, ◌==◌, if◌then◌else◌, Option, has, initialized, Phase}
-use Rattle.schedule_rules.proofs.Words.{look_at, is_empty, LockNature, How, flags_refused, Tolerance, Call, Kind, Form, Answer, CellPlan, Place, Act, Want, Calls, Turns, cell_at}
+use Rattle.schedule_rules.proofs.Words.{ℕ, arith, ◌≡◌, List, Bool, true, refl, false, sym, None, ◌&&◌, length, not, ◌||◌, ◌==◌, if◌then◌else◌, Option, has, initialized, Phase}
+use Rattle.schedule_rules.proofs.Words.{look_at, is_empty, LockNature, How, flags_refused, Tolerance, Call, Kind, Form, Answer, CellPlan, Place, Act, Want, Turns, Calls, cell_at}
 use Rattle.schedule_rules.proofs.Words.{tolerance_at, is_owned, form_of, denies, is_accessible, runs_generator, asks, lock_wanted, Content, Event, accepts, is_turn, replay}
-use Rattle.schedule_rules.proofs.Words.{refusal, answer_barred, answer_made_to_lend, answer_admitted, answer_lent, answer_at, turn_answer_admitted, answer_of_look, is_waiting}
-use Rattle.schedule_rules.proofs.Words.{is_cyclic, is_finalizing, is_missed, is_borrowed, is_access, is_skipped, is_round, is_running, is_denied_to_lend, is_closing, want_denies}
+use Rattle.schedule_rules.proofs.Words.{refusal, answer_barred, answer_lent, answer_made_to_lend, answer_admitted, answer_at, turn_answer_admitted, answer_of_look, is_waiting}
+use Rattle.schedule_rules.proofs.Words.{is_cyclic, is_borrowed, is_access, is_closing, is_finalizing, is_denied_to_lend, is_skipped, is_missed, is_round, is_running, want_denies}
 use Rattle.schedule_rules.proofs.Words.{is_initializing}
 use Rattle.schedule_rules.proofs.Answered.{IsShown, IsTold, admitted}
 
@@ -173,7 +173,7 @@ fails_barred t m b k fast x w = grind (arith, k)
 
 -- a call that does not initialize asks for no run
 pub calls_not : (q : Kind) (t : Tolerance) (k : Call) (p : ℕ) → is_initializing k ≡ false → asks q t (Calls k) p ≡ false
-calls_not q t k1 p e = grind arith
+calls_not q t k p e = grind arith
 
 -- ---- a value that is lent
 
@@ -185,7 +185,7 @@ is_unlent cells h _ = false
 
 -- where it is not refused, exactly where that is so
 pub unlent_where_denied : (cells : List CellPlan) (h : List Event) (p : ℕ) (a : Act) → refusal cells h (record { party = p; act = a }) ≡ None → is_unlent cells h a ≡ is_denied_to_lend cells h a
-unlent_where_denied cells h p k1 n = grind arith
+unlent_where_denied cells h p a n = grind arith
 
 module _ (t : Answer → Bool) {denies : Bool} (is : IsOfTries t denies) where
   -- of a value that is lent

@@ -1,10 +1,10 @@
 -- A phase that is not empty tells whether its cell is registered: which flags tell it, what runs and finalizers leave of them,
 -- and that it is so in legal histories.
-use Rattle.schedule_rules.proofs.Words.{ℕ, ◌≡◌, List, arith, Bool, true, refl, false, Some, ◌∷◌, ◌∙◌, [], sym, ap, None, subst, ◌&&◌, ◌⊎◌, inl, inr, not, ◌≢◌, ◌||◌, and_or_apart}
-use Rattle.schedule_rules.proofs.Words.{and_assoc, bit_or, bit_and, AllByRecursion, ◌==◌, if◌then◌else◌, ◌-◌, ◌^◌, Option, has, initialized, is_known, registration, is_finalizable}
-use Rattle.schedule_rules.proofs.Words.{Call, CellPlan, Calls, Turns, cell_at, tolerance_at, tolerance_of, flags_kept, runs_generator, tries_registration, asks, Content, Change}
-use Rattle.schedule_rules.proofs.Words.{effect, Ran, content_after, Ended, is_declined, Deed, Visits, Makes, Finishes, EndsToRead, Ends, DropsToRead, Drops, EndsToWrite, Lends}
-use Rattle.schedule_rules.proofs.Words.{Opens, Holds, Skips, Event, deed_of, accepts, sections, Section, is_turn, runs_in, Guard, guards, numbered, replay, phase_at, registry}
+use Rattle.schedule_rules.proofs.Words.{ℕ, arith, ◌≡◌, List, Bool, true, refl, false, Some, ◌∷◌, [], ◌∙◌, sym, ap, None, subst, ◌⊎◌, inl, inr, ◌&&◌, ◌≢◌, not, ◌||◌, and_or_apart}
+use Rattle.schedule_rules.proofs.Words.{and_assoc, bit_or, bit_and, AllByRecursion, ◌==◌, if◌then◌else◌, Option, has, initialized, is_known, registration, is_finalizable, Call}
+use Rattle.schedule_rules.proofs.Words.{CellPlan, Turns, Calls, cell_at, tolerance_at, tolerance_of, flags_kept, runs_generator, tries_registration, asks, Content, Change, effect}
+use Rattle.schedule_rules.proofs.Words.{Ran, Ended, content_after, is_declined, Deed, Visits, Makes, EndsToRead, Finishes, Ends, Lends, DropsToRead, Opens, EndsToWrite, Drops}
+use Rattle.schedule_rules.proofs.Words.{Holds, Skips, Event, deed_of, accepts, sections, Section, is_turn, runs_in, Guard, guards, numbered, replay, phase_at, registry}
 use Rattle.schedule_rules.proofs.Words.{registry_by, write_holds, writes_cell, IsLegal, TellsRegistration}
 use Rattle.schedule_rules.proofs.Facts.{apart}
 use Rattle.schedule_rules.proofs.Exclusion.{alone}
@@ -21,35 +21,15 @@ use Rattle.schedule_rules.proofs.Grows.{IsStanding, sound}
 
 -- other flags tell nothing
 pub told_more : (b : Bool) (p m : ℕ) → bit_and m 8 ≡ 0 → bit_and m 32 ≡ 0 → TellsRegistration b p → TellsRegistration b (bit_or p m)
-told_more b p m e f t = record {
-  taken = ap (λ z. z == 8) (and_or_apart 8 p m e) ∙ t.taken;
-  refused = ap (λ z. z == 32) (and_or_apart 32 p m f) ∙ t.refused;
-}
+told_more b p m e f t = grind (arith, and_or_apart)
 
 -- what a registration sets tells whether it came in time
 told_now : (o b : Bool) → o ≡ b → TellsRegistration b (registration o)
-told_now true true e = record { taken = refl; refused = refl }
-told_now false false e = record { taken = refl; refused = refl }
-told_now true false e = absurd (apart e)
-told_now false true e = absurd (apart (sym e))
+told_now o b e = grind arith
 
 -- the flags that stay beside those of a run tell it too
 told_kept : (x : CellPlan) (o b : Bool) (p : ℕ) → is_finalizable x.kind ≡ true → (p ≡ 0 → o ≡ b) → (p ≢ 0 → TellsRegistration b p) → TellsRegistration b (flags_kept x.kind o p)
-told_kept x o b p is now before =
-    subst (λ (d : Bool). TellsRegistration b (if d then (if p == 0 then registration o else bit_and p (2 ^ 32 - 1 - 7)) else 0)) (sym is) (by (p == 0) refl)
-  where
-    stays : TellsRegistration b p → TellsRegistration b (bit_and p (2 ^ 32 - 1 - 7))
-    stays t = record {
-      taken = ap (λ z. z == 8) (and_assoc 8 p (2 ^ 32 - 1 - 7)) ∙ t.taken;
-      refused = ap (λ z. z == 32) (and_assoc 32 p (2 ^ 32 - 1 - 7)) ∙ t.refused;
-    }
-
-    by : (d : Bool) → (p == 0) ≡ d → TellsRegistration b (if d then registration o else bit_and p (2 ^ 32 - 1 - 7))
-    by true e = told_now o b (now (grind arith))
-    by false e = stays (before (other e))
-      where
-        other : (p == 0) ≡ false → p ≢ 0
-        other f z = absurd (apart (sym (ap (λ n. n == 0) z) ∙ f))
+told_kept x o b p is now before = grind (arith, and_assoc, told_now)
 
 -- so does the phase after the run
 pub told_run : (x : CellPlan) (o b : Bool) (m : Option ℕ) (y : Content) → is_finalizable x.kind ≡ true → (y.phase ≡ 0 → o ≡ b) → (y.phase ≢ 0 → TellsRegistration b y.phase)
@@ -139,14 +119,7 @@ module _ (cells : List CellPlan) (c : ℕ) (kind : is_finalizable (cell_at cells
     new _ f other = tt
 
     says : (d : Deed) (f : Finds cells h p d) → IsOther d → Says cells h p (alone cells h legal) (Begun (knows h)) (Begun (knows h)) (Seen (knows h)) (Seen (knows h)) d f
-    says d f other = record {
-      section = λ s u. u;
-      guard = λ x u. u;
-      beside = λ y x w u v. absurd (apart (sym v ∙ ap (λ (b : Bool). if b then x.cell == c else false) w));
-      reads = λ y z w. absurd (cc);
-      sets = λ v y x u. u;
-      new = new d f other;
-    }
+    says d f other = grind (arith, new)
 
     -- what is given back tells it
     abbrev Told : ℕ → Content → Content → Type 0

@@ -1,9 +1,9 @@
 -- A legal line shows that its step tried to register a cell exactly where it did.
-use Rattle.schedule_rules.proofs.Words.{ℕ, ◌≡◌, List, arith, Bool, true, refl, false, Some, ◌∷◌, ◌∙◌, [], sym, ap, None, subst, ◌&&◌, ◌⊎◌, inl, not, ◌+◌, ◌≤◌, ◌||◌, ◌==◌}
+use Rattle.schedule_rules.proofs.Words.{ℕ, arith, ◌≡◌, List, Bool, true, refl, false, Some, ◌∷◌, [], ◌∙◌, sym, ap, None, subst, ◌⊎◌, inl, ◌&&◌, not, ◌+◌, ◌≤◌, ◌||◌, ◌==◌}
 use Rattle.schedule_rules.proofs.Words.{if◌then◌else◌, is_none, Option, phase_of, Phase, first_of, is_known, How, flags_refused, Call, Answer, Line, Refusal, CellPlan, Place, Act}
-use Rattle.schedule_rules.proofs.Words.{Step, Calls, Turns, cell_at, tries_registration, deed_waiting, deed_by, Event, accepts, is_exit, replay, phase_at, registry, Wait, waits}
-use Rattle.schedule_rules.proofs.Words.{Attempt, attempt, attempt_with, attempt_of_turn, refusal, answer_of_value, answer_barred, due_answer, due_attempt, IsLegal, IsLegalLine}
-use Rattle.schedule_rules.proofs.Words.{answer_of, waits_judged, is_attempted, is_admitted, asks_registration, tells_declined, tries_to_register, registrations}
+use Rattle.schedule_rules.proofs.Words.{Step, Turns, Calls, deed_waiting, deed_by, Event, accepts, is_exit, replay, registry, Wait, waits, Attempt, attempt, attempt_of_turn}
+use Rattle.schedule_rules.proofs.Words.{attempt_with, refusal, answer_of_value, answer_barred, due_answer, due_attempt, IsLegal, IsLegalLine, answer_of, waits_judged, is_attempted}
+use Rattle.schedule_rules.proofs.Words.{is_admitted, asks_registration, registrations, tells_declined, tries_to_register}
 use Rattle.schedule_rules.proofs.Cases.{Visiting, step, Calling, Resting, Case}
 use Rattle.schedule_rules.proofs.Registrations.{asks_so, deed_registers, shows_registration, registrations_shown, tries-unknown, registered-once}
 use Rattle.schedule_rules.proofs.Answered.{due_at-judged, denied}
@@ -29,13 +29,7 @@ barred_back false Place.Spin w = refl
 barred_back false (Place.Own p) w = refl
 
 beyond_back : IsBeyond is_back
-beyond_back = record {
-  tries = record { shown = record { phase = λ p. refl; value = λ v. refl; read_guard = refl; write_guard = refl }; access = λ p. refl; done = refl; failed = refl };
-  err_guard = refl;
-  running = refl;
-  finalizing = λ c. refl;
-  skipped = λ c. refl;
-}
+beyond_back = grind arith
 
 no_more : (b : Bool) → false ≡ (b && false)
 no_more b = grind arith
@@ -59,28 +53,16 @@ module _ (cells : List CellPlan) (c : ℕ) where
     Called a d j r = Shows r (deed_registers cells c h (deed_by (accepts h) (is_exit a) (Act.Call d j) r)) (asks_of d j)
 
     called : (a : Act) (d : ℕ) (j : Call) (r : Answer) → Calling cells h p a d j → Called a d j r → Tried a r
-    called a d j r t k =
-        subst (λ o. Shows r (shows_registration cells c h (step cells h p a) r) (asks_so cells c h o)) (sym t.tried)
-        (subst (λ b. Shows r (deed_registers cells c h (deed_by (accepts h) (is_exit a) b r)) (asks_of d j)) (sym t.does) k)
-
-    -- one that asks for no run
-    none : (d : ℕ) (j : Call) → Resting cells h p d j → asks_of d j ≡ false
-    none d j q = ap (λ b. (d == c) && (b && tries_registration (cell_at cells d).kind (phase_at cells d h))) q.unasked ∙ sym (no_more (d == c))
+    called a d j r t k = grind (arith, shows_registration, step, asks_so, deed_registers)
 
     -- one that runs nothing, and says so where it is declined
     visited : (a : Act) (d : ℕ) (j : Call) (q : Phase) (T : Type 0) (r : Answer) → Calling cells h p a d j → Visiting cells h p d j q T → is_back r ≡ false
         → deed_registers cells c h (deed_by (accepts h) (is_exit a) (Act.Call d j) r) ≡ asks_of d j → (q ≡ phase_of flags_refused → tells_declined r ≡ true) → Tried a r
-    visited a d j q T r t v on is tells = called a d j r t (record { same = is ∙ ap (λ b. not b && asks_of d j) (sym on); answers = λ e. by v (sym is ∙ e) })
-      where
-        by : Visiting cells h p d j q T → asks_of d j ≡ true → (r ≡ Answer.Running) ⊎ (tells_declined r ≡ true)
-        by k1 e = grind arith
+    visited a d j q T r t v on is tells = grind (arith, called, Visiting)
 
     -- one that gets what the cell holds
     shows_what_is : (a : Act) (d : ℕ) (j : Call) (r : Answer) → Calling cells h p a d j → Resting cells h p d j → deed_registers cells c h (deed_by (accepts h) (is_exit a) (Act.Call d j) r) ≡ false → Tried a r
-    shows_what_is a d j r t q is = called a d j r t (record {
-      same = is ∙ no_more (not (is_back r)) ∙ ap (λ b. not (is_back r) && b) (sym (none d j q));
-      answers = λ e. absurd (apart (sym e ∙ is));
-    })
+    shows_what_is a d j r t q is = grind (arith, called, no_more)
 
     waited : (b : Bool) → deed_registers cells c h (deed_waiting b) ≡ false
     waited b = grind arith
@@ -119,7 +101,7 @@ module _ (cells : List CellPlan) (c : ℕ) where
 
     -- what is due for a step that attempts this
     due_of : (a : Act) (x : Attempt) → attempt_with cells (waits cells h) h s.party a ≡ Some x → due_answer cells h (record { party = s.party; act = a }) ws k.chosen ≡ due_attempt cells h s.party x ws k.chosen
-    due_of k1 x e = grind arith
+    due_of a x e = grind arith
 
     -- it is not put off exactly where it is admitted
     not_back : (not (is_back l.answer) && asks_so cells c h (attempt cells h s)) ≡ tries_to_register cells c h s l.given k.moment

@@ -1,8 +1,7 @@
 -- The turns of a legal history are no more than its cells.
-use Rattle.schedule_rules.proofs.Words.{ℕ, ◌≡◌, List, arith, Bool, true, refl, false, Some, ◌∷◌, ◌∙◌, [], ap, ◌&&◌, ◌<◌, length, ◌+◌, ◌≤◌, ◌++◌, All, get_or_past, length-map}
-use Rattle.schedule_rules.proofs.Words.{length-append, All-cons, All-nil, ◌==◌, if◌then◌else◌, cells_of_turns, is_known, rest_of, occurs, due, CellPlan, Act, Step, Turns, Event}
-use Rattle.schedule_rules.proofs.Words.{count, sections, Section, innermost, is_turn, registry, ended_turns, Wait, waits, wait_of, attempt, attempt_with, IsLegal, turns_of}
-use Rattle.schedule_rules.proofs.Words.{turns_at_hand}
+use Rattle.schedule_rules.proofs.Words.{ℕ, arith, ◌≡◌, List, Bool, true, refl, false, Some, ◌∷◌, [], ◌∙◌, ◌<◌, ◌&&◌, length, ◌+◌, ◌≤◌, ◌++◌, All, get_or_past, length-append}
+use Rattle.schedule_rules.proofs.Words.{length-map, All-nil, All-cons, ◌==◌, if◌then◌else◌, cells_of_turns, is_known, occurs, due, CellPlan, Step, Turns, Event, count, sections}
+use Rattle.schedule_rules.proofs.Words.{Section, innermost, is_turn, registry, ended_turns, waits, attempt, IsLegal, turns_of, turns_at_hand}
 use Rattle.exit_registry.proofs.Exiting.{few_below}
 use Rattle.schedule_rules.proofs.Accepts.{known-length}
 use Rattle.schedule_rules.proofs.Counts.{occurs_joined, waits_so, first_so, begins}
@@ -86,15 +85,4 @@ module _ (cells : List CellPlan) (h : List Event) (legal : IsLegal cells h) wher
 
   -- so does a turn that is taken
   pub room-taken : (s : Step) (c : ℕ) → attempt cells h s ≡ Some (record { cell = c; want = Turns }) → length (ended_turns h) < length cells
-  room-taken s c e = by s.act e
-    where
-      from_left : (registry cells h).left ≡ c ∷ rest_of (registry cells h).left → length (ended_turns h) < length cells
-      from_left is =
-          let more : length (due (registry cells h)) ≡ length (registry cells h).left + length (registry cells h).pending = length-append (registry cells h).left (registry cells h).pending in
-          omega (arith, few-turns, more, ap length is)
-
-      from_wait : (w : Wait) × (wait_of s.party (waits cells h) ≡ Some w) × (w.cell ≡ c) × (w.want ≡ Turns) → length (ended_turns h) < length cells
-      from_wait w = grind (arith, found_counts, few-turns)
-
-      by : (a : Act) → attempt_with cells (waits cells h) h s.party a ≡ Some (record { cell = c; want = Turns }) → length (ended_turns h) < length cells
-      by a f = grind (arith, from_left, begins, first_so, from_wait, waits_so, differ)
+  room-taken s c e = grind (arith, length-append, few-turns, found_counts, begins, first_so, waits_so, differ)

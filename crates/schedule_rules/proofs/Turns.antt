@@ -1,15 +1,15 @@
 -- Each registered cell has one turn: to come, waiting, going on or ended.
-use Rattle.schedule_rules.proofs.Words.{ℕ, ◌≡◌, List, arith, Bool, true, refl, false, Some, ◌∷◌, ◌∙◌, [], sym, ap, None, subst, ◌&&◌, ◌<◌, length, ◌+◌, cond, ◌++◌}
-use Rattle.schedule_rules.proofs.Words.{get_or-set_other, get_or-set_same, ◌==◌, if◌then◌else◌, slice_index_or, slice_set, Option, cells_of_turns, first_of, is_known, rest_of}
-use Rattle.schedule_rules.proofs.Words.{after_register, occurs, registered, due, Turn, Given, is_finalizable, Call, Answer, Refusal, CellPlan, Act, Want, Calls, Turns, cell_at}
-use Rattle.schedule_rules.proofs.Words.{is_owned, tries_registration, is_fast, Deed, Makes, Finishes, EndsToRead, Ends, EndsToWrite, Opens, Skips, deed_waiting, deed_by, Looks}
-use Rattle.schedule_rules.proofs.Words.{Takes, Event, deed_of, accepts, count, is_exit, sections, Section, innermost, is_turn, without_innermost, sections_by, replay, phase_at}
-use Rattle.schedule_rules.proofs.Words.{registry, registry_by, registry_taken, ended_turns, turn_of, turns_by, turn_of_section, Wait, waits, wait_of, attempt_with, without_wait}
-use Rattle.schedule_rules.proofs.Words.{waits_given_with, with_wait, refusal, refusal_waiting, answer_of_value, IsLegal, turns_of, finalizes_in, waits_to_turn}
+use Rattle.schedule_rules.proofs.Words.{ℕ, arith, ◌≡◌, List, Bool, true, refl, false, Some, ◌∷◌, [], ◌∙◌, sym, ap, None, subst, ◌<◌, ◌&&◌, length, ◌+◌, cond, get_or-set_other}
+use Rattle.schedule_rules.proofs.Words.{get_or-set_same, ◌==◌, if◌then◌else◌, Option, cells_of_turns, first_of, is_known, occurs, rest_of, due, registered, Given, Call, Answer}
+use Rattle.schedule_rules.proofs.Words.{Refusal, CellPlan, Act, Turns, Calls, cell_at, is_owned, tries_registration, Deed, Makes, EndsToRead, Finishes, Ends, Opens, EndsToWrite}
+use Rattle.schedule_rules.proofs.Words.{deed_waiting, deed_by, Skips, Takes, Looks, Event, deed_of, accepts, count, is_exit, sections, Section, innermost, without_innermost}
+use Rattle.schedule_rules.proofs.Words.{sections_by, replay, phase_at, registry, registry_by, ended_turns, registry_taken, turn_of_section, turn_of, turns_by, Wait, waits, wait_of}
+use Rattle.schedule_rules.proofs.Words.{without_wait, waits_given_with, attempt_with, with_wait, refusal, refusal_waiting, answer_of_value, IsLegal, turns_of, finalizes_in}
+use Rattle.schedule_rules.proofs.Words.{waits_to_turn}
 use Rattle.schedule_rules.proofs.Facts.{whether, first, second, apart}
 use Rattle.schedule_rules.proofs.Exclusion.{alone}
 use Rattle.schedule_rules.proofs.Opened.{count_ended}
-use Rattle.schedule_rules.proofs.Cases.{step, IsCalling, IsTurning, Calling, Turning, Tries, Asking, Case}
+use Rattle.schedule_rules.proofs.Cases.{step, IsCalling, IsTurning, Calling, Turning, Asking, Case}
 use Rattle.schedule_rules.proofs.Answered.{denied}
 use Rattle.schedule_rules.proofs.WaitsToLock.{waiting-shared}
 use Rattle.schedule_rules.proofs.Attempts.{rests}
@@ -72,7 +72,7 @@ module _ (cells : List CellPlan) (c : ℕ) where
       where
         goes_on : (w : Wait) × (wait_of p (waits cells h) ≡ Some w) × (w.cell ≡ d) × (w.want ≡ Calls j) → count (waits_to_turn c) (others Act.Again) ≡ count (waits_to_turn c) (waits cells h)
         goes_on (w, e, at, is) = grind (arith, others_count Act.Again, own_count w e)
-    
+
         by : (a : Act) → IsCalling a → attempt_with cells (waits cells h) h p a ≡ Some (record { cell = d; want = Calls j }) → IsAllowed a → count (waits_to_turn c) (others a) ≡ count (waits_to_turn c) (waits cells h)
         by a t e f = grind (arith, rests_count, rests, goes_on, waits_so)
 
@@ -87,13 +87,7 @@ module _ (cells : List CellPlan) (c : ℕ) where
 
     -- one that waits
     call_waits : (a : Act) (d : ℕ) (j : Call) (way : _) → Calling cells h p a d j → IsAllowed a → WaitsSo (deed_waiting (is_exit a)) (count (waits_to_turn c) (waits cells (event a (Answer.Waiting way) ∷ h)))
-    call_waits a d j way t f =
-        by a t.acts (count (waits_to_turn c) (waits cells (event a (Answer.Waiting way) ∷ h))) (ap (λ o. count (waits_to_turn c) (with_wait p way o (others a))) t.tried ∙ called_count a d j t f)
-      where
-        by : (a : Act) → IsCalling a → (n : ℕ) → n ≡ waiting → WaitsSo (deed_waiting (is_exit a)) n
-        by (Act.Call b m) t n e = e
-        by Act.Again t n e = e
-        by _ t n e = absurd t
+    call_waits a d j way t f = grind (arith, called_count, IsCalling)
 
     -- an act that takes a turn, where it goes on or ends
     took : (a : Act) (d : ℕ) → Turning cells h p a d → IsAllowed a → Took d (is_exit a) (count (waits_to_turn c) (others a))
@@ -103,9 +97,7 @@ module _ (cells : List CellPlan) (c : ℕ) where
         from_wait (w, e, at, is) = grind (arith, others_count Act.Again, own_count w e)
 
         by : (a : Act) → IsTurning a → attempt_with cells (waits cells h) h p a ≡ Some (record { cell = d; want = Turns }) → IsAllowed a → Took d (is_exit a) (count (waits_to_turn c) (others a))
-        by Act.Exit t e f = (first_so (first_of (registry cells h).left) d e, rests_count Act.Exit (rests cells h p Act.Exit (λ x. cc) f).0)
-        by Act.Again t e f = from_wait (waits_so (wait_of p (waits cells h)) d Turns e)
-        by _ t e f = absurd t
+        by a t e f = grind (arith, first_so, rests_count, rests, from_wait, waits_so)
 
     -- and where it waits
     turn_waits : (a : Act) (d : ℕ) (way : _) → Turning cells h p a d → IsAllowed a → WaitsSo (deed_waiting (is_exit a)) (count (waits_to_turn c) (waits cells (event a (Answer.Waiting way) ∷ h)))
@@ -189,17 +181,13 @@ module _ (cells : List CellPlan) (c : ℕ) where
     taken_count d n false t = omega (arith, t)
 
     skips : (d n : ℕ) (b : Bool) → Took h p i shared d b n → HasTurnBy (Skips d b) n
-    skips d n b t =
-        keeps (Skips d b) n (known_taken b (registry cells h) c) (omega (arith, taken_count d n b t, occurs_ended c d Turn.Skipped (ended_turns h)))
+    skips d n b t = grind (arith, keeps, known_taken, taken_count, occurs_ended)
 
     finalizes : (d n : ℕ) (b : Bool) → Took h p i shared d b n → HasTurnBy (Opens d Turns b) n
-    finalizes d n b t =
-        keeps (Opens d Turns b) n (known_taken b (registry cells h) c) (omega (arith, taken_count d n b t, one_or_none h p i shared (d == c) (count (finalizes_in c) (sections h))))
+    finalizes d n b t = grind (arith, keeps, known_taken, taken_count, one_or_none)
 
     looks : (b : Bool) (n : ℕ) → (registry cells h).left ≡ [] → n ≡ waiting h p i shared → HasTurnBy (Looks b) n
-    looks b n none w =
-        let before : occurs c (due (registry cells h)) ≡ occurs c (registry cells h).pending = ap (λ cs. occurs c (cs ++ (registry cells h).pending)) none in
-        keeps (Looks b) n refl (omega (arith, occurs_joined c (registry cells h).pending [], before, w))
+    looks b n none w = grind (arith, keeps, occurs_joined)
 
     -- a generator's section that ends
     run_ends : (d : Deed) (n : ℕ) (f : Inside cells h p false) → registry_by cells h d (registry cells h) ≡ registry cells h → sections_by h p d (sections h) ≡ without_innermost p (sections h)
@@ -225,28 +213,17 @@ module _ (cells : List CellPlan) (c : ℕ) where
     -- a registration adds a turn to come, of a cell that had none
     module _ (d : ℕ) (j : Call) (b : Bool) (n : ℕ) (w : n ≡ waiting h p i shared) where
       stays : registry_by cells h (Opens d (Calls j) b) (registry cells h) ≡ registry cells h → HasTurnBy (Opens d (Calls j) b) n
-      stays r =
-          let to_come : occurs c (due (registry_by cells h (Opens d (Calls j) b) (registry cells h))) ≡ occurs c (due (registry cells h)) = ap (λ m. occurs c (due m)) r in
-          keeps (Opens d (Calls j) b) n (ap (λ m. is_known m c) r) (omega (arith, to_come, w))
+      stays r = grind (arith, keeps)
 
       module _ (fresh : is_known (registry cells h) d ≡ false) (inside : d < length (registry cells h).known) (now : registry_by cells h (Opens d (Calls j) b) (registry cells h) ≡ registered d (registry cells h)) where
         to_come : occurs c (due (registry_by cells h (Opens d (Calls j) b) (registry cells h))) ≡ occurs c (due (registry cells h)) + one_if (d == c)
         to_come = grind (arith, occurs_joined)
 
         here : (d == c) ≡ true → HasTurnBy (Opens d (Calls j) b) n
-        here same =
-            let at : d ≡ c = grind arith in
-            let unknown : turns_of cells c h ≡ 0 = k ∙ ap (λ (b : Bool). if b then 1 else 0) (subst (λ z. is_known (registry cells h) z ≡ false) at fresh) in
-            let known : is_known (registry_by cells h (Opens d (Calls j) b) (registry cells h)) c ≡ true =
-            ap (λ m. is_known m c) now ∙ subst (λ z. slice_index_or (slice_set (registry cells h).known d true) z false ≡ true) at (get_or-set_same (registry cells h).known d true false inside) in
-            let one : one_if (d == c) ≡ 1 = ap one_if same in
-            let goal : turns_left (Opens d (Calls j) b) n ≡ 1 = omega (arith, unknown, to_come, one, w) in
-            goal ∙ sym (ap (λ (b : Bool). if b then 1 else 0) known)
+        here same = grind (arith, get_or-set_same, one_if, to_come)
 
         elsewhere : (d == c) ≡ false → HasTurnBy (Opens d (Calls j) b) n
-        elsewhere other =
-            let none : one_if (d == c) ≡ 0 = ap one_if other in
-            keeps (Opens d (Calls j) b) n (ap (λ m. is_known m c) now ∙ get_or-set_other (registry cells h).known d c true false (grind arith)) (omega (arith, to_come, none, w))
+        elsewhere other = grind (arith, one_if, keeps, get_or-set_other, to_come)
 
         registers : HasTurnBy (Opens d (Calls j) b) n
         registers = whether (d == c) (λ same. here same) (λ other. elsewhere other)
@@ -255,15 +232,7 @@ module _ (cells : List CellPlan) (c : ℕ) where
       running q = by (tries_registration (cell_at cells d).kind (phase_at cells d h)) (registry cells h).is_open refl refl
         where
           by : (x o : Bool) → tries_registration (cell_at cells d).kind (phase_at cells d h) ≡ x → (registry cells h).is_open ≡ o → HasTurnBy (Opens d (Calls j) b) n
-          by false o e f = stays (ap (λ (x : Bool). if x then after_register d (registry cells h) else registry cells h) e)
-          by true false e f =
-              stays (ap (λ (x : Bool). if x then after_register d (registry cells h) else registry cells h) e ∙ ap (λ (x : Bool). if x then registered d (registry cells h) else registry cells h) f)
-          by true true e f =
-              let empty : (phase_at cells d h == 0) ≡ true = second (is_finalizable (cell_at cells d).kind) _ e in
-              let zero : phase_at cells d h ≡ 0 = grind arith in
-              let inside : d < length cells = finalizable-inside cells d (first _ _ e) in
-              registers (fresh-unknown cells h d legal zero (q.unheld (alone cells h legal d))) (omega (arith, inside, known-length cells h))
-              (ap (λ (x : Bool). if x then after_register d (registry cells h) else registry cells h) e ∙ ap (λ (x : Bool). if x then registered d (registry cells h) else registry cells h) f)
+          by x o e f = grind (arith, stays, second, finalizable-inside, first, registers, fresh-unknown, alone, known-length)
 
     has_turn : (d : Deed) (n : ℕ) → Finds cells h p d → WaitsSo h p i shared d n → HasTurnBy d n
     has_turn (Opens d (Calls j) taken) n f w = running d j taken n w f

@@ -1,12 +1,11 @@
 -- A value that is shown is there.
-use Rattle.schedule_rules.proofs.Words.{ℕ, ◌≡◌, List, arith, Bool, true, refl, false, Some, ◌∷◌, ◌∙◌, [], sym, ap, None, subst, ◌&&◌, ◌⊎◌, inl, ◌<◌, inr, not, length, ◌||◌}
-use Rattle.schedule_rules.proofs.Words.{and_assoc, and_or_self, and_le_r, AllByRecursion, ◌==◌, if◌then◌else◌, is_some, Option, has, initialized, is_plain, is_primed, is_hard}
-use Rattle.schedule_rules.proofs.Words.{Call, Answer, Line, CellPlan, Act, Step, cell_at, tolerance_of, is_accessible, flags_kept, finishes_so, phase_finalized, value_finalized}
-use Rattle.schedule_rules.proofs.Words.{Content, Change, effect, Ran, Put, Asked, content_after, Ended, asks_to_lend, is_declined, RanIfAsked, content_of_run, Deed, Visits, Makes}
-use Rattle.schedule_rules.proofs.Words.{Finishes, EndsToRead, Ends, DropsToRead, Drops, EndsToWrite, Lends, Holds, Puts, Beside, Event, deed_of, sections, Section, Guard, guards}
-use Rattle.schedule_rules.proofs.Words.{numbered, without_guard, guards_by, writer_made, reader_beside, reader_made, replay, phase_at, Back, back_of_step, content_after_back}
-use Rattle.schedule_rules.proofs.Words.{back_of_section, back_by, inside, change_of, back_of_guard, read_guards, reads_cell, answer_of_value, IsLegal, IsLegalLine, lends_at}
-use Rattle.schedule_rules.proofs.Words.{runs_to_lend, ShowsValue}
+use Rattle.schedule_rules.proofs.Words.{ℕ, arith, ◌≡◌, List, Bool, true, refl, false, Some, ◌∷◌, [], ◌∙◌, sym, ap, None, subst, ◌⊎◌, inl, ◌<◌, inr, length, and_assoc, and_or_self}
+use Rattle.schedule_rules.proofs.Words.{and_le_r, AllByRecursion, ◌==◌, if◌then◌else◌, is_some, Option, has, initialized, is_primed, is_plain, Call, Answer, Line, CellPlan, Act}
+use Rattle.schedule_rules.proofs.Words.{Step, cell_at, tolerance_of, is_accessible, flags_kept, finishes_so, Content, Change, effect, Ran, Asked, Put, Ended, content_after}
+use Rattle.schedule_rules.proofs.Words.{asks_to_lend, RanIfAsked, content_of_run, is_declined, Deed, Visits, Makes, EndsToRead, DropsToRead, EndsToWrite, Drops, Holds, Beside}
+use Rattle.schedule_rules.proofs.Words.{Puts, Event, deed_of, sections, Section, Guard, guards, numbered, without_guard, guards_by, reader_beside, reader_made, writer_made, replay}
+use Rattle.schedule_rules.proofs.Words.{phase_at, Back, back_of_step, back_by, back_of_section, content_after_back, inside, change_of, back_of_guard, read_guards, reads_cell}
+use Rattle.schedule_rules.proofs.Words.{answer_of_value, IsLegal, IsLegalLine, lends_at, runs_to_lend, ShowsValue}
 use Rattle.std.specs.Option.{unwrap_or}
 use Rattle.schedule_rules.proofs.Cases.{step, Reach, Case}
 use Rattle.schedule_rules.proofs.Steps.{lent_unprimed, of_legal}
@@ -41,19 +40,7 @@ module _ (x : CellPlan) where
 
   -- a finalizer of a hard kind takes the value out of reach, and one of a soft kind leaves it
   ended_true : (fine : Bool) (left : Option ℕ) (y : Content) → IsTrue y → IsTrue (content_after x (Ended fine left) y)
-  ended_true fine left y t = by fine (is_hard x.kind) refl
-    where
-      out : (i a b : Bool) → (a || b) ≡ true → (i && not (true && (a || b))) ≡ true → is_some left ≡ true
-      out i a b e f = grind arith
-
-      marks : (fine : Bool) → (has (phase_finalized y.phase fine) 64 || has (phase_finalized y.phase fine) 128) ≡ true
-      marks fine = grind (arith, and_or_self)
-
-      kept : (fine : Bool) → has (phase_finalized y.phase fine) initialized ≡ has y.phase initialized
-      kept fine = grind (arith, has_more)
-
-      by : (fine h : Bool) → is_hard x.kind ≡ h → is_accessible x.kind (phase_finalized y.phase fine) ≡ true → is_some (value_finalized x.kind left y.value) ≡ true
-      by fine h e a = grind (arith, out, marks, kept, first)
+  ended_true fine left y t = grind (arith, and_or_self, has_more, first)
 
   asked_true : (o : Bool) (k : Call) (y : Content) → IsTrue y → IsTrue (content_after x (Asked o k) y)
   asked_true o k y t =
@@ -61,8 +48,7 @@ module _ (x : CellPlan) where
       [ true ↦ λ e. absurd (apart (sym e)) | false ↦ t ]
 
   ran_true : (o : Bool) (made : Option ℕ) (y : Content) → IsTrue (content_after x (Ran o made) y)
-  ran_true o (Some v) y = λ e. refl
-  ran_true o None y = λ e. absurd (apart (sym (first _ _ e) ∙ has_more (flags_kept x.kind o y.phase) 6 refl ∙ kept_lacks x o y.phase))
+  ran_true o made y = grind (arith, first, has_more, kept_lacks)
 
   lent_true : (o : Bool) (made : Option ℕ) (y : Content) → IsTrue y → IsTrue (content_after x (RanIfAsked o made) y)
   lent_true o made y t = elim (asks_to_lend x.kind (tolerance_of x) y.phase) as (λ b. IsTrue (if b then content_of_run x.kind o made y else y)) [ true ↦ ran_true o made y | false ↦ t ]
@@ -90,15 +76,11 @@ module _ (x : CellPlan) where
 
   -- nor by a finalizer of a primed kind, which leaves one where it takes it out of reach
   primed_left : (fine : Bool) (left : Option ℕ) (y : Content) → is_primed x.kind ≡ true → finishes_so x.kind fine left ≡ true → HasValue y → HasValue (content_after x (Ended fine left) y)
-  primed_left fine left y p so v = by (is_hard x.kind) (is_primed x.kind) p so
-    where
-      by : (h q : Bool) → q ≡ true → ((if h && q then is_some left else not (is_some left)) && (fine || (not h || q))) ≡ true → is_some (if h then left else y.value) ≡ true
-      by h q e f = grind arith
+  primed_left fine left y p so v = grind arith
 
 module _ (cells : List CellPlan) where
   back_true : (c : ℕ) (o : Option Back) (y : Content) → IsTrue (cell_at cells c) y → IsTrue (cell_at cells c) (content_after_back cells c o y)
-  back_true c None y t = t
-  back_true c (Some b) y t = elim (b.cell == c) as (λ d. IsTrue (cell_at cells c) (if d then effect (cell_at cells c) b.changes y else y)) [ true ↦ effect_true (cell_at cells c) b.changes y t | false ↦ t ]
+  back_true c o y t = grind (arith, effect_true)
 
   -- so it is with what is published: where it may be accessed, it has a value
   pub accessed-value : (c : ℕ) (h : List Event) → IsTrue (cell_at cells c) (replay cells c h)
@@ -107,10 +89,7 @@ module _ (cells : List CellPlan) where
 
   -- a plain kind has one where its phase has INITIALIZED
   pub plain-value : (h : List Event) (c : ℕ) → is_plain (cell_at cells c).kind ≡ true → has (phase_at cells c h) initialized ≡ true → HasValue (replay cells c h)
-  plain-value h c q r = accessed-value c h (soft (is_hard (cell_at cells c).kind) (plain_soft (cell_at cells c).kind q) _)
-    where
-      soft : (b : Bool) → b ≡ false → (z : Bool) → (has (phase_at cells c h) initialized && not (b && z)) ≡ true
-      soft b e z = ap (λ (x : Bool). has (phase_at cells c h) initialized && not (x && z)) e ∙ ap (λ (x : Bool). x && true) r
+  plain-value h c q r = grind (arith, accessed-value, plain_soft)
 
   module _ (h : List Event) (p : ℕ) (legal : IsLegal cells h) where
     -- a primed kind keeps a value
@@ -121,14 +100,7 @@ module _ (cells : List CellPlan) where
     dropped_stays g x f v = effect_stays (cell_at cells x.cell) x.changes (replay cells x.cell h) (each_found (λ y. y.number == g) IsRunning (guards h) x f (guards-run h)) v
 
     keeps_primed : (d : Deed) (f : Finds cells h p d) → GivesOf cells h p (alone cells h legal) KeepsPrimed d f
-    keeps_primed (Ends (Makes made)) f = λ q v. effect_stays (cell_at cells f.section.cell) (Ran f.section.is_open made ∷ []) (replay cells f.section.cell h) tt v
-    keeps_primed (Ends (Finishes fine left)) f = λ q v. primed_left (cell_at cells f.section.cell) fine left (replay cells f.section.cell h) q f.so v
-    keeps_primed (EndsToRead v) f = λ q w. refl
-    keeps_primed (Drops g) f = λ w q v. dropped_stays g f.guard f.found v
-    keeps_primed (DropsToRead g) f = λ q v. dropped_stays g f.guard f.found v
-    keeps_primed (Visits c chs reads) f = λ q v. subst (λ l. HasValue (effect (cell_at cells c) l (replay cells c h))) (sym f.does) (asked_stays (cell_at cells c) _ f.asked (replay cells c h) v)
-    keeps_primed (Lends c chs) f = λ q v. absurd (apart (sym q ∙ lent_unprimed (cell_at cells c).kind f.free.lends))
-    keeps_primed _ f = tt
+    keeps_primed d f = grind (arith, effect_stays, primed_left, dropped_stays, asked_stays, lent_unprimed)
 
     -- ---- what the holder of a write guard sees
 
@@ -139,9 +111,7 @@ module _ (cells : List CellPlan) where
     Sees y x = x.writes ≡ true → HasValue (effect (cell_at cells x.cell) x.changes y)
 
     new : (d : Deed) (f : Finds cells h p d) → NewOf cells h p (alone cells h legal) Any Any Sees Sees d f
-    new (Holds c true) f = λ w. accessed-value c h f
-    new (EndsToWrite v) f = λ u w. refl
-    new _ f = tt
+    new d f = grind (arith, accessed-value)
 
     sees_after : (d : Deed) (f : Finds cells h p d) → AllByRecursion (λ x. Sees (replay cells x.cell h) x) (guards h)
         → AllByRecursion (λ x. Sees (left_at cells h p d x.cell) x) (guards_by (length h) p d (sections h) (guards h))
@@ -184,8 +154,7 @@ module _ (cells : List CellPlan) where
     -- what is given back has a value
     given : (d : Deed) (b : Back) → deed_of h e.step e.line.answer ≡ d → back_by p d (sections h) (guards h) ≡ Some b → HasValue (effect (cell_at cells b.cell) b.changes (replay cells b.cell h))
         → HasValue (replay cells b.cell (e ∷ h))
-    given d b is back v =
-        subst HasValue (sym (back_here cells b.cell (back_of_step h e.step e.line.answer) b (replay cells b.cell h) (ap (λ z. back_by p z (sections h) (guards h)) is ∙ back) (same_number b.cell b.cell refl))) v
+    given d b is back v = grind (arith, back_here)
 
     -- and stays where nothing is
     stays : (d : Deed) (c : ℕ) → deed_of h e.step e.line.answer ≡ d → back_by p d (sections h) (guards h) ≡ None → HasValue (replay cells c h) → HasValue (replay cells c (e ∷ h))

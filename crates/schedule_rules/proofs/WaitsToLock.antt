@@ -1,9 +1,9 @@
 -- What waits: a call for a lock or a turn, which is not fast, at a cell of no party's own, whose kind has the call.
-use Rattle.schedule_rules.proofs.Words.{ℕ, ◌≡◌, List, arith, Bool, true, refl, false, Some, ◌∙◌, sym, ap, None, subst, not, find, ◌==◌, is_none, is_some, Option, first_of}
-use Rattle.schedule_rules.proofs.Words.{has_call, asking, lends_value, Call, Answer, Line, Refusal, CellPlan, Act, Step, Calls, Turns, cell_at, tolerance_at, is_owned, is_of_other}
-use Rattle.schedule_rules.proofs.Words.{is_fast, lock_asked, seeks, Event, count, registry, Wait, waits, wait_of, Attempt, attempt, attempt_of_wait, attempt_with, attempt_of_turn}
-use Rattle.schedule_rules.proofs.Words.{is_barred, holding_with, is_in_use, refusal, refusal_by, no_lending, refusal_free, no_call, IsLegal, IsLegalLine, answer_of, due_at}
-use Rattle.schedule_rules.proofs.Words.{lends_at, waits_judged, is_attempted, is_waiting, is_made_to_wait, phase_met, ChangesNothing}
+use Rattle.schedule_rules.proofs.Words.{ℕ, arith, ◌≡◌, List, Bool, true, refl, false, Some, ◌∙◌, sym, ap, None, subst, not, find, ◌==◌, is_none, is_some, Option, has_call, asking}
+use Rattle.schedule_rules.proofs.Words.{lends_value, Call, Answer, Line, Refusal, CellPlan, Act, Step, Turns, Calls, cell_at, tolerance_at, is_owned, is_of_other, is_fast, seeks}
+use Rattle.schedule_rules.proofs.Words.{lock_asked, Event, count, Wait, waits, wait_of, Attempt, attempt, attempt_of_wait, is_barred, is_in_use, refusal, refusal_by, refusal_free}
+use Rattle.schedule_rules.proofs.Words.{no_lending, no_call, IsLegal, IsLegalLine, answer_of, due_at, lends_at, waits_judged, is_attempted, is_waiting, is_made_to_wait, phase_met}
+use Rattle.schedule_rules.proofs.Words.{ChangesNothing}
 use Rattle.phase_seq.specs.declared.ask.Want.{Want as Sought}
 use Rattle.schedule_rules.proofs.Facts.{first, second, apart, same_number}
 use Rattle.schedule_rules.proofs.Found.{found_passes, only_one, none_counted}
@@ -34,16 +34,10 @@ module _ (cells : List CellPlan) where
       not_so b e = grind arith
 
       sought : (a : Attempt) (o : Option Sought) (x : _) → is_barred (lock_asked (asking o (is_fast a.want) (tolerance_at cells a.cell)) (phase_met cells h s.party a)) x ≡ true → is_some o ≡ true
-      sought a k1 x e = grind arith
+      sought a o x e = grind arith
 
       by : (o : Option Attempt) → is_attempted (is_made_to_wait cells h s.party (waits_judged cells k.moment h s l.given)) o ≡ true → Of (Waits cells) o
-      by None f = tt
-      by (Some a) f =
-          let ways : _ = second _ _ f in (
-            sought a (seeks (cell_at cells a.cell).kind a.want) (holding_with a.cell h (waits_judged cells k.moment h s l.given)) (second _ _ (second _ _ (first _ _ f))),
-            not_so _ (first _ _ ways),
-            not_so _ (second _ _ ways),
-          )
+      by o f = grind (arith, second, sought, first, not_so)
 
   waits-so : (h : List Event) (p : ℕ) (w : Wait) → IsLegal cells h → wait_of p (waits cells h) ≡ Some w → Waits cells (record { cell = w.cell; want = w.want })
   waits-so h p w k f = subst (λ o. Of (Waits cells) (attempt_of_wait o)) f (each_waits cells (Waits cells) (λ h s l k w i. barred h s l k w) h p k)
@@ -70,21 +64,7 @@ module _ (cells : List CellPlan) where
 
   -- so where a step is not refused
   allowed : (h : List Event) (s : Step) → refusal cells h s ≡ None → Of HasCall (waiting cells h s.party) → Of HasCall (attempt cells h s)
-  allowed h s n IH = by s.act (wait_of s.party (waits cells h)) refl n
-    where
-      has : (b d : Bool) → no_call b d ≡ None → d ≡ true
-      has b d e = grind arith
-
-      turned : (o : Option ℕ) → Of HasCall (attempt_of_turn o)
-      turned None = tt
-      turned (Some c) = λ k e. absurd (turns_not k e)
-
-      by : (a : Act) (o : Option Wait) → wait_of s.party (waits cells h) ≡ o → refusal_by cells (is_some o) h s.party a ≡ None → Of HasCall (attempt_with cells (waits cells h) h s.party a)
-      by (Act.Call c k) None e f = λ j d. let is : k ≡ j = cc in subst (λ i. has_call (cell_at cells c).kind i ≡ true) is (has (is_of_other (cell_at cells c).place s.party) (has_call (cell_at cells c).kind k) f)
-      by (Act.Call c k) (Some w) e f = absurd (cc)
-      by Act.Again o e f = IH
-      by Act.Exit o e f = turned (first_of (registry cells h).left)
-      by _ o e f = tt
+  allowed h s n x = grind (arith, Of, turns_not)
 
   -- what waits is a call that the kind of its cell has
   has-waiting : (h : List Event) (p : ℕ) → IsLegal cells h → Of HasCall (waiting cells h p)
