@@ -1,57 +1,30 @@
 -- What a call does to the record of its cell and to the rows, once it is settled whether its cell is registered.
-use Rattle.std.proofs.Common.{◌≡◌, ◌<◌, ◌∙◌, ℕ, length, ap, sym, subst, refl, Bool, true, false, None, Some, inl, inr}
-use Rattle.std.specs.Prelude.{◌⊎◌, MatchBool, ◌&&◌}
-use Rattle.std.specs.declared.option.Option.{Option}
-use Rattle.phase_bits.specs.declared.holders.Holders.{Holders}
-use Rattle.phase_bits.specs.Records.{leave_write}
-use Rattle.phase_locker.specs.declared.ways.Given.{Given}
-use Rattle.phase_locker.specs.declared.ways.Given.TheVariants as given
-use Rattle.phase_locker.specs.declared.ways.Who.{Who}
-use Rattle.phase_locker.specs.declared.ways.LockerKind.{LockerKind}
-use Rattle.phase_locker.specs.Rows.{Rows as Parking, row_of, free_row}
-use Rattle.phase_locker.specs.Fits.{Fits}
-use Rattle.phase_locker.specs.Gifts.{Hands, Downgrades, rows_handed}
-use Rattle.phase_seq.specs.declared.ask.Ask.{Ask}
-use Rattle.phase_seq.specs.declared.ask.Want.{Want}
-use Rattle.phase_seq.specs.declared.section.Begun.{Begun}
-use Rattle.phase_seq.specs.declared.section.Begun.TheVariants as begun
-use Rattle.phase_seq.specs.declared.ask.Want.TheVariants as want
-use Rattle.phase_seq.specs.declared.section.Section.{Section as SeqSection}
-use Rattle.phase_seq.specs.declared.section.Finished.{Finished}
-use Rattle.phase_seq.specs.Exactly.{is_run}
-use Rattle.phase_seq.specs.Finishes.{GoesOn}
-use Rattle.phase_seq.specs.Registers.{Generates, HasSectionAtOnce, Settles, Stays, begun_at_once, is_refused}
-use Rattle.phase_seq.specs.Phases.{unregistered, refused, staying}
-use Rattle.exit_registry.specs.Registry.{Registry}
-use Rattle.phase_seq.specs.Begins.{section_by}
-use Rattle.waiting_rows.specs.Given.{IsListed}
-use Rattle.waiting_rows.proofs.GivenOn.{listed_hand, listed_share}
-use Rattle.phase_moves.specs.Calls.{Calls}
-use Rattle.phase_moves.proofs.Lockers.{hands_phase, downgrades_phase}
+use Rattle.phase_moves.proofs.Words.{◌≡◌, ◌<◌, ◌∙◌, ℕ, length, ap, sym, subst, refl, Bool, true, false, None, Some, inl, inr, ◌⊎◌, MatchBool, ◌&&◌, Option, Holders}
+use Rattle.phase_moves.proofs.Words.{leave_write, Given, Who, LockerKind, Parking, row_of, free_row, Fits, Hands, Downgrades, rows_handed, Ask, Sought as Want, Begun}
+use Rattle.phase_moves.proofs.Words.{SeqSection, Finished, is_run, GoesOn, Generates, HasSectionAtOnce, Settles, Stays, begun_at_once, is_refused, unregistered, refused}
+use Rattle.phase_moves.proofs.Words.{staying, Registry, section_by, IsListed, listed_hand, listed_share, CallOf as Calls}
 use Rattle.phase_moves.proofs.Attempts.{declines, stays_asked, is_away, IsBegun, IsTurned, IsEntered, calm, entered}
+use Rattle.phase_moves.proofs.Lockers.{hands_phase, downgrades_phase}
 
 -- ---- whether the cell is registered
 
 module _ (k : LockerKind) (who : Who) (ask : Ask) (h : Holders) (s : Parking) where
   -- an answer that begins no run is as it was entered
   plain : (o : Option Registry) (b : Begun) (g : Given) (h' : Holders) (s' : Parking) → is_run b ≡ false → IsEntered who ask h s b g h' s' → IsBegun who ask o h s b g h' s'
-  plain o (begun.Wait way) g h' s' e d = record { phase = d.phase; listed = d.listed; rows = d.rows; alone = λ z. absurd (cc); told = tt }
-  plain o begun.Missed g h' s' e d = absurd d.told
-  plain o begun.Cyclic g h' s' e d = absurd d.told
-  plain o (begun.Nothing q) g h' s' e d =
-      let z = calm ask o h.phase d.told.1 in
-      record { phase = rw z d.phase; listed = d.listed; rows = d.rows; alone = rw z (λ f. absurd (cc)); told = rw z d.told.0 }
-  plain o (begun.Read t q) g h' s' e d =
-      let z = calm ask o h.phase d.told.1 in
-      record { phase = rw z d.phase; listed = d.listed; rows = d.rows; alone = rw z (λ f. absurd (cc)); told = rw z d.told.0 }
-  plain o (begun.Write t q) g h' s' e d =
-      let z = calm ask o h.phase d.told.1 in
-      record { phase = d.phase; listed = d.listed; rows = d.rows; alone = λ f. d.alone refl; told = rw z d.told.0 }
-  plain o (begun.Run x) g h' s' e d = absurd (cc)
-  plain o (begun.Final x) g h' s' e d = record { phase = d.phase; listed = d.listed; rows = d.rows; alone = λ f. d.alone refl; told = d.told }
+  plain o (Begun.Wait way) g h' s' e d = record { phase = d.phase; listed = d.listed; rows = d.rows; alone = λ z. absurd (cc); told = tt }
+  plain o Begun.Missed g h' s' e d = absurd d.told
+  plain o Begun.Cyclic g h' s' e d = absurd d.told
+  plain o (Begun.Nothing q) g h' s' e d =
+      let z = calm ask o h.phase d.told.1 in record { phase = rw z d.phase; listed = d.listed; rows = d.rows; alone = rw z (λ f. absurd (cc)); told = rw z d.told.0 }
+  plain o (Begun.Read t q) g h' s' e d =
+      let z = calm ask o h.phase d.told.1 in record { phase = rw z d.phase; listed = d.listed; rows = d.rows; alone = rw z (λ f. absurd (cc)); told = rw z d.told.0 }
+  plain o (Begun.Write t q) g h' s' e d =
+      let z = calm ask o h.phase d.told.1 in record { phase = d.phase; listed = d.listed; rows = d.rows; alone = λ f. d.alone refl; told = rw z d.told.0 }
+  plain o (Begun.Run x) g h' s' e d = absurd (cc)
+  plain o (Begun.Final x) g h' s' e d = record { phase = d.phase; listed = d.listed; rows = d.rows; alone = λ f. d.alone refl; told = d.told }
 
   -- a run that was entered: the generator runs, beside these flags
-  runs : (o : Option Registry) (x : SeqSection) (g : Given) (h' : Holders) (s' : Parking) → IsEntered who ask h s (begun.Run x) g h' s' → IsBegun who ask o h s (begun.Run (section_by x.who x.want (stays_asked o h.phase) x.ticket)) g h' s'
+  runs : (o : Option Registry) (x : SeqSection) (g : Given) (h' : Holders) (s' : Parking) → IsEntered who ask h s (Begun.Run x) g h' s' → IsBegun who ask o h s (Begun.Run (section_by x.who x.want (stays_asked o h.phase) x.ticket)) g h' s'
   runs o x g h' s' d =
       record {
         phase = d.phase;
@@ -62,48 +35,39 @@ module _ (k : LockerKind) (who : Who) (ask : Ask) (h : Holders) (s : Parking) wh
       }
 
   -- or it has a section at once
-  at_once : (m : Registry) (x : SeqSection) (h1 : Holders) (s1 : Parking) (r : Begun × Given) (h' : Holders) (s' : Parking) → IsEntered who ask h s (begun.Run x) given.Nobody h1 s1 → is_refused ask.tol.leak (Some m) h.phase ≡ true → HasSectionAtOnce x h1 s1 r h' s' → IsBegun who ask (Some m) h s r.0 r.1 h' s'
-  at_once m x h1 s1 r h' s' d refuses so = subst (λ b. IsBegun who ask (Some m) h s b r.1 h' s') (sym so.answer) (by x.want so.finished so.goes_on)
-    where
-      declined : declines ask (Some m) h.phase ≡ true
-      declined = ap (λ b. b && is_refused ask.tol.leak (Some m) h.phase) d.told.1 ∙ refuses
+  at_once : (m : Registry) (x : SeqSection) (h1 : Holders) (s1 : Parking) (r : Begun × Given) (h' : Holders) (s' : Parking) → IsEntered who ask h s (Begun.Run x) Given.Nobody h1 s1 → is_refused ask.tol.leak (Some m) h.phase ≡ true → HasSectionAtOnce x h1 s1 r h' s' → IsBegun who ask (Some m) h s r.0 r.1 h' s'
+  at_once m x h1 s1 r h' s' d refuses so = subst (λ b. IsBegun who ask (Some m) h s b r.1 h' s') (sym so.answer) (by x.want so.finished so.goes_on) where
+    declined : declines ask (Some m) h.phase ≡ true
+    declined = ap (λ b. b && is_refused ask.tol.leak (Some m) h.phase) d.told.1 ∙ refuses
 
-      at : x.who.cell ≡ who.cell
-      at = ap (λ (y : SeqSection). y.who.cell) d.told.0
+    at : x.who.cell ≡ who.cell
+    at = ap (λ (y : SeqSection). y.who.cell) d.told.0
 
-      by : (w : Want) (f : Finished) → GoesOn w x.who.cell refused h1 s1 (f, r.1) h' s' → IsBegun who ask (Some m) h s (begun_at_once f) r.1 h' s'
-      by want.Init f k =
-          let hands = subst (λ c. Hands c (leave_write refused h1) s1 r.1 h' s') at k.hands in
-          subst (λ y. IsBegun who ask (Some m) h s (begun_at_once y) r.1 h' s') (sym k.finished)
-          (record {
-            phase = rw declined (hands_phase who.cell (leave_write refused h1) s1 r.1 h' s' hands);
-            listed = subst (λ y. IsListed who.cell y r.1) d.rows (listed_hand who.cell (leave_write refused h1) s1 r.1 hands.may);
-            rows = hands.rows ∙ ap (λ y. rows_handed who.cell r.1 y) d.rows;
-            alone = λ f. d.alone refl;
-            told = rw declined refl;
-          })
-      by want.Read f k =
-          let down = subst (λ c. Downgrades c refused h1 s1 r.1 h' s') at k.downgrades in
-          subst (λ y. IsBegun who ask (Some m) h s (begun_at_once y) r.1 h' s') (sym k.finished)
-          (record {
-            phase = rw declined (downgrades_phase who.cell refused h1 s1 r.1 h' s' down);
-            listed = subst (λ y. IsListed who.cell y r.1) d.rows (listed_share who.cell s1 r.1 down.may);
-            rows = down.rows ∙ ap (λ y. rows_handed who.cell r.1 y) d.rows;
-            alone = λ f. d.alone refl;
-            told = rw declined refl;
-          })
-      by want.Write f k =
-          subst (λ (y : Finished × Given). IsBegun who ask (Some m) h s (begun_at_once y.0) y.1 h' s') (sym k.finished)
-          (record {
-            phase = ap (λ (y : Holders). y.phase) k.held ∙ d.phase;
-            listed = tt;
-            rows = k.rows ∙ d.rows;
-            alone = λ f. d.alone refl;
-            told = rw declined refl;
-          })
-      by want.ReadOnly f k = absurd k
-      by want.WriteOnly f k = absurd k
-      by want.Finalize f k = absurd k
+    by : (w : Want) (f : Finished) → GoesOn w x.who.cell refused h1 s1 (f, r.1) h' s' → IsBegun who ask (Some m) h s (begun_at_once f) r.1 h' s'
+    by Want.Init f k =
+        let hands = subst (λ c. Hands c (leave_write refused h1) s1 r.1 h' s') at k.hands in
+        subst (λ y. IsBegun who ask (Some m) h s (begun_at_once y) r.1 h' s') (sym k.finished)
+        (record {
+          phase = rw declined (hands_phase who.cell (leave_write refused h1) s1 r.1 h' s' hands);
+          listed = subst (λ y. IsListed who.cell y r.1) d.rows (listed_hand who.cell (leave_write refused h1) s1 r.1 hands.may);
+          rows = hands.rows ∙ ap (λ y. rows_handed who.cell r.1 y) d.rows;
+          alone = λ f. d.alone refl;
+          told = rw declined refl;
+        })
+    by Want.Read f k =
+        let down = subst (λ c. Downgrades c refused h1 s1 r.1 h' s') at k.downgrades in
+        subst (λ y. IsBegun who ask (Some m) h s (begun_at_once y) r.1 h' s') (sym k.finished)
+        (record {
+          phase = rw declined (downgrades_phase who.cell refused h1 s1 r.1 h' s' down);
+          listed = subst (λ y. IsListed who.cell y r.1) d.rows (listed_share who.cell s1 r.1 down.may);
+          rows = down.rows ∙ ap (λ y. rows_handed who.cell r.1 y) d.rows;
+          alone = λ f. d.alone refl;
+          told = rw declined refl;
+        })
+    by Want.Write f k =
+        subst (λ (y : Finished × Given). IsBegun who ask (Some m) h s (begun_at_once y.0) y.1 h' s') (sym k.finished)
+        (record { phase = ap (λ (y : Holders). y.phase) k.held ∙ d.phase; listed = tt; rows = k.rows ∙ d.rows; alone = λ f. d.alone refl; told = rw declined refl })
+    by _ f k = absurd k
 
   -- what was entered, settled
   stays : (o : Option Registry) (b : Begun) (g : Given) (h1 : Holders) (s1 : Parking) (r : Begun × Given) (h' : Holders) (s' : Parking) → is_run b ≡ false → IsEntered who ask h s b g h1 s1 → Stays (b, g) h1 s1 r h' s' → IsBegun who ask o h s r.0 r.1 h' s'
@@ -111,60 +75,47 @@ module _ (k : LockerKind) (who : Who) (ask : Ask) (h : Holders) (s : Parking) wh
       subst (λ (q : Begun × Given). IsBegun who ask o h s q.0 q.1 h' s') (sym st.same) (subst (λ z. IsBegun who ask o h s b g z s') (sym st.held) (subst (λ z. IsBegun who ask o h s b g h1 z) (sym st.rows) (plain o b g h1 s1 e d)))
 
   settled : (m : Registry) (b : Begun) (g : Given) (h1 : Holders) (s1 : Parking) (r : Begun × Given) (h' : Holders) (s' : Parking) → IsEntered who ask h s b g h1 s1 → Settles ask.tol.leak m h.phase (b, g) h1 s1 r h' s' → IsBegun who ask (Some m) h s r.0 r.1 h' s'
-  settled m (begun.Run x) g h1 s1 r h' s' d st = by (is_refused ask.tol.leak (Some m) h.phase) refl st.1
-    where
-      quiet : IsEntered who ask h s (begun.Run x) given.Nobody h1 s1
-      quiet = subst (λ y. IsEntered who ask h s (begun.Run x) y h1 s1) st.0 d
+  settled m (Begun.Run x) g h1 s1 r h' s' d st = by (is_refused ask.tol.leak (Some m) h.phase) refl st.1 where
+    quiet : IsEntered who ask h s (Begun.Run x) Given.Nobody h1 s1
+    quiet = subst (λ y. IsEntered who ask h s (Begun.Run x) y h1 s1) st.0 d
 
-      by : (b : Bool) → is_refused ask.tol.leak (Some m) h.phase ≡ b → MatchBool b (HasSectionAtOnce x h1 s1 r h' s') (Generates x (staying m.is_open h.phase) h1 s1 r h' s') → IsBegun who ask (Some m) h s r.0 r.1 h' s'
-      by true e k = at_once m x h1 s1 r h' s' quiet e k
-      by false e k =
-          subst (λ (q : Begun × Given). IsBegun who ask (Some m) h s q.0 q.1 h' s') (sym k.answer) (subst (λ z. IsBegun who ask (Some m) h s (begun.Run (section_by x.who x.want (staying m.is_open h.phase) x.ticket)) given.Nobody z s') (sym k.held) (subst (λ z. IsBegun who ask (Some m) h s (begun.Run (section_by x.who x.want (staying m.is_open h.phase) x.ticket)) given.Nobody h1 z) (sym k.rows) (runs (Some m) x given.Nobody h1 s1 quiet)))
-  settled m (begun.Wait how) g h1 s1 r h' s' d st = stays (Some m) (begun.Wait how) g h1 s1 r h' s' refl d st
-  settled m begun.Missed g h1 s1 r h' s' d st = absurd d.told
-  settled m begun.Cyclic g h1 s1 r h' s' d st = absurd d.told
-  settled m (begun.Nothing p) g h1 s1 r h' s' d st = stays (Some m) (begun.Nothing p) g h1 s1 r h' s' refl d st
-  settled m (begun.Read t p) g h1 s1 r h' s' d st = stays (Some m) (begun.Read t p) g h1 s1 r h' s' refl d st
-  settled m (begun.Write t p) g h1 s1 r h' s' d st = stays (Some m) (begun.Write t p) g h1 s1 r h' s' refl d st
-  settled m (begun.Final x) g h1 s1 r h' s' d st = stays (Some m) (begun.Final x) g h1 s1 r h' s' refl d st
+    by : (b : Bool) → is_refused ask.tol.leak (Some m) h.phase ≡ b → MatchBool b (HasSectionAtOnce x h1 s1 r h' s') (Generates x (staying m.is_open h.phase) h1 s1 r h' s') → IsBegun who ask (Some m) h s r.0 r.1 h' s'
+    by true e k = at_once m x h1 s1 r h' s' quiet e k
+    by false e k =
+        subst (λ (q : Begun × Given). IsBegun who ask (Some m) h s q.0 q.1 h' s') (sym k.answer) (subst (λ z. IsBegun who ask (Some m) h s (Begun.Run (section_by x.who x.want (staying m.is_open h.phase) x.ticket)) Given.Nobody z s') (sym k.held) (subst (λ z. IsBegun who ask (Some m) h s (Begun.Run (section_by x.who x.want (staying m.is_open h.phase) x.ticket)) Given.Nobody h1 z) (sym k.rows) (runs (Some m) x Given.Nobody h1 s1 quiet)))
+  settled m (Begun.Wait how) g h1 s1 r h' s' d st = stays (Some m) (Begun.Wait how) g h1 s1 r h' s' refl d st
+  settled m (Begun.Nothing p) g h1 s1 r h' s' d st = stays (Some m) (Begun.Nothing p) g h1 s1 r h' s' refl d st
+  settled m (Begun.Read t p) g h1 s1 r h' s' d st = stays (Some m) (Begun.Read t p) g h1 s1 r h' s' refl d st
+  settled m (Begun.Write t p) g h1 s1 r h' s' d st = stays (Some m) (Begun.Write t p) g h1 s1 r h' s' refl d st
+  settled m (Begun.Final x) g h1 s1 r h' s' d st = stays (Some m) (Begun.Final x) g h1 s1 r h' s' refl d st
+  settled m _ g h1 s1 r h' s' d st = absurd d.told
 
   -- on a cell without a registry
   unsettled : (b : Begun) (g : Given) (h' : Holders) (s' : Parking) → IsEntered who ask h s b g h' s' → IsBegun who ask None h s b g h' s'
-  unsettled (begun.Run x) g h' s' d = subst (λ y. IsBegun who ask None h s (begun.Run y) g h' s') ((λ i. section_by (d.told.0 i).who (d.told.0 i).want unregistered (d.told.0 i).ticket) ∙ sym d.told.0) (runs None x g h' s' d)
-  unsettled (begun.Wait how) g h' s' d = plain None (begun.Wait how) g h' s' refl d
-  unsettled begun.Missed g h' s' d = absurd d.told
-  unsettled begun.Cyclic g h' s' d = absurd d.told
-  unsettled (begun.Nothing p) g h' s' d = plain None (begun.Nothing p) g h' s' refl d
-  unsettled (begun.Read t p) g h' s' d = plain None (begun.Read t p) g h' s' refl d
-  unsettled (begun.Write t p) g h' s' d = plain None (begun.Write t p) g h' s' refl d
-  unsettled (begun.Final x) g h' s' d = plain None (begun.Final x) g h' s' refl d
+  unsettled (Begun.Run x) g h' s' d = subst (λ y. IsBegun who ask None h s (Begun.Run y) g h' s') ((λ i. section_by (d.told.0 i).who (d.told.0 i).want unregistered (d.told.0 i).ticket) ∙ sym d.told.0) (runs None x g h' s' d)
+  unsettled (Begun.Wait how) g h' s' d = plain None (Begun.Wait how) g h' s' refl d
+  unsettled (Begun.Nothing p) g h' s' d = plain None (Begun.Nothing p) g h' s' refl d
+  unsettled (Begun.Read t p) g h' s' d = plain None (Begun.Read t p) g h' s' refl d
+  unsettled (Begun.Write t p) g h' s' d = plain None (Begun.Write t p) g h' s' refl d
+  unsettled (Begun.Final x) g h' s' d = plain None (Begun.Final x) g h' s' refl d
+  unsettled _ g h' s' d = absurd d.told
 
   -- what is turned away stays so
   still : (m : Registry) (b : Begun) (g : Given) (h1 : Holders) (s1 : Parking) (r : Begun × Given) (h' : Holders) (s' : Parking) → is_away b ≡ true → Settles ask.tol.leak m h.phase (b, g) h1 s1 r h' s' → Stays (b, g) h1 s1 r h' s'
-  still m (begun.Wait way) g h1 s1 r h' s' e st = absurd (cc)
-  still m begun.Missed g h1 s1 r h' s' e st = st
-  still m begun.Cyclic g h1 s1 r h' s' e st = st
-  still m (begun.Nothing q) g h1 s1 r h' s' e st = absurd (cc)
-  still m (begun.Read t q) g h1 s1 r h' s' e st = absurd (cc)
-  still m (begun.Write t q) g h1 s1 r h' s' e st = absurd (cc)
-  still m (begun.Run x) g h1 s1 r h' s' e st = absurd (cc)
-  still m (begun.Final x) g h1 s1 r h' s' e st = absurd (cc)
+  still m Begun.Missed g h1 s1 r h' s' e st = st
+  still m Begun.Cyclic g h1 s1 r h' s' e st = st
+  still m _ g h1 s1 r h' s' e st = absurd (cc)
 
   -- a call of a party that waits at the cell, or does not wait
   module _ (running : Option ℕ) (r : Begun × Given) (h' : Holders) (s' : Parking) where
     pub answered : (o : Option Registry) (waits : Bool) → MatchBool waits ((row_of s who.party).cell ≡ who.cell) (row_of s who.party ≡ free_row) → who.party < length s.rows → Fits k h s who.cell → Calls waits o k who ask running h s r h' s' → IsTurned h s r.0 r.1 h' s' ⊎ IsBegun who ask o h s r.0 r.1 h' s'
-    answered None waits row inside fits d =
-        elim (entered k who ask running h s r h' s' waits row inside fits d) [
-          | inl t ↦ inl t
-          | inr e ↦ inr (unsettled r.0 r.1 h' s' e)
-        ]
+    answered None waits row inside fits d = elim (entered k who ask running h s r h' s' waits row inside fits d) [ inl t ↦ inl t | inr e ↦ inr (unsettled r.0 r.1 h' s' e) ]
     answered (Some m) waits row inside fits d =
         elim (entered k who ask running h s d.entered d.held d.rows waits row inside fits d.enters) [
           | inl t ↦ inl (back d t)
           | inr e ↦ inr (settled m d.entered.0 d.entered.1 d.held d.rows r h' s' e d.settles)
-        ]
-      where
-        back : (d : Calls waits (Some m) k who ask running h s r h' s') → IsTurned h s d.entered.0 d.entered.1 d.held d.rows → IsTurned h s r.0 r.1 h' s'
-        back d t =
-            let st = still m d.entered.0 d.entered.1 d.held d.rows r h' s' t.away d.settles in
-            record { away = ap (λ (q : Begun × Given). is_away q.0) st.same ∙ t.away; given = ap (λ (q : Begun × Given). q.1) st.same ∙ t.given; held = st.held ∙ t.held; rows = st.rows ∙ t.rows }
+        ] where
+          back : (d : Calls waits (Some m) k who ask running h s r h' s') → IsTurned h s d.entered.0 d.entered.1 d.held d.rows → IsTurned h s r.0 r.1 h' s'
+          back d t =
+              let st = still m d.entered.0 d.entered.1 d.held d.rows r h' s' t.away d.settles in
+              record { away = ap (λ (q : Begun × Given). is_away q.0) st.same ∙ t.away; given = ap (λ (q : Begun × Given). q.1) st.same ∙ t.given; held = st.held ∙ t.held; rows = st.rows ∙ t.rows }

@@ -1,38 +1,11 @@
 -- What is asked of a cell is what the rules ask for it, and so is what a call that is declined leaves.
-use Rattle.std.proofs.Common.{◌≡◌, ◌∙◌, ℕ, [], ◌∷◌, refl, sym, ap, Bool, true, false, not, ◌&&◌, None, Some, length-set}
-use Rattle.std.specs.Prelude.{if◌then◌else◌, ◌==◌}
-use Rattle.std.specs.Option.{unwrap_or}
-use Rattle.std.specs.declared.option.Option.{Option}
-use Rattle.phase_bits.specs.Flags.{has, initialized}
-use Rattle.phase_bits.specs.Number.{number, phase_of}
-use Rattle.phase_bits.specs.declared.phase.Phase.{Phase}
-use Rattle.exit_registry.specs.Registry.{Registry, after_register, registered, cells_of}
-use Rattle.phase_seq.specs.declared.ask.Ask.{Ask}
-use Rattle.phase_seq.specs.declared.ask.Want.{Want as Sought}
-use Rattle.phase_seq.specs.declared.ask.Want.TheVariants as want
-use Rattle.phase_seq.specs.declared.section.Begun.{Begun}
-use Rattle.phase_seq.specs.declared.tolerance.Tolerance.{Tolerance}
-use Rattle.phase_seq.specs.Asks.{asks_run as seq_asks_run, initializes as run_sought, nature_of, nature_where, shall_init, wake_of}
-use Rattle.phase_seq.specs.Exactly.{is_run}
-use Rattle.phase_seq.specs.Phases.{flags_generate, flags_refused, flags_staying}
-use Rattle.phase_seq.specs.Registers.{after_asking, is_refused}
-use Rattle.lazy_cells.specs.declared.call.Call.{Call}
-use Rattle.lazy_cells.specs.declared.kind.Kind.{Kind}
-use Rattle.lazy_cells.specs.Calls.{asking}
-use Rattle.lazy_cells.specs.Kinds.{is_finalizable}
-use Rattle.schedule_rules.specs.declared.plan.CellPlan.{CellPlan}
-use Rattle.schedule_rules.specs.declared.step.Want.{Want}
-use Rattle.schedule_rules.specs.declared.step.Want.TheVariants.{Calls, Turns}
-use Rattle.schedule_rules.specs.Forms.{form_of}
-use Rattle.schedule_rules.specs.Kinds.{tolerance_of}
-use Rattle.schedule_rules.specs.Phases.{NoRun, phase_reached, runs_generator, tries_registration}
-use Rattle.schedule_rules.specs.Calls.{asks, initializes, is_fast, lock_asked, lock_wanted, run_asked, seeks, seeks_run, wakes_as, woken_as}
-use Rattle.schedule_rules.specs.Changes.{Content, Asked, content_asked, effect, is_declined}
-use Rattle.schedule_rules.specs.Sections.{is_turn}
-use Rattle.phase_moves.specs.Calls.{registry_for, registry_begun}
-use Rattle.phase_moves.specs.Standing.{changes_asked}
-use Rattle.phase_moves.specs.Stands.{form_as, run_as, stays_in}
-use Rattle.phase_moves.specs.Tries.{ask_of, is_quick}
+use Rattle.phase_moves.proofs.Words.{◌≡◌, ◌∙◌, ℕ, [], ◌∷◌, refl, sym, ap, Bool, true, false, not, ◌&&◌, None, Some, length-set, if◌then◌else◌, ◌==◌, unwrap_or, Option, has}
+use Rattle.phase_moves.proofs.Words.{initialized, number, phase_of, Phase, Registry, after_register, registered, cells_of, Ask, Sought, Begun, Tolerance}
+use Rattle.phase_moves.proofs.Words.{asks_run as seq_asks_run, run_sought, nature_of, nature_where, shall_init, wake_of, is_run, flags_generate, flags_refused, flags_staying}
+use Rattle.phase_moves.proofs.Words.{after_asking, is_refused, Call, Kind, asking, is_finalizable, CellPlan, Want, Calls, Turns, form_of, tolerance_of, NoRun, phase_reached}
+use Rattle.phase_moves.proofs.Words.{runs_generator, tries_registration, asks, initializes, is_fast, lock_asked, lock_wanted, run_asked, seeks, seeks_run, wakes_as, woken_as}
+use Rattle.phase_moves.proofs.Words.{Content, Asked, content_asked, effect, is_declined, is_turn, registry_for, registry_begun, changes_asked, form_as, run_as, stays_in}
+use Rattle.phase_moves.proofs.Words.{ask_of, is_quick}
 use Rattle.phase_moves.proofs.Attempts.{declines, stays_asked, phase_told}
 
 -- what is asked is what is sought, of a cell that puts up with this
@@ -42,21 +15,16 @@ pub record IsAsked (x : CellPlan) (w : Want) (ask : Ask) : Type 0 where
   pub tol : ask.tol ≡ tolerance_of x
 
 pub is_asked : (x : CellPlan) (w : Want) (ask : Ask) → ask_of x w ≡ Some ask → IsAsked x w ask
-is_asked x w ask e = by (seeks x.kind w) refl e
-  where
-    by : (s : Option Sought) → seeks x.kind w ≡ s → asking s (is_quick x w) (tolerance_of x) ≡ Some ask → IsAsked x w ask
-    by None f e = absurd (cc)
-    by (Some s) f e =
-        let is : record { want = s; fast = is_quick x w; tol = tolerance_of x } ≡ ask = cc in
-        record { sought = f ∙ ap (λ (z : Ask). Some z.want) is; fast = sym (ap (λ (z : Ask). z.fast) is); tol = sym (ap (λ (z : Ask). z.tol) is) }
+is_asked x w ask e = by (seeks x.kind w) refl e where
+  by : (s : Option Sought) → seeks x.kind w ≡ s → asking s (is_quick x w) (tolerance_of x) ≡ Some ask → IsAsked x w ask
+  by None f e = absurd (cc)
+  by (Some s) f e =
+      let is : record { want = s; fast = is_quick x w; tol = tolerance_of x } ≡ ask = cc in
+      record { sought = f ∙ ap (λ (z : Ask). Some z.want) is; fast = sym (ap (λ (z : Ask). z.fast) is); tol = sym (ap (λ (z : Ask). z.tol) is) }
 
 -- nothing is sought by what asks nothing
 pub none_sought : (x : CellPlan) (w : Want) → ask_of x w ≡ None → seeks x.kind w ≡ None
-none_sought x w e = by (seeks x.kind w) e
-  where
-    by : (s : Option Sought) → asking s (is_quick x w) (tolerance_of x) ≡ None → s ≡ None
-    by None e = refl
-    by (Some s) e = absurd (cc)
+none_sought x w e = (elim (seeks x.kind w) as (λ (s : Option Sought). asking s (is_quick x w) (tolerance_of x) ≡ None → s ≡ None) [ None ↦ λ e. refl | Some s ↦ λ e. absurd (cc) ]) e
 
 module _ (x : CellPlan) (w : Want) (ask : Ask) (is : IsAsked x w ask) where
   -- a run is asked where the rules ask it
@@ -76,34 +44,27 @@ module _ (x : CellPlan) (w : Want) (ask : Ask) (is : IsAsked x w ask) where
 
   -- only a call asks a run
   pub run_calls : (p : Phase) → seq_asks_run ask p ≡ true → is_turn w ≡ false
-  run_calls p e = by w is.sought
-    where
-      by : (v : Want) → seeks x.kind v ≡ Some ask.want → is_turn v ≡ false
-      by (Calls k) f = refl
-      by Turns f = absurd (let g : want.Finalize ≡ ask.want = cc in let h : false ≡ true = ap (λ s. run_sought s && shall_init ask.tol p) g ∙ e in cc)
+  run_calls p e = by w is.sought where
+    by : (v : Want) → seeks x.kind v ≡ Some ask.want → is_turn v ≡ false
+    by (Calls k) f = refl
+    by Turns f = absurd (let g : Sought.Finalize ≡ ask.want = cc in let h : false ≡ true = ap (λ s. run_sought s && shall_init ask.tol p) g ∙ e in cc)
 
   -- what asks for a run has its section run as it seeks
   pub asked_as : (p : Phase) → seq_asks_run ask p ≡ true → ask.want ≡ run_as x.kind w
-  asked_as p e = by w is.sought
-    where
-      runs : run_sought ask.want ≡ true
-      runs = first (run_sought ask.want) (shall_init ask.tol p) e
-        where
-          first : (a b : Bool) → (a && b) ≡ true → a ≡ true
-          first true b e = refl
-          first false b e = absurd (cc)
+  asked_as p e = by w is.sought where
+    runs : run_sought ask.want ≡ true
+    runs = (elim (run_sought ask.want) as (λ a. (b : Bool) → (a && b) ≡ true → a ≡ true) [ true ↦ λ b e. refl | false ↦ λ b e. absurd (cc) ]) (shall_init ask.tol p) e
 
-      by : (v : Want) → seeks x.kind v ≡ Some ask.want → ask.want ≡ run_as x.kind v
-      by (Calls k) f = sym (ap (λ s. if seeks_run s then unwrap_or s want.Write else form_as (form_of x.kind k)) f ∙ ap (λ b. if b then ask.want else form_as (form_of x.kind k)) runs)
-      by Turns f = cc
+    by : (v : Want) → seeks x.kind v ≡ Some ask.want → ask.want ≡ run_as x.kind v
+    by (Calls k) f = sym (ap (λ s. if seeks_run s then unwrap_or s Sought.Write else form_as (form_of x.kind k)) f ∙ ap (λ b. if b then ask.want else form_as (form_of x.kind k)) runs)
+    by Turns f = cc
 
 -- the flags that stay beside those of a section
 pub stays_same : (x : CellPlan) (w : Want) (m : Registry) (p : ℕ) → is_turn w ≡ false → stays_asked (registry_for x.kind m) (phase_of p) ≡ stays_in x w m.is_open p
-stays_same x (Calls k) m p e = by (is_finalizable x.kind)
-  where
-    by : (b : Bool) → stays_asked (if b then Some m else None) (phase_of p) ≡ phase_of (if b then flags_staying m.is_open p else 0)
-    by true = refl
-    by false = refl
+stays_same x (Calls k) m p e = by (is_finalizable x.kind) where
+  by : (b : Bool) → stays_asked (if b then Some m else None) (phase_of p) ≡ phase_of (if b then flags_staying m.is_open p else 0)
+  by true = refl
+  by false = refl
 stays_same x Turns m p e = absurd (cc)
 
 -- whether it is declined
@@ -112,33 +73,30 @@ declined x (Calls k) is_open p = is_declined x.kind (tolerance_of x) k is_open p
 declined x Turns is_open p = false
 
 pub refuses_same : (x : CellPlan) (m : Registry) (p : ℕ) → is_refused x.leak (registry_for x.kind m) (phase_of p) ≡ not (runs_generator x.kind (tolerance_of x) m.is_open p)
-refuses_same x m p = by (is_finalizable x.kind)
-  where
-    by : (b : Bool) → is_refused x.leak (if b then Some m else None) (phase_of p) ≡ not (if b then flags_generate x.leak (if b then flags_staying m.is_open p else 0) else true)
-    by true = refl
-    by false = refl
+refuses_same x m p = by (is_finalizable x.kind) where
+  by : (b : Bool) → is_refused x.leak (if b then Some m else None) (phase_of p) ≡ not (if b then flags_generate x.leak (if b then flags_staying m.is_open p else 0) else true)
+  by true = refl
+  by false = refl
 
 pub declines_same : (x : CellPlan) (w : Want) (ask : Ask) → IsAsked x w ask → (m : Registry) (p : ℕ) → declines ask (registry_for x.kind m) (phase_of p) ≡ declined x w m.is_open p
 declines_same x (Calls k) ask is m p =
     ap (λ (t : Tolerance). seq_asks_run ask (phase_of p) && is_refused t.leak (registry_for x.kind m) (phase_of p)) is.tol ∙ (λ i. asks_same x (Calls k) ask is (phase_of p) i && refuses_same x m p i)
-declines_same x Turns ask is m p = let sought = is.sought in let g : ask.want ≡ want.Finalize = cc in ap (λ s. (run_sought s && shall_init ask.tol (phase_of p)) && is_refused ask.tol.leak (registry_for x.kind m) (phase_of p)) g
+declines_same x Turns ask is m p = let sought = is.sought in let g : ask.want ≡ Sought.Finalize = cc in ap (λ s. (run_sought s && shall_init ask.tol (phase_of p)) && is_refused ask.tol.leak (registry_for x.kind m) (phase_of p)) g
 
 -- what it leaves
 pub asked_left : (x : CellPlan) (w : Want) (o : Bool) (y : Content) → effect x (changes_asked x w o y) y ≡ record { phase = if declined x w o y.phase then flags_refused else y.phase; value = y.value }
-asked_left x (Calls k) o y = by (is_declined x.kind (tolerance_of x) k o y.phase) refl
-  where
-    by : (b : Bool) → is_declined x.kind (tolerance_of x) k o y.phase ≡ b → effect x (if b then Asked o k ∷ [] else []) y ≡ record { phase = if b then flags_refused else y.phase; value = y.value }
-    by true e = ap (λ b. if b then record { phase = phase_reached x.kind o y.phase NoRun; value = y.value } else y) e
-    by false e = refl
+asked_left x (Calls k) o y = by (is_declined x.kind (tolerance_of x) k o y.phase) refl where
+  by : (b : Bool) → is_declined x.kind (tolerance_of x) k o y.phase ≡ b → effect x (if b then Asked o k ∷ [] else []) y ≡ record { phase = if b then flags_refused else y.phase; value = y.value }
+  by true e = ap (λ b. if b then record { phase = phase_reached x.kind o y.phase NoRun; value = y.value } else y) e
+  by false e = refl
 asked_left x Turns o y = refl
 
 -- of a call, that is what it leaves as the rules say it
 pub call_left : (x : CellPlan) (k : Call) (o : Bool) (y : Content) → effect x (changes_asked x (Calls k) o y) y ≡ content_asked x.kind (tolerance_of x) o k y
-call_left x k o y = by (is_declined x.kind (tolerance_of x) k o y.phase) refl
-  where
-    by : (b : Bool) → is_declined x.kind (tolerance_of x) k o y.phase ≡ b → effect x (if b then Asked o k ∷ [] else []) y ≡ content_asked x.kind (tolerance_of x) o k y
-    by true e = refl
-    by false e = sym (ap (λ b. if b then record { phase = phase_reached x.kind o y.phase NoRun; value = y.value } else y) e)
+call_left x k o y = by (is_declined x.kind (tolerance_of x) k o y.phase) refl where
+  by : (b : Bool) → is_declined x.kind (tolerance_of x) k o y.phase ≡ b → effect x (if b then Asked o k ∷ [] else []) y ≡ content_asked x.kind (tolerance_of x) o k y
+  by true e = refl
+  by false e = sym (ap (λ b. if b then record { phase = phase_reached x.kind o y.phase NoRun; value = y.value } else y) e)
 
 -- the phase that it tells
 pub told_same : (d : Bool) (p : ℕ) → phase_told d (phase_of p) ≡ phase_of (if d then flags_refused else p)
@@ -149,25 +107,16 @@ told_same false p = refl
 
 -- a call that begins no run leaves it
 pub registry_still : (k : Kind) (c : ℕ) (p : Phase) (b : Begun) (m : Registry) → is_run b ≡ false → registry_begun k c p b m ≡ m
-registry_still k c p b m e = by (is_finalizable k)
-  where
-    by : (f : Bool) → (if f then after_asking (is_run b) c p m else m) ≡ m
-    by true = ap (λ r. after_asking r c p m) e
-    by false = refl
+registry_still k c p b m e = elim (is_finalizable k) as (λ f. (if f then after_asking (is_run b) c p m else m) ≡ m) [ true ↦ ap (λ r. after_asking r c p m) e | false ↦ refl ]
 
 -- a run registers its cell as the rules do
 pub registry_run : (x : CellPlan) (c p : ℕ) (b : Begun) (m : Registry) → is_run b ≡ true → registry_begun x.kind c (phase_of p) b m ≡ (if tries_registration x.kind p then after_register c m else m)
-registry_run x c p b m e = by (is_finalizable x.kind)
-  where
-    by : (f : Bool) → (if f then after_asking (is_run b) c (phase_of p) m else m) ≡ (if f && (p == 0) then after_register c m else m)
-    by true = ap (λ r. after_asking r c (phase_of p) m) e
-    by false = refl
+registry_run x c p b m e = by (is_finalizable x.kind) where
+  by : (f : Bool) → (if f then after_asking (is_run b) c (phase_of p) m else m) ≡ (if f && (p == 0) then after_register c m else m)
+  by true = ap (λ r. after_asking r c (phase_of p) m) e
+  by false = refl
 
 -- it stays for as many cells
 pub cells_stay : (c : ℕ) (b : Bool) (m : Registry) → cells_of (if b then after_register c m else m) ≡ cells_of m
 cells_stay c false m = refl
-cells_stay c true m = by m.is_open
-  where
-    by : (o : Bool) → cells_of (if o then registered c m else m) ≡ cells_of m
-    by true = length-set m.known c true
-    by false = refl
+cells_stay c true m = elim m.is_open as (λ o. cells_of (if o then registered c m else m) ≡ cells_of m) [ true ↦ length-set m.known c true | false ↦ refl ]

@@ -1,37 +1,9 @@
 -- A locker bars as the rules do, keeps what they keep, and a barred call waits in a way that is due.
-use Rattle.std.proofs.Common.{◌≡◌, ◌==◌, ◌<◌, ◌≤◌, ◌+◌, ◌∙◌, ℕ, List, [], ◌∷◌, ap, sym, refl, arith, Bool, true, false, None, Some, not, ◌||◌, ◌&&◌, inl, inr}
-use Rattle.std.proofs.lemmas.Bool.{cases_lt}
-use Rattle.std.specs.Prelude.{nat_lt, if◌then◌else◌}
-use Rattle.std.specs.declared.option.Option.{Option}
-use Rattle.phase_bits.specs.declared.holders.Holders.{Holders}
-use Rattle.phase_bits.specs.Records.{most_readers}
-use Rattle.phase_locker.specs.declared.tickets.LockNature.{LockNature}
-use Rattle.phase_locker.specs.declared.tickets.LockNature.TheVariants as nature
-use Rattle.phase_locker.specs.declared.ways.How.{How}
-use Rattle.phase_locker.specs.declared.ways.How.TheVariants as how
-use Rattle.phase_locker.specs.declared.ways.LockerKind.{LockerKind}
-use Rattle.phase_locker.specs.Natures.{bars}
-use Rattle.phase_locker.specs.Rows.{Rows as Parking, claims, drains, drains_at, row_of}
-use Rattle.phase_locker.specs.Fits.{Fits, IsWriteOpen, is_park, open_reads}
-use Rattle.phase_locker.specs.Attempts.{MayWait, keeps as row_keeps}
-use Rattle.phase_locker.proofs.Leaving.{write_has_no_reader}
-use Rattle.lazy_cells.specs.declared.kind.Kind.{Kind}
-use Rattle.schedule_rules.specs.declared.plan.Place.{Place}
-use Rattle.schedule_rules.specs.declared.plan.Place.TheVariants as place
-use Rattle.schedule_rules.specs.declared.step.Want.{Want}
-use Rattle.schedule_rules.specs.declared.line.Answer.TheVariants as answer
-use Rattle.schedule_rules.specs.declared.plan.CellPlan.{CellPlan}
-use Rattle.schedule_rules.specs.Answers.{answer_barred, answer_barred_at, drains_by, way_parked}
-use Rattle.schedule_rules.specs.Calls.{is_fast, wakes_as, way_of_nature}
-use Rattle.schedule_rules.specs.Kinds.{is_owned}
-use Rattle.schedule_rules.specs.History.{count}
-use Rattle.schedule_rules.specs.Holds.{Holding, is_barred, is_barred_by_readers, keeps, keeps_way}
-use Rattle.schedule_rules.specs.Waits.{Wait, drains_on, is_drain, shares_read, shares_write, wait_of}
-use Rattle.waiting_rows.specs.Shown.{IsSingle, Shows, wait_row, waiting_of}
-use Rattle.waiting_rows.proofs.RowCounts.{claims_shown, count_rows, shares_shown}
-use Rattle.phase_moves.specs.Meets.{answer_missed}
-use Rattle.phase_moves.specs.Stands.{kind_at}
-use Rattle.phase_moves.specs.Tries.{is_quick}
+use Rattle.phase_moves.proofs.Words.{◌≡◌, ◌==◌, ◌<◌, ◌≤◌, ◌+◌, ◌∙◌, ℕ, List, [], ◌∷◌, refl, arith, Bool, true, false, None, Some, not, ◌||◌, ◌&&◌, inl, inr, cases_lt, nat_lt}
+use Rattle.phase_moves.proofs.Words.{Option, Holders, LockNature, How, LockerKind, bars, Parking, drains, drains_at, row_of, Fits, IsWriteOpen, open_reads, MayWait}
+use Rattle.phase_moves.proofs.Words.{keeps as row_keeps, write_has_no_reader, Want, CellPlan, answer_barred, drains_by, way_parked, is_fast, wakes_as, count, Holding}
+use Rattle.phase_moves.proofs.Words.{is_barred, keeps_of_holds as keeps, Wait, drains_on, is_drain, shares_read, shares_write, wait_of, IsSingle, Shows, wait_row}
+use Rattle.phase_moves.proofs.Words.{claims_shown, count_rows, shares_shown, answer_missed, kind_at, is_quick, Answer}
 
 -- ---- tests of numbers
 
@@ -44,29 +16,17 @@ not_less n e = grind (arith, e)
 positive : (n : ℕ) → nat_lt 0 n ≡ true → 0 < n
 positive n e = grind (arith, e)
 
-zero : (n : ℕ) → nat_lt 0 n ≡ false → n ≡ 0
-zero n e = grind (arith, e)
-
 is_zero : (n : ℕ) → n ≡ 0 → (n == 0) ≡ true
 is_zero n e = grind (arith, e)
 
 some_not : (n : ℕ) → nat_lt 0 n ≡ not (n == 0)
-some_not n = elim (cases_lt 0 n) [
-  | inl lt ↦ (let a = less n lt in let b : (n == 0) ≡ false = grind (arith, lt) in a ∙ ap not (sym b))
-  | inr le ↦ (let e : n ≡ 0 = omega (arith, le) in not_less n e ∙ ap not (sym (is_zero n e)))
-]
+some_not n = grind arith
 
 read_same : (w d e m : Bool) → (w ≡ true → e ≡ true) → (((w || d) && e) || m) ≡ (w || ((d && e) || m))
-read_same true d e m f = by e (f refl)
-  where
-    by : (e : Bool) → e ≡ true → (e || m) ≡ true
-    by true p = refl
-    by false p = absurd (cc)
-read_same false d e m f = refl
+read_same w d e m f = grind arith
 
 write_same : (w d z l : Bool) → l ≡ not z → ((w || d) || not z) ≡ (w || (d || l))
-write_same true d z l e = refl
-write_same false d z l e = ap (λ b. d || b) (sym e)
+write_same w d z l e = grind arith
 
 -- ---- drains
 
@@ -75,15 +35,7 @@ counted t u [] same = refl
 counted t u (w ∷ ws) same = let e = same w in let f = counted t u ws same in grind (arith, e, f)
 
 row_drains : (c : ℕ) (w : Wait) → drains_at c (wait_row (Some w)) ≡ drains_on c w
-row_drains c w = by w.party w.cell w.want w.way w.woken
-  where
-    by : (p x : ℕ) (want : Want) (way : How) (woken : Bool) → drains_at c (wait_row (Some (record { party = p; cell = x; want = want; way = way; woken = woken }))) ≡ drains_on c (record { party = p; cell = x; want = want; way = way; woken = woken })
-    by p x want how.Spin woken = refl
-    by p x want how.ParkedRead true = refl
-    by p x want how.ParkedRead false = refl
-    by p x want how.ParkedWrite true = refl
-    by p x want how.ParkedWrite false = refl
-    by p x want how.Drain woken = refl
+row_drains c w = grind arith
 
 -- the rows of who is parked tell the drains
 pub drains_shown : (c : ℕ) (ws : List Wait) (s : Parking) → IsSingle ws → Shows ws s → drains s c ≡ count (drains_on c) ws
@@ -107,83 +59,33 @@ module _ (k : LockerKind) (h : Holders) (s : Parking) (c reads writes : ℕ) (ws
 
   -- it is locked for a write or a drain
   pub locked_same : h.locked ≡ (nat_lt 0 writers || nat_lt 0 drainers)
-  locked_same = by h.locked refl
-    where
-      by : (b : Bool) → h.locked ≡ b → b ≡ (nat_lt 0 writers || nat_lt 0 drainers)
-      by false e =
-          let none = fits.locked e in
-          let shown = claims_shown c ws s single shows in
-          let closed : writes ≡ 0 = elim (cases_lt 0 writes) [ inl lt ↦ (let o = (write_is lt).locked in absurd (cc)) | inr le ↦ omega (arith, le) ] in
-          let w = not_less writers (omega (arith, none, shown, closed)) in
-          let d = not_less drainers (omega (arith, none, shown)) in
-          rw (w, d) refl
-      by true e = elim (cases_lt 0 writers) [
-        | inl lt ↦ (let w = less writers lt in rw w refl)
-        | inr le ↦ (let lt : 0 < drainers = drains_then le in let d = less drainers lt in let w = not_less writers (omega (arith, le)) in rw (w, d) refl)
-      ]
-        where
-          drains_then : writers ≤ 0 → 0 < drainers
-          drains_then le = elim (cases_lt 0 (claims s c)) [
-            | inl lt ↦ (let shown = claims_shown c ws s single shows in omega (arith, lt, shown, le))
-            | inr none ↦ (let some = write_was (record { locked = e; unclaimed = omega (arith, none) }) in absurd (omega (arith, some, le)))
-          ]
+  locked_same = by h.locked refl where
+    by : (b : Bool) → h.locked ≡ b → b ≡ (nat_lt 0 writers || nat_lt 0 drainers)
+    by false e =
+        let none = fits.locked e in let shown = claims_shown c ws s single shows in
+        let closed : writes ≡ 0 = elim (cases_lt 0 writes) [ inl lt ↦ (let o = (write_is lt).locked in absurd (cc)) | inr le ↦ omega (arith, le) ] in
+        let w = not_less writers (omega (arith, none, shown, closed)) in let d = not_less drainers (omega (arith, none, shown)) in rw (w, d) refl
+    by true e = elim (cases_lt 0 writers) [
+      | inl lt ↦ (let w = less writers lt in rw w refl)
+      | inr le ↦ (let lt : 0 < drainers = drains_then le in let d = less drainers lt in let w = not_less writers (omega (arith, le)) in rw (w, d) refl)
+    ] where
+      drains_then : writers ≤ 0 → 0 < drainers
+      drains_then le = grind (arith, cases_lt, claims_shown)
 
   -- beside a write nobody reads
   pub unread_written : 0 < writers → readers ≡ 0
-  unread_written lt = sym readers_same ∙ elim (cases_lt 0 writes) [
-    | inl writing ↦ write_has_no_reader k h s c fits (write_is writing)
-    | inr le ↦ shared (omega (arith, lt, le))
-  ]
-    where
-      shared : 0 < count (shares_write c) ws → h.readers ≡ 0
-      shared some = elim (cases_lt 0 h.readers) [
-        | inr le ↦ omega (arith, le)
-        | inl read ↦ (let shown = claims_shown c ws s single shows in
-            let one = fits.one in
-            let drained = fits.drained (locks h.locked refl) read in
-            let drains_are = drains_shown c ws s single shows in
-            absurd (omega (arith, shown, one, drained, drains_are, some)))
-      ]
-        where
-          locks : (b : Bool) → h.locked ≡ b → b ≡ true
-          locks true e = refl
-          locks false e = let none = fits.locked e in let shown = claims_shown c ws s single shows in absurd (omega (arith, none, shown, some))
+  unread_written lt = grind (arith, readers_same, cases_lt, write_has_no_reader, claims_shown, drains_shown)
 
   -- it bars as the rules do
   pub barred_same : (n : LockNature) → bars h n ≡ is_barred n (record { readers = readers; written = nat_lt 0 writers; drained = nat_lt 0 drainers })
-  barred_same nature.None = refl
-  barred_same nature.Read =
-      (λ i. (locked_same i && (readers_same i == 0)) || (readers_same i == most_readers))
-      ∙ read_same (nat_lt 0 writers) (nat_lt 0 drainers) (readers == 0) (readers == most_readers) (λ e. is_zero readers (unread_written (positive writers e)))
-  barred_same nature.Write = (λ i. locked_same i || not (readers_same i == 0)) ∙ write_same (nat_lt 0 writers) (nat_lt 0 drainers) (readers == 0) (nat_lt 0 readers) (some_not readers)
+  barred_same LockNature.None = refl
+  barred_same LockNature.Read = grind (arith, locked_same, readers_same, read_same, is_zero, unread_written, positive)
+  barred_same LockNature.Write = (λ i. locked_same i || not (readers_same i == 0)) ∙ write_same (nat_lt 0 writers) (nat_lt 0 drainers) (readers == 0) (nat_lt 0 readers) (some_not readers)
 
 -- ---- what is kept
 
-way_kept : (way : How) (woken : Bool) (n : LockNature) (h : Holders) → row_keeps (waiting_of way woken) n h ≡ keeps_way way woken n h.readers
-way_kept how.Spin woken nature.None h = refl
-way_kept how.Spin woken nature.Read h = refl
-way_kept how.Spin woken nature.Write h = refl
-way_kept how.ParkedRead true nature.None h = refl
-way_kept how.ParkedRead true nature.Read h = refl
-way_kept how.ParkedRead true nature.Write h = refl
-way_kept how.ParkedRead false nature.None h = refl
-way_kept how.ParkedRead false nature.Read h = refl
-way_kept how.ParkedRead false nature.Write h = refl
-way_kept how.ParkedWrite true nature.None h = refl
-way_kept how.ParkedWrite true nature.Read h = refl
-way_kept how.ParkedWrite true nature.Write h = refl
-way_kept how.ParkedWrite false nature.None h = refl
-way_kept how.ParkedWrite false nature.Read h = refl
-way_kept how.ParkedWrite false nature.Write h = refl
-way_kept how.Drain woken nature.None h = refl
-way_kept how.Drain woken nature.Read h = refl
-way_kept how.Drain woken nature.Write h = refl
-
 call_kept : (o : Option Wait) (n : LockNature) (h : Holders) → row_keeps (wait_row o).waiting n h ≡ keeps o n h.readers
-call_kept None nature.None h = refl
-call_kept None nature.Read h = refl
-call_kept None nature.Write h = refl
-call_kept (Some w) n h = way_kept w.way w.woken n h
+call_kept o n h = grind arith
 
 -- what the row of a party says is kept where the rules keep it
 pub row_kept : (p : ℕ) (n : LockNature) (ws : List Wait) (s : Parking) (h : Holders) → Shows ws s → row_keeps (row_of s p).waiting n h ≡ keeps (wait_of p ws) n h.readers
@@ -191,53 +93,11 @@ row_kept p n ws s h shows = rw (shows.row p) (call_kept (wait_of p ws) n h)
 
 -- ---- ways
 
-spin_way : (p : Place) (way : How) → is_owned p ≡ false → is_park (kind_at p) ≡ false → answer.Waiting how.Spin ≡ answer_barred_at p way
-spin_way place.Park way f e = absurd (cc)
-spin_way place.Spin way f e = refl
-spin_way (place.Own q) way f e = absurd (cc)
-
-park_way : (p : Place) (way : How) → is_park (kind_at p) ≡ true → answer.Waiting way ≡ answer_barred_at p way
-park_way place.Park way e = refl
-park_way place.Spin way e = absurd (cc)
-park_way (place.Own q) way e = absurd (cc)
-
--- readers alone bar a writer of an unlocked record
-alone : (w d l : Bool) → (w || d) ≡ false → (w || (d || l)) ≡ true → (l && (not w && not d)) ≡ true
-alone true d l e f = absurd (cc)
-alone false true l e f = absurd (cc)
-alone false false true e f = refl
-alone false false false e f = absurd (cc)
-
-by_readers : (n : LockNature) (o : Holding) → n ≡ nature.Write → (o.written || o.drained) ≡ false → is_barred n o ≡ true → is_barred_by_readers n o ≡ true
-by_readers nature.None o e f b = absurd (cc)
-by_readers nature.Read o e f b = absurd (cc)
-by_readers nature.Write o e f b = alone o.written o.drained (nat_lt 0 o.readers) f b
-
--- the way that the locker chose is one that is due
-way_due : (p : Place) (q : Kind) (w : Want) (n : LockNature) (o : Holding) (fresh : Bool) (h : Holders) → is_owned p ≡ false → h.locked ≡ (o.written || o.drained) → is_barred n o ≡ true → (way : How) → MayWait (kind_at p) fresh (wakes_as q w) n h way → answer.Waiting way ≡ answer_barred_at p (way_parked q w (drains_by n o (is_drain way)))
-way_due p q w n o fresh h slow locks is how.Spin may = spin_way p (way_parked q w false) slow may
-way_due p q w n o fresh h slow locks is how.ParkedRead may = park_way p how.ParkedRead may.0 ∙ ap (λ x. answer_barred_at p (way_of_nature x)) (sym may.1)
-way_due p q w n o fresh h slow locks is how.ParkedWrite may = park_way p how.ParkedWrite may.0 ∙ ap (λ x. answer_barred_at p (way_of_nature x)) (sym may.1)
-way_due p q w n o fresh h slow locks is how.Drain may = park_way p how.Drain may.0 ∙ ap (λ b. answer_barred_at p (way_parked q w b)) (sym (by_readers n o may.2 (sym locks ∙ may.3) is))
-
 -- so is the answer of what waits
 pub waits_due : (x : CellPlan) (w : Want) (n : LockNature) (o : Holding) (fresh : Bool) (h : Holders) → is_quick x w ≡ false → h.locked ≡ (o.written || o.drained) → is_barred n o ≡ true → (way : How) → MayWait (kind_at x.place) fresh (wakes_as x.kind w) n h way
-    → answer.Waiting way ≡ answer_barred (is_fast w) x.place (way_parked x.kind w (drains_by n o (is_drain way)))
-waits_due x w n o fresh h slow locks is way may = way_due x.place x.kind w n o fresh h (neither (is_fast w) (is_owned x.place) slow).1 locks is way may ∙ sym (ap (λ f. answer_barred f x.place (way_parked x.kind w (drains_by n o (is_drain way)))) (neither (is_fast w) (is_owned x.place) slow).0)
-  where
-    neither : (a b : Bool) → (a || b) ≡ false → (a ≡ false) × (b ≡ false)
-    neither true b e = absurd (cc)
-    neither false b e = (refl, e)
+    → Answer.Waiting way ≡ answer_barred (is_fast w) x.place (way_parked x.kind w (drains_by n o (is_drain way)))
+waits_due x w n o fresh h slow locks is way may = grind arith
 
 -- and of what does not wait
 pub misses_due : (x : CellPlan) (w : Want) (way : How) → is_quick x w ≡ true → answer_missed w ≡ answer_barred (is_fast w) x.place way
-misses_due x w way quick = by (is_fast w) quick
-  where
-    owned : (p : Place) → is_owned p ≡ true → answer.Borrowed ≡ answer_barred_at p way
-    owned place.Park e = absurd (cc)
-    owned place.Spin e = absurd (cc)
-    owned (place.Own q) e = refl
-
-    by : (f : Bool) → (f || is_owned x.place) ≡ true → (if f then answer.Missed else answer.Borrowed) ≡ answer_barred f x.place way
-    by true e = refl
-    by false e = owned x.place e
+misses_due x w way quick = grind arith

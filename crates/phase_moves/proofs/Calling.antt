@@ -1,68 +1,21 @@
 -- A call at one cell, which changes who waits alone.
-use Rattle.std.proofs.Common.{◌≡◌, ◌≢◌, ◌==◌, ◌<◌, ◌+◌, ◌∙◌, ℕ, List, length, set, get_or, ap, sym, subst, refl, arith, true, None, Some}
-use Rattle.std.specs.Prelude.{IsNone, OnSome, ◌↔◌}
-use Rattle.std.specs.declared.option.Option.{Option}
-use Rattle.phase_bits.specs.declared.holders.Holders.{Holders}
-use Rattle.exit_registry.specs.Registry.{Registry}
-use Rattle.phase_bits.specs.Records.{admit_read, most_readers}
-use Rattle.phase_locker.specs.declared.ways.LockerKind.{LockerKind}
-use Rattle.phase_locker.specs.declared.tickets.ReadTicket.{ReadTicket}
-use Rattle.phase_locker.specs.Rows.{Rows as Parking, SameSize, claims}
-use Rattle.phase_locker.specs.Fits.{Fits, KeepsFit, open_reads}
-use Rattle.phase_locker.specs.Others.{OthersStay}
-use Rattle.phase_locker.proofs.Others.{others_refl}
-use Rattle.schedule_rules.specs.Changes.{Content}
-use Rattle.schedule_rules.specs.Kinds.{cell_at}
-use Rattle.schedule_rules.specs.Guards.{Guard, numbered, reader}
-use Rattle.schedule_rules.specs.Holds.{reads_cell}
-use Rattle.schedule_rules.specs.History.{count}
-use Rattle.schedule_rules.specs.Waits.{Wait, waits_at}
-use Rattle.schedule_rules.proofs.Found.{found_counts}
-use Rattle.waiting_rows.proofs.RowCounts.{shares_shown}
-use Rattle.phase_moves.specs.declared.rows.CellRow.{CellRow}
-use Rattle.phase_moves.specs.declared.rows.Rows.{Rows}
-use Rattle.phase_moves.specs.Standing.{Standing, cloned, reads_in, writes_in, run_in}
-use Rattle.phase_moves.specs.Stands.{CountsWaits, KeepsDraft, Seen, seen_at, IsCell, IsExit, IsLocked, AreShown, Stands}
-use Rattle.phase_moves.specs.Moves.{IsOpenReader, IsFull, ClonesAs}
-use Rattle.phase_moves.proofs.Drafts.{beside_reader, keeps_still}
-use Rattle.phase_moves.proofs.Guards.{found_itself, reads_here}
-use Rattle.phase_moves.proofs.Lockers.{reading_alone}
-use Rattle.phase_moves.proofs.Opening.{guard_opened, seen_reader}
-use Rattle.phase_moves.proofs.Moved.{IsMoved, exit_kept, parties_same, moved}
-use Rattle.phase_moves.proofs.Places.{read_at}
+use Rattle.phase_moves.proofs.Words.{◌≡◌, ◌≢◌, ◌==◌, ◌<◌, ◌+◌, ◌∙◌, ℕ, List, length, set, get_or, ap, sym, subst, refl, arith, true, Some, IsNone, OnSome, ◌↔◌, Option}
+use Rattle.phase_moves.proofs.Words.{Holders, Registry, admit_read, most_readers, LockerKind, ReadTicket, Parking, SameSize, claims, Fits, KeepsFit, open_reads, OthersStay}
+use Rattle.phase_moves.proofs.Words.{Content, Guard, numbered, reader, reads_cell, count, Wait, waits_at, found_counts, shares_shown, CellRow, Rows, Standing, cloned}
+use Rattle.phase_moves.proofs.Words.{reads_in, writes_in, CountsWaits, KeepsDraft, seen_at, IsCell, IsExit, IsLocked, AreShown, Stands, IsOpenReader, IsFull, ClonesAs}
+use Rattle.phase_moves.proofs.{Drafts.beside_reader, Drafts.keeps_still, Guards.found_itself, Guards.reads_here, Lockers.reading_alone, Opening.guard_opened}
+use Rattle.phase_moves.proofs.{Opening.seen_reader, Moved.IsMoved, Moved.parties_same, Moved.moved, Places.read_at}
 
 module _ {L : Type 0} (held : L → Holders) (place : L → LockerKind) where
   -- other calls wait, the registry is this, and the cell holds something else
   pub answered_moved : (c hand : ℕ) (m : Standing) (v v' : Rows L) (ws : List Wait) (f : ℕ → Content) (r : Registry) → Stands held place hand m v → OthersStay c v.parks v'.parks → SameSize v.parks v'.parks → length v'.parks.writers ≡ length v.parks.writers → v'.guards ≡ v.guards
       → IsExit (length v.cells.items) (record m { registry = r }) v'.exit → AreShown (length v.cells.items) ws v'.parks → ((d : ℕ) → d ≢ c → f d ≡ m.content d)
       → ((d : ℕ) → d ≢ c → count (waits_at d) ws ≡ count (waits_at d) m.waits) → IsMoved held place c hand hand m (record m { waits = ws; content = f; registry = r }) v v'
-  answered_moved c hand m v v' ws f r t others same lists guards exit shown beside counts =
-      record {
-        around = λ d ne. (let e = beside d ne in λ i. record { plan = cell_at m.plans d; content = e i; reads = reads_in d m; writes = writes_in d m; run = run_in d m.sections });
-        counts = counts;
-        drafts = λ g x e w ne. e;
-        others = others;
-        same = same;
-        lists = lists;
-        guards = guards;
-        slots = λ g lt. refl;
-        exit = record { registry_is = exit.registry_is; owner_is = exit.owner_is; turns_are = exit.turns_are; cells_are = exit.cells_are };
-        waits = shown;
-        numbers = t.guards;
-        sections = t.sections;
-      }
-
-  -- other calls wait, and nothing else changes
-  pub waits_moved : (c hand : ℕ) (m : Standing) (v v' : Rows L) (ws : List Wait) → Stands held place hand m v → OthersStay c v.parks v'.parks → SameSize v.parks v'.parks → length v'.parks.writers ≡ length v.parks.writers → v'.guards ≡ v.guards → v'.exit ≡ v.exit → AreShown (length v.cells.items) ws v'.parks
-      → ((d : ℕ) → d ≢ c → count (waits_at d) ws ≡ count (waits_at d) m.waits) → IsMoved held place c hand hand m (record m { waits = ws }) v v'
-  waits_moved c hand m v v' ws t others same lists guards exit shown counts =
-      answered_moved c hand m v v' ws m.content m.registry t others same lists guards (exit_kept (length v.cells.items) m m v.exit v'.exit exit refl refl refl t.exit) shown (λ d ne. refl) counts
+  answered_moved c hand m v v' ws f r t others same lists guards exit shown beside counts = grind arith
 
   -- nothing is touched beside the row of a cell
   pub nothing_moved : (c hand : ℕ) (m : Standing) (v v' : Rows L) → Stands held place hand m v → v'.guards ≡ v.guards → v'.exit ≡ v.exit → v'.parks ≡ v.parks → IsMoved held place c hand hand m m v v'
-  nothing_moved c hand m v v' t guards exit parks =
-      waits_moved c hand m v v' m.waits t (subst (λ (s : Parking). OthersStay c v.parks s) (sym parks) (others_refl c v.parks)) (subst (λ (s : Parking). SameSize v.parks s) (sym parks) (record { parties = refl; cells = refl })) (ap (λ (s : Parking). length s.writers) parks) guards exit
-      (subst (λ (s : Parking). AreShown (length v.cells.items) m.waits s) (sym parks) t.waits) (λ d ne. refl)
+  nothing_moved c hand m v v' t guards exit parks = grind arith
 
   -- ---- a clone
 
@@ -91,10 +44,7 @@ module _ {L : Type 0} (held : L → Holders) (place : L → LockerKind) where
     pub clone_full : (held row.seq.locker).readers ≡ most_readers → IsFull x.cell m
     clone_full e =
         subst (λ d. IsFull d m) (sym at)
-        (let are = clone_row.locked.reads_are in
-        let most = clone_row.locked.fits.shared in
-        let shown = shares_shown c m.waits v.parks is.rests.stands.waits.single is.rests.stands.waits.shows in
-        omega (arith, are, most, shown, e))
+        (grind (arith, clone_row, shares_shown))
 
     -- one more reads
     pub clone_more : v'.cells.items ≡ set v.cells.items c row' → v'.guards ≡ v.guards → v'.parties ≡ v.parties → v'.parks ≡ v.parks → v'.exit ≡ v.exit → row'.plan ≡ row.plan → row'.waiting ≡ row.waiting → row'.value ≡ row.value → row'.draft ≡ row.draft → row'.run ≡ row.run → row'.seq.running ≡ row.seq.running → place row'.seq.locker ≡ place row.seq.locker
@@ -105,34 +55,30 @@ module _ {L : Type 0} (held : L → Holders) (place : L → LockerKind) where
         (guard_opened held place c n n n m m v v' (reader n x.party x.cell)
         (nothing_moved c n m v v' is.rests.stands guards exit parks)
         refl at (omega arith) is.rests.empty is.rests.empty clone_in)
-        (parties_same held place n m (cloned n x m) v v' is.rests.stands parties (λ p. refl))
-      where
-        n : ℕ
-        n = length v.guards.items
+        (parties_same held place n m (cloned n x m) v v' is.rests.stands parties (λ p. refl)) where
+          n : ℕ
+          n = length v.guards.items
 
-        now : IsLocked (place row'.seq.locker) (held row'.seq.locker) v'.parks c (reads_in c m + 1) (writes_in c m) (m.content c).phase
-        now =
-            let l = clone_row.locked in
-            let some = clone_some in
-            let none = reading_alone (place row.seq.locker) (held row.seq.locker) v.parks c _ _ _ l some in
-            let readers : (held row'.seq.locker).readers ≡ (held row.seq.locker).readers + 1 = ap (λ (h : Holders). h.readers) more in
-            let same : open_reads (held row'.seq.locker) v'.parks c ≡ open_reads (held row'.seq.locker) v.parks c = ap (λ (s : Parking). open_reads (held row'.seq.locker) s c) parks in
-            record {
-              fits = subst (λ (s : Parking). Fits (place row'.seq.locker) (held row'.seq.locker) s c) (sym parks) (subst (λ k. Fits k (held row'.seq.locker) v.parks c) (sym stays) (keeps v.parks c l.fits));
-              phase_is = ap (λ (h : Holders). h.phase) more ∙ l.phase_is;
-              reads_are = same ∙ (let are = l.reads_are in let most = l.fits.shared in omega (arith, are, most, readers));
-              write_is = λ lt. absurd (omega (arith, none, lt));
-              write_was = λ o. l.write_was (record { locked = sym (ap (λ (h : Holders). h.locked) more) ∙ o.locked; unclaimed = ap (λ (s : Parking). claims s c) (sym parks) ∙ o.unclaimed });
-              one = l.one;
-              limit = let le = l.limit in omega (arith, readers, le, fewer);
-            }
+          now : IsLocked (place row'.seq.locker) (held row'.seq.locker) v'.parks c (reads_in c m + 1) (writes_in c m) (m.content c).phase
+          now =
+              let l = clone_row.locked in let some = clone_some in let none = reading_alone (place row.seq.locker) (held row.seq.locker) v.parks c _ _ _ l some in
+              let readers : (held row'.seq.locker).readers ≡ (held row.seq.locker).readers + 1 = ap (λ (h : Holders). h.readers) more in
+              let same : open_reads (held row'.seq.locker) v'.parks c ≡ open_reads (held row'.seq.locker) v.parks c = ap (λ (s : Parking). open_reads (held row'.seq.locker) s c) parks in
+              record {
+                fits = subst (λ (s : Parking). Fits (place row'.seq.locker) (held row'.seq.locker) s c) (sym parks) (subst (λ k. Fits k (held row'.seq.locker) v.parks c) (sym stays) (keeps v.parks c l.fits));
+                phase_is = ap (λ (h : Holders). h.phase) more ∙ l.phase_is;
+                reads_are = same ∙ (let are = l.reads_are in let most = l.fits.shared in omega (arith, are, most, readers));
+                write_is = λ lt. absurd (omega (arith, none, lt));
+                write_was = λ o. l.write_was (record { locked = sym (ap (λ (h : Holders). h.locked) more) ∙ o.locked; unclaimed = ap (λ (s : Parking). claims s c) (sym parks) ∙ o.unclaimed });
+                one = l.one;
+                limit = let le = l.limit in omega (arith, readers, le, fewer);
+              }
 
-        here : IsCell held place (seen_at c (cloned n x m)) v'.parks c row'
-        here =
-            let k0 = clone_row in
-            subst (λ d. IsCell held place (seen_at c (cloned n (record x { cell = d }) m)) v'.parks c row') (sym at)
-            (subst (λ (z : Seen). IsCell held place z v'.parks c row') (sym (seen_reader n x.party c m))
-            (record { planned = plan ∙ k0.planned; valued = value ∙ k0.valued; known = k0.known; locked = now; placed = stays ∙ k0.placed; runner = running ∙ k0.runner; runs = run ∙ k0.runs }))
+          here : IsCell held place (seen_at c (cloned n x m)) v'.parks c row'
+          here =
+              let k0 = clone_row in
+              subst (λ d. IsCell held place (seen_at c (cloned n (record x { cell = d }) m)) v'.parks c row') (sym at)
+              (grind (arith, seen_reader, n, now))
 
     -- as many do
     clone_none : v'.cells.items ≡ set v.cells.items c row' → v'.guards ≡ v.guards → v'.parties ≡ v.parties → v'.parks ≡ v.parks → v'.exit ≡ v.exit → row'.plan ≡ row.plan → row'.waiting ≡ row.waiting → row'.value ≡ row.value → row'.draft ≡ row.draft → row'.run ≡ row.run → row'.seq.running ≡ row.seq.running → place row'.seq.locker ≡ place row.seq.locker
@@ -141,23 +87,21 @@ module _ {L : Type 0} (held : L → Holders) (place : L → LockerKind) where
         moved held place c (length v.guards.items) (length v.guards.items) m m v v' row' is.rests.stands clone_in cells here (clone_calm many)
         (clone_draft m refl refl (λ j y e w. e) draft)
         (nothing_moved c (length v.guards.items) m v v' is.rests.stands guards exit parks)
-        (parties_same held place (length v.guards.items) m m v v' is.rests.stands parties (λ p. refl))
-      where
-        here : IsCell held place (seen_at c m) v'.parks c row'
-        here =
-            let k0 = clone_row in
-            record {
-              planned = plan ∙ k0.planned;
-              valued = value ∙ k0.valued;
-              known = k0.known;
-              locked = subst (λ (s : Parking). IsLocked (place row'.seq.locker) (held row'.seq.locker) s c (reads_in c m) (writes_in c m) (m.content c).phase) (sym parks) (subst (λ (h : Holders). IsLocked (place row'.seq.locker) h v.parks c (reads_in c m) (writes_in c m) (m.content c).phase) (sym more) (subst (λ k. IsLocked k (held row.seq.locker) v.parks c (reads_in c m) (writes_in c m) (m.content c).phase) (sym stays) k0.locked));
-              placed = stays ∙ k0.placed;
-              runner = running ∙ k0.runner;
-              runs = run ∙ k0.runs;
-            }
+        (parties_same held place (length v.guards.items) m m v v' is.rests.stands parties (λ p. refl)) where
+          here : IsCell held place (seen_at c m) v'.parks c row'
+          here =
+              let k0 = clone_row in
+              record {
+                planned = plan ∙ k0.planned;
+                valued = value ∙ k0.valued;
+                known = k0.known;
+                locked = subst (λ (s : Parking). IsLocked (place row'.seq.locker) (held row'.seq.locker) s c (reads_in c m) (writes_in c m) (m.content c).phase) (sym parks) (subst (λ (h : Holders). IsLocked (place row'.seq.locker) h v.parks c (reads_in c m) (writes_in c m) (m.content c).phase) (sym more) (subst (λ k. IsLocked k (held row.seq.locker) v.parks c (reads_in c m) (writes_in c m) (m.content c).phase) (sym stays) k0.locked));
+                placed = stays ∙ k0.placed;
+                runner = running ∙ k0.runner;
+                runs = run ∙ k0.runs;
+              }
 
     -- what the locker answers
     pub clones : (o : Option ReadTicket) → v'.cells.items ≡ set v.cells.items c row' → v'.guards ≡ v.guards → v'.parties ≡ v.parties → v'.parks ≡ v.parks → v'.exit ≡ v.exit → row'.plan ≡ row.plan → row'.waiting ≡ row.waiting → row'.value ≡ row.value → row'.draft ≡ row.draft → row'.run ≡ row.run → row'.seq.running ≡ row.seq.running → place row'.seq.locker ≡ place row.seq.locker
         → (IsNone o ↔ ((held row.seq.locker).readers ≡ most_readers)) → OnSome o (held row'.seq.locker ≡ admit_read (held row.seq.locker)) → (IsNone o → held row'.seq.locker ≡ held row.seq.locker) → KeepsFit (place row.seq.locker) (held row.seq.locker) (held row'.seq.locker) → ClonesAs held place v m x o v'
-    clones None cells guards parties parks exit plan many value draft run running stays most some none keeps = (clone_none cells guards parties parks exit plan many value draft run running stays (none refl), clone_full (most.0 refl))
-    clones (Some t) cells guards parties parks exit plan many value draft run running stays most some none keeps = clone_more cells guards parties parks exit plan many value draft run running stays some (λ e. (let f = most.1 e in absurd (cc))) keeps
+    clones o cells guards parties parks exit plan many value draft run running stays most some none keeps = grind (arith, clone_none, clone_full, clone_more)

@@ -1,59 +1,21 @@
 -- What is open is given back, one after another.
-use Rattle.std.proofs.Common.{◌≡◌, ◌≢◌, ◌<◌, ◌+◌, ◌∙◌, ℕ, List, [], ◌∷◌, ◌++◌, length, ◌==◌, ap, sym, subst, refl, arith, Bool, true, false, None, Some}
-use Rattle.std.proofs.lemmas.Grind.{common_steps}
-use Rattle.std.proofs.lemmas.Option.{gets, slice_get_within}
-use Rattle.std.specs.Prelude.{slice_get, if◌then◌else◌}
-use Rattle.std.specs.declared.option.Option.{Option}
-use Rattle.phase_bits.specs.declared.holders.Holders.{Holders}
-use Rattle.phase_locker.specs.declared.ways.LockerKind.{LockerKind}
-use Rattle.phase_locker.specs.declared.ways.Given.{Given}
-use Rattle.phase_locker.specs.declared.tickets.ReadTicket.{ReadTicket}
-use Rattle.phase_locker.specs.declared.tickets.WriteTicket.{WriteTicket}
-use Rattle.phase_locker.specs.Fits.{IsWriteOpen}
-use Rattle.phase_locker.specs.Rows.{Rows as Parking}
-use Rattle.phase_locker.proofs.Others.{fits_beside}
-use Rattle.phase_seq.specs.declared.section.Section.{Section as SeqSection}
-use Rattle.phase_seq.specs.declared.sequentializer.LazySequentializer.{LazySequentializer}
-use Rattle.schedule_rules.specs.declared.step.Want.{Want}
-use Rattle.schedule_rules.specs.declared.step.Want.TheVariants.{Calls, Turns}
-use Rattle.schedule_rules.specs.Guards.{Guard, numbered}
-use Rattle.schedule_rules.specs.History.{count}
-use Rattle.schedule_rules.specs.Kinds.{cell_at}
-use Rattle.schedule_rules.specs.Sections.{Section, runs_in}
-use Rattle.phase_moves.specs.declared.rows.CellRow.{CellRow}
-use Rattle.phase_moves.specs.declared.rows.GuardRow.{GuardRow}
-use Rattle.phase_moves.specs.declared.rows.GuardRow.TheVariants as guard
-use Rattle.phase_moves.specs.declared.rows.OpenRun.{OpenRun}
-use Rattle.phase_moves.specs.declared.rows.Rows.{Rows}
-use Rattle.phase_moves.specs.Standing.{Run, Standing, left, run_in, runner_of}
-use Rattle.phase_moves.specs.Stands.{IsCell, Stands, guard_row, open_run, section_of, seen_at, slot_row}
-use Rattle.phase_moves.specs.Moves.{Rests, LeavesRead, LeavesWrite, MayLeaveRead, MayLeaveWrite, IsReader, IsWriter}
-use Rattle.phase_moves.specs.Closing.{AreClosing, CanClose, IsClosing, IsOpenRun, IsPopped, RunsFor, StayBeside}
-use Rattle.phase_moves.proofs.Ending.{asked_run}
-use Rattle.phase_moves.proofs.Finalizing.{asked_final}
-use Rattle.phase_moves.proofs.Hand.{read_row, write_row, left_empty, beyond}
-use Rattle.phase_moves.proofs.Known.{stays_known}
-use Rattle.phase_moves.proofs.Opening.{rehand}
+use Rattle.phase_moves.proofs.Words.{◌≡◌, ◌≢◌, ◌<◌, ◌+◌, ◌∙◌, ℕ, List, [], ◌∷◌, ◌++◌, length, ◌==◌, ap, sym, subst, refl, arith, Bool, false, None, Some, common_steps, gets}
+use Rattle.phase_moves.proofs.Words.{slice_get_within, slice_get, if◌then◌else◌, Option, Holders, LockerKind, Given, ReadTicket, WriteTicket, IsWriteOpen, Parking}
+use Rattle.phase_moves.proofs.Words.{fits_beside, SeqSection, LazySequentializer, Want, Guard, numbered, count, cell_at, Section, runs_in, CellRow, GuardRow, Rows, Run}
+use Rattle.phase_moves.proofs.Words.{Standing, left_of_standing as left, run_in, IsCell, Stands, guard_row, section_of, seen_at, slot_row, Rests, LeavesRead, LeavesWrite}
+use Rattle.phase_moves.proofs.Words.{IsReader, IsWriter, AreClosing, CanClose, IsClosing, IsOpenRun, IsPopped, RunsFor, StayBeside}
+use Rattle.phase_moves.proofs.{Ending.asked_run, Finalizing.asked_final, Hand.read_row, Hand.write_row, Hand.left_empty, Hand.beyond, Known.stays_known, Opening.rehand}
 
 -- ---- lists whose last is popped
 
 pub last_at : {X : Type 0} (xs ys : List X) (x : X) → ys ≡ xs ++ x ∷ [] → slice_get ys (length xs) ≡ Some x
-last_at xs ys x e = rw e (here xs)
-  where
-    here : (zs : List _) → slice_get (zs ++ x ∷ []) (length zs) ≡ Some x
-    here zs = grind (arith, common_steps, gets)
+last_at xs ys x e = grind (arith, common_steps, gets)
 
 pub other_at : {X : Type 0} (xs ys : List X) (x : X) (i : ℕ) → ys ≡ xs ++ x ∷ [] → i < length xs → slice_get ys i ≡ slice_get xs i
-other_at xs ys x i e lt = rw e (there xs lt)
-  where
-    there : (zs : List _) → i < length zs → slice_get (zs ++ x ∷ []) i ≡ slice_get zs i
-    there zs k = grind (arith, common_steps, gets, k)
+other_at xs ys x i e lt = grind (arith, common_steps, gets)
 
 pub one_less : {X : Type 0} (xs ys : List X) (x : X) → ys ≡ xs ++ x ∷ [] → length ys ≡ length xs + 1
-one_less xs ys x e = rw e (here xs)
-  where
-    here : (zs : List _) → length (zs ++ x ∷ []) ≡ length zs + 1
-    here zs = grind (arith, common_steps)
+one_less xs ys x e = grind (arith, common_steps)
 
 -- as few
 pub rest_few : {X : Type 0} (rows rest : List X) (row : X) (n : ℕ) → length rows < n → rows ≡ rest ++ row ∷ [] → length rest < n
@@ -89,25 +51,14 @@ module _ {L : Type 0} (held : L → Holders) (place : L → LockerKind) where
             party = λ p lt. ap (λ ps. slice_get ps.items p) parties ∙ can.rests.stands.party p (subst (λ ps. p < length ps.items) parties lt);
             exit = rw (cells, exit) can.rests.stands.exit;
             waits = rw (cells, parks) can.rests.stands.waits;
-            guards = record {
-              once = can.rests.stands.guards.once;
-              in_rows = λ g x e ne. below g x e ne;
-              in_cells = λ g x e. subst (λ cs. x.cell < length cs.items) (sym cells) (can.rests.stands.guards.in_cells g x e);
-            };
+            guards = grind (arith, below);
             sections = rw cells can.rests.stands.sections;
             sizes = rw (cells, parties, parks) can.rests.stands.sizes;
           };
           row_is = (let a : Some row ≡ Some (slot_row (length old.guards.items) m k) = sym (last_at new.guards.items old.guards.items row popped) ∙ can.rests.stands.slot k (let e = n_is in omega (arith, e)) in cc) ∙ shows (length old.guards.items) k (let e = n_is in omega (arith, e));
-        }
-      where
-        below : (g : ℕ) (x : Guard) → numbered g m.guards ≡ Some x → g ≢ k → g < k
-        below g x e ne =
-            let inside : g < length old.guards.items = can.rests.stands.guards.in_rows g x e other in
-            let n : length old.guards.items ≡ k + 1 = n_is in
-            omega (arith, inside, n, ne)
-          where
-            other : g ≢ length old.guards.items
-            other q = let clash : Some x ≡ None = sym e ∙ ap (λ i. numbered i m.guards) q ∙ can.rests.empty in cc
+        } where
+          below : (g : ℕ) (x : Guard) → numbered g m.guards ≡ Some x → g ≢ k → g < k
+          below g x e ne = grind (arith, n_is)
 
   -- nothing is in hand after a guard was given back
   rests_again : (hand : ℕ) (m : Standing) (v : Rows L) → Stands held place hand m v → numbered hand m.guards ≡ None → Rests held place m v
@@ -118,30 +69,13 @@ module _ {L : Type 0} (held : L → Holders) (place : L → LockerKind) where
     abbrev hand : ℕ
     hand = length v.guards.items
 
-    pub closes_none : row ≡ guard.Free → CanClose held place v
-    closes_none e = by (numbered hand popped.m.guards) refl
-      where
-        never : (x : Guard) (b : Bool) → x.writes ≡ b → guard.Free ≡ guard_row (Some x) → ⊥
-        never x true w z = let y = rw w at z in cc
-        never x false w z = let y = rw w at z in cc
-
-        by : (o : Option Guard) → numbered hand popped.m.guards ≡ o → CanClose held place v
-        by None q = record { m = popped.m; rests = record { stands = popped.stands; empty = q } }
-        by (Some x) q = absurd (never x x.writes refl (sym e ∙ popped.row_is ∙ ap guard_row q))
-
-    read_in : (p c : ℕ) (l : ReadTicket) → row ≡ guard.Read p c l → (x : Guard) × IsReader held place hand popped.m v x c
+    read_in : (p c : ℕ) (l : ReadTicket) → row ≡ GuardRow.Read p c l → (x : Guard) × IsReader held place hand popped.m v x c
     read_in p c l e = let r = read_row p c l (numbered hand popped.m.guards) (sym e ∙ popped.row_is) in (r.x, record { stands = popped.stands; found = r.is; at = r.at; reads = r.reads })
 
-    write_in : (p c : ℕ) (l : WriteTicket) → row ≡ guard.Write p c l → (x : Guard) × IsWriter held place hand popped.m v x c
+    write_in : (p c : ℕ) (l : WriteTicket) → row ≡ GuardRow.Write p c l → (x : Guard) × IsWriter held place hand popped.m v x c
     write_in p c l e = let r = write_row p c l (numbered hand popped.m.guards) (sym e ∙ popped.row_is) in (r.x, record { stands = popped.stands; found = r.is; at = r.at; writes = r.writes })
 
-    pub may_read : (p c : ℕ) (l : ReadTicket) → row ≡ guard.Read p c l → MayLeaveRead held place v c
-    may_read p c l e = let r = read_in p c l e in record { hand = hand; m = popped.m; x = r.0; is = r.1 }
-
-    pub may_write : (p c : ℕ) (l : WriteTicket) → row ≡ guard.Write p c l → MayLeaveWrite held place v c
-    may_write p c l e = let r = write_in p c l e in record { hand = hand; m = popped.m; x = r.0; is = r.1 }
-
-    pub closes_read : (new : Rows L) (d : Given) (p c : ℕ) (l : ReadTicket) → row ≡ guard.Read p c l → LeavesRead held place v c d new → CanClose held place new × (new.exit.turns.items ≡ v.exit.turns.items)
+    pub closes_read : (new : Rows L) (d : Given) (p c : ℕ) (l : ReadTicket) → row ≡ GuardRow.Read p c l → LeavesRead held place v c d new → CanClose held place new × (new.exit.turns.items ≡ v.exit.turns.items)
     closes_read new d p c l e leaves =
         let r = read_in p c l e in
         let after = leaves hand popped.m r.0 r.1 in (
@@ -149,7 +83,7 @@ module _ {L : Type 0} (held : L → Holders) (place : L → LockerKind) where
           after.exit.turns_are ∙ sym popped.stands.exit.turns_are,
         )
 
-    pub closes_write : (new : Rows L) (d : Given) (p c : ℕ) (l : WriteTicket) → row ≡ guard.Write p c l → LeavesWrite held place v c d new → CanClose held place new × (new.exit.turns.items ≡ v.exit.turns.items)
+    pub closes_write : (new : Rows L) (d : Given) (p c : ℕ) (l : WriteTicket) → row ≡ GuardRow.Write p c l → LeavesWrite held place v c d new → CanClose held place new × (new.exit.turns.items ≡ v.exit.turns.items)
     closes_write new d p c l e leaves =
         let r = write_in p c l e in
         let after = leaves hand popped.m r.0 r.1 in (
@@ -162,11 +96,9 @@ module _ {L : Type 0} (held : L → Holders) (place : L → LockerKind) where
 -- one that runs in the cell is counted
 runs_counted : (c : ℕ) (ss : List Section) (r : Run) → run_in c ss ≡ Some r → 0 < count (runs_in c) ss
 runs_counted c [] r e = absurd (cc)
-runs_counted c (s ∷ ss) r e = by (s.cell == c) refl (λ q. runs_counted c ss r q)
-  where
-    by : (b : Bool) → (s.cell == c) ≡ b → (run_in c ss ≡ Some r → 0 < count (runs_in c) ss) → 0 < (if s.cell == c then count (runs_in c) ss + 1 else count (runs_in c) ss)
-    by true q rest = rw q (omega arith)
-    by false q rest = rw q (rest (rw q at e))
+runs_counted c (s ∷ ss) r e = by (s.cell == c) refl (λ q. runs_counted c ss r q) where
+  by : (b : Bool) → (s.cell == c) ≡ b → (run_in c ss ≡ Some r → 0 < count (runs_in c) ss) → 0 < (if s.cell == c then count (runs_in c) ss + 1 else count (runs_in c) ss)
+  by b q rest = grind arith
 
 -- the section of the cell's sequentializer
 abbrev section_at : Standing → ℕ → Run → SeqSection
@@ -175,28 +107,18 @@ section_at m c r = section_of (cell_at m.plans c) c (m.content c).phase r.sectio
 module _ {L : Type 0} (held : L → Holders) (place : L → LockerKind) where
   -- what rows that stand for something hold open
   pub are_closing : (v : Rows L) → CanClose held place v → AreClosing held place v.parks v.cells.items
-  are_closing v can c row at o taken = by (run_in c can.m.sections) refl
-    where
-      here : IsCell held place (seen_at c can.m) v.parks c row
-      here = can.rests.stands.cell c row at
+  are_closing v can c row at o taken = by (run_in c can.m.sections) refl where
+    here : IsCell held place (seen_at c can.m) v.parks c row
+    here = can.rests.stands.cell c row at
 
-      open_at : (r : Run) → run_in c can.m.sections ≡ Some r → IsWriteOpen (held row.seq.locker) v.parks c
-      open_at r e = let some : 0 < count (runs_in c) can.m.sections = runs_counted c can.m.sections r e in here.locked.write_is (omega (arith, some))
+    open_at : (r : Run) → run_in c can.m.sections ≡ Some r → IsWriteOpen (held row.seq.locker) v.parks c
+    open_at r e = let some : 0 < count (runs_in c) can.m.sections = runs_counted c can.m.sections r e in here.locked.write_is (omega (arith, some))
 
-      runs_for : (r : Run) → run_in c can.m.sections ≡ Some r → (w : Want) → r.section.want ≡ w → RunsFor held place w (section_at can.m c r) row.seq v.parks
-      runs_for r e (Calls k) w = record { party = here.runner ∙ ap runner_of e ∙ (rw w refl); asked = asked_run (cell_at can.m.plans c).kind r.section.want (rw w refl); known = stays_known (cell_at can.m.plans c) r.section.want r.section.is_open (can.m.content c).phase here.known; locked = open_at r e }
-      runs_for r e Turns w = record { asked = asked_final (cell_at can.m.plans c).kind r.section.want (rw w refl); locked = open_at r e }
+    runs_for : (r : Run) → run_in c can.m.sections ≡ Some r → (w : Want) → r.section.want ≡ w → RunsFor held place w (section_at can.m c r) row.seq v.parks
+    runs_for r e w f = grind (arith, here, asked_run, stays_known, open_at, asked_final)
 
-      by : (q : Option Run) → run_in c can.m.sections ≡ q → IsOpenRun held place c v.parks row.seq o.run.want o.section
-      by None e = absurd (let clash : Some o ≡ None = sym taken ∙ here.runs ∙ ap (open_run (cell_at can.m.plans c) c (can.m.content c).phase) e in cc)
-      by (Some r) e =
-          let there = sym taken ∙ here.runs ∙ ap (open_run (cell_at can.m.plans c) c (can.m.content c).phase) e in
-          let same : o ≡ record { run = record { party = r.section.party; want = r.section.want; outer = r.outer }; section = section_at can.m c r } = cc in
-          subst (λ (z : OpenRun). IsOpenRun held place c v.parks row.seq z.run.want z.section) (sym same)
-          (record { at = refl; inside = inside; fits = here.locked.fits; runs = runs_for r e r.section.want refl })
-        where
-          inside : c < length v.parks.readers
-          inside = let lt : c < length v.cells.items = slice_get_within v.cells.items c row at in subst (λ n. c < n) (sym can.rests.stands.sizes.readers) lt
+    by : (q : Option Run) → run_in c can.m.sections ≡ q → IsOpenRun held place c v.parks row.seq o.run.want o.section
+    by q e = grind (arith, here, runs_for, slice_get_within)
 
   -- what is open in another cell stays so
   stays_open : (c n : ℕ) (s s' : Parking) (seq : LazySequentializer L (Unit {0})) (w : Want) (section : SeqSection) → StayBeside n s s' → c ≢ n → IsOpenRun held place c s seq w section → IsOpenRun held place c s' seq w section
@@ -206,14 +128,12 @@ module _ {L : Type 0} (held : L → Holders) (place : L → LockerKind) where
         inside = subst (λ k. c < k) (sym beside.same.cells) is.inside;
         fits = fits_beside (place seq.locker) (held seq.locker) s s' n c is.fits beside.others ne;
         runs = by w is.runs;
-      }
-    where
-      open_still : IsWriteOpen (held seq.locker) s section.who.cell → IsWriteOpen (held seq.locker) s' section.who.cell
-      open_still k = record { locked = k.locked; unclaimed = (beside.others.cells section.who.cell (λ q. ne (sym is.at ∙ q))).claims ∙ k.unclaimed }
+      } where
+        open_still : IsWriteOpen (held seq.locker) s section.who.cell → IsWriteOpen (held seq.locker) s' section.who.cell
+        open_still k = record { locked = k.locked; unclaimed = (beside.others.cells section.who.cell (λ q. ne (sym is.at ∙ q))).claims ∙ k.unclaimed }
 
-      by : (x : Want) → RunsFor held place x section seq s → RunsFor held place x section seq s'
-      by (Calls k) r = record { party = r.party; asked = r.asked; known = r.known; locked = open_still r.locked }
-      by Turns r = record { asked = r.asked; locked = open_still r.locked }
+        by : (x : Want) → RunsFor held place x section seq s → RunsFor held place x section seq s'
+        by x r = grind (arith, open_still)
 
   -- the last of them
   pub last_closing : (s : Parking) (rows rest : List (CellRow L)) (row : CellRow L) (n : ℕ) → AreClosing held place s rows → rows ≡ rest ++ row ∷ [] → n ≡ length rest → IsClosing held place n s row
@@ -222,6 +142,5 @@ module _ {L : Type 0} (held : L → Holders) (place : L → LockerKind) where
   -- and the others
   pub rest_closing : (s s' : Parking) (rows rest : List (CellRow L)) (row : CellRow L) (n : ℕ) → AreClosing held place s rows → rows ≡ rest ++ row ∷ [] → n ≡ length rest → StayBeside n s s' → AreClosing held place s' rest
   rest_closing s s' rows rest row n all popped is beside c r at o taken =
-      let lt : c < length rest = slice_get_within rest c r at in
-      let there : slice_get rows c ≡ Some r = other_at rest rows row c popped lt ∙ at in
+      let lt : c < length rest = slice_get_within rest c r at in let there : slice_get rows c ≡ Some r = other_at rest rows row c popped lt ∙ at in
       stays_open c n s s' r.seq o.run.want o.section beside (omega (arith, lt, is)) (all c r there o taken)

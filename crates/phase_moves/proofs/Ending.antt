@@ -1,86 +1,31 @@
 -- A run ends, and its call goes on.
-use Rattle.std.proofs.Common.{◌≡◌, ◌==◌, ◌<◌, ◌≤◌, ◌+◌, ◌∙◌, ℕ, [], ◌∷◌, length, set, get_or, ap, sym, subst, refl, arith, Bool, true, false, None, Some}
-use Rattle.std.specs.declared.option.Option.{Option}
-use Rattle.std.specs.Option.{is_some, unwrap_or}
-use Rattle.std.specs.Prelude.{if◌then◌else◌}
-use Rattle.phase_bits.specs.declared.phase.Phase.{Phase}
-use Rattle.phase_bits.specs.declared.holders.Holders.{Holders}
-use Rattle.phase_bits.specs.Number.{phase_of, IsKnown}
-use Rattle.phase_bits.specs.Records.{leave_write, most_readers}
-use Rattle.phase_locker.specs.declared.ways.Given.{Given}
-use Rattle.phase_locker.specs.declared.ways.Given.TheVariants as given
-use Rattle.phase_locker.specs.declared.ways.LockerKind.{LockerKind}
-use Rattle.phase_locker.specs.Rows.{Rows as Parking, HasFree}
-use Rattle.phase_locker.specs.Fits.{IsWriteOpen, open_reads}
-use Rattle.phase_locker.specs.Gifts.{Hands, Downgrades}
-use Rattle.phase_locker.specs.Left.{Left}
-use Rattle.phase_locker.specs.declared.tickets.ReadTicket.{ReadTicket}
-use Rattle.phase_locker.specs.declared.tickets.WriteTicket.{WriteTicket}
-use Rattle.phase_seq.specs.declared.ask.Want.{Want as SeqWant}
-use Rattle.phase_seq.specs.declared.ask.Want.TheVariants as want
-use Rattle.phase_seq.specs.declared.section.Section.{Section as SeqSection}
-use Rattle.phase_seq.specs.declared.section.Finished.{Finished}
-use Rattle.phase_seq.specs.declared.section.Finished.TheVariants as finished
-use Rattle.phase_seq.specs.Asks.{initializes}
-use Rattle.phase_seq.specs.Phases.{reached}
-use Rattle.phase_seq.specs.Finishes.{Finishes, GoesOn}
-use Rattle.phase_seq.specs.Stands.{FinishedStands, IsRunning, reads_finished}
-use Rattle.schedule_rules.specs.declared.plan.CellPlan.{CellPlan}
-use Rattle.lazy_cells.specs.declared.kind.Kind.{Kind}
-use Rattle.schedule_rules.specs.declared.form.Form.{Form}
-use Rattle.schedule_rules.specs.declared.form.Form.TheVariants.{Told, Shown, Held}
-use Rattle.schedule_rules.specs.Forms.{form_of}
-use Rattle.schedule_rules.specs.Calls.{seeks, seeks_run}
-use Rattle.schedule_rules.specs.declared.step.Want.{Want}
-use Rattle.schedule_rules.specs.declared.step.Want.TheVariants.{Calls, Turns}
-use Rattle.schedule_rules.specs.Kinds.{cell_at}
-use Rattle.schedule_rules.specs.Changes.{Content, Ran, content_of_run}
-use Rattle.schedule_rules.specs.Guards.{reader}
-use Rattle.schedule_rules.specs.Sections.{Section, is_turn, runs_in, without_innermost}
-use Rattle.schedule_rules.specs.Holds.{writes_cell}
-use Rattle.schedule_rules.specs.History.{count}
-use Rattle.schedule_rules.specs.Waits.{wait_of}
-use Rattle.waiting_rows.proofs.GivenOn.{listed_hand, listed_share}
-use Rattle.waiting_rows.proofs.RowCounts.{free_party}
-use Rattle.phase_moves.specs.declared.rows.CellRow.{CellRow}
-use Rattle.phase_moves.specs.declared.rows.OpenRun.{OpenRun}
-use Rattle.phase_moves.specs.declared.rows.PartyRow.{PartyRow}
-use Rattle.phase_moves.specs.declared.rows.Rows.{Rows}
-use Rattle.phase_moves.specs.Standing.{Standing, run_in, reads_in, writes_in, runner_of, run_closed, guarded, seen_by, writer_of}
-use Rattle.phase_moves.specs.Stands.{Seen, draft_of, seen_at, IsCell, IsLocked, Stands, form_as, run_as, section_of, stays_in, target_of, want_of}
-use Rattle.phase_moves.specs.Ends.{IsEnding, EndsAs, GoesAs}
-use Rattle.phase_moves.proofs.Known.{change_known, stays_known}
-use Rattle.phase_locker.proofs.Leaving.{write_has_no_reader}
-use Rattle.phase_moves.proofs.Leaving.{parked_few, parked_fewer}
-use Rattle.phase_moves.proofs.Lockers.{locked_write, locked_down, hands_writers, downgrades_writers}
-use Rattle.phase_moves.proofs.Drafts.{keeps_first, keeps_none}
-use Rattle.phase_moves.proofs.Guards.{target_given}
-use Rattle.phase_moves.proofs.Opening.{guard_opened, seen_reader}
-use Rattle.phase_moves.specs.Gifts.{MayGive, MayGiveDown}
-use Rattle.phase_moves.proofs.Giving.{gives_closed, gives_down}
-use Rattle.phase_moves.proofs.Innermost.{in_cells, cell_here, runs_here, o_is, its_row, write_open, seen_closed, seen_without, closed_moved, without_moved, without_it, cell_ended, counted_ended, no_writers, parties_ended}
-use Rattle.phase_moves.proofs.Moved.{HasParties, exit_kept, moved}
+use Rattle.phase_moves.proofs.Words.{◌≡◌, ◌==◌, ◌<◌, ◌+◌, ◌∙◌, ℕ, [], ◌∷◌, length, set, get_or, ap, sym, subst, refl, arith, Bool, true, false, None, Some, Option}
+use Rattle.phase_moves.proofs.Words.{is_some_of_option as is_some, Phase, Holders, phase_of, IsKnown, leave_write, Given, LockerKind, Parking, HasFree, IsWriteOpen}
+use Rattle.phase_moves.proofs.Words.{open_reads, Hands, Downgrades, Left, ReadTicket, WriteTicket, Sought as SeqWant, SeqSection, Finished, run_sought as initializes, reached}
+use Rattle.phase_moves.proofs.Words.{Finishes, GoesOn, FinishedStands, IsRunning, reads_finished, CellPlan, Kind, Want, cell_at, Content, Ran, content_of_run, reader, Section}
+use Rattle.phase_moves.proofs.Words.{is_turn, runs_in, without_innermost, writes_cell, count, wait_of, listed_hand, listed_share, CellRow, OpenRun, PartyRow, Rows, Standing}
+use Rattle.phase_moves.proofs.Words.{run_in, reads_in, writes_in, runner_of, run_closed, guarded, seen_by, writer_of, Seen, draft_of, seen_at, IsCell, IsLocked, Stands}
+use Rattle.phase_moves.proofs.Words.{run_as, section_of, stays_in, target_of, IsEnding, EndsAs, GoesAs, write_has_no_reader, MayGive, MayGiveDown}
+use Rattle.phase_moves.proofs.Innermost.{in_cells, cell_here, runs_here, o_is, its_row, write_open, seen_closed, seen_without, closed_moved, without_moved, without_it}
+use Rattle.phase_moves.proofs.Innermost.{cell_ended, counted_ended, no_writers, parties_ended}
+use Rattle.phase_moves.proofs.{Known.change_known, Known.stays_known, Leaving.parked_few, Leaving.parked_fewer, Lockers.locked_write, Lockers.locked_down}
+use Rattle.phase_moves.proofs.{Lockers.hands_writers, Lockers.downgrades_writers, Drafts.keeps_first, Drafts.keeps_none, Guards.target_given, Opening.guard_opened}
+use Rattle.phase_moves.proofs.{Opening.seen_reader, Giving.gives_closed, Giving.gives_down, Moved.HasParties, Moved.exit_kept, Moved.moved}
 
 -- ---- what the end of a run answers
 
 abbrev pub EndedAs : SeqSection → Bool → Holders → Parking → Finished → Given → Holders → Parking → Type 0
-EndedAs o made h s (finished.Phase q) g h' s' = (made ≡ true) × (o.want ≡ want.Init) × (q ≡ reached o.stays true) × Hands o.who.cell (leave_write (reached o.stays true) h) s g h' s'
-EndedAs o made h s (finished.Read t q) g h' s' = (made ≡ true) × (o.want ≡ want.Read) × (q ≡ reached o.stays true) × Downgrades o.who.cell (reached o.stays true) h s g h' s'
-EndedAs o made h s (finished.Write t q) g h' s' = (made ≡ true) × (o.want ≡ want.Write) × (q ≡ reached o.stays true) × (h' ≡ h) × (s' ≡ s) × (g ≡ given.Nobody)
-EndedAs o made h s (finished.Failed q) g h' s' = (made ≡ false) × (q ≡ reached o.stays false) × Hands o.who.cell (leave_write (reached o.stays false) h) s g h' s'
+EndedAs o made h s (Finished.Phase q) g h' s' = (made ≡ true) × (o.want ≡ SeqWant.Init) × (q ≡ reached o.stays true) × Hands o.who.cell (leave_write (reached o.stays true) h) s g h' s'
+EndedAs o made h s (Finished.Read t q) g h' s' = (made ≡ true) × (o.want ≡ SeqWant.Read) × (q ≡ reached o.stays true) × Downgrades o.who.cell (reached o.stays true) h s g h' s'
+EndedAs o made h s (Finished.Write t q) g h' s' = (made ≡ true) × (o.want ≡ SeqWant.Write) × (q ≡ reached o.stays true) × (h' ≡ h) × (s' ≡ s) × (g ≡ Given.Nobody)
+EndedAs o made h s (Finished.Failed q) g h' s' = (made ≡ false) × (q ≡ reached o.stays false) × Hands o.who.cell (leave_write (reached o.stays false) h) s g h' s'
 
 module _ (o : SeqSection) (h : Holders) (s : Parking) (r : Finished × Given) (h' : Holders) (s' : Parking) where
   goes : (w : SeqWant) → o.want ≡ w → GoesOn w o.who.cell (reached o.stays true) h s r h' s' → EndedAs o true h s r.0 r.1 h' s'
-  goes want.Init e k = subst (λ f. EndedAs o true h s f r.1 h' s') (sym k.finished) (refl, e, refl, k.hands)
-  goes want.Read e k = subst (λ f. EndedAs o true h s f r.1 h' s') (sym k.finished) (refl, e, refl, k.downgrades)
-  goes want.Write e k = subst (λ (f : Finished × Given). EndedAs o true h s f.0 f.1 h' s') (sym k.finished) (refl, e, refl, k.held, k.rows, refl)
-  goes want.ReadOnly e k = absurd k
-  goes want.WriteOnly e k = absurd k
-  goes want.Finalize e k = absurd k
+  goes w e k = grind arith
 
   pub ended_as : (made : Bool) → Finishes o made h s r h' s' → EndedAs o made h s r.0 r.1 h' s'
-  ended_as true k = goes o.want refl k
-  ended_as false k = subst (λ f. EndedAs o false h s f r.1 h' s') (sym k.finished) (refl, refl, k.hands)
+  ended_as made k = grind arith
 
 -- a value was made or not
 abbrev pub IsMadeAs : Option ℕ → Bool → Type 0
@@ -89,35 +34,14 @@ IsMadeAs (Some v) b = b ≡ true
 
 -- as the code asks
 pub is_made : (o : Option ℕ) (b : Bool) → b ≡ is_some o → IsMadeAs o b
-is_made None b e = e
-is_made (Some v) b e = e
+is_made o b e = grind arith
 
 -- the phase that is reached is the one that the changes give
 reached_as : (x : CellPlan) (w : Want) (is_open : Bool) (y : Content) (made : Option ℕ) (b : Bool) → is_turn w ≡ false → IsMadeAs made b → reached (stays_in x w is_open y.phase) b ≡ phase_of (content_of_run x.kind is_open made y).phase
-reached_as x (Calls k) is_open y (Some v) true e m = refl
-reached_as x (Calls k) is_open y (Some v) false e m = absurd (cc)
-reached_as x (Calls k) is_open y None true e m = absurd (cc)
-reached_as x (Calls k) is_open y None false e m = refl
-reached_as x Turns is_open y made b e m = absurd (cc)
-
--- a section that is not a finalizer's runs as something that asks for a run
-seeks_init : (o : Option SeqWant) → seeks_run o ≡ true → initializes (unwrap_or o want.Write) ≡ true
-seeks_init None e = absurd (cc)
-seeks_init (Some w) e = e
-
-form_init : (f : Form) → initializes (form_as f) ≡ true
-form_init (Told tests) = refl
-form_init Shown = refl
-form_init (Held true falls_back) = refl
-form_init (Held false falls_back) = refl
-
-either_init : (b : Bool) (x y : SeqWant) → (b ≡ true → initializes x ≡ true) → initializes y ≡ true → initializes (if b then x else y) ≡ true
-either_init true x y f g = f refl
-either_init false x y f g = g
+reached_as x w is_open y made b e m = grind arith
 
 pub asked_run : (q : Kind) (w : Want) → is_turn w ≡ false → initializes (run_as q w) ≡ true
-asked_run q (Calls k) e = either_init (seeks_run (seeks q (Calls k))) (want_of q (Calls k)) (form_as (form_of q k)) (seeks_init (seeks q (Calls k))) (form_init (form_of q k))
-asked_run q Turns e = absurd (cc)
+asked_run q w e = grind arith
 
 module _ {L : Type 0} (held : L → Holders) (place : L → LockerKind) (m : Standing) (v : Rows L) (p c : ℕ) (made : Option ℕ) (s : Section) (is : IsEnding held place m v p c made s) (row : CellRow L) (row_is : row ≡ get_or v.cells.items c row) where
   abbrev n : ℕ
@@ -145,11 +69,7 @@ module _ {L : Type 0} (held : L → Holders) (place : L → LockerKind) (m : Sta
         })
 
     pub end_room : (b : Bool) → IsMadeAs made b → b ≡ true → HasFree v.parks
-    end_room b is_as so = by made refl is_as
-      where
-        by : (x : Option ℕ) → made ≡ x → IsMadeAs x b → HasFree v.parks
-        by None e q = absurd (let f : true ≡ false = sym so ∙ q in cc)
-        by (Some x) e q = free_party p m.waits v.parks is.inner.rests.stands.waits.shows (is.awake x e) (let a = is.inner.party in let r = is.inner.rests.stands.sizes.rows in omega (arith, a, r))
+    end_room b is_as so = grind arith
 
   -- ---- the move
 
@@ -175,18 +95,10 @@ module _ {L : Type 0} (held : L → Holders) (place : L → LockerKind) (m : Sta
     phase_is d e = reached_as (cell_at m.plans c) s.want s.is_open (m.content c) made d is.calls (subst (IsMadeAs made) e made_is)
 
     made_value : b ≡ true → made ≡ made_as.value
-    made_value e = by made (subst (IsMadeAs made) e made_is)
-      where
-        by : (x : Option ℕ) → IsMadeAs x true → x ≡ (content_of_run (cell_at m.plans c).kind s.is_open x (m.content c)).value
-        by None q = absurd (cc)
-        by (Some x) q = refl
+    made_value e = grind arith
 
     kept_value : b ≡ false → (m.content c).value ≡ made_as.value
-    kept_value e = by made (subst (IsMadeAs made) e made_is)
-      where
-        by : (x : Option ℕ) → IsMadeAs x false → (m.content c).value ≡ (content_of_run (cell_at m.plans c).kind s.is_open x (m.content c)).value
-        by None q = refl
-        by (Some x) q = absurd (cc)
+    kept_value e = grind arith
 
     known_made : IsKnown (phase_of made_as.phase)
     known_made = change_known (cell_at m.plans c) (Ran s.is_open made) (m.content c) here.known
@@ -210,8 +122,8 @@ module _ {L : Type 0} (held : L → Holders) (place : L → LockerKind) (m : Sta
     unwritten = no_writers held place m v p c s is.inner row row_is
 
     -- what is seen of the cell then, where nothing was given yet
-    seen_gone : seen_at c (run_closed s made given.Nobody m) ≡ record { plan = cell_at m.plans c; content = made_as; reads = 0; writes = 0; run = None }
-    seen_gone = seen_closed held place m v p c s is.inner row row_is (Ran s.is_open made ∷ []) given.Nobody
+    seen_gone : seen_at c (run_closed s made Given.Nobody m) ≡ record { plan = cell_at m.plans c; content = made_as; reads = 0; writes = 0; run = None }
+    seen_gone = seen_closed held place m v p c s is.inner row row_is (Ran s.is_open made ∷ []) Given.Nobody
 
     -- as what the section runs, by its own cell
     runs_as : (w : SeqWant) → its.want ≡ w → run_as (cell_at m.plans s.cell).kind s.want ≡ w
@@ -233,109 +145,87 @@ module _ {L : Type 0} (held : L → Holders) (place : L → LockerKind) (m : Sta
           (closed_moved held place m v p c s is.inner row row_is (Ran s.is_open made ∷ []) r.1 m.turns v' left_here guards (exit_kept (length v.cells.items) m m v.exit v'.exit exit refl refl refl ok.exit) (hands_writers c _ v.parks r.1 _ v'.parks hands) (listed_hand c _ v.parks r.1 hands.may) hands.rows)
           (parties_now (run_closed s made r.1 m) refl (λ x. target_given s.cell r.1 m.waits x))
 
-      back_gives : MayGive s.cell (run_closed s made given.Nobody m) r.1
+      back_gives : MayGive s.cell (run_closed s made Given.Nobody m) r.1
       back_gives =
-          subst (λ z. MayGive z (run_closed s made given.Nobody m) r.1) (sym is.inner.at)
-          (gives_closed held place m v p c s is.inner row row_is (run_closed s made given.Nobody m) refl refl (ap (λ (z : Seen). z.reads) seen_gone) (ap (λ (z : Seen). z.writes) seen_gone) (reached its.stays d) r.1 _ v'.parks hands)
+          subst (λ z. MayGive z (run_closed s made Given.Nobody m) r.1) (sym is.inner.at)
+          (gives_closed held place m v p c s is.inner row row_is (run_closed s made Given.Nobody m) refl refl (ap (λ (z : Seen). z.reads) seen_gone) (ap (λ (z : Seen). z.writes) seen_gone) (reached its.stays d) r.1 _ v'.parks hands)
 
     -- it failed
-    pub ends_failed : (q : Phase) → r.0 ≡ finished.Failed q → row'.value ≡ row.value → EndsAs held place m v s made (Some (finished.Failed q, r.1)) v'
+    pub ends_failed : (q : Phase) → r.0 ≡ Finished.Failed q → row'.value ≡ row.value → EndsAs held place m v s made (Some (Finished.Failed q, r.1)) v'
     ends_failed q e value =
-        let d = how (finished.Failed q) e in
+        let d = how (Finished.Failed q) e in
         record {
-          stands = back_stands false d.0 d.2 (reads_here (finished.Failed q) e) (stands_here (finished.Failed q) e).0 (value ∙ here.valued ∙ kept_value d.0);
+          stands = back_stands false d.0 d.2 (reads_here (Finished.Failed q) e) (stands_here (Finished.Failed q) e).0 (value ∙ here.valued ∙ kept_value d.0);
           told = failing made (subst (IsMadeAs made) d.0 made_is) (told_as q (d.1 ∙ phase_is false d.0));
-          gave = back_gives false d.0 d.2 (reads_here (finished.Failed q) e) (stands_here (finished.Failed q) e).0;
-        }
-      where
-        failing : (x : Option ℕ) → IsMadeAs x false → q ≡ told_of x → GoesAs (run_as (cell_at m.plans s.cell).kind s.want) x (told_of x) (finished.Failed q) r.1
-        failing None z f = f
-        failing (Some x) z f = absurd (cc)
+          gave = back_gives false d.0 d.2 (reads_here (Finished.Failed q) e) (stands_here (Finished.Failed q) e).0;
+        } where
+          failing : (x : Option ℕ) → IsMadeAs x false → q ≡ told_of x → GoesAs (run_as (cell_at m.plans s.cell).kind s.want) x (told_of x) (Finished.Failed q) r.1
+          failing x z f = grind arith
 
     -- its call has what it wants
-    pub ends_phase : (q : Phase) → r.0 ≡ finished.Phase q → row'.value ≡ made → EndsAs held place m v s made (Some (finished.Phase q, r.1)) v'
+    pub ends_phase : (q : Phase) → r.0 ≡ Finished.Phase q → row'.value ≡ made → EndsAs held place m v s made (Some (Finished.Phase q, r.1)) v'
     ends_phase q e value =
-        let d = how (finished.Phase q) e in
+        let d = how (Finished.Phase q) e in
         record {
-          stands = back_stands true d.0 d.3 (reads_here (finished.Phase q) e) (stands_here (finished.Phase q) e).0 (value ∙ made_value d.0);
-          told = going made (subst (IsMadeAs made) d.0 made_is) (runs_as want.Init d.1, told_as q (d.2 ∙ phase_is true d.0));
-          gave = back_gives true d.0 d.3 (reads_here (finished.Phase q) e) (stands_here (finished.Phase q) e).0;
-        }
-      where
-        going : (x : Option ℕ) → IsMadeAs x true → (run_as (cell_at m.plans s.cell).kind s.want ≡ want.Init) × (q ≡ told_of x) → GoesAs (run_as (cell_at m.plans s.cell).kind s.want) x (told_of x) (finished.Phase q) r.1
-        going None z f = absurd (cc)
-        going (Some x) z f = f
+          stands = back_stands true d.0 d.3 (reads_here (Finished.Phase q) e) (stands_here (Finished.Phase q) e).0 (value ∙ made_value d.0);
+          told = going made (subst (IsMadeAs made) d.0 made_is) (runs_as SeqWant.Init d.1, told_as q (d.2 ∙ phase_is true d.0));
+          gave = back_gives true d.0 d.3 (reads_here (Finished.Phase q) e) (stands_here (Finished.Phase q) e).0;
+        } where
+          going : (x : Option ℕ) → IsMadeAs x true → (run_as (cell_at m.plans s.cell).kind s.want ≡ SeqWant.Init) × (q ≡ told_of x) → GoesAs (run_as (cell_at m.plans s.cell).kind s.want) x (told_of x) (Finished.Phase q) r.1
+          going x z f = grind arith
 
     -- its call reads on
-    pub ends_read : (l : ReadTicket) (q : Phase) → r.0 ≡ finished.Read l q → row'.value ≡ made → EndsAs held place m v s made (Some (finished.Read l q, r.1)) v'
+    pub ends_read : (l : ReadTicket) (q : Phase) → r.0 ≡ Finished.Read l q → row'.value ≡ made → EndsAs held place m v s made (Some (Finished.Read l q, r.1)) v'
     ends_read l q e value =
-        let d = how (finished.Read l q) e in
+        let d = how (Finished.Read l q) e in
         record {
           stands = moved held place c n n m (guarded (reader n s.party s.cell) (run_closed s made r.1 m)) v v' row' ok inside cells
               (subst (λ (z : Seen). IsCell held place z v'.parks c row') (sym seen)
-              (cell_now made_as 1 0 (value ∙ made_value d.0) known_made (locked_down (place row'.seq.locker) (held row.seq.locker) (held row'.seq.locker) v.parks v'.parks c made_as.phase (reached its.stays true) r.1 d.3 (reads_here (finished.Read l q) e) (stands_here (finished.Read l q) e).0 left_here.fits (phase_is true d.0) (write_has_no_reader (place row.seq.locker) (held row.seq.locker) v.parks c here.locked.fits (write_open held place m v p c s is.inner row row_is)) (parked_fewer held place n m v ok c inside (end_room o taken b made_is d.0)))))
+              (cell_now made_as 1 0 (value ∙ made_value d.0) known_made (locked_down (place row'.seq.locker) (held row.seq.locker) (held row'.seq.locker) v.parks v'.parks c made_as.phase (reached its.stays true) r.1 d.3 (reads_here (Finished.Read l q) e) (stands_here (Finished.Read l q) e).0 left_here.fits (phase_is true d.0) (write_has_no_reader (place row.seq.locker) (held row.seq.locker) v.parks c here.locked.fits (write_open held place m v p c s is.inner row row_is)) (parked_fewer held place n m v ok c inside (end_room o taken b made_is d.0)))))
               (counted_ended held place m v p c s is.inner row row_is row' r.1 calm)
               (keeps_none c (guarded (reader n s.party s.cell) (run_closed s made r.1 m)) row' unwritten)
               (guard_opened held place c n n n m (run_closed s made r.1 m) v v' (reader n s.party s.cell)
               (closed_moved held place m v p c s is.inner row row_is (Ran s.is_open made ∷ []) r.1 m.turns v' left_here guards (exit_kept (length v.cells.items) m m v.exit v'.exit exit refl refl refl ok.exit) (downgrades_writers c _ (held row.seq.locker) v.parks r.1 (held row'.seq.locker) v'.parks d.3) (listed_share c v.parks r.1 d.3.may) d.3.rows)
               refl is.inner.at (omega arith) is.inner.rests.empty is.inner.rests.empty inside)
               (parties_now (guarded (reader n s.party s.cell) (run_closed s made r.1 m)) refl (λ x. target_given s.cell r.1 m.waits x));
-          told = going made (subst (IsMadeAs made) d.0 made_is) (runs_as want.Read d.1, told_as q (d.2 ∙ phase_is true d.0));
+          told = going made (subst (IsMadeAs made) d.0 made_is) (runs_as SeqWant.Read d.1, told_as q (d.2 ∙ phase_is true d.0));
           gave = subst (λ z. MayGiveDown z m r.1) (sym is.inner.at) (gives_down held place m v p c s is.inner row row_is (reached its.stays true) r.1 _ v'.parks d.3);
-        }
-      where
-        seen : seen_at c (guarded (reader n s.party s.cell) (run_closed s made r.1 m)) ≡ record { plan = cell_at m.plans c; content = made_as; reads = 1; writes = 0; run = None }
-        seen =
-            ap (λ x. seen_at c (guarded (reader n s.party x) (run_closed s made r.1 m))) is.inner.at
-            ∙ seen_reader n s.party c (run_closed s made r.1 m)
-            ∙ ap (λ (w : Seen). record { plan = w.plan; content = w.content; reads = w.reads + 1; writes = w.writes; run = w.run }) (seen_closed held place m v p c s is.inner row row_is (Ran s.is_open made ∷ []) r.1)
+        } where
+          seen : seen_at c (guarded (reader n s.party s.cell) (run_closed s made r.1 m)) ≡ record { plan = cell_at m.plans c; content = made_as; reads = 1; writes = 0; run = None }
+          seen =
+              ap (λ x. seen_at c (guarded (reader n s.party x) (run_closed s made r.1 m))) is.inner.at
+              ∙ seen_reader n s.party c (run_closed s made r.1 m)
+              ∙ ap (λ (w : Seen). record { plan = w.plan; content = w.content; reads = w.reads + 1; writes = w.writes; run = w.run }) (seen_closed held place m v p c s is.inner row row_is (Ran s.is_open made ∷ []) r.1)
 
-        going : (x : Option ℕ) → IsMadeAs x true → (run_as (cell_at m.plans s.cell).kind s.want ≡ want.Read) × (q ≡ told_of x) → GoesAs (run_as (cell_at m.plans s.cell).kind s.want) x (told_of x) (finished.Read l q) r.1
-        going None z f = absurd (cc)
-        going (Some x) z f = f
+          going : (x : Option ℕ) → IsMadeAs x true → (run_as (cell_at m.plans s.cell).kind s.want ≡ SeqWant.Read) × (q ≡ told_of x) → GoesAs (run_as (cell_at m.plans s.cell).kind s.want) x (told_of x) (Finished.Read l q) r.1
+          going x z f = grind arith
 
     -- its call writes on
-    pub ends_write : (l : WriteTicket) (q : Phase) → r.0 ≡ finished.Write l q → row'.value ≡ row.value → row'.draft ≡ record { phase = q; value = made } → EndsAs held place m v s made (Some (finished.Write l q, r.1)) v'
+    pub ends_write : (l : WriteTicket) (q : Phase) → r.0 ≡ Finished.Write l q → row'.value ≡ row.value → row'.draft ≡ record { phase = q; value = made } → EndsAs held place m v s made (Some (Finished.Write l q, r.1)) v'
     ends_write l q e value draft =
-        let d = how (finished.Write l q) e in
+        let d = how (Finished.Write l q) e in
         record {
           stands = moved held place c n n m (guarded (writer_of n s made) gone) v v' row' ok inside cells
-              (subst (λ (z : Seen). IsCell held place z v'.parks c row') (sym seen)
-              (cell_now (m.content c) 0 1 (value ∙ here.valued) here.known
-              (record {
-                fits = left_here.fits;
-                phase_is = ap (λ (h : Holders). h.phase) d.3 ∙ here.locked.phase_is;
-                reads_are = reads_here (finished.Write l q) e;
-                write_is = λ lt. (stands_here (finished.Write l q) e).0;
-                write_was = λ o. omega arith;
-                one = omega arith;
-                limit = subst (λ (h : Holders). h.readers ≤ most_readers) (sym d.3) here.locked.limit;
-              })))
-              (counted_ended held place m v p c s is.inner row row_is row' given.Nobody calm)
+              (grind (arith, seen, cell_now, here, left_here, phase_is, reads_here, stands_here))
+              (counted_ended held place m v p c s is.inner row row_is row' Given.Nobody calm)
               (keeps_first c gone row' (writer_of n s made) unwritten (draft ∙ drafted (told_as q (d.2 ∙ phase_is true d.0)) (subst (IsMadeAs made) d.0 made_is)))
               (guard_opened held place c n n n m gone v v' (writer_of n s made) (without_moved held place m v p c s is.inner row row_is v' left_here guards exit d.4) refl is.inner.at (omega arith) is.inner.rests.empty is.inner.rests.empty inside)
               (parties_now (guarded (writer_of n s made) gone) refl (λ x. refl));
-          told = going made (subst (IsMadeAs made) d.0 made_is) (runs_as want.Write d.1, told_as q (d.2 ∙ phase_is true d.0), d.5);
+          told = going made (subst (IsMadeAs made) d.0 made_is) (runs_as SeqWant.Write d.1, told_as q (d.2 ∙ phase_is true d.0), d.5);
           gave = d.5;
-        }
-      where
-        gone : Standing
-        gone = without_it held place m v p c s is.inner row row_is
+        } where
+          gone : Standing
+          gone = without_it held place m v p c s is.inner row row_is
 
-        seen : seen_at c (guarded (writer_of n s made) gone) ≡ record { plan = cell_at m.plans c; content = m.content c; reads = 0; writes = 1; run = None }
-        seen =
-            let e : (s.cell == c) ≡ true = (let q = is.inner.at in grind (arith, q)) in
-            let more : count (writes_cell c) m.guards + 1 + count (runs_in c) (without_innermost s.party m.sections) ≡ writes_in c gone + 1 = omega arith in
-            rw e ((λ i. record { plan = cell_at m.plans c; content = m.content c; reads = reads_in c m; writes = more i; run = run_in c (without_innermost s.party m.sections) }) ∙ ap (λ (w : Seen). record { plan = w.plan; content = w.content; reads = w.reads; writes = w.writes + 1; run = w.run }) (seen_without held place m v p c s is.inner row row_is))
+          seen : seen_at c (guarded (writer_of n s made) gone) ≡ record { plan = cell_at m.plans c; content = m.content c; reads = 0; writes = 1; run = None }
+          seen =
+              let e : (s.cell == c) ≡ true = (let q = is.inner.at in grind (arith, q)) in
+              let more : count (writes_cell c) m.guards + 1 + count (runs_in c) (without_innermost s.party m.sections) ≡ writes_in c gone + 1 = omega arith in
+              rw e ((λ i. record { plan = cell_at m.plans c; content = m.content c; reads = reads_in c m; writes = more i; run = run_in c (without_innermost s.party m.sections) }) ∙ ap (λ (w : Seen). record { plan = w.plan; content = w.content; reads = w.reads; writes = w.writes + 1; run = w.run }) (seen_without held place m v p c s is.inner row row_is))
 
-        -- its holder sees what was made
-        drafted : q ≡ told_of made → IsMadeAs made true → record { phase = q; value = made } ≡ draft_of (seen_by gone (writer_of n s made))
-        drafted f = by made f
-          where
-            by : (x : Option ℕ) → q ≡ told_of x → IsMadeAs x true → record { phase = q; value = x } ≡ draft_of (seen_by gone (writer_of n s x))
-            by None f k = absurd (cc)
-            by (Some x) f k = ap (λ z. record { phase = z; value = Some x }) f
+          -- its holder sees what was made
+          drafted : q ≡ told_of made → IsMadeAs made true → record { phase = q; value = made } ≡ draft_of (seen_by gone (writer_of n s made))
+          drafted f = grind arith
 
-        going : (x : Option ℕ) → IsMadeAs x true → (run_as (cell_at m.plans s.cell).kind s.want ≡ want.Write) × (q ≡ told_of x) × (r.1 ≡ given.Nobody) → GoesAs (run_as (cell_at m.plans s.cell).kind s.want) x (told_of x) (finished.Write l q) r.1
-        going None z f = absurd (cc)
-        going (Some x) z f = f
+          going : (x : Option ℕ) → IsMadeAs x true → (run_as (cell_at m.plans s.cell).kind s.want ≡ SeqWant.Write) × (q ≡ told_of x) × (r.1 ≡ Given.Nobody) → GoesAs (run_as (cell_at m.plans s.cell).kind s.want) x (told_of x) (Finished.Write l q) r.1
+          going x z f = grind arith

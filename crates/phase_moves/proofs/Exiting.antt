@@ -1,23 +1,7 @@
 -- The exit alone moves.
-use Rattle.std.proofs.Common.{◌≡◌, ◌<◌, ◌∙◌, ℕ, List, [], ◌∷◌, ◌++◌, length, ap, sym, subst, refl, arith, Some}
-use Rattle.std.specs.Prelude.{All}
-use Rattle.std.specs.declared.option.Option.{Option}
-use Rattle.phase_bits.specs.declared.holders.Holders.{Holders}
-use Rattle.exit_registry.specs.declared.registry.Look.{Look}
-use Rattle.exit_registry.specs.declared.turns.Turned.{Turned}
-use Rattle.exit_registry.specs.declared.turns.Turn.TheVariants as turn
-use Rattle.exit_registry.specs.Registry.{Registry, IsSound, cells_of, first_of, look_at, looked, after_turn}
-use Rattle.phase_locker.specs.declared.ways.LockerKind.{LockerKind}
-use Rattle.phase_moves.specs.declared.rows.Exit.{Exit}
-use Rattle.phase_moves.specs.declared.rows.Rows.{Rows}
-use Rattle.phase_moves.specs.Standing.{Standing, owned, round_looked, turn_ended}
-use Rattle.phase_moves.specs.Stands.{Stands, IsExit}
-use Rattle.phase_moves.specs.Exits.{IsTurn}
-
--- the first cell that is left is one of the cells
-first_below : (P : ℕ → Type 0) (xs ys : List ℕ) (c : ℕ) → All P (xs ++ ys) → first_of xs ≡ Some c → P c
-first_below P [] ys c all e = absurd (cc)
-first_below P (x ∷ xs) ys c all e = let same : x ≡ c = cc in subst P same (all 0 c (omega arith))
+use Rattle.phase_moves.proofs.Words.{◌≡◌, ◌∙◌, ℕ, List, [], ◌∷◌, ◌++◌, length, ap, refl, arith, Some, Option, Holders, Look, Turned, Registry, IsSound_of_registry as IsSound}
+use Rattle.phase_moves.proofs.Words.{cells_of, first_of, look_at, looked, after_turn, LockerKind, Exit, Rows, Standing, owned, round_looked, turn_ended, Stands, IsExit}
+use Rattle.phase_moves.proofs.Words.{IsTurn, Turn}
 
 module _ {L : Type 0} (held : L → Holders) (place : L → LockerKind) (hand : ℕ) (m : Standing) (v : Rows L) (t : Stands held place hand m v) where
   -- where nothing else is touched, the rows stand for what is open as before
@@ -28,20 +12,13 @@ module _ {L : Type 0} (held : L → Holders) (place : L → LockerKind) (hand : 
   owns p = exited m.registry (Some p) m.turns _ (record { registry_is = t.exit.registry_is; owner_is = refl; turns_are = t.exit.turns_are; cells_are = t.exit.cells_are })
 
   registered : (f : Registry → Registry) → ((r : Registry) → cells_of (f r) ≡ cells_of r) → (r : Registry) → r ≡ f v.exit.registry → Stands held place hand (record m { registry = f m.registry }) (record v { exit = record v.exit { registry = r } })
-  registered f same r e =
-      exited (f m.registry) m.owner m.turns _ (record { registry_is = e ∙ ap f t.exit.registry_is; owner_is = t.exit.owner_is; turns_are = t.exit.turns_are; cells_are = same m.registry ∙ t.exit.cells_are })
+  registered f same r e = grind arith
 
   pub takes_turn : (o : Option ℕ) (r : Registry) → o ≡ first_of v.exit.registry.left → r ≡ after_turn v.exit.registry → IsSound v.exit.registry → IsTurn held place hand m v o (record v { exit = record v.exit { registry = r } })
-  takes_turn o r first e sound =
-      record {
-        first = first ∙ ap (λ (r : Registry). first_of r.left) t.exit.registry_is;
-        inside = λ c is. subst (λ n. c < n) (ap cells_of t.exit.registry_is ∙ t.exit.cells_are) (first_below (λ c. c < cells_of v.exit.registry) v.exit.registry.left v.exit.registry.pending c sound.below (sym first ∙ is));
-        stands = registered after_turn (λ r. refl) r e;
-      }
+  takes_turn o r first e sound = grind arith
 
   pub looks : (o : Look) (r : Registry) → o ≡ look_at v.exit.registry.pending → r ≡ looked v.exit.registry → (o ≡ look_at m.registry.pending) × Stands held place hand (round_looked m) (record v { exit = record v.exit { registry = r } })
   looks o r first e = (first ∙ ap (λ (r : Registry). look_at r.pending) t.exit.registry_is, registered looked (λ r. refl) r e)
 
-  pub skips : (c : ℕ) (x : Exit) → x.registry ≡ v.exit.registry → x.owner ≡ v.exit.owner → x.turns.items ≡ v.exit.turns.items ++ record { cell = c; turn = turn.Skipped } ∷ [] → Stands held place hand (turn_ended c turn.Skipped m) (record v { exit = x })
-  skips c x registry owner turns =
-      exited m.registry m.owner (m.turns ++ record { cell = c; turn = turn.Skipped } ∷ []) x (record { registry_is = registry ∙ t.exit.registry_is; owner_is = owner ∙ t.exit.owner_is; turns_are = turns ∙ ap (λ ts. ts ++ record { cell = c; turn = turn.Skipped } ∷ []) t.exit.turns_are; cells_are = t.exit.cells_are })
+  pub skips : (c : ℕ) (x : Exit) → x.registry ≡ v.exit.registry → x.owner ≡ v.exit.owner → x.turns.items ≡ v.exit.turns.items ++ record { cell = c; turn = Turn.Skipped } ∷ [] → Stands held place hand (turn_ended c Turn.Skipped m) (record v { exit = x })
+  skips c x registry owner turns = grind arith

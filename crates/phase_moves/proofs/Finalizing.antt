@@ -1,44 +1,13 @@
 -- A finalizer ends, and its turn with it.
-use Rattle.std.proofs.Common.{◌≡◌, ◌∙◌, ℕ, [], ◌∷◌, ◌++◌, length, set, get_or, ap, sym, subst, refl, Bool, true, None, Some}
-use Rattle.std.specs.declared.option.Option.{Option}
-use Rattle.phase_bits.specs.declared.phase.Phase.{Phase}
-use Rattle.phase_bits.specs.declared.holders.Holders.{Holders}
-use Rattle.phase_bits.specs.Number.{phase_of}
-use Rattle.phase_bits.specs.Records.{leave_write}
-use Rattle.phase_locker.specs.declared.ways.Given.TheVariants as given
-use Rattle.phase_locker.specs.declared.ways.Given.{Given}
-use Rattle.phase_locker.specs.declared.ways.LockerKind.{LockerKind}
-use Rattle.phase_locker.specs.Fits.{IsWriteOpen, open_reads}
-use Rattle.phase_locker.specs.Gifts.{Hands}
-use Rattle.phase_locker.specs.Left.{Left}
-use Rattle.phase_seq.specs.Asks.{finalizes}
-use Rattle.lazy_cells.specs.declared.kind.Kind.{Kind}
-use Rattle.phase_seq.specs.Finishes.{FinishesFinal}
-use Rattle.phase_seq.specs.Phases.{finalized as finalized_phase}
-use Rattle.phase_seq.specs.Stands.{IsFinalizing as IsFinalSection}
-use Rattle.schedule_rules.specs.declared.step.Want.{Want}
-use Rattle.schedule_rules.specs.declared.step.Want.TheVariants.{Calls, Turns}
-use Rattle.schedule_rules.specs.Kinds.{cell_at}
-use Rattle.schedule_rules.specs.Changes.{Content, Ended, content_after}
-use Rattle.schedule_rules.specs.Phases.{phase_finalized, value_finalized}
-use Rattle.schedule_rules.specs.Sections.{Section, is_turn}
-use Rattle.waiting_rows.proofs.GivenOn.{listed_hand}
-use Rattle.phase_moves.specs.declared.rows.CellRow.{CellRow}
-use Rattle.phase_moves.specs.declared.rows.OpenRun.{OpenRun}
-use Rattle.phase_moves.specs.declared.rows.PartyRow.{PartyRow}
-use Rattle.phase_moves.specs.declared.rows.Rows.{Rows}
-use Rattle.phase_moves.specs.Standing.{Standing, runner_of, finalized, turn_of}
-use Rattle.phase_moves.specs.Stands.{Seen, seen_at, IsCell, IsExit, run_as}
-use Rattle.phase_moves.specs.Ends.{IsFinalizing, FinalizesAs}
-use Rattle.phase_moves.proofs.Known.{change_known}
-use Rattle.phase_moves.proofs.Leaving.{parked_few}
-use Rattle.phase_moves.proofs.Lockers.{locked_write, hands_writers}
-use Rattle.phase_moves.proofs.Drafts.{keeps_none}
-use Rattle.phase_moves.proofs.Guards.{target_given}
-use Rattle.phase_moves.specs.Gifts.{MayGive}
-use Rattle.phase_moves.proofs.Giving.{gives_closed}
-use Rattle.phase_moves.proofs.Innermost.{in_cells, cell_here, runs_here, o_is, its_row, write_open, seen_closed, closed_moved, cell_ended, counted_ended, no_writers, parties_ended}
-use Rattle.phase_moves.proofs.Moved.{moved}
+use Rattle.phase_moves.proofs.Words.{◌≡◌, ◌∙◌, ℕ, [], ◌∷◌, ◌++◌, length, set, get_or, ap, sym, subst, refl, Bool, true, None, Some, Option, Phase, Holders, phase_of}
+use Rattle.phase_moves.proofs.Words.{leave_write, Given, LockerKind, IsWriteOpen, open_reads, Hands, Left, finalizes, Kind, FinishesFinal, finalized_phase, IsFinalSection}
+use Rattle.phase_moves.proofs.Words.{Want, Calls, Turns, cell_at, Content, Ended, content_after, phase_finalized, value_finalized, Section, is_turn, listed_hand, CellRow}
+use Rattle.phase_moves.proofs.Words.{OpenRun, PartyRow, Rows, Standing, runner_of, finalized, turn_of, Seen, seen_at, IsCell, IsExit, run_as, IsFinalizing, FinalizesAs}
+use Rattle.phase_moves.proofs.Words.{MayGive}
+use Rattle.phase_moves.proofs.Innermost.{in_cells, cell_here, runs_here, o_is, its_row, write_open, seen_closed, closed_moved, cell_ended, counted_ended, no_writers}
+use Rattle.phase_moves.proofs.Innermost.{parties_ended}
+use Rattle.phase_moves.proofs.{Known.change_known, Leaving.parked_few, Lockers.locked_write, Lockers.hands_writers, Drafts.keeps_none, Guards.target_given}
+use Rattle.phase_moves.proofs.{Giving.gives_closed, Moved.moved}
 
 pub asked_final : (q : Kind) (w : Want) → is_turn w ≡ true → finalizes (run_as q w) ≡ true
 asked_final q (Calls k) e = absurd (cc)
@@ -89,8 +58,8 @@ module _ {L : Type 0} (held : L → Holders) (place : L → LockerKind) (m : Sta
         }
 
     -- what is seen of the cell then, where nothing was given yet
-    seen_gone : seen_at c (finalized s fine left given.Nobody m) ≡ record { plan = cell_at m.plans c; content = y; reads = 0; writes = 0; run = None }
-    seen_gone = seen_closed held place m v p c s is.inner row row_is (Ended fine left ∷ []) given.Nobody
+    seen_gone : seen_at c (finalized s fine left Given.Nobody m) ≡ record { plan = cell_at m.plans c; content = y; reads = 0; writes = 0; run = None }
+    seen_gone = seen_closed held place m v p c s is.inner row row_is (Ended fine left ∷ []) Given.Nobody
 
     pub finalizes_as : FinalizesAs held place m v s fine left (Some r) v'
     finalizes_as =
@@ -106,6 +75,6 @@ module _ {L : Type 0} (held : L → Holders) (place : L → LockerKind) (m : Sta
               (closed_moved held place m v p c s is.inner row row_is (Ended fine left ∷ []) r.1 _ v' left_here guards exit_now (hands_writers c _ v.parks r.1 _ v'.parks hands) (listed_hand c _ v.parks r.1 hands.may) hands.rows)
               (parties_ended held place m v p c s is.inner row row_is v' of of' of_is parties o taken of'_is (finalized s fine left r.1 m) refl (λ x. target_given s.cell r.1 m.waits x));
           told = finishes.phase ∙ phase_is ∙ (λ i. phase_of (phase_finalized (m.content (sym is.inner.at i)).phase fine));
-          gave = subst (λ z. MayGive z (finalized s fine left given.Nobody m) r.1) (sym is.inner.at)
-              (gives_closed held place m v p c s is.inner row row_is (finalized s fine left given.Nobody m) refl refl (ap (λ (z : Seen). z.reads) seen_gone) (ap (λ (z : Seen). z.writes) seen_gone) (finalized_phase (held row.seq.locker).phase fine) r.1 _ v'.parks hands);
+          gave = subst (λ z. MayGive z (finalized s fine left Given.Nobody m) r.1) (sym is.inner.at)
+              (gives_closed held place m v p c s is.inner row row_is (finalized s fine left Given.Nobody m) refl refl (ap (λ (z : Seen). z.reads) seen_gone) (ap (λ (z : Seen). z.writes) seen_gone) (finalized_phase (held row.seq.locker).phase fine) r.1 _ v'.parks hands);
         }

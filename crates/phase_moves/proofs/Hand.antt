@@ -1,24 +1,8 @@
 -- What the row of a guard in hand tells, and when the hand is empty.
-use Rattle.std.proofs.Common.{◌≡◌, ◌≤◌, ◌∙◌, ℕ, length, ap, sym, refl, arith, Bool, true, false, None, Some, inl, inr, ◌==◌, ◌<◌, set, subst}
-use Rattle.std.proofs.lemmas.Bool.{cases_eq}
-use Rattle.std.specs.declared.option.Option.{Option}
-use Rattle.phase_bits.specs.declared.holders.Holders.{Holders}
-use Rattle.phase_locker.specs.declared.ways.Given.{Given}
-use Rattle.phase_locker.specs.declared.ways.LockerKind.{LockerKind}
-use Rattle.phase_locker.specs.declared.tickets.ReadTicket.{ReadTicket}
-use Rattle.phase_locker.specs.declared.tickets.WriteTicket.{WriteTicket}
-use Rattle.phase_locker.specs.Natures.{read_ticket, write_ticket}
-use Rattle.schedule_rules.specs.Guards.{Guard, numbered, without_guard, guard_of, own}
-use Rattle.phase_moves.specs.declared.rows.GuardRow.TheVariants as guard
-use Rattle.phase_moves.specs.declared.rows.Rows.{Rows}
-use Rattle.phase_moves.specs.Standing.{Standing, left}
-use Rattle.phase_moves.specs.Stands.{Stands, guard_row, slot_row}
-use Rattle.phase_moves.specs.Moves.{Rests, Pushes, IsTaken, TakenAs}
-use Rattle.phase_moves.proofs.Guards.{gone, its_number, found_itself}
-use Rattle.phase_moves.proofs.Opening.{rehand, taken}
-use Rattle.std.specs.Prelude.{slice_get, if◌then◌else◌}
-use Rattle.phase_moves.specs.declared.rows.GuardRow.{GuardRow}
-use Rattle.phase_moves.specs.Reading.{is_row_of}
+use Rattle.phase_moves.proofs.Words.{◌≡◌, ◌≤◌, ◌∙◌, ℕ, length, ap, sym, refl, arith, Bool, true, false, None, Some, ◌<◌, set, subst, Option, Holders, Given, LockerKind}
+use Rattle.phase_moves.proofs.Words.{ReadTicket, WriteTicket, Guard, numbered, guard_of, own, Rows, Standing, left_of_standing as left, Stands, guard_row, Rests, Pushes}
+use Rattle.phase_moves.proofs.Words.{IsTaken, TakenAs, slice_get, if◌then◌else◌, GuardRow, is_row_of}
+use Rattle.phase_moves.proofs.{Guards.gone, Guards.its_number, Guards.found_itself, Opening.rehand, Opening.taken}
 
 -- the row of a read guard, and of a write guard
 pub record ReadRow (c : ℕ) (o : Option Guard) : Type 0 where
@@ -27,13 +11,8 @@ pub record ReadRow (c : ℕ) (o : Option Guard) : Type 0 where
   pub reads : x.writes ≡ false
   pub at : x.cell ≡ c
 
-pub read_row : (q c : ℕ) (l : ReadTicket) (o : Option Guard) → guard.Read q c l ≡ guard_row o → ReadRow c o
-read_row q c l None e = absurd (cc)
-read_row q c l (Some x) e = by x.writes refl
-  where
-    by : (b : Bool) → x.writes ≡ b → ReadRow c (Some x)
-    by true w = absurd (let f : guard.Read q c l ≡ guard.Write x.party x.cell write_ticket = e ∙ (rw w refl) in cc)
-    by false w = let f : guard.Read q c l ≡ guard.Read x.party x.cell read_ticket = e ∙ (rw w refl) in record { x = x; is = refl; reads = w; at = cc }
+pub read_row : (q c : ℕ) (l : ReadTicket) (o : Option Guard) → GuardRow.Read q c l ≡ guard_row o → ReadRow c o
+read_row q c l o e = grind arith
 
 pub record WriteRow (c : ℕ) (o : Option Guard) : Type 0 where
   pub x : Guard
@@ -41,79 +20,44 @@ pub record WriteRow (c : ℕ) (o : Option Guard) : Type 0 where
   pub writes : x.writes ≡ true
   pub at : x.cell ≡ c
 
-pub write_row : (q c : ℕ) (l : WriteTicket) (o : Option Guard) → guard.Write q c l ≡ guard_row o → WriteRow c o
-write_row q c l None e = absurd (cc)
-write_row q c l (Some x) e = by x.writes refl
-  where
-    by : (b : Bool) → x.writes ≡ b → WriteRow c (Some x)
-    by true w = let f : guard.Write q c l ≡ guard.Write x.party x.cell write_ticket = e ∙ (rw w refl) in record { x = x; is = refl; writes = w; at = cc }
-    by false w = absurd (let f : guard.Write q c l ≡ guard.Read x.party x.cell read_ticket = e ∙ (rw w refl) in cc)
+pub write_row : (q c : ℕ) (l : WriteTicket) (o : Option Guard) → GuardRow.Write q c l ≡ guard_row o → WriteRow c o
+write_row q c l o e = grind arith
 
 module _ {L : Type 0} (held : L → Holders) (place : L → LockerKind) where
   -- beyond the rows there is no guard but the one in hand
   pub beyond : (hand n : ℕ) (m : Standing) (v : Rows L) → Stands held place hand m v → numbered hand m.guards ≡ None → length v.guards.items ≤ n → numbered n m.guards ≡ None
-  beyond hand n m v t none room = by (numbered n m.guards) refl
-    where
-      by : (o : Option Guard) → numbered n m.guards ≡ o → o ≡ None
-      by None e = refl
-      by (Some x) e =
-          elim (cases_eq n hand) [
-            | inl q ↦ sym e ∙ ap (λ i. numbered i m.guards) q ∙ none
-            | inr ne ↦ (let l = t.guards.in_rows n x e ne in absurd (omega (arith, l, room)))
-          ]
+  beyond hand n m v t none room = grind arith
 
   -- the row of a step that holds no guard is pushed
-  pub pushed_free : (hand : ℕ) (m : Standing) (v new : Rows L) → Stands held place hand m v → numbered hand m.guards ≡ None → Pushes held place v guard.Free new → Rests held place m new
-  pushed_free hand m v new t none push =
-      push m (rehand held place hand (length v.guards.items) m v t none (omega arith)) (ap guard_row (sym (beyond hand (length v.guards.items) m v t none (omega arith))))
+  pub pushed_free : (hand : ℕ) (m : Standing) (v new : Rows L) → Stands held place hand m v → numbered hand m.guards ≡ None → Pushes held place v GuardRow.Free new → Rests held place m new
+  pushed_free hand m v new t none push = grind (arith, rehand, beyond)
 
   -- after a guard is given back
   pub left_empty : (hand : ℕ) (m : Standing) (v : Rows L) (x : Guard) (g : Given) → Stands held place hand m v → numbered hand m.guards ≡ Some x → numbered hand (left x g m).guards ≡ None
-  left_empty hand m v x g t found =
-      ap (λ i. numbered i (without_guard x.number m.guards)) (sym (its_number hand m.guards x found)) ∙ gone x.number m.guards x (found_itself hand m.guards x found) (t.guards.once x.number)
+  left_empty hand m v x g t found = grind (arith, its_number, gone, found_itself)
 
 -- ---- what the row of a guard tells of the guard
 
-row_party : (p : ℕ) (x : Guard) → is_row_of p (guard_row (Some x)) ≡ (x.party == p)
-row_party p x = by x.writes refl
-  where
-    by : (b : Bool) → x.writes ≡ b → is_row_of p (guard_row (Some x)) ≡ (x.party == p)
-    by true e = rw e refl
-    by false e = rw e refl
-
 -- whose guard it is
 owner : (p : ℕ) (o : Option Guard) (b : Bool) → is_row_of p (guard_row o) ≡ b → own p o ≡ (if b then o else None)
-owner p None true e = refl
-owner p None false e = refl
-owner p (Some x) b e = let f : (x.party == p) ≡ b = sym (row_party p x) ∙ e in rw f refl
+owner p o b e = grind arith
 
 module _ {L : Type 0} (held : L → Holders) (place : L → LockerKind) (m : Standing) (v v' : Rows L) (p g : ℕ) (r : Rests held place m v) where
   -- the row of a guard
   pub row_shown : (row : GuardRow) → slice_get v.guards.items g ≡ Some row → g < length v.guards.items → row ≡ guard_row (numbered g m.guards)
-  row_shown row e lt =
-      let s : Some row ≡ Some (slot_row (length v.guards.items) m g) = sym e ∙ r.stands.slot g lt in
-      let q : row ≡ slot_row (length v.guards.items) m g = cc in
-      let no : (g == length v.guards.items) ≡ false = grind (arith, lt) in
-      q ∙ rw no refl
+  row_shown row e lt = grind arith
 
   -- it is not the party's
-  pub not_taken : (row : GuardRow) → slice_get v.guards.items g ≡ Some row → g < length v.guards.items → is_row_of p row ≡ false → IsTaken held place v p g guard.Free v m
-  not_taken row e lt f =
-      let none : guard_of g p m.guards ≡ None = owner p (numbered g m.guards) false (ap (is_row_of p) (sym (row_shown row e lt)) ∙ f) in
-      record { row_is = ap guard_row (sym none); taken = subst (λ o. TakenAs held place v g o m v) (sym none) r.stands }
+  pub not_taken : (row : GuardRow) → slice_get v.guards.items g ≡ Some row → g < length v.guards.items → is_row_of p row ≡ false → IsTaken held place v p g GuardRow.Free v m
+  not_taken row e lt f = grind arith
 
   -- it is
-  pub is_taken : (row : GuardRow) → slice_get v.guards.items g ≡ Some row → g < length v.guards.items → is_row_of p row ≡ true → v'.guards.items ≡ set v.guards.items g guard.Free → v'.cells ≡ v.cells → v'.parties ≡ v.parties → v'.parks ≡ v.parks → v'.exit ≡ v.exit → IsTaken held place v p g row v' m
+  pub is_taken : (row : GuardRow) → slice_get v.guards.items g ≡ Some row → g < length v.guards.items → is_row_of p row ≡ true → v'.guards.items ≡ set v.guards.items g GuardRow.Free → v'.cells ≡ v.cells → v'.parties ≡ v.parties → v'.parks ≡ v.parks → v'.exit ≡ v.exit → IsTaken held place v p g row v' m
   is_taken row e lt f guards cells parties parks exit =
       let its : guard_of g p m.guards ≡ numbered g m.guards = owner p (numbered g m.guards) true (ap (is_row_of p) (sym (row_shown row e lt)) ∙ f) in
-      record { row_is = row_shown row e lt ∙ ap guard_row (sym its); taken = subst (λ o. TakenAs held place v g o m v') (sym its) (by (numbered g m.guards) refl) }
-    where
-      all : Stands held place g m v'
-      all = taken held place m v v' g r.stands r.empty lt guards cells parties parks exit
+      record { row_is = row_shown row e lt ∙ ap guard_row (sym its); taken = subst (λ o. TakenAs held place v g o m v') (sym its) (by (numbered g m.guards) refl) } where
+        all : Stands held place g m v'
+        all = taken held place m v v' g r.stands r.empty lt guards cells parties parks exit
 
-      by : (o : Option Guard) → numbered g m.guards ≡ o → TakenAs held place v g o m v'
-      by None q = absurd (never (row_shown row e lt ∙ ap guard_row q) f)
-        where
-          never : row ≡ guard.Free → is_row_of p row ≡ true → ⊥
-          never s t = let n : false ≡ true = ap (is_row_of p) (sym s) ∙ t in cc
-      by (Some x) q = (all, q)
+        by : (o : Option Guard) → numbered g m.guards ≡ o → TakenAs held place v g o m v'
+        by o q = grind (arith, row_shown, all)

@@ -1,56 +1,18 @@
 -- What stands open after one step more is a move of what stood open.
-use Rattle.std.proofs.Common.{◌≡◌, ◌≢◌, ◌∙◌, ℕ, List, [], ◌∷◌, length, ap, sym, refl, arith, Bool, true, false, None, Some, ◌==◌}
-use Rattle.std.specs.Prelude.{◌==◌, if◌then◌else◌, not}
-use Rattle.std.specs.declared.option.Option.{Option}
-use Rattle.phase_bits.specs.declared.phase.Phase.{Phase}
-use Rattle.phase_locker.specs.declared.ways.Given.{Given}
-use Rattle.phase_locker.specs.declared.ways.Given.TheVariants as given
-use Rattle.phase_locker.specs.declared.tickets.ReadTicket.{ReadTicket}
-use Rattle.phase_locker.specs.declared.tickets.WriteTicket.{WriteTicket}
-use Rattle.phase_seq.specs.declared.section.Finished.TheVariants as finished
-use Rattle.schedule_rules.specs.declared.line.Answer.TheVariants as answer
-use Rattle.schedule_rules.specs.declared.line.Refusal.{Refusal}
-use Rattle.schedule_rules.specs.declared.plan.CellPlan.{CellPlan}
-use Rattle.schedule_rules.specs.declared.step.Act.{Act}
-use Rattle.schedule_rules.specs.declared.step.Act.TheVariants as act
-use Rattle.schedule_rules.specs.Changes.{Change, Ran, Put, RanIfAsked}
-use Rattle.schedule_rules.specs.Exits.{registry, owner, ended_turns, finishing, turn_of_section, owner_by}
-use Rattle.schedule_rules.specs.Guards.{Guard, guards, numbered, guard_of, own, without_guard, reader, reader_beside, reader_made, writer_made}
-use Rattle.schedule_rules.specs.History.{Event, accepts}
-use Rattle.schedule_rules.specs.Deeds.{Makes, Finishes}
-use Rattle.schedule_rules.specs.Replay.{replay, content_after_back, back_of_guard, back_of_section}
-use Rattle.schedule_rules.specs.Sections.{Section, sections, innermost, without_innermost}
-use Rattle.schedule_rules.specs.Waits.{Wait, waits, wait_of, without_wait, waits_given_with, cell_concerned_with, cell_of_guard, cell_of_section}
-use Rattle.schedule_rules.proofs.Found.{found_passes}
-use Rattle.waiting_rows.specs.Given.{given_on}
-use Rattle.waiting_rows.proofs.Counted.{none_without}
-use Rattle.waiting_rows.proofs.GivenOn.{given_concerned}
-use Rattle.phase_moves.specs.declared.lend.Lent.{Lent}
-use Rattle.phase_moves.specs.declared.lend.Lent.TheVariants as lent
-use Rattle.phase_moves.specs.declared.lend.Loan.{Loan}
-use Rattle.phase_moves.specs.Histories.{standing, event}
-use Rattle.phase_moves.specs.Lends.{answer_of, changed, lending, lent_in, was_used}
-use Rattle.phase_moves.specs.Standing.{Standing, left, downgraded, cloned, ended, finalized, run_closed, turn_of, writer_of, owned, put, round_looked}
+use Rattle.phase_moves.proofs.Words.{◌≡◌, ◌≢◌, ◌∙◌, ℕ, List, [], ◌∷◌, length, ap, sym, refl, arith, Bool, true, false, None, Some, ◌==◌, Option, Phase, Given, ReadTicket}
+use Rattle.phase_moves.proofs.Words.{WriteTicket, Refusal, CellPlan, Act, Change, Ran, Put, RanIfAsked, registry, owner, ended_turns, finishing, Guard, guards, numbered}
+use Rattle.phase_moves.proofs.Words.{guard_of, own, reader, reader_beside, Event, accepts, replay, content_after_back, Section, sections, innermost, Wait, waits, wait_of}
+use Rattle.phase_moves.proofs.Words.{without_wait, waits_given_with, cell_concerned_with, found_passes, given_on, none_without, given_concerned, Lent, Loan, standing, event}
+use Rattle.phase_moves.proofs.Words.{answer_of, changed, lending, lent_in, was_used, Standing, left_of_standing as left, downgraded, cloned, ended, finalized, run_closed}
+use Rattle.phase_moves.proofs.Words.{writer_of, owned, put, round_looked, Look, answer_of_look, is_other, Finished, Answer}
 use Rattle.phase_moves.proofs.Guards.{its_number}
-use Rattle.exit_registry.specs.declared.registry.Look.{Look}
-use Rattle.exit_registry.specs.declared.registry.Look.TheVariants as look
-use Rattle.schedule_rules.specs.Due.{answer_of_look}
-use Rattle.schedule_rules.specs.Refusals.{is_other}
 
 owned_by : (p : ℕ) (x : Guard) (o : Option Guard) → own p o ≡ Some x → (o ≡ Some x) × (x.party ≡ p)
-owned_by p x None e = absurd (cc)
-owned_by p x (Some y) e = by (y.party == p) refl e
-  where
-    by : (b : Bool) → (y.party == p) ≡ b → (if b then Some y else None) ≡ Some x → (Some y ≡ Some x) × (x.party ≡ p)
-    by true q e = let same : y ≡ x = cc in (e, sym (ap (λ (z : Guard). z.party) same) ∙ grind (arith, q))
-    by false q e = absurd (cc)
+owned_by p x o e = grind arith
 
 -- the write guard that a run leaves is given back at once
-pub writer_left : (n : ℕ) (s : Section) (made : Option ℕ) (d : Given) (t : WriteTicket) (q : Phase) (m : Standing) → left (writer_of n s made) d (ended n s made given.Nobody (finished.Write t q) m) ≡ run_closed s made d m
-writer_left n s made d t q m =
-    let own : (n == n) ≡ true = grind arith in
-    let back : (if n == n then m.guards else writer_of n s made ∷ without_guard n m.guards) ≡ m.guards = rw own refl in
-    λ i. record (run_closed s made d m) { guards = back i }
+pub writer_left : (n : ℕ) (s : Section) (made : Option ℕ) (d : Given) (t : WriteTicket) (q : Phase) (m : Standing) → left (writer_of n s made) d (ended n s made Given.Nobody (Finished.Write t q) m) ≡ run_closed s made d m
+writer_left n s made d t q m = grind arith
 
 module _ (cells : List CellPlan) (h : List Event) (p : ℕ) where
   abbrev ws : List Wait
@@ -60,7 +22,7 @@ module _ (cells : List CellPlan) (h : List Event) (p : ℕ) where
   n = length h
 
   -- a refused step changes nothing
-  pub refused_stays : (a : Act) (r : Refusal) (d : Given) → standing cells (event p a (record { answer = answer.Refused r; given = d }) ∷ h) ≡ standing cells h
+  pub refused_stays : (a : Act) (r : Refusal) (d : Given) → standing cells (event p a (record { answer = Answer.Refused r; given = d }) ∷ h) ≡ standing cells h
   refused_stays a r d = refl
 
   -- what a step gave on the cell that it concerns
@@ -75,28 +37,27 @@ module _ (cells : List CellPlan) (h : List Event) (p : ℕ) where
     -- ---- a loan
 
     -- what is lent is given back at once
-    pub lent_at_once : (c : ℕ) (l : Loan) (r : Lent) → accepts h ≡ (registry cells h).is_open → was_used r ≡ false → (l.runs ≡ false → answer_of r ≢ answer.Failed) → standing cells (event p (lending c l) (record { answer = answer_of r; given = given.Nobody }) ∷ h) ≡ lent_in c l r (standing cells h)
-    lent_at_once c l r agrees used fine = by l.runs l.made l.left r used fine
-      where
-        published : (a : Act) → cell_concerned_with cells ws h p a ≡ Some c → (chs : Bool → List Change)
-            → record { plans = cells; waits = waits_given_with cells ws h (record { party = p; act = a }) given.Nobody (without_wait p ws); sections = sections h; guards = guards h; content = λ d. content_after_back cells d (Some (record { cell = c; changes = chs (accepts h) })) (replay cells d h); registry = registry cells h; owner = owner h; turns = ended_turns h }
-            ≡ changed c (chs (registry cells h).is_open) (standing cells h)
-        published a e chs =
-            let given = given_awake a given.Nobody c e in
-            λ i. record { plans = cells; waits = given i; sections = sections h; guards = guards h; content = λ d. content_after_back cells d (Some (record { cell = c; changes = chs (agrees i) })) (replay cells d h); registry = registry cells h; owner = owner h; turns = ended_turns h }
+    pub lent_at_once : (c : ℕ) (l : Loan) (r : Lent) → accepts h ≡ (registry cells h).is_open → was_used r ≡ false → (l.runs ≡ false → answer_of r ≢ Answer.Failed) → standing cells (event p (lending c l) (record { answer = answer_of r; given = Given.Nobody }) ∷ h) ≡ lent_in c l r (standing cells h)
+    lent_at_once c l r agrees used fine = by l.runs l.made l.left r used fine where
+      published : (a : Act) → cell_concerned_with cells ws h p a ≡ Some c → (chs : Bool → List Change)
+          → record { plans = cells; waits = waits_given_with cells ws h (record { party = p; act = a }) Given.Nobody (without_wait p ws); sections = sections h; guards = guards h; content = λ d. content_after_back cells d (Some (record { cell = c; changes = chs (accepts h) })) (replay cells d h); registry = registry cells h; owner = owner h; turns = ended_turns h }
+          ≡ changed c (chs (registry cells h).is_open) (standing cells h)
+      published a e chs =
+          let given = given_awake a Given.Nobody c e in
+          λ i. record { plans = cells; waits = given i; sections = sections h; guards = guards h; content = λ d. content_after_back cells d (Some (record { cell = c; changes = chs (agrees i) })) (replay cells d h); registry = registry cells h; owner = owner h; turns = ended_turns h }
 
-        quiet : (a : Act) → cell_concerned_with cells ws h p a ≡ Some c → record (standing cells h) { waits = waits_given_with cells ws h (record { party = p; act = a }) given.Nobody (without_wait p ws) } ≡ standing cells h
-        quiet a e = let given = given_awake a given.Nobody c e in λ i. record (standing cells h) { waits = given i }
+      quiet : (a : Act) → cell_concerned_with cells ws h p a ≡ Some c → record (standing cells h) { waits = waits_given_with cells ws h (record { party = p; act = a }) Given.Nobody (without_wait p ws) } ≡ standing cells h
+      quiet a e = let given = given_awake a Given.Nobody c e in λ i. record (standing cells h) { waits = given i }
 
-        by : (b : Bool) (made : Option ℕ) (left : ℕ) (z : Lent) → was_used z ≡ false → (b ≡ false → answer_of z ≢ answer.Failed)
-            → standing cells (event p (lending c (record { runs = b; made = made; left = left })) (record { answer = answer_of z; given = given.Nobody }) ∷ h) ≡ lent_in c (record { runs = b; made = made; left = left }) z (standing cells h)
-        by b made left lent.InUse used fine = absurd (cc)
-        by true made left (lent.Denied q) used fine = quiet (act.GetMut c made left) refl
-        by false made left (lent.Denied q) used fine = quiet (act.TryGetMut c left) refl
-        by true made left lent.Failed used fine = published (act.GetMut c made left) refl (λ o. Ran o None ∷ [])
-        by false made left lent.Failed used fine = absurd (fine refl refl)
-        by true made left (lent.Found v) used fine = published (act.GetMut c made left) refl (λ o. Put left ∷ RanIfAsked o made ∷ [])
-        by false made left (lent.Found v) used fine = published (act.TryGetMut c left) refl (λ o. Put left ∷ [])
+      by : (b : Bool) (made : Option ℕ) (left : ℕ) (z : Lent) → was_used z ≡ false → (b ≡ false → answer_of z ≢ Answer.Failed)
+          → standing cells (event p (lending c (record { runs = b; made = made; left = left })) (record { answer = answer_of z; given = Given.Nobody }) ∷ h) ≡ lent_in c (record { runs = b; made = made; left = left }) z (standing cells h)
+      by b made left Lent.InUse used fine = absurd (cc)
+      by true made left (Lent.Denied q) used fine = quiet (Act.GetMut c made left) refl
+      by false made left (Lent.Denied q) used fine = quiet (Act.TryGetMut c left) refl
+      by true made left Lent.Failed used fine = published (Act.GetMut c made left) refl (λ o. Ran o None ∷ [])
+      by false made left Lent.Failed used fine = absurd (fine refl refl)
+      by true made left (Lent.Found v) used fine = published (Act.GetMut c made left) refl (λ o. Put left ∷ RanIfAsked o made ∷ [])
+      by false made left (Lent.Found v) used fine = published (Act.TryGetMut c left) refl (λ o. Put left ∷ [])
 
     -- ---- guards
 
@@ -107,19 +68,13 @@ module _ (cells : List CellPlan) (h : List Event) (p : ℕ) where
       number : x.number ≡ g
       number = its_number g (guards h) x found
 
-      pub release_left : (d : Given) → standing cells (event p (act.Release g) (record { answer = answer.Done; given = d }) ∷ h) ≡ left x d (standing cells h)
-      release_left d =
-          let given = given_awake (act.Release g) d x.cell (ap cell_of_guard found) in
-          λ i. record { plans = cells; waits = given i; sections = sections h; guards = without_guard (sym number i) (guards h); content = λ c. content_after_back cells c (back_of_guard (found i)) (replay cells c h); registry = registry cells h; owner = owner h; turns = ended_turns h }
+      pub release_left : (d : Given) → standing cells (event p (Act.Release g) (record { answer = Answer.Done; given = d }) ∷ h) ≡ left x d (standing cells h)
+      release_left d = grind (arith, given_awake, found, number)
 
-      pub downgrade_read : (d : Given) → standing cells (event p (act.Downgrade g) (record { answer = answer.ReadGuard; given = d }) ∷ h) ≡ downgraded (length h) x d (standing cells h)
-      downgrade_read d =
-          let given = given_awake (act.Downgrade g) d x.cell (ap cell_of_guard found) in
-          let party = (owned_by p x (numbered g (guards h)) mine).1 in
-          let guards_are = ap (λ o. reader_beside (length h) p o (without_guard g (guards h))) found ∙ (λ i. reader (length h) (sym party i) x.cell ∷ without_guard (sym number i) (guards h)) in
-          λ i. record { plans = cells; waits = given i; sections = sections h; guards = guards_are i; content = λ c. content_after_back cells c (back_of_guard (found i)) (replay cells c h); registry = registry cells h; owner = owner h; turns = ended_turns h }
+      pub downgrade_read : (d : Given) → standing cells (event p (Act.Downgrade g) (record { answer = Answer.ReadGuard; given = d }) ∷ h) ≡ downgraded (length h) x d (standing cells h)
+      downgrade_read d = grind (arith, given_awake, found, owned_by, number)
 
-      pub clone_beside : standing cells (event p (act.Clone g) (record { answer = answer.ReadGuard; given = given.Nobody }) ∷ h) ≡ cloned (length h) x (standing cells h)
+      pub clone_beside : standing cells (event p (Act.Clone g) (record { answer = Answer.ReadGuard; given = Given.Nobody }) ∷ h) ≡ cloned (length h) x (standing cells h)
       clone_beside =
           let party = (owned_by p x (numbered g (guards h)) mine).1 in
           let guards_are = ap (λ o. reader_beside (length h) p o (guards h)) found ∙ (λ i. reader (length h) (sym party i) x.cell ∷ guards h) in
@@ -131,71 +86,43 @@ module _ (cells : List CellPlan) (h : List Event) (p : ℕ) where
       party : s.party ≡ p
       party = let e = found_passes (λ (x : Section). x.party == p) (sections h) s top in grind (arith, e)
 
-      pub made_read : (v : ℕ) (d : Given) (t : ReadTicket) (q : Phase) → standing cells (event p (act.Made v) (record { answer = answer.ReadGuard; given = d }) ∷ h) ≡ ended (length h) s (Some v) d (finished.Read t q) (standing cells h)
-      made_read v d t q =
-          let given = given_awake (act.Made v) d s.cell (ap cell_of_section top) in
-          let guards_are = ap (λ o. reader_made (length h) p o (guards h)) top ∙ ap (λ r. reader (length h) r s.cell ∷ guards h) (sym party) in
-          λ i. record { plans = cells; waits = given i; sections = without_innermost (sym party i) (sections h); guards = guards_are i; content = λ c. content_after_back cells c (back_of_section (Makes (Some v)) (top i)) (replay cells c h); registry = registry cells h; owner = owner h; turns = ended_turns h }
+      pub made_read : (v : ℕ) (d : Given) (t : ReadTicket) (q : Phase) → standing cells (event p (Act.Made v) (record { answer = Answer.ReadGuard; given = d }) ∷ h) ≡ ended (length h) s (Some v) d (Finished.Read t q) (standing cells h)
+      made_read v d t q = grind (arith, given_awake, party)
 
-      pub made_write : (v : ℕ) (t : WriteTicket) (q : Phase) → standing cells (event p (act.Made v) (record { answer = answer.WriteGuard; given = given.Nobody }) ∷ h) ≡ ended (length h) s (Some v) given.Nobody (finished.Write t q) (standing cells h)
-      made_write v t q =
-          let guards_are = ap (λ o. writer_made (length h) p v o (guards h)) top ∙ ap (λ r. record { number = length h; party = r; cell = s.cell; writes = true; start = s.start; changes = Ran s.is_open (Some v) ∷ [] } ∷ guards h) (sym party) in
-          λ i. record { plans = cells; waits = none_without p ws awake i; sections = without_innermost (sym party i) (sections h); guards = guards_are i; content = λ c. replay cells c h; registry = registry cells h; owner = owner h; turns = ended_turns h }
+      pub made_write : (v : ℕ) (t : WriteTicket) (q : Phase) → standing cells (event p (Act.Made v) (record { answer = Answer.WriteGuard; given = Given.Nobody }) ∷ h) ≡ ended (length h) s (Some v) Given.Nobody (Finished.Write t q) (standing cells h)
+      made_write v t q = grind (arith, number, party, none_without)
 
       -- its section is given back at once: where the phase is told, and where the value is shown
-      pub made_told : (v : ℕ) (d : Given) (q : Phase) → standing cells (event p (act.Made v) (record { answer = answer.Phase q; given = d }) ∷ h) ≡ run_closed s (Some v) d (standing cells h)
-      made_told v d q =
-          let given = given_awake (act.Made v) d s.cell (ap cell_of_section top) in
-          λ i. record { plans = cells; waits = given i; sections = without_innermost (sym party i) (sections h); guards = guards h; content = λ c. content_after_back cells c (back_of_section (Makes (Some v)) (top i)) (replay cells c h); registry = registry cells h; owner = owner h; turns = ended_turns h }
+      pub made_told : (v : ℕ) (d : Given) (q : Phase) → standing cells (event p (Act.Made v) (record { answer = Answer.Phase q; given = d }) ∷ h) ≡ run_closed s (Some v) d (standing cells h)
+      made_told v d q = grind (arith, given_awake, party)
 
-      pub made_shown : (v u : ℕ) (d : Given) → standing cells (event p (act.Made v) (record { answer = answer.Value u; given = d }) ∷ h) ≡ run_closed s (Some v) d (standing cells h)
-      made_shown v u d =
-          let given = given_awake (act.Made v) d s.cell (ap cell_of_section top) in
-          λ i. record { plans = cells; waits = given i; sections = without_innermost (sym party i) (sections h); guards = guards h; content = λ c. content_after_back cells c (back_of_section (Makes (Some v)) (top i)) (replay cells c h); registry = registry cells h; owner = owner h; turns = ended_turns h }
+      pub made_shown : (v u : ℕ) (d : Given) → standing cells (event p (Act.Made v) (record { answer = Answer.Value u; given = d }) ∷ h) ≡ run_closed s (Some v) d (standing cells h)
+      made_shown v u d = grind (arith, given_awake, party)
 
-      pub made_failed : (d : Given) (q : Phase) → standing cells (event p act.MadeFailed (record { answer = answer.Failed; given = d }) ∷ h) ≡ ended (length h) s None d (finished.Failed q) (standing cells h)
-      made_failed d q =
-          let given = given_awake act.MadeFailed d s.cell (ap cell_of_section top) in
-          λ i. record { plans = cells; waits = given i; sections = without_innermost (sym party i) (sections h); guards = guards h; content = λ c. content_after_back cells c (back_of_section (Makes None) (top i)) (replay cells c h); registry = registry cells h; owner = owner h; turns = ended_turns h }
+      pub made_failed : (d : Given) (q : Phase) → standing cells (event p Act.MadeFailed (record { answer = Answer.Failed; given = d }) ∷ h) ≡ ended (length h) s None d (Finished.Failed q) (standing cells h)
+      made_failed d q = grind (arith, given_awake, party)
 
-      pub final_ended : (fine : Bool) (left : Option ℕ) (d : Given) (q : Phase) → standing cells (event p (finishing fine left) (record { answer = answer.Phase q; given = d }) ∷ h) ≡ finalized s fine left d (standing cells h)
-      final_ended true left d q =
-          let given = given_awake (act.Finished left) d s.cell (ap cell_of_section top) in
-          λ i. record { plans = cells; waits = given i; sections = without_innermost (sym party i) (sections h); guards = guards h; content = λ c. content_after_back cells c (back_of_section (Finishes true left) (top i)) (replay cells c h); registry = registry cells h; owner = owner h; turns = turn_of_section (turn_of true) (top i) (ended_turns h) }
-      final_ended false left d q =
-          let given = given_awake (act.FinishFailed left) d s.cell (ap cell_of_section top) in
-          λ i. record { plans = cells; waits = given i; sections = without_innermost (sym party i) (sections h); guards = guards h; content = λ c. content_after_back cells c (back_of_section (Finishes false left) (top i)) (replay cells c h); registry = registry cells h; owner = owner h; turns = turn_of_section (turn_of false) (top i) (ended_turns h) }
+      pub final_ended : (fine : Bool) (left : Option ℕ) (d : Given) (q : Phase) → standing cells (event p (finishing fine left) (record { answer = Answer.Phase q; given = d }) ∷ h) ≡ finalized s fine left d (standing cells h)
+      final_ended fine left d q = grind (arith, given_awake, party)
 
   -- ---- a step of a party that does not wait, which opens and gives back nothing
 
   module _ (awake : wait_of p ws ≡ None) where
     -- a look
-    pub look_stays : (g v : ℕ) → standing cells (event p (act.Look g) (record { answer = answer.Value v; given = given.Nobody }) ∷ h) ≡ standing cells h
+    pub look_stays : (g v : ℕ) → standing cells (event p (Act.Look g) (record { answer = Answer.Value v; given = Given.Nobody }) ∷ h) ≡ standing cells h
     look_stays g v = λ i. record (standing cells h) { waits = none_without p ws awake i; owner = owner h }
 
     -- a clone that is barred
-    pub clone_barred : (g : ℕ) → standing cells (event p (act.Clone g) (record { answer = answer.Borrowed; given = given.Nobody }) ∷ h) ≡ standing cells h
+    pub clone_barred : (g : ℕ) → standing cells (event p (Act.Clone g) (record { answer = Answer.Borrowed; given = Given.Nobody }) ∷ h) ≡ standing cells h
     clone_barred g = λ i. record (standing cells h) { waits = none_without p ws awake i; owner = owner h }
 
     -- a value that is set
-    pub set_puts : (g v : ℕ) → standing cells (event p (act.Set g v) (record { answer = answer.Done; given = given.Nobody }) ∷ h) ≡ put g v (standing cells h)
+    pub set_puts : (g v : ℕ) → standing cells (event p (Act.Set g v) (record { answer = Answer.Done; given = Given.Nobody }) ∷ h) ≡ put g v (standing cells h)
     set_puts g v = λ i. record (put g v (standing cells h)) { waits = none_without p ws awake i; owner = owner h }
 
   -- ---- the exit, of a party that may own it
 
   module _ (free : is_other (owner h) p ≡ false) where
-    owns : owner_by p true (owner h) ≡ Some p
-    owns = by (owner h) free
-      where
-        by : (o : Option ℕ) → is_other o p ≡ false → owner_by p true o ≡ Some p
-        by None e = refl
-        by (Some q) e = at (q == p) refl e
-          where
-            at : (b : Bool) → (q == p) ≡ b → not b ≡ false → Some q ≡ Some p
-            at true f g = ap (λ x. Some x) (grind (arith, f))
-            at false f g = absurd (cc)
-
     -- a look for the cells that were registered since the last one
-    pub exit_looks : wait_of p ws ≡ None → (o : Look) → standing cells (event p act.Exit (record { answer = answer_of_look o; given = given.Nobody }) ∷ h) ≡ round_looked (owned p (standing cells h))
-    exit_looks awake (look.Round r) = λ i. record (round_looked (owned p (standing cells h))) { waits = none_without p ws awake i; owner = owns i }
-    exit_looks awake look.Closed = λ i. record (round_looked (owned p (standing cells h))) { waits = none_without p ws awake i; owner = owns i }
+    pub exit_looks : wait_of p ws ≡ None → (o : Look) → standing cells (event p Act.Exit (record { answer = answer_of_look o; given = Given.Nobody }) ∷ h) ≡ round_looked (owned p (standing cells h))
+    exit_looks awake o = grind (arith, none_without)

@@ -1,40 +1,11 @@
 -- The innermost section of a party, and what is left when it is given back.
-use Rattle.std.proofs.Common.{◌≡◌, ◌≢◌, ◌==◌, ◌<◌, ◌≤◌, ◌+◌, ◌∙◌, ℕ, List, length, set, get_or, ap, sym, subst, refl, arith, true, false, cond, None, Some}
-use Rattle.std.specs.declared.option.Option.{Option}
-use Rattle.phase_bits.specs.declared.holders.Holders.{Holders}
-use Rattle.phase_bits.specs.Number.{phase_of, IsKnown}
-use Rattle.exit_registry.specs.declared.turns.Turned.{Turned}
-use Rattle.phase_locker.specs.declared.ways.Given.{Given}
-use Rattle.phase_locker.specs.declared.ways.LockerKind.{LockerKind}
-use Rattle.phase_locker.specs.Rows.{Rows as Parking}
-use Rattle.phase_locker.specs.Fits.{Fits, IsWriteOpen}
-use Rattle.phase_locker.specs.Gifts.{rows_handed}
-use Rattle.phase_locker.specs.Left.{Left}
-use Rattle.schedule_rules.specs.Kinds.{cell_at}
-use Rattle.schedule_rules.specs.Changes.{Content, Change, effect}
-use Rattle.schedule_rules.specs.Replay.{Back}
-use Rattle.schedule_rules.specs.History.{count}
-use Rattle.schedule_rules.specs.Sections.{Section, innermost, without_innermost, runs_in}
-use Rattle.schedule_rules.specs.Holds.{writes_cell}
-use Rattle.schedule_rules.specs.Waits.{wait_of, cell_of_section}
-use Rattle.schedule_rules.proofs.Found.{found_counts, found_passes}
-use Rattle.schedule_rules.proofs.Opened.{count_ended, innermost_kept}
-use Rattle.waiting_rows.specs.Shown.{Shows}
-use Rattle.waiting_rows.specs.Given.{given_on, IsListed}
-use Rattle.waiting_rows.proofs.GivenOn.{shows_on, single_on, within_on}
-use Rattle.phase_moves.specs.declared.rows.CellRow.{CellRow}
-use Rattle.phase_moves.specs.declared.rows.OpenRun.{OpenRun}
-use Rattle.phase_moves.specs.declared.rows.PartyRow.{PartyRow}
-use Rattle.phase_moves.specs.declared.rows.Rows.{Rows}
-use Rattle.phase_moves.specs.Standing.{Standing, Run, run_in, reads_in, closed}
-use Rattle.phase_moves.specs.Stands.{CountsWaits, seen_at, IsCell, IsLocked, IsExit, AreShown, party_row, open_run, section_of, target_of}
-use Rattle.phase_moves.specs.Ends.{IsInnermost}
-use Rattle.phase_moves.proofs.Lockers.{writing_alone}
-use Rattle.phase_moves.proofs.Leaving.{sound}
+use Rattle.phase_moves.proofs.Words.{◌≡◌, ◌≢◌, ◌==◌, ◌<◌, ◌≤◌, ◌+◌, ◌∙◌, ℕ, List, length, set, get_or, ap, sym, subst, refl, arith, true, false, cond, None, Some, Holders}
+use Rattle.phase_moves.proofs.Words.{phase_of, IsKnown, Turned, Given, LockerKind, Parking, Fits, IsWriteOpen, rows_handed, Left, cell_at, Content, Change, effect, count}
+use Rattle.phase_moves.proofs.Words.{Section, innermost, without_innermost, runs_in, writes_cell, wait_of, cell_of_section, found_counts, found_passes, count_ended}
+use Rattle.phase_moves.proofs.Words.{innermost_kept, Shows, given_on, IsListed, shows_on, single_on, within_on, CellRow, OpenRun, PartyRow, Rows, Standing, Run, run_in}
+use Rattle.phase_moves.proofs.Words.{reads_in, closed, CountsWaits, seen_at, IsCell, IsLocked, IsExit, party_row, open_run, section_of, target_of, IsInnermost}
 use Rattle.phase_moves.proofs.Runs.{none_runs, run_kept, run_top, inside_ended, inside_found}
-use Rattle.phase_moves.proofs.Moved.{IsMoved, HasParties, exit_kept, parties_set}
-use Rattle.phase_moves.proofs.Places.{read_at}
-use Rattle.phase_moves.proofs.Waiting.{count_given}
+use Rattle.phase_moves.proofs.{Lockers.writing_alone, Leaving.sound, Moved.IsMoved, Moved.HasParties, Moved.exit_kept, Moved.parties_set, Places.read_at, Waiting.count_given}
 
 module _ {L : Type 0} (held : L → Holders) (place : L → LockerKind) (m : Standing) (v : Rows L) (p c : ℕ) (s : Section) (is : IsInnermost held place m v p c s) (row : CellRow L) (row_is : row ≡ get_or v.cells.items c row) where
   abbrev n : ℕ
@@ -95,16 +66,11 @@ module _ {L : Type 0} (held : L → Holders) (place : L → LockerKind) (m : Sta
 
   no_runs : count (runs_in c) (without_innermost s.party m.sections) ≡ 0
   no_runs =
-      let one = cell_here.locked.one in
-      let less = ended_runs c in
-      let yes : cond {A = ℕ} (runs_in c s) 1 0 ≡ 1 = (let e : (s.cell == c) ≡ true = (let q = is.at in grind (arith, q)) in rw e refl) in
-      omega (arith, one, less, yes)
+      let one = cell_here.locked.one in let less = ended_runs c in
+      let yes : cond {A = ℕ} (runs_in c s) 1 0 ≡ 1 = (let e : (s.cell == c) ≡ true = (let q = is.at in grind (arith, q)) in rw e refl) in omega (arith, one, less, yes)
 
   runs_beside : (d : ℕ) → d ≢ c → count (runs_in d) (without_innermost s.party m.sections) ≡ count (runs_in d) m.sections
-  runs_beside d ne =
-      let less = ended_runs d in
-      let none : cond {A = ℕ} (runs_in d s) 1 0 ≡ 0 = (let e : (s.cell == d) ≡ false = (let q = is.at in grind (arith, q, ne)) in rw e refl) in
-      omega (arith, less, none)
+  runs_beside d ne = grind (arith, ended_runs)
 
   run_beside : (d : ℕ) → d ≢ c → run_in d (without_innermost s.party m.sections) ≡ run_in d m.sections
   run_beside d ne = run_kept d s.party m.sections s (ap (λ q. innermost q m.sections) its_party ∙ is.found) (λ e. ne (e ∙ is.at))
@@ -117,32 +83,13 @@ module _ {L : Type 0} (held : L → Holders) (place : L → LockerKind) (m : Sta
   seen_without =
       let r = no_reads in
       let w : count (writes_cell c) m.guards + count (runs_in c) (without_innermost s.party m.sections) ≡ 0 = (let x = no_writers in let y = no_runs in omega (arith, x, y)) in
-      let o = none_runs c (without_innermost s.party m.sections) no_runs in
-      λ i. record { plan = cell_at m.plans c; content = m.content c; reads = r i; writes = w i; run = o i }
+      let o = none_runs c (without_innermost s.party m.sections) no_runs in λ i. record { plan = cell_at m.plans c; content = m.content c; reads = r i; writes = w i; run = o i }
 
   pub without_moved : (v' : Rows L) {l l' : L} → Left held place c l l' v.parks v'.parks → v'.guards ≡ v.guards → v'.exit ≡ v.exit → v'.parks ≡ v.parks → IsMoved held place c n n m without_it v v'
-  without_moved v' k guards exit parks =
-      let st = is.rests.stands in
-      record {
-        counts = λ d ne. refl;
-        drafts = λ g x e w ne. e;
-        around = λ d ne. (let w = runs_beside d ne in let r = run_beside d ne in λ i. record { plan = cell_at m.plans d; content = m.content d; reads = reads_in d m; writes = count (writes_cell d) m.guards + w i; run = r i });
-        others = k.others;
-        same = k.same;
-        lists = ap (λ (q : Parking). length q.writers) parks;
-        guards = guards;
-        slots = λ g lt. refl;
-        exit = exit_kept (length v.cells.items) m without_it v.exit v'.exit exit refl refl refl st.exit;
-        waits = subst (λ (q : Parking). AreShown (length v.cells.items) m.waits q) (sym parks) st.waits;
-        numbers = st.guards;
-        sections = inside_ended (length v.cells.items) s.party m.sections st.sections;
-      }
+  without_moved v' k guards exit parks = grind (arith, runs_beside, run_beside, exit_kept, inside_ended)
 
   -- the section is gone, in which this happened, and g was given
   module _ (chs : List Change) (g : Given) where
-    abbrev back : Option Back
-    back = Some (record { cell = s.cell; changes = chs })
-
     abbrev y : Content
     y = effect (cell_at m.plans c) chs (m.content c)
 
@@ -157,11 +104,9 @@ module _ {L : Type 0} (held : L → Holders) (place : L → LockerKind) (m : Sta
 
     pub seen_closed : seen_at c (closed s (Some (record { cell = s.cell; changes = chs })) g m) ≡ record { plan = cell_at m.plans c; content = effect (cell_at m.plans c) chs (m.content c); reads = 0; writes = 0; run = None }
     seen_closed =
-        let a = content_here in
-        let r = no_reads in
+        let a = content_here in let r = no_reads in
         let w : count (writes_cell c) m.guards + count (runs_in c) (without_innermost s.party m.sections) ≡ 0 = (let x = no_writers in let y = no_runs in omega (arith, x, y)) in
-        let o = none_runs c (without_innermost s.party m.sections) no_runs in
-        λ i. record { plan = cell_at m.plans c; content = a i; reads = r i; writes = w i; run = o i }
+        let o = none_runs c (without_innermost s.party m.sections) no_runs in λ i. record { plan = cell_at m.plans c; content = a i; reads = r i; writes = w i; run = o i }
 
     pub closed_moved : (ts : List Turned) (v' : Rows L) {l l' : L} → Left held place c l l' v.parks v'.parks → v'.guards ≡ v.guards → IsExit (length v.cells.items) (record m { turns = ts }) v'.exit → length v'.parks.writers ≡ length v.parks.writers → IsListed c v.parks g → v'.parks ≡ rows_handed c g v.parks
         → IsMoved held place c n n m (record (closed s (Some (record { cell = s.cell; changes = chs })) g m) { turns = ts }) v v'
@@ -185,10 +130,9 @@ module _ {L : Type 0} (held : L → Holders) (place : L → LockerKind) (m : Sta
               };
           numbers = st.guards;
           sections = inside_ended (length v.cells.items) s.party m.sections st.sections;
-        }
-      where
-        in_parks : c < length v.parks.readers
-        in_parks = let a = in_cells in let b = is.rests.stands.sizes.readers in omega (arith, a, b)
+        } where
+          in_parks : c < length v.parks.readers
+          in_parks = let a = in_cells in let b = is.rests.stands.sizes.readers in omega (arith, a, b)
 
   -- ---- the rows
 
@@ -199,9 +143,7 @@ module _ {L : Type 0} (held : L → Holders) (place : L → LockerKind) (m : Sta
   -- the row of the cell
   pub cell_ended : (v' : Rows L) (row' : CellRow L) (y : Content) (a z : ℕ) → row'.plan ≡ row.plan → row'.run ≡ None → row'.seq.running ≡ None → place row'.seq.locker ≡ place row.seq.locker → row'.value ≡ y.value → IsKnown (phase_of y.phase) → IsLocked (place row'.seq.locker) (held row'.seq.locker) v'.parks c a z y.phase
       → IsCell held place (record { plan = cell_at m.plans c; content = y; reads = a; writes = z; run = None }) v'.parks c row'
-  cell_ended v' row' y a z plan run running kind value known locked =
-      let k0 = cell_here in
-      record { planned = plan ∙ k0.planned; valued = value; known = known; locked = locked; placed = kind ∙ k0.placed; runner = running; runs = run }
+  cell_ended v' row' y a z plan run running kind value known locked = grind (arith, cell_here)
 
   -- the rows of parties
   pub parties_ended : (v' : Rows L) (of of' : PartyRow) → of ≡ get_or v.parties.items p of → v'.parties.items ≡ set v.parties.items p of' → (o : OpenRun) → row.run ≡ Some o → of' ≡ record { waiting = of.waiting; innermost = o.run.outer }
@@ -209,10 +151,9 @@ module _ {L : Type 0} (held : L → Holders) (place : L → LockerKind) (m : Sta
   parties_ended v' of of' of_is parties o taken of'_is m' ss ws =
       parties_set held place n m m' v v' p of' is.rests.stands parties
       (of'_is ∙ (λ i. record { waiting = (of_here i).waiting; innermost = (o_is o taken i).run.outer }) ∙ (λ i. record { waiting = sym (ws p) i; innermost = cell_of_section (innermost p (without_innermost (sym its_party i) m.sections)) }) ∙ (λ i. record { waiting = target_of (wait_of p m'.waits); innermost = cell_of_section (innermost p (sym ss i)) }))
-      (λ q ne. λ i. record { waiting = ws q i; innermost = cell_of_section ((ap (innermost q) ss ∙ innermost_kept s.party q m.sections (λ e. ne (e ∙ its_party))) i) })
-    where
-      of_here : of ≡ party_row m p
-      of_here = let e : Some of ≡ Some (party_row m p) = sym (read_at v.parties.items p of is.party of_is) ∙ is.rests.stands.party p is.party in cc
+      (λ q ne. λ i. record { waiting = ws q i; innermost = cell_of_section ((ap (innermost q) ss ∙ innermost_kept s.party q m.sections (λ e. ne (e ∙ its_party))) i) }) where
+        of_here : of ≡ party_row m p
+        of_here = let e : Some of ≡ Some (party_row m p) = sym (read_at v.parties.items p of is.party of_is) ∙ is.rests.stands.party p is.party in cc
 
 -- the section that ends is in a cell
 pub end_inside : {L : Type 0} (held : L → Holders) (place : L → LockerKind) (m : Standing) (v : Rows L) (p c : ℕ) (s : Section) → IsInnermost held place m v p c s → c < length v.cells.items

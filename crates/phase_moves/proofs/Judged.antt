@@ -1,83 +1,17 @@
 -- How a call was judged that was not turned back: it keeps what it has, or gives it up, and is barred or admitted by the
 -- record that this leaves.
-use Rattle.std.proofs.Common.{◌≡◌, ◌<◌, ◌≤◌, ◌+◌, ◌∙◌, ℕ, length, ap, sym, subst, refl, arith, Bool, true, false, None, Some, inl, inr}
-use Rattle.std.specs.Prelude.{◌⊎◌, MatchBool, ◌||◌, ◌&&◌, ◌==◌, not, if◌then◌else◌}
-use Rattle.std.specs.declared.option.Option.{Option}
-use Rattle.phase_bits.specs.declared.holders.Holders.{Holders}
-use Rattle.phase_bits.specs.Records.{most_readers}
-use Rattle.phase_locker.specs.declared.ways.Given.{Given}
-use Rattle.phase_locker.specs.declared.ways.Given.TheVariants as given
-use Rattle.phase_locker.specs.declared.ways.How.{How}
-use Rattle.phase_locker.specs.declared.ways.How.TheVariants as how
-use Rattle.phase_locker.specs.declared.ways.Who.{Who}
-use Rattle.phase_locker.specs.declared.ways.Waiting.{Waiting}
-use Rattle.phase_locker.specs.declared.ways.Waiting.TheVariants as waiting
-use Rattle.phase_locker.specs.declared.ways.LockerKind.{LockerKind}
-use Rattle.phase_locker.specs.declared.ways.Row.{Row}
-use Rattle.phase_locker.specs.declared.tickets.LockNature.{LockNature}
-use Rattle.phase_locker.specs.declared.tickets.LockNature.TheVariants as nature
-use Rattle.phase_locker.specs.declared.tickets.Attempt.{Attempt}
-use Rattle.phase_locker.specs.Natures.{bars, admitted, got}
-use Rattle.phase_locker.specs.Rows.{Rows as Parking, IsSound, claims, row_of, free_row, freed, left, is_drain, readers_of, shares}
-use Rattle.phase_locker.specs.Fits.{Fits, IsWriteOpen, flagged, open_reads}
-use Rattle.phase_locker.specs.Gifts.{MayHand, rows_handed}
-use Rattle.phase_locker.specs.Attempts.{Judged, Waits, Gets, Keeps, GivesUp, MayWait, held_waiting, given_up, keeps}
-use Rattle.phase_locker.proofs.Holding.{hands_fit}
-use Rattle.phase_locker.proofs.Judging.{by_bool}
-use Rattle.phase_locker.proofs.Keeping.{freed_size, gives_up_freed, keeps_fit}
-use Rattle.phase_locker.proofs.Leaving.{write_has_no_reader}
-use Rattle.phase_locker.proofs.Opening.{between_only}
-use Rattle.phase_locker.proofs.Standing.{given_up_reads, hands_reads, hands_writes, kept_open, kept_writes, left_writes}
-use Rattle.phase_seq.specs.declared.ask.Ask.{Ask}
-use Rattle.phase_seq.specs.declared.section.Begun.{Begun}
-use Rattle.phase_seq.specs.declared.section.Begun.TheVariants as begun
-use Rattle.phase_seq.specs.Asks.{nature_of, wake_of}
-use Rattle.phase_seq.specs.Begins.{Begins, Resumes, TurnsBack, MakesAttempt, MakesAnother, TriesLock, begun_by, begun_of, begun_tried, is_cyclic}
-use Rattle.phase_moves.specs.Calls.{Enters}
-use Rattle.phase_moves.proofs.Attempts.{free_same, got_to, unlocked, writes_begun}
-use Rattle.phase_moves.proofs.Lockers.{handed_few, hands_phase}
+use Rattle.phase_moves.proofs.Words.{◌≡◌, ◌<◌, ◌≤◌, ◌∙◌, ℕ, length, ap, sym, subst, refl, arith, Bool, true, false, inl, inr, ◌⊎◌, MatchBool, not, Option, Holders}
+use Rattle.phase_moves.proofs.Words.{most_readers, Given, How, Who, Waiting, LockerKind, LockNature, Attempt, bars, got, Parking, IsSound, claims, row_of, free_row, freed}
+use Rattle.phase_moves.proofs.Words.{left, is_drain_of_rows as is_drain, readers_of, shares, Fits, IsWriteOpen, flagged, open_reads, MayHand, rows_handed, Judged, Keeps}
+use Rattle.phase_moves.proofs.Words.{GivesUp, MayWait, given_up, keeps, hands_fit, by_bool, freed_size, gives_up_freed, keeps_fit, write_has_no_reader, between_only}
+use Rattle.phase_moves.proofs.Words.{given_up_reads, hands_reads, hands_writes, kept_open, kept_writes, left_writes, Ask, Begun, nature_of, wake_of, Begins, Resumes}
+use Rattle.phase_moves.proofs.Words.{TriesLock, begun_by, begun_of, is_cyclic, Enters}
+use Rattle.phase_moves.proofs.{Attempts.free_same, Attempts.got_to, Attempts.writes_begun, Lockers.handed_few, Lockers.hands_phase}
 
 -- ---- how many read then
 
-waiting_readers : (way : How) (h : Holders) → (held_waiting way h).readers ≡ h.readers
-waiting_readers how.Spin h = refl
-waiting_readers how.ParkedRead h = refl
-waiting_readers how.ParkedWrite h = refl
-waiting_readers how.Drain h = refl
-
-admitted_few : (n : LockNature) (h : Holders) → bars h n ≡ false → h.readers ≤ most_readers → (admitted h n).readers ≤ most_readers
-admitted_few nature.Read h e le = by (h.locked && (h.readers == 0)) (h.readers == most_readers) refl e
-  where
-    by : (a b : Bool) → (h.readers == most_readers) ≡ b → (a || b) ≡ false → h.readers + 1 ≤ most_readers
-    by true b f e = absurd (cc)
-    by false true f e = absurd (cc)
-    by false false f e = grind (arith, f, le)
-admitted_few nature.Write h e le = le
-admitted_few nature.None h e le = le
-
 given_up_few : (w : Waiting) (h : Holders) → h.readers ≤ most_readers → (given_up w h).readers ≤ most_readers
-given_up_few waiting.ShareRead h le = omega (arith, le)
-given_up_few waiting.ShareWrite h le = le
-given_up_few waiting.Drain h le = le
-given_up_few waiting.Free h le = le
-given_up_few waiting.Spin h le = le
-given_up_few waiting.ParkedRead h le = le
-given_up_few waiting.ParkedWrite h le = le
-
--- a lock to write is given beside no reader
-unread : (h : Holders) → bars h nature.Write ≡ false → h.readers ≡ 0
-unread h e = by h.locked (h.readers == 0) refl e
-  where
-    by : (a z : Bool) → (h.readers == 0) ≡ z → (a || not z) ≡ false → h.readers ≡ 0
-    by true z f e = absurd (cc)
-    by false true f e = grind (arith, f)
-    by false false f e = absurd (cc)
-
--- nobody keeps what it has not
-none_kept : (n : LockNature) (h : Holders) → keeps waiting.Free n h ≡ false
-none_kept nature.Read h = refl
-none_kept nature.Write h = refl
-none_kept nature.None h = refl
+given_up_few w h le = grind arith
 
 module _ (k : LockerKind) (who : Who) (ask : Ask) (h : Holders) (s : Parking) where
   -- the lock that it wants
@@ -91,18 +25,18 @@ module _ (k : LockerKind) (who : Who) (ask : Ask) (h : Holders) (s : Parking) wh
   -- it keeps what it has
   pub record IsKept (b : Begun) (g : Given) : Type 0 where
     pub kept : keeps (row_of s who.party).waiting wanted h ≡ true
-    pub quiet : g ≡ given.Nobody
+    pub quiet : g ≡ Given.Nobody
     pub begins : b ≡ begun_admitted
 
   -- it waits so
   pub record IsWaiting (fresh : Bool) (mid : Holders) (b : Begun) : Type 0 where
     pub way : How
     pub may : MayWait k fresh (wake_of ask.want) wanted mid way
-    pub begins : b ≡ begun.Wait way
+    pub begins : b ≡ Begun.Wait way
 
   -- it is barred: it waits so, or does not wait
   abbrev pub IsBarred : Bool → Holders → Begun → Type 0
-  IsBarred fresh mid b = MatchBool ask.fast (b ≡ begun.Missed) (IsWaiting fresh mid b)
+  IsBarred fresh mid b = MatchBool ask.fast (b ≡ Begun.Missed) (IsWaiting fresh mid b)
 
   -- it gives up what it has, and is judged by the record that this leaves
   pub record IsJudged (b : Begun) (g : Given) : Type 0 where
@@ -148,106 +82,21 @@ module _ (k : LockerKind) (who : Who) (ask : Ask) (h : Holders) (s : Parking) wh
     few : mid.readers ≤ most_readers → h'.readers ≤ most_readers
     free : writes_begun b ≡ 1 → IsFree mid h'
 
-  -- it is admitted
-  admitted_so : (fresh : Bool) (mid : Holders) (rows : Parking) (b : Begun) (h' : Holders) → bars mid wanted ≡ false → b ≡ begun_admitted → h'.readers ≡ (admitted mid wanted).readers → JudgedSo fresh mid b h'
-  admitted_so fresh mid rows b h' e is readers =
-      record {
-        judged = subst (λ c. MatchBool c (IsBarred fresh mid b) (b ≡ begun_admitted)) (sym e) is;
-        few = λ le. subst (λ i. i ≤ most_readers) (sym readers) (admitted_few wanted mid e le);
-        free = λ z.
-            let w = (got_to who ask h.phase wanted rows refl).wrote (sym (ap writes_begun is) ∙ z) in
-            let none = unread mid (ap (bars mid) (sym w) ∙ e) in
-            record { locked = unlocked mid wanted w e; readers = none; then_none = readers ∙ ap (λ x. (admitted mid x).readers) w ∙ none };
-      }
-
   judged_so : (fresh : Bool) (mid : Holders) (rows : Parking) (n : LockNature) (a : Attempt) (h' : Holders) (s' : Parking) → ask.fast ≡ false → n ≡ wanted → mid.phase ≡ h.phase → Judged k fresh who (wake_of ask.want) n mid rows a h' s' → JudgedSo fresh mid (begun_by who ask h.phase a) h'
-  judged_so fresh mid rows n a h' s' slow ruled phase j = by (bars mid wanted) refl (subst (λ x. Judged k fresh who (wake_of ask.want) x mid rows a h' s') ruled j)
-    where
-      by : (c : Bool) → bars mid wanted ≡ c → MatchBool c (Waits k fresh who (wake_of ask.want) wanted mid rows a h' s') (Gets who wanted mid rows a h' s') → JudgedSo fresh mid (begun_by who ask h.phase a) h'
-      by true e w =
-          let is : begun_by who ask h.phase a ≡ begun.Wait w.how = ap (begun_by who ask h.phase) w.answer in
-          record {
-            judged = subst (λ c. MatchBool c (IsBarred fresh mid (begun_by who ask h.phase a)) (begun_by who ask h.phase a ≡ begun_admitted)) (sym e)
-                (subst (λ f. MatchBool f (begun_by who ask h.phase a ≡ begun.Missed) (IsWaiting fresh mid (begun_by who ask h.phase a))) (sym slow) (record { way = w.how; may = w.may; begins = is }));
-            few = λ le. subst (λ i. i ≤ most_readers) (sym (ap (λ (x : Holders). x.readers) w.held ∙ waiting_readers w.how mid)) le;
-            free = λ z. absurd (let y : 0 ≡ 1 = sym (ap writes_begun is) ∙ z in omega (arith, y));
-          }
-      by false e w = admitted_so fresh mid rows (begun_by who ask h.phase a) h' e (ap (begun_by who ask h.phase) w.answer ∙ ap (λ q. begun_of who ask h.phase (got wanted q)) phase) (ap (λ (x : Holders). x.readers) w.held)
+  judged_so fresh mid rows n a h' s' slow ruled phase j = grind arith
 
   -- a call that does not wait
   tried_so : (r : Begun × Given) (h' : Holders) (s' : Parking) → ask.fast ≡ true → TriesLock who ask h s r h' s' → JudgedSo true h r.0 h'
-  tried_so r h' s' fast a = by (bars h wanted) refl
-    where
-      told : (c : Bool) → bars h wanted ≡ c → r.0 ≡ begun_tried who ask h.phase (if c then None else Some (got wanted h.phase))
-      told c e = ap (λ (x : Begun × Given). x.0) a.answer ∙ ap (begun_tried who ask h.phase) (a.tries.answer ∙ ap (λ n. if bars h n then None else Some (got n h.phase)) a.tries.allowed ∙ ap (λ c. if c then None else Some (got wanted h.phase)) e)
-
-      held : (c : Bool) → bars h wanted ≡ c → h'.readers ≡ (if c then h else admitted h wanted).readers
-      held c e = ap (λ (x : Holders). x.readers) (a.tries.held ∙ ap (λ n. if bars h n then h else admitted h n) a.tries.allowed ∙ ap (λ c. if c then h else admitted h wanted) e)
-
-      by : (c : Bool) → bars h wanted ≡ c → JudgedSo true h r.0 h'
-      by true e =
-          record {
-            judged = subst (λ c. MatchBool c (IsBarred true h r.0) (r.0 ≡ begun_admitted)) (sym e) (subst (λ f. MatchBool f (r.0 ≡ begun.Missed) (IsWaiting true h r.0)) (sym fast) (told true e));
-            few = λ le. subst (λ i. i ≤ most_readers) (sym (held true e)) le;
-            free = λ z. absurd (let y : 0 ≡ 1 = sym (ap writes_begun (told true e)) ∙ z in omega (arith, y));
-          }
-      by false e = admitted_so true h s r.0 h' e (told false e) (held false e)
+  tried_so r h' s' fast a = grind arith
 
   -- where the record that was judged was free, nothing stands beside the lock to write
   apart_so : (g : Given) (mid h' : Holders) (rows : Parking) → rows ≡ rows_handed who.cell g (freed who.party s) → Fits k mid rows who.cell → open_reads mid rows who.cell ≡ open_reads h s who.cell → (IsWriteOpen h s who.cell → IsWriteOpen mid rows who.cell) → IsFree mid h' → IsApart g h'
-  apart_so g mid h' rows are fits reads writes free =
-      let none = free.readers in
-      let most = fits.shared in
-      let no_share : shares rows who.cell ≡ 0 = omega (arith, none, most) in
-      record {
-        readers = free.then_none;
-        clear =
-            record {
-              shares_none = ap (λ y. shares y who.cell) (sym are) ∙ no_share;
-              claims_none = ap (λ y. claims y who.cell) (sym are) ∙ fits.locked free.locked;
-              reads_none = omega (arith, reads, none);
-              closed = λ o. (let l = (writes o).locked in let f = free.locked in cc);
-            };
-      }
+  apart_so g mid h' rows are fits reads writes free = grind arith
 
   module _ (running : Option ℕ) (r : Begun × Given) (h' : Holders) (s' : Parking) (calm : is_cyclic ask.want who.party running ≡ false) (fits : Fits k h s who.cell) where
     -- a call of a party that does not wait
     first_met : row_of s who.party ≡ free_row → Begins k who ask running h s r h' s' → IsMetBy r.0 r.1 h'
-    first_met free d = by (is_cyclic ask.want who.party running) ask.fast refl calm d
-      where
-        -- nothing was given up
-        as_judged : (b : Begun) → JudgedSo true h b h' → IsMetBy b given.Nobody h'
-        as_judged b j =
-            record {
-              how = inr (record {
-                dropped = ap (λ (x : Row). keeps x.waiting wanted h) free ∙ none_kept wanted h;
-                mid = h;
-                rows = s;
-                rows_are = sym (free_same who.party s free);
-                may = tt;
-                fits = fits;
-                reads = refl;
-                writes = λ o. o;
-                only = λ o. o;
-                fresh = true;
-                judged = j.judged;
-              });
-              few = j.few;
-              apart = λ z. apart_so given.Nobody h h' s (sym (free_same who.party s free)) fits refl (λ o. o) (j.free z);
-            }
-
-        tried : ask.fast ≡ true → TriesLock who ask h s r h' s' → IsMetBy r.0 r.1 h'
-        tried fast a = subst (λ g. IsMetBy r.0 g h') (sym (ap (λ (x : Begun × Given). x.1) a.answer)) (as_judged r.0 (tried_so r h' s' fast a))
-
-        made : ask.fast ≡ false → MakesAttempt k who ask h s r h' s' → IsMetBy r.0 r.1 h'
-        made slow a =
-            subst (λ b. IsMetBy b r.1 h') (sym a.answer)
-            (subst (λ g. IsMetBy (begun_by who ask h.phase a.attempt) g h') (sym a.locks.given) (as_judged (begun_by who ask h.phase a.attempt) (judged_so true h s a.locks.nature a.attempt h' s' slow a.locks.allowed refl a.locks.judged)))
-
-        by : (c f : Bool) → ask.fast ≡ f → c ≡ false → MatchBool c (TurnsBack h s r h' s') (MatchBool f (TriesLock who ask h s r h' s') (MakesAttempt k who ask h s r h' s')) → IsMetBy r.0 r.1 h'
-        by true f q e d = absurd (cc)
-        by false true q e d = tried q d
-        by false false q e d = made q d
+    first_met free d = grind (arith, free_same, apart_so, tried_so, judged_so)
 
     module _ (cell : who.cell < length s.readers) (party : who.party < length s.rows) (sound : IsSound s) (sound_then : IsSound (freed who.party s)) (room : length (readers_of (freed who.party s) who.cell) ≤ most_readers) (here : (row_of s who.party).cell ≡ who.cell) (slow : ask.fast ≡ false) where
       abbrev v : Waiting
@@ -266,24 +115,22 @@ module _ (k : LockerKind) (who : Who) (ask : Ask) (h : Holders) (s : Parking) wh
             how = inl (record { kept = ap (λ x. keeps v x h) (sym ruled) ∙ e; quiet = j.given; begins = is });
             few = λ le. subst (λ i. i ≤ most_readers) (sym (ap (λ (x : Holders). x.readers) j.held)) le;
             apart = λ z. subst (λ y. IsApart y h') (sym j.given) (none ((got_to who ask h.phase wanted s refl).wrote (sym (ap writes_begun is) ∙ z)));
-          }
-        where
-          none : wanted ≡ nature.Write → IsApart given.Nobody h'
-          none w =
-              let keep : keeps v nature.Write h ≡ true = ap (λ x. keeps v x h) (sym (ruled ∙ w)) ∙ e in
-              let fits_then = keeps_fit nature.Write k h s who.cell who.party party here fits keep in
-              let opened : IsWriteOpen (flagged who.cell (freed who.party s) h) (freed who.party s) who.cell = subst (λ y. IsWriteOpen (flagged who.cell y h) y who.cell) there (kept_open v nature.Write k h s who.cell who.party party row fits keep) in
-              let none : h.readers ≡ 0 = write_has_no_reader k (flagged who.cell (freed who.party s) h) (freed who.party s) who.cell fits_then opened in
-              let most = fits_then.shared in
-              record {
-                readers = ap (λ (x : Holders). x.readers) j.held ∙ none;
-                clear = record { shares_none = omega (arith, most, none); claims_none = opened.unclaimed; reads_none = omega (arith, none); closed = λ o. kept_writes v nature.Write k h s who.cell who.party party row fits keep o };
-              }
+          } where
+            none : wanted ≡ LockNature.Write → IsApart Given.Nobody h'
+            none w =
+                let keep : keeps v LockNature.Write h ≡ true = ap (λ x. keeps v x h) (sym (ruled ∙ w)) ∙ e in
+                let fits_then = keeps_fit LockNature.Write k h s who.cell who.party party here fits keep in
+                let opened : IsWriteOpen (flagged who.cell (freed who.party s) h) (freed who.party s) who.cell = subst (λ y. IsWriteOpen (flagged who.cell y h) y who.cell) there (kept_open v LockNature.Write k h s who.cell who.party party row fits keep) in
+                let none : h.readers ≡ 0 = write_has_no_reader k (flagged who.cell (freed who.party s) h) (freed who.party s) who.cell fits_then opened in
+                let most = fits_then.shared in
+                record {
+                  readers = ap (λ (x : Holders). x.readers) j.held ∙ none;
+                  clear = record { shares_none = omega (arith, most, none); claims_none = opened.unclaimed; reads_none = omega (arith, none); closed = λ o. kept_writes v LockNature.Write k h s who.cell who.party party row fits keep o };
+                }
 
       gives_met : (n : LockNature) (a : Attempt) → n ≡ wanted → r.0 ≡ begun_by who ask h.phase a → keeps v n h ≡ false → GivesUp k who (wake_of ask.want) n h s (a, r.1) h' s' → IsMetBy r.0 r.1 h'
       gives_met n a ruled answer e j =
-          let size = freed_size who.party s in
-          let inside : who.cell < length (freed who.party s).readers = omega (arith, size.1, cell) in
+          let size = freed_size who.party s in let inside : who.cell < length (freed who.party s).readers = omega (arith, size.1, cell) in
           let phase : j.between.phase ≡ h.phase = hands_phase who.cell (given_up v h) (freed who.party s) r.1 j.between j.rows j.hands ∙ given_phase v in
           let fits_then = hands_fit r.1 k (given_up v h) (freed who.party s) who.cell j.between j.rows inside sound_then (gives_up_freed k h s who.cell who.party cell sound.cells party here fits) j.hands in
           let reads_then = hands_reads r.1 who.cell (given_up v h) (freed who.party s) j.between j.rows inside sound_then j.hands ∙ subst (λ y. open_reads (given_up v h) y who.cell ≡ open_reads h s who.cell) there (given_up_reads v h s who.cell who.party party row) in
@@ -306,33 +153,15 @@ module _ (k : LockerKind) (who : Who) (ask : Ask) (h : Holders) (s : Parking) wh
             });
             few = λ le. t.few (subst (λ i. i ≤ most_readers) (sym (ap (λ (x : Holders). x.readers) j.hands.held)) (handed_few r.1 who.cell (given_up v h) (freed who.party s) j.hands.may (given_up_few v h le) room));
             apart = λ z. apart_so r.1 j.between h' j.rows j.hands.rows fits_then reads_then writes_then (t.free z);
-          })
-        where
-          given_phase : (w : Waiting) → (given_up w h).phase ≡ h.phase
-          given_phase waiting.ShareRead = refl
-          given_phase waiting.ShareWrite = refl
-          given_phase waiting.Drain = refl
-          given_phase waiting.Free = refl
-          given_phase waiting.Spin = refl
-          given_phase waiting.ParkedRead = refl
-          given_phase waiting.ParkedWrite = refl
+          }) where
+            given_phase : (w : Waiting) → (given_up w h).phase ≡ h.phase
+            given_phase w = grind arith
 
       -- a call of a party that waits at the cell
       again_met : Resumes k who ask running h s r h' s' → IsMetBy r.0 r.1 h'
-      again_met d = by (is_cyclic ask.want who.party running) calm d
-        where
-          made : MakesAnother k who ask h s r h' s' → IsMetBy r.0 r.1 h'
-          made a = elim (by_bool (keeps v a.again.nature h) a.again.steps) [
-            | inl j ↦ keeps_met a.again.nature a.attempt a.again.allowed a.answer j.0 j.1
-            | inr j ↦ gives_met a.again.nature a.attempt a.again.allowed a.answer j.0 j.1
-          ]
-
-          by : (c : Bool) → c ≡ false → MatchBool c (TurnsBack h s r h' s') (MakesAnother k who ask h s r h' s') → IsMetBy r.0 r.1 h'
-          by true e d = absurd (cc)
-          by false e d = made d
+      again_met d = grind (arith, by_bool, keeps_met, gives_met)
 
     -- a call of a party that waits at the cell, or does not wait
     pub met_by : (waits : Bool) → (waits ≡ true → ask.fast ≡ false) → MatchBool waits ((row_of s who.party).cell ≡ who.cell) (row_of s who.party ≡ free_row) → who.cell < length s.readers → who.party < length s.rows → IsSound s → IsSound (freed who.party s) → length (readers_of (freed who.party s) who.cell) ≤ most_readers
         → Enters waits k who ask running h s r h' s' → IsMetBy r.0 r.1 h'
-    met_by true slow here cell party sound sound_then room d = again_met cell party sound sound_then room here (slow refl) d
-    met_by false slow free cell party sound sound_then room d = first_met free d
+    met_by waits slow here cell party sound sound_then room d = grind (arith, again_met, first_met)

@@ -1,44 +1,16 @@
 -- A guard in hand is given back.
-use Rattle.std.proofs.Common.{◌≡◌, ◌≢◌, ◌==◌, ◌<◌, ◌≤◌, ◌+◌, ◌∙◌, ℕ, length, get_or, ap, sym, subst, refl, arith, Bool, true, false, cond, None, Some}
-use Rattle.std.specs.Prelude.{slice_get}
-use Rattle.phase_bits.specs.declared.holders.Holders.{Holders}
-use Rattle.phase_bits.specs.declared.phase.Phase.{Phase}
-use Rattle.phase_bits.specs.Number.{phase_of, IsKnown}
-use Rattle.phase_bits.specs.Records.{leave_read, leave_write, most_readers}
-use Rattle.phase_locker.specs.declared.ways.Given.{Given}
-use Rattle.phase_locker.specs.declared.ways.LockerKind.{LockerKind}
-use Rattle.phase_locker.specs.Rows.{Rows as Parking, IsSound, HasFree, readers_of}
-use Rattle.phase_locker.specs.Fits.{Fits, IsWriteOpen, open_reads}
-use Rattle.phase_locker.specs.Gifts.{Hands, Downgrades, rows_handed}
-use Rattle.schedule_rules.specs.Replay.{content_after_back}
-use Rattle.schedule_rules.specs.Kinds.{cell_at}
-use Rattle.schedule_rules.specs.History.{count}
-use Rattle.schedule_rules.specs.Sections.{runs_in}
-use Rattle.schedule_rules.specs.Guards.{Guard, numbered, without_guard, reader}
-use Rattle.schedule_rules.specs.Holds.{reads_cell, writes_cell}
-use Rattle.schedule_rules.proofs.Found.{found_counts}
-use Rattle.schedule_rules.proofs.Opened.{guard_kept}
-use Rattle.waiting_rows.specs.Shown.{Shows}
-use Rattle.waiting_rows.specs.Given.{given_on, IsListed}
-use Rattle.waiting_rows.proofs.GivenOn.{shows_on, single_on, within_on, listed_hand, listed_share}
-use Rattle.waiting_rows.proofs.Sound.{sound_of}
-use Rattle.phase_moves.specs.declared.rows.CellRow.{CellRow}
-use Rattle.phase_moves.specs.declared.rows.Draft.{Draft}
-use Rattle.phase_moves.specs.declared.rows.Rows.{Rows}
-use Rattle.phase_moves.specs.Standing.{Standing, left, downgraded, reads_in, writes_in, seen_by, run_in, runner_of}
-use Rattle.phase_moves.specs.Stands.{CountsWaits, draft_of, Seen, seen_at, IsCell, IsLocked, Stands, slot_row, party_row, open_run}
-use Rattle.phase_locker.specs.Left.{Left}
-use Rattle.phase_moves.specs.Moves.{IsReader, IsWriter}
-use Rattle.phase_moves.proofs.Drafts.{keeps_none, keeps_still}
-use Rattle.phase_moves.proofs.Guards.{its_number, found_itself, gone, once_without, left_there, reads_elsewhere, writes_elsewhere, writes_here, reads_here, never_reads, never_writes, count_same, count_less, slots_same, target_given}
+use Rattle.phase_moves.proofs.Words.{◌≡◌, ◌≢◌, ◌==◌, ◌<◌, ◌≤◌, ◌+◌, ◌∙◌, ℕ, length, get_or, ap, sym, subst, refl, arith, true, false, None, Some, slice_get, Holders, Phase}
+use Rattle.phase_moves.proofs.Words.{phase_of, IsKnown, leave_read, leave_write, most_readers, Given, LockerKind, Parking, IsSound, HasFree, readers_of, Fits, IsWriteOpen}
+use Rattle.phase_moves.proofs.Words.{open_reads, Hands, Downgrades, rows_handed, cell_at, count, runs_in, Guard, numbered, without_guard, reader, reads_cell, writes_cell}
+use Rattle.phase_moves.proofs.Words.{found_counts, guard_kept, Shows, given_on, IsListed, shows_on, single_on, within_on, listed_hand, listed_share, sound_of, CellRow, Draft}
+use Rattle.phase_moves.proofs.Words.{Rows, Standing, left_of_standing as left, downgraded, reads_in, writes_in, seen_by, run_in, CountsWaits, draft_of, Seen, seen_at, IsCell}
+use Rattle.phase_moves.proofs.Words.{IsLocked, Stands, slot_row, party_row, Left, IsReader, IsWriter, write_has_no_reader}
+use Rattle.phase_moves.proofs.Guards.{its_number, found_itself, gone, once_without, left_there, writes_elsewhere, writes_here, reads_here, never_reads, never_writes}
+use Rattle.phase_moves.proofs.Guards.{count_same, count_less, slots_same, target_given}
 use Rattle.phase_moves.proofs.Lockers.{locked_read, locked_write, locked_down, writing_alone, hands_writers, downgrades_writers}
-use Rattle.phase_moves.proofs.Opening.{guard_opened, seen_reader}
-use Rattle.phase_locker.proofs.Leaving.{write_has_no_reader}
-use Rattle.phase_moves.proofs.Waiting.{few_readers, fewer_readers, count_given}
-use Rattle.phase_moves.proofs.Known.{effect_known}
-use Rattle.phase_moves.proofs.Runs.{none_runs}
 use Rattle.phase_moves.proofs.Moved.{IsCalled, IsMoved, HasParties, exit_kept, parties_same, moved}
-use Rattle.phase_moves.proofs.Places.{read_at}
+use Rattle.phase_moves.proofs.{Drafts.keeps_none, Drafts.keeps_still, Opening.guard_opened, Opening.seen_reader, Waiting.few_readers, Waiting.fewer_readers}
+use Rattle.phase_moves.proofs.{Waiting.count_given, Known.effect_known, Runs.none_runs, Places.read_at}
 
 -- rows that stand for something are sound
 pub sound : {L : Type 0} (held : L → Holders) (place : L → LockerKind) (hand : ℕ) (m : Standing) (v : Rows L) → Stands held place hand m v → IsSound v.parks
@@ -62,20 +34,11 @@ module _ {L : Type 0} (held : L → Holders) (place : L → LockerKind) (hand : 
 
   -- nothing else is published
   content_beside : (g : Given) (d : ℕ) → d ≢ x.cell → (left x g m).content d ≡ m.content d
-  content_beside g d ne = by x.writes (x.cell == d) refl
-    where
-      by : (w b : Bool) → (x.cell == d) ≡ b → content_after_back m.plans d (cond w (Some (record { cell = x.cell; changes = x.changes })) None) (m.content d) ≡ m.content d
-      by true true e = absurd (ne (grind (arith, e)))
-      by true false e = rw e refl
-      by false b e = refl
+  content_beside g d ne = grind arith
 
   -- other cells are as they were
   around : (g : Given) (d : ℕ) → d ≢ x.cell → seen_at d (left x g m) ≡ seen_at d m
-  around g d ne =
-      let a = content_beside g d ne in
-      let r = count_same (reads_cell d) x.number m.guards x itself (reads_elsewhere x d ne) in
-      let w = count_same (writes_cell d) x.number m.guards x itself (writes_elsewhere x d ne) in
-      λ i. record { plan = cell_at m.plans d; content = a i; reads = r i; writes = w i + count (runs_in d) m.sections; run = run_in d m.sections }
+  around g d ne = grind (arith, content_beside, count_same, itself, writes_elsewhere)
 
   -- a guard that is left was there
   pub still_there : (g : Given) (j : ℕ) (y : Guard) → numbered j (left x g m).guards ≡ Some y → (j ≢ x.number) × (numbered j m.guards ≡ Some y)
@@ -112,10 +75,9 @@ module _ {L : Type 0} (held : L → Holders) (place : L → LockerKind) (hand : 
               in_cells = λ j y e. t.guards.in_cells j y (still_there g j y e).1;
             };
         sections = t.sections;
-      }
-    where
-      in_parks : x.cell < length v.parks.readers
-      in_parks = let a = inside in let b = t.sizes.readers in omega (arith, a, b)
+      } where
+        in_parks : x.cell < length v.parks.readers
+        in_parks = let a = inside in let b = t.sizes.readers in omega (arith, a, b)
 
 module _ {L : Type 0} (held : L → Holders) (place : L → LockerKind) (hand : ℕ) (m : Standing) (v : Rows L) (x : Guard) (t : Stands held place hand m v) (found : numbered hand m.guards ≡ Some x) (row : CellRow L) (row_is : slice_get v.cells.items x.cell ≡ Some row) where
   there : numbered x.number m.guards ≡ Some x
@@ -126,16 +88,11 @@ module _ {L : Type 0} (held : L → Holders) (place : L → LockerKind) (hand : 
 
   -- a read guard is open at the locker
   pub read_open : x.writes ≡ false → 0 < open_reads (held row.seq.locker) v.parks x.cell
-  read_open r =
-      let some = found_counts (λ (z : Guard). z.number == x.number) (reads_cell x.cell) m.guards x there (reads_here x r) in
-      let are = its_cell.locked.reads_are in
-      omega (arith, some, are)
+  read_open r = grind (arith, found_counts, there, reads_here, its_cell)
 
   -- and so is a write guard
   pub write_open : x.writes ≡ true → IsWriteOpen (held row.seq.locker) v.parks x.cell
-  write_open w =
-      let some = found_counts (λ (z : Guard). z.number == x.number) (writes_cell x.cell) m.guards x there (writes_here x w) in
-      its_cell.locked.write_is (omega (arith, some))
+  write_open w = grind (arith, found_counts, there, writes_here, its_cell)
 
   -- what is published after a read guard is given back
   kept_back : (g : Given) → x.writes ≡ false → (left x g m).content x.cell ≡ m.content x.cell
@@ -146,31 +103,13 @@ module _ {L : Type 0} (held : L → Holders) (place : L → LockerKind) (hand : 
       → Hands x.cell (leave_read (held row.seq.locker)) v.parks g (held row'.seq.locker) s' → open_reads (held row'.seq.locker) s' x.cell + 1 ≡ open_reads (held row.seq.locker) v.parks x.cell → (IsWriteOpen (held row'.seq.locker) s' x.cell → ⊥) → Left held place x.cell row.seq.locker row'.seq.locker v.parks s'
       → IsCell held place (seen_at x.cell (left x g m)) s' x.cell row'
   read_back g row' s' r plan value run running hands less closed k =
-      let k0 = its_cell in
-      let fewer = count_less (reads_cell x.cell) x.number m.guards x there (reads_here x r) in
+      let k0 = its_cell in let fewer = count_less (reads_cell x.cell) x.number m.guards x there (reads_here x r) in
       let same = count_same (writes_cell x.cell) x.number m.guards x there (never_writes x x.cell r) in
       let now : IsLocked (place row'.seq.locker) (held row'.seq.locker) s' x.cell (reads_in x.cell (left x g m)) (writes_in x.cell m) (m.content x.cell).phase =
       locked_read (place row.seq.locker) (place row'.seq.locker) (held row.seq.locker) (held row'.seq.locker) v.parks s' x.cell _ _ _ g (subst (λ n. IsLocked (place row.seq.locker) (held row.seq.locker) v.parks x.cell n (writes_in x.cell m) (m.content x.cell).phase) fewer k0.locked) k.place hands less closed k.fits (parked_few held place hand m v t x.cell (inside held place hand m v x t found)) in
       let content = kept_back g r in
       subst (λ (z : Seen). IsCell held place z s' x.cell row') (λ i. record { plan = cell_at m.plans x.cell; content = sym content i; reads = reads_in x.cell (left x g m); writes = sym same i + count (runs_in x.cell) m.sections; run = run_in x.cell m.sections })
-      (record {
-        planned = plan ∙ k0.planned;
-        valued = value ∙ k0.valued;
-        known = k0.known;
-        locked = now;
-        placed = k.place ∙ k0.placed;
-        runner = running ∙ k0.runner;
-        runs = run ∙ k0.runs;
-      })
-
-  -- what is published after a write guard is given back
-  seen_back : (g : Given) → x.writes ≡ true → (left x g m).content x.cell ≡ seen_by m x
-  seen_back g w = by x.writes w (x.cell == x.cell) refl (grind arith)
-    where
-      by : (b : Bool) → b ≡ true → (e : Bool) → (x.cell == x.cell) ≡ e → e ≡ true → content_after_back m.plans x.cell (cond b (Some (record { cell = x.cell; changes = x.changes })) None) (m.content x.cell) ≡ seen_by m x
-      by true p true e q = rw e refl
-      by true p false e q = absurd (cc)
-      by false p e q r = absurd (cc)
+      (grind arith)
 
   -- nothing is left on the cell
   module _ (w : x.writes ≡ true) where
@@ -179,10 +118,8 @@ module _ {L : Type 0} (held : L → Holders) (place : L → LockerKind) (hand : 
 
     pub no_reads : (g : Given) → reads_in x.cell (left x g m) ≡ 0
     no_reads g =
-        let l = some in
-        let same = count_same (reads_cell x.cell) x.number m.guards x there (never_reads x x.cell w) in
-        let zero = writing_alone (place row.seq.locker) (held row.seq.locker) v.parks x.cell _ _ _ its_cell.locked (omega (arith, l)) in
-        omega (arith, same, zero)
+        let l = some in let same = count_same (reads_cell x.cell) x.number m.guards x there (never_reads x x.cell w) in
+        let zero = writing_alone (place row.seq.locker) (held row.seq.locker) v.parks x.cell _ _ _ its_cell.locked (omega (arith, l)) in omega (arith, same, zero)
 
     pub no_writes : (g : Given) → writes_in x.cell (left x g m) ≡ 0
     no_writes g = let fewer = count_less (writes_cell x.cell) x.number m.guards x there (writes_here x w) in let most = its_cell.locked.one in omega (arith, fewer, most)
@@ -194,28 +131,14 @@ module _ {L : Type 0} (held : L → Holders) (place : L → LockerKind) (hand : 
     pub write_gone : (g : Given) (row' : CellRow L) (s' : Parking) (r : ℕ) → row'.plan ≡ row.plan → row'.value ≡ (seen_by m x).value → row'.run ≡ row.run → row'.seq.running ≡ row.seq.running → place row'.seq.locker ≡ place row.seq.locker
         → IsLocked (place row'.seq.locker) (held row'.seq.locker) s' x.cell r 0 (seen_by m x).phase
         → IsCell held place (record { plan = cell_at m.plans x.cell; content = (left x g m).content x.cell; reads = r; writes = 0; run = run_in x.cell m.sections }) s' x.cell row'
-    write_gone g row' s' r plan value run running stays locked =
-        let k0 = its_cell in
-        let seen = seen_back g w in
-        let none = no_run in
-        subst (λ (z : Seen). IsCell held place z s' x.cell row') (λ i. record { plan = cell_at m.plans x.cell; content = sym seen i; reads = r; writes = 0; run = sym none i })
-        (record {
-          planned = plan ∙ k0.planned;
-          valued = value;
-          known = effect_known (cell_at m.plans x.cell) x.changes (m.content x.cell) k0.known;
-          locked = locked;
-          placed = stays ∙ k0.placed;
-          runner = running ∙ k0.runner ∙ ap runner_of none;
-          runs = run ∙ k0.runs ∙ ap (λ o. open_run (cell_at m.plans x.cell) x.cell (m.content x.cell).phase o) none;
-        })
+    write_gone g row' s' r plan value run running stays locked = grind (arith, its_cell, no_run, effect_known)
 
     -- the lock is given back
     pub write_back : (g : Given) (row' : CellRow L) (s' : Parking) (q : Phase) → row'.plan ≡ row.plan → q ≡ phase_of (seen_by m x).phase → row'.value ≡ (seen_by m x).value → row'.run ≡ row.run → row'.seq.running ≡ row.seq.running
         → Hands x.cell (leave_write q (held row.seq.locker)) v.parks g (held row'.seq.locker) s' → open_reads (held row'.seq.locker) s' x.cell ≡ 0 → (IsWriteOpen (held row'.seq.locker) s' x.cell → ⊥) → Left held place x.cell row.seq.locker row'.seq.locker v.parks s'
         → IsCell held place (seen_at x.cell (left x g m)) s' x.cell row'
     write_back g row' s' q plan phase value run running hands none closed k =
-        let r = no_reads g in
-        let o = no_writes g in
+        let r = no_reads g in let o = no_writes g in
         subst (λ (z : Seen). IsCell held place z s' x.cell row') (λ i. record { plan = cell_at m.plans x.cell; content = (left x g m).content x.cell; reads = sym r i; writes = sym o i; run = run_in x.cell m.sections })
         (write_gone g row' s' 0 plan value run running k.place (locked_write (place row.seq.locker) (place row'.seq.locker) (held row.seq.locker) (held row'.seq.locker) v.parks s' x.cell (seen_by m x).phase q g hands none closed k.fits phase its_cell.locked.limit (parked_few held place hand m v t x.cell (inside held place hand m v x t found))))
 
@@ -224,15 +147,13 @@ module _ {L : Type 0} (held : L → Holders) (place : L → LockerKind) (hand : 
         → Downgrades x.cell q (held row.seq.locker) v.parks g (held row'.seq.locker) s' → open_reads (held row'.seq.locker) s' x.cell ≡ 1 → (IsWriteOpen (held row'.seq.locker) s' x.cell → ⊥) → Left held place x.cell row.seq.locker row'.seq.locker v.parks s' → HasFree v.parks
         → IsCell held place (seen_at x.cell (downgraded n x g m)) s' x.cell row'
     down_back n g row' s' q plan phase value run running down reads closed k free =
-        let r = no_reads g in
-        let o = no_writes g in
+        let r = no_reads g in let o = no_writes g in
         subst (λ (z : Seen). IsCell held place z s' x.cell row') ((λ i. record { plan = cell_at m.plans x.cell; content = (left x g m).content x.cell; reads = sym r i + 1; writes = sym o i; run = run_in x.cell m.sections }) ∙ sym (seen_reader n x.party x.cell (left x g m)))
         (write_gone g row' s' 1 plan value run running k.place (locked_down (place row'.seq.locker) (held row.seq.locker) (held row'.seq.locker) v.parks s' x.cell (seen_by m x).phase q g down reads closed k.fits phase (write_has_no_reader (place row.seq.locker) (held row.seq.locker) v.parks x.cell its_cell.locked.fits (write_open w)) (parked_fewer held place hand m v t x.cell (inside held place hand m v x t found) free)))
 
 -- the rows of parties stay
 pub parties_left : {L : Type 0} (held : L → Holders) (place : L → LockerKind) (hand : ℕ) (m : Standing) (v v' : Rows L) (x : Guard) → Stands held place hand m v → v'.parties ≡ v.parties → (g : Given) → HasParties held place (left x g m) v v'
-parties_left held place hand m v v' x t parties g =
-    parties_same held place hand m (left x g m) v v' t parties (λ p. ap (λ w. record { waiting = w; innermost = (party_row m p).innermost }) (target_given x.cell g m.waits p))
+parties_left held place hand m v v' x t parties g = grind (arith, parties_same, target_given)
 
 -- ---- the moves
 
@@ -242,8 +163,7 @@ module _ {L : Type 0} (held : L → Holders) (place : L → LockerKind) (hand : 
   calm = k.waiting ∙ t.counted x.cell row k.row_at ∙ sym (count_given x.cell x.cell g m.waits)
 
   gone_back : length v'.parks.writers ≡ length v.parks.writers → IsListed x.cell v.parks g → v'.parks ≡ rows_handed x.cell g v.parks → IsMoved held place x.cell hand hand m (left x g m) v v'
-  gone_back lists listed rows =
-      left_moved held place hand m v x t found g v' k.guards k.exit lists k.left listed rows
+  gone_back lists listed rows = left_moved held place hand m v x t found g v' k.guards k.exit lists k.left listed rows
 
   -- a read guard
   pub leaves_read : x.writes ≡ false → row'.value ≡ row.value → Hands x.cell (leave_read (held row.seq.locker)) v.parks g (held row'.seq.locker) v'.parks → open_reads (held row'.seq.locker) v'.parks x.cell + 1 ≡ open_reads (held row.seq.locker) v.parks x.cell → (IsWriteOpen (held row'.seq.locker) v'.parks x.cell → ⊥) → Stands held place hand (left x g m) v'
@@ -261,13 +181,7 @@ module _ {L : Type 0} (held : L → Holders) (place : L → LockerKind) (hand : 
 
     -- a write guard
     pub leaves_write : Hands x.cell (leave_write q (held row.seq.locker)) v.parks g (held row'.seq.locker) v'.parks → open_reads (held row'.seq.locker) v'.parks x.cell ≡ 0 → Stands held place hand (left x g m) v'
-    leaves_write hands none =
-        moved held place x.cell hand hand m (left x g m) v v' row' t (inside held place hand m v x t found) k.cells
-        (write_back held place hand m v x t found row k.row_at w g row' v'.parks q k.plan phase value k.run k.running hands none closed k.left)
-        calm
-        (keeps_none x.cell (left x g m) row' unwritten)
-        (gone_back (hands_writers x.cell _ v.parks g _ v'.parks hands) (listed_hand x.cell _ v.parks g hands.may) hands.rows)
-        (parties_left held place hand m v v' x t k.parties g)
+    leaves_write hands none = search (arith, moved, inside, write_back, calm, keeps_none, unwritten, gone_back, hands_writers, listed_hand, parties_left) depth 7
 
     -- a write guard, and its holder reads on
     pub leaves_down : Downgrades x.cell q (held row.seq.locker) v.parks g (held row'.seq.locker) v'.parks → open_reads (held row'.seq.locker) v'.parks x.cell ≡ 1 → HasFree v.parks → (n : ℕ) → length v.guards.items ≤ n → numbered n (without_guard x.number m.guards) ≡ None → Stands held place n (downgraded n x g m) v'

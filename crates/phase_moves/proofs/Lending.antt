@@ -1,56 +1,20 @@
 -- The value of a cell is lent.
-use Rattle.std.proofs.Common.{◌≡◌, ◌≢◌, ◌==◌, ◌<◌, ◌≤◌, ◌+◌, ◌∙◌, ℕ, List, [], ◌∷◌, length, set, get_or, ap, sym, subst, refl, arith, Bool, true, false, Some, inl, inr}
-use Rattle.std.proofs.lemmas.Bool.{cases_eq, cases_lt}
-use Rattle.std.specs.Prelude.{slice_get, ◌⊎◌, not, if◌then◌else◌}
-use Rattle.phase_bits.specs.declared.holders.Holders.{Holders}
-use Rattle.phase_bits.specs.Number.{IsKnown, number, phase_of}
-use Rattle.phase_bits.specs.Records.{admit_write, bars_write, leave_write, most_readers}
-use Rattle.phase_locker.specs.declared.ways.Given.{Given}
-use Rattle.phase_locker.specs.declared.ways.Given.TheVariants as given
-use Rattle.phase_locker.specs.declared.ways.LockerKind.{LockerKind}
-use Rattle.phase_locker.specs.Fits.{Fits, IsWriteOpen, KeepsFit, NobodyParked, open_reads}
-use Rattle.phase_locker.specs.Gifts.{Hands, MayHand, rows_handed}
-use Rattle.phase_locker.specs.Left.{Left}
-use Rattle.phase_locker.specs.Others.{OthersStay}
-use Rattle.phase_locker.specs.Rows.{Rows as Parking, SameSize, claims, is_empty, occurs, readers_of, writers_of}
-use Rattle.phase_locker.proofs.Others.{others_refl}
-use Rattle.lazy_cells.specs.Kinds.{lends_value}
-use Rattle.schedule_rules.specs.declared.plan.CellPlan.{CellPlan}
-use Rattle.schedule_rules.specs.Changes.{Content, Change, effect}
-use Rattle.schedule_rules.specs.Guards.{Guard, numbered}
-use Rattle.schedule_rules.specs.History.{count}
-use Rattle.schedule_rules.specs.Kinds.{cell_at}
-use Rattle.schedule_rules.specs.Waits.{Wait, drains_on, shares_read, shares_write, waits_at}
-use Rattle.waiting_rows.proofs.RowCounts.{claims_shown, shares_shown}
-use Rattle.phase_moves.specs.declared.lend.Lent.{Lent}
-use Rattle.phase_moves.specs.declared.lend.Lent.TheVariants as lent
-use Rattle.phase_moves.specs.declared.lend.Loan.{Loan}
-use Rattle.phase_moves.specs.declared.lend.Published.{Published}
-use Rattle.phase_moves.specs.declared.rows.CellRow.{CellRow}
-use Rattle.phase_moves.specs.declared.rows.Rows.{Rows}
-use Rattle.phase_moves.specs.Lends.{Finds, IsFound, IsLending, IsLent, changed, changes_lent, content_of, in_use, lent_in}
-use Rattle.phase_moves.specs.Standing.{Standing, reads_in, writes_in, run_in}
-use Rattle.phase_moves.specs.Stands.{seen_at, IsCell, IsLocked, AreShown, Stands, open_run}
-use Rattle.phase_moves.proofs.Calling.{answered_moved}
-use Rattle.phase_moves.proofs.Drafts.{keeps_still, none_writes}
-use Rattle.phase_moves.proofs.Leaving.{parked_few}
-use Rattle.phase_moves.proofs.Lockers.{locked_write}
-use Rattle.phase_moves.proofs.Moved.{exit_kept, moved, parties_same}
-use Rattle.phase_moves.proofs.Places.{itself_eq, read_at}
-use Rattle.phase_moves.proofs.Opening.{no_more}
-use Rattle.phase_moves.proofs.Runs.{none_runs}
+use Rattle.phase_moves.proofs.Words.{◌≡◌, ◌≢◌, ◌==◌, ◌<◌, ◌≤◌, ◌+◌, ◌∙◌, ℕ, List, [], ◌∷◌, length, set, get_or, ap, sym, subst, refl, arith, Bool, true, false, Some, inl, inr}
+use Rattle.phase_moves.proofs.Words.{cases_eq, cases_lt, slice_get, ◌⊎◌, not, if◌then◌else◌, Holders, IsKnown, phase_of, admit_write, bars_write, leave_write, most_readers}
+use Rattle.phase_moves.proofs.Words.{Given, LockerKind, Fits, IsWriteOpen, KeepsFit, NobodyParked, open_reads, Hands, MayHand, rows_handed, Left, Parking, claims, readers_of}
+use Rattle.phase_moves.proofs.Words.{others_refl, lends_value, CellPlan, Content, Change, effect, Guard, numbered, count, cell_at, Wait, drains_on, shares_read, shares_write}
+use Rattle.phase_moves.proofs.Words.{waits_at, claims_shown, shares_shown, Lent, Loan, Published, CellRow, Rows, Finds, IsFound, IsLending, IsLent, changed, changes_lent}
+use Rattle.phase_moves.proofs.Words.{content_of, in_use, lent_in, Standing, reads_in, writes_in, run_in, seen_at, IsCell, IsLocked, Stands, open_run}
+use Rattle.phase_moves.proofs.{Calling.answered_moved, Drafts.keeps_still, Drafts.none_writes, Leaving.parked_few, Lockers.locked_write, Moved.exit_kept, Moved.moved}
+use Rattle.phase_moves.proofs.{Moved.parties_same, Places.itself_eq, Places.read_at, Opening.no_more, Runs.none_runs}
 
 -- ---- what waits at a cell has its shares and claims
 
 fewer : (t u : Wait → Bool) → ((w : Wait) → t w ≡ true → u w ≡ true) → (ws : List Wait) → count t ws ≤ count u ws
 fewer t u all [] = omega arith
-fewer t u all (w ∷ ws) = by (t w) (u w) (all w) (fewer t u all ws)
-  where
-    by : (a b : Bool) → (a ≡ true → b ≡ true) → count t ws ≤ count u ws → (if a then count t ws + 1 else count t ws) ≤ (if b then count u ws + 1 else count u ws)
-    by true true f e = omega (arith, e)
-    by true false f e = absurd (let q = f refl in cc)
-    by false true f e = omega (arith, e)
-    by false false f e = e
+fewer t u all (w ∷ ws) = by (t w) (u w) (all w) (fewer t u all ws) where
+  by : (a b : Bool) → (a ≡ true → b ≡ true) → count t ws ≤ count u ws → (if a then count t ws + 1 else count t ws) ≤ (if b then count u ws + 1 else count u ws)
+  by a b f e = grind arith
 
 share_waits : (c : ℕ) (ws : List Wait) → count (shares_read c) ws ≤ count (waits_at c) ws
 share_waits c = fewer (shares_read c) (waits_at c) (λ w e. grind (arith, e))
@@ -77,15 +41,9 @@ barred_as h e none = grind (arith, e, none)
 free_as : (h : Holders) → bars_write h ≡ false → (h.readers ≡ 0) × (h.locked ≡ false)
 free_as h e = (grind (arith, e), grind (arith, e))
 
-none_occurs : (xs : List ℕ) (p : ℕ) → is_empty xs ≡ true → occurs p xs ≡ 1 → ⊥
-none_occurs [] p e f = absurd (omega (arith, f))
-none_occurs (x ∷ xs) p e f = absurd (cc)
-
 -- nothing is given where nobody is parked
-gives_none : (c : ℕ) (h : Holders) (s : Parking) (g : Given) → NobodyParked s c → MayHand c h s g → g ≡ given.Nobody
-gives_none c h s given.Nobody none may = refl
-gives_none c h s (given.Writer q) none may = absurd (none_occurs (writers_of s c) q none.1 may.1)
-gives_none c h s given.Readers none may = absurd (let e = none.0 in let f = may.1 in let q : true ≡ false = sym e ∙ f in cc)
+gives_none : (c : ℕ) (h : Holders) (s : Parking) (g : Given) → NobodyParked s c → MayHand c h s g → g ≡ Given.Nobody
+gives_none c h s g none may = grind arith
 
 module _ {L : Type 0} (held : L → Holders) (place : L → LockerKind) (hand : ℕ) (m : Standing) (v : Rows L) (c : ℕ) (is : IsLending held place hand m v c) (row : CellRow L) (row_is : row ≡ get_or v.cells.items c row) where
   row_at : slice_get v.cells.items c ≡ Some row
@@ -101,42 +59,22 @@ module _ {L : Type 0} (held : L → Holders) (place : L → LockerKind) (hand : 
   pub lend_kind : lends_value row.plan.kind ≡ true
   lend_kind = ap (λ (x : _). lends_value x.kind) here.planned ∙ is.lends
 
-  pub lend_parks : c < length v.parks.readers
-  lend_parks = let a = is.inside in let b = is.stands.sizes.readers in omega (arith, a, b)
-
-  pub lend_fits : Fits (place row.seq.locker) (held row.seq.locker) v.parks c
-  lend_fits = here.locked.fits
-
   -- what was read before
   pub none_waits : (first : CellRow L) → first ≡ get_or v.cells.items c first → (0 < first.waiting → ⊥) → row.waiting ≡ 0
-  none_waits first first_is calm =
-      let same : Some first ≡ Some row = sym (read_at v.cells.items c first is.inside first_is) ∙ row_at in
-      let same_row : first ≡ row = cc in
-      no_more row.waiting (λ lt. calm (subst (λ (x : CellRow L). 0 < x.waiting) (sym same_row) lt))
-
-  -- something waits
-  pub waited_on : 0 < row.waiting → true ≡ in_use c m
-  waited_on lt = let e = many in used_by (reads_in c m + writes_in c m + count (waits_at c) m.waits) (omega (arith, e, lt))
+  none_waits first first_is calm = grind (arith, read_at, row_at, no_more)
 
   -- somebody holds it
   pub held_on : row.waiting ≡ 0 → bars_write (held row.seq.locker) ≡ true → true ≡ in_use c m
-  held_on none barred =
-      used_by (reads_in c m + writes_in c m + count (waits_at c) m.waits) (by (cases_eq (held row.seq.locker).readers 0))
-    where
-      by : ((held row.seq.locker).readers ≡ 0) ⊎ ((held row.seq.locker).readers ≢ 0) → 0 < reads_in c m + writes_in c m + count (waits_at c) m.waits
-      by (inl e) =
-          let waits = many in
-          let writes = claim_waits c m.waits in
-          let drains = drain_waits c m.waits in
-          let shown = claims_shown c m.waits v.parks is.stands.waits.single is.stands.waits.shows in
-          let some : 0 < writes_in c m = here.locked.write_was (record { locked = barred_as (held row.seq.locker) barred e; unclaimed = omega (arith, waits, none, writes, drains, shown) }) in
-          omega (arith, some)
-      by (inr ne) =
-          let waits = many in
-          let reads = share_waits c m.waits in
-          let shown = shares_shown c m.waits v.parks is.stands.waits.single is.stands.waits.shows in
-          let are = here.locked.reads_are in
-          omega (arith, waits, none, reads, shown, are, ne)
+  held_on none barred = used_by (reads_in c m + writes_in c m + count (waits_at c) m.waits) (by (cases_eq (held row.seq.locker).readers 0)) where
+    by : ((held row.seq.locker).readers ≡ 0) ⊎ ((held row.seq.locker).readers ≢ 0) → 0 < reads_in c m + writes_in c m + count (waits_at c) m.waits
+    by (inl e) =
+        let waits = many in let writes = claim_waits c m.waits in let drains = drain_waits c m.waits in
+        let shown = claims_shown c m.waits v.parks is.stands.waits.single is.stands.waits.shows in
+        let some : 0 < writes_in c m = here.locked.write_was (record { locked = barred_as (held row.seq.locker) barred e; unclaimed = omega (arith, waits, none, writes, drains, shown) }) in
+        omega (arith, some)
+    by (inr ne) =
+        let waits = many in let reads = share_waits c m.waits in let shown = shares_shown c m.waits v.parks is.stands.waits.single is.stands.waits.shows in
+        let are = here.locked.reads_are in omega (arith, waits, none, reads, shown, are, ne)
 
   -- nobody holds it
   module _ (none : row.waiting ≡ 0) (free : bars_write (held row.seq.locker) ≡ false) where
@@ -169,12 +107,11 @@ module _ {L : Type 0} (held : L → Holders) (place : L → LockerKind) (hand : 
         (record { planned = plan ∙ here.planned; valued = value; known = known; locked = locked; placed = stays ∙ here.placed; runner = running ∙ here.runner; runs = runs })
         (calm ∙ many)
         (keeps_still c m row (record m { content = f }) row' (is.stands.draft c row row_at) draft refl (λ g x e w. e) drafts)
-        (answered_moved held place c hand m v v' m.waits f m.registry is.stands (subst (λ (s : Parking). OthersStay c v.parks s) (sym parks) (others_refl c v.parks)) (subst (λ (s : Parking). SameSize v.parks s) (sym parks) (record { parties = refl; cells = refl })) (ap (λ (s : Parking). length s.writers) parks) guards
-        (exit_kept (length v.cells.items) m m v.exit v'.exit exit refl refl refl is.stands.exit) (subst (λ (s : Parking). AreShown (length v.cells.items) m.waits s) (sym parks) is.stands.waits) beside (λ d ne. refl))
+        (grind (arith, answered_moved, others_refl, exit_kept))
         (parties_same held place hand m (record m { content = f }) v v' is.stands parties (λ p. refl))
 
     -- it is held
-    pub stays_held : row.waiting ≡ 0 → row'.value ≡ row.value → (bars_write (held row.seq.locker) ≡ true) × (held row'.seq.locker ≡ held row.seq.locker) → (l : Loan) → IsLent held place hand m c l lent.InUse v'
+    pub stays_held : row.waiting ≡ 0 → row'.value ≡ row.value → (bars_write (held row.seq.locker) ≡ true) × (held row'.seq.locker ≡ held row.seq.locker) → (l : Loan) → IsLent held place hand m c l Lent.InUse v'
     stays_held none value barred l =
         record {
           used = held_on none barred.0;
@@ -193,19 +130,13 @@ module _ {L : Type 0} (held : L → Holders) (place : L → LockerKind) (hand : 
     pub got_open : IsWriteOpen (held l₁) s₁ c
     got_open = record { locked = ap (λ (h : Holders). h.locked) tried.1; unclaimed = ap (λ (s : Parking). claims s c) parks₁ ∙ unlocked none tried.0 }
 
-    pub got_known : IsKnown (held l₁).phase
-    got_known = subst IsKnown (sym (ap (λ (h : Holders). h.phase) tried.1 ∙ here.locked.phase_is)) here.known
-
     -- what was published
     was_is : (was : Published) → was.phase ≡ (held l₁).phase → was.value ≡ row.value → content_of was ≡ m.content c
-    was_is was e f =
-        let q : number was.phase ≡ (m.content c).phase = ap number (e ∙ ap (λ (h : Holders). h.phase) tried.1 ∙ here.locked.phase_is) in
-        let u : was.value ≡ (m.content c).value = f ∙ here.valued in
-        λ i. record { phase = q i; value = u i }
+    was_is was e f = grind (arith, here)
 
     module _ (v' : Rows L) (row' : CellRow L) (cells : v'.cells.items ≡ set v.cells.items c row') (guards : v'.guards ≡ v.guards) (parties : v'.parties ≡ v.parties) (exit : v'.exit ≡ v.exit) (plan : row'.plan ≡ row.plan) (calm : row'.waiting ≡ row.waiting) (draft : row'.draft ≡ row.draft) (run : row'.run ≡ row.run) (running : row'.seq.running ≡ row.seq.running)
         (p : Published) (value : row'.value ≡ p.value) (known : IsKnown p.phase) (g : Given) (hands : Hands c (leave_write p.phase (held l₁)) s₁ g (held row'.seq.locker) v'.parks) (reads : open_reads (held row'.seq.locker) v'.parks c ≡ 0) (closed : IsWriteOpen (held row'.seq.locker) v'.parks c → ⊥) (k : Left held place c l₁ row'.seq.locker s₁ v'.parks) where
-      nobody : g ≡ given.Nobody
+      nobody : g ≡ Given.Nobody
       nobody = gives_none c (leave_write p.phase (held l₁)) s₁ g (subst (λ (s : Parking). NobodyParked s c) (sym parks₁) (parked none tried.0)) hands.may
 
       parks : v'.parks ≡ v.parks
@@ -215,45 +146,40 @@ module _ {L : Type 0} (held : L → Holders) (place : L → LockerKind) (hand : 
       left_now : (f : ℕ → Content) → ((d : ℕ) → d ≢ c → f d ≡ m.content d) → f c ≡ content_of p → Stands held place hand (record m { content = f }) v'
       left_now f beside at =
           held_now v' row' cells guards parties exit plan calm draft run running (k.place ∙ stays) parks f beside drafts (value ∙ ap (λ (y : Content). y.value) (sym at)) (subst (λ (y : Content). IsKnown (phase_of y.phase)) (sym at) known)
-          locked runs
-        where
-          drafts : (j : ℕ) (x : Guard) → numbered j m.guards ≡ Some x → x.writes ≡ true → f x.cell ≡ m.content x.cell
-          drafts j x e w = beside x.cell (λ q. (let zero = no_writes none tried.0 in absurd (none_writes c j m.guards x (omega (arith, zero)) e w q)))
+          locked runs where
+            drafts : (j : ℕ) (x : Guard) → numbered j m.guards ≡ Some x → x.writes ≡ true → f x.cell ≡ m.content x.cell
+            drafts j x e w = beside x.cell (λ q. (let zero = no_writes none tried.0 in absurd (none_writes c j m.guards x (omega (arith, zero)) e w q)))
 
-          locked : IsLocked (place row'.seq.locker) (held row'.seq.locker) v'.parks c (reads_in c m) (writes_in c m) (f c).phase
-          locked =
-              let r = no_reads none tried.0 in
-              let w = no_writes none tried.0 in
-              let few : (held l₁).readers ≤ _ = subst (λ n. n ≤ most_readers) (sym (ap (λ (h : Holders). h.readers) tried.1)) here.locked.limit in
-              subst (λ n. IsLocked (place row'.seq.locker) (held row'.seq.locker) v'.parks c n (writes_in c m) (f c).phase) (sym r)
-              (subst (λ n. IsLocked (place row'.seq.locker) (held row'.seq.locker) v'.parks c 0 n (f c).phase) (sym w)
-              (locked_write (place l₁) (place row'.seq.locker) (held l₁) (held row'.seq.locker) s₁ v'.parks c (f c).phase p.phase g hands reads closed k.fits (ap (λ (y : Content). phase_of y.phase) (sym at)) few
-              (subst (λ (s : Parking). length (readers_of s c) ≤ most_readers) (sym parks₁) (parked_few held place hand m v is.stands c is.inside))))
+            locked : IsLocked (place row'.seq.locker) (held row'.seq.locker) v'.parks c (reads_in c m) (writes_in c m) (f c).phase
+            locked =
+                let r = no_reads none tried.0 in let w = no_writes none tried.0 in
+                let few : (held l₁).readers ≤ _ = subst (λ n. n ≤ most_readers) (sym (ap (λ (h : Holders). h.readers) tried.1)) here.locked.limit in
+                subst (λ n. IsLocked (place row'.seq.locker) (held row'.seq.locker) v'.parks c n (writes_in c m) (f c).phase) (sym r)
+                (subst (λ n. IsLocked (place row'.seq.locker) (held row'.seq.locker) v'.parks c 0 n (f c).phase) (sym w)
+                (locked_write (place l₁) (place row'.seq.locker) (held l₁) (held row'.seq.locker) s₁ v'.parks c (f c).phase p.phase g hands reads closed k.fits (ap (λ (y : Content). phase_of y.phase) (sym at)) few
+                (subst (λ (s : Parking). length (readers_of s c) ≤ most_readers) (sym parks₁) (parked_few held place hand m v is.stands c is.inside))))
 
-          runs : row'.run ≡ open_run (cell_at m.plans c) c (f c).phase (run_in c m.sections)
-          runs =
-              let no_run = none_runs c m.sections (let zero = no_writes none tried.0 in omega (arith, zero)) in
-              run ∙ here.runs ∙ ap (open_run (cell_at m.plans c) c (m.content c).phase) no_run ∙ sym (ap (open_run (cell_at m.plans c) c (f c).phase) no_run)
+            runs : row'.run ≡ open_run (cell_at m.plans c) c (f c).phase (run_in c m.sections)
+            runs =
+                let no_run = none_runs c m.sections (let zero = no_writes none tried.0 in omega (arith, zero)) in
+                run ∙ here.runs ∙ ap (open_run (cell_at m.plans c) c (m.content c).phase) no_run ∙ sym (ap (open_run (cell_at m.plans c) c (f c).phase) no_run)
 
       changed_now : (chs : List Change) → content_of p ≡ effect (cell_at m.plans c) chs (m.content c) → Stands held place hand (changed c chs m) v'
-      changed_now chs e = left_now (changed c chs m).content beside (there ∙ sym e)
-        where
-          there : (changed c chs m).content c ≡ effect (cell_at m.plans c) chs (m.content c)
-          there = let q = itself_eq c in rw q refl
+      changed_now chs e = left_now (changed c chs m).content beside (there ∙ sym e) where
+        there : (changed c chs m).content c ≡ effect (cell_at m.plans c) chs (m.content c)
+        there = let q = itself_eq c in rw q refl
 
-          beside : (d : ℕ) → d ≢ c → (changed c chs m).content d ≡ m.content d
-          beside d ne = let q : (c == d) ≡ false = grind (arith, ne) in rw q refl
+        beside : (d : ℕ) → d ≢ c → (changed c chs m).content d ≡ m.content d
+        beside d ne = let q : (c == d) ≡ false = grind (arith, ne) in rw q refl
 
       -- the answer is due, and the rows stand for what is left
       pub lends : (was : Published) → was.phase ≡ (held l₁).phase → was.value ≡ row.value → (l : Loan) (r : Lent) → Finds row.plan l was (r, p) → IsLent held place hand m c l r v'
-      lends was phase_is value_is l r finds =
-          record { used = found.free ∙ unused none tried.0; due = λ e. found.due; stands = by r found }
-        where
-          found : IsFound (cell_at m.plans c) l m.registry.is_open (m.content c) r (content_of p)
-          found = subst (λ (y : Content). IsFound (cell_at m.plans c) l m.registry.is_open y r (content_of p)) (was_is was phase_is value_is) (subst (λ (x : CellPlan). IsFound x l m.registry.is_open (content_of was) r (content_of p)) here.planned (finds m.registry.is_open))
+      lends was phase_is value_is l r finds = record { used = found.free ∙ unused none tried.0; due = λ e. found.due; stands = by r found } where
+        found : IsFound (cell_at m.plans c) l m.registry.is_open (m.content c) r (content_of p)
+        found = subst (λ (y : Content). IsFound (cell_at m.plans c) l m.registry.is_open y r (content_of p)) (was_is was phase_is value_is) (subst (λ (x : CellPlan). IsFound x l m.registry.is_open (content_of was) r (content_of p)) here.planned (finds m.registry.is_open))
 
-          by : (z : Lent) → IsFound (cell_at m.plans c) l m.registry.is_open (m.content c) z (content_of p) → Stands held place hand (lent_in c l z m) v'
-          by lent.InUse z = absurd (let e = z.free in cc)
-          by (lent.Denied q) z = left_now m.content (λ d ne. refl) (sym z.content)
-          by lent.Failed z = changed_now (changes_lent l m.registry.is_open lent.Failed) z.content
-          by (lent.Found u) z = changed_now (changes_lent l m.registry.is_open (lent.Found u)) z.content
+        by : (z : Lent) → IsFound (cell_at m.plans c) l m.registry.is_open (m.content c) z (content_of p) → Stands held place hand (lent_in c l z m) v'
+        by Lent.InUse z = absurd (let e = z.free in cc)
+        by (Lent.Denied q) z = left_now m.content (λ d ne. refl) (sym z.content)
+        by Lent.Failed z = changed_now (changes_lent l m.registry.is_open Lent.Failed) z.content
+        by (Lent.Found u) z = changed_now (changes_lent l m.registry.is_open (Lent.Found u)) z.content

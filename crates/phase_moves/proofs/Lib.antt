@@ -1,3 +1,5 @@
+-- The words of all
+pub mod Words
 -- Places of lists, phases, records of lockers
 pub mod Places
 pub mod Known

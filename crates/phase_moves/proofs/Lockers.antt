@@ -1,32 +1,16 @@
 -- What the calls of a locker leave of a cell's record.
-use Rattle.std.proofs.Common.{◌≡◌, ◌<◌, ◌≤◌, ◌+◌, ◌∙◌, ℕ, length, ap, sym, subst, refl, arith, length-set, inl, inr}
-use Rattle.std.proofs.lemmas.Bool.{cases_lt}
-use Rattle.phase_bits.specs.declared.phase.Phase.{Phase}
-use Rattle.phase_bits.specs.declared.holders.Holders.{Holders}
-use Rattle.phase_bits.specs.Number.{phase_of}
-use Rattle.phase_bits.specs.Records.{leave_read, leave_write, downgrade, most_readers}
-use Rattle.phase_locker.specs.declared.ways.Given.{Given}
-use Rattle.phase_locker.specs.declared.ways.Given.TheVariants as given
-use Rattle.phase_locker.specs.declared.ways.LockerKind.{LockerKind}
-use Rattle.phase_locker.specs.Rows.{Rows as Parking, readers_of}
-use Rattle.phase_locker.specs.Fits.{Fits, IsWriteOpen, open_reads}
-use Rattle.phase_locker.specs.Gifts.{Hands, Downgrades, MayHand, MayShare, rows_handed, held_handed}
-use Rattle.phase_locker.specs.Others.{SameAt}
-use Rattle.phase_locker.proofs.Leaving.{write_has_no_reader}
-use Rattle.phase_locker.proofs.Others.{fits_same}
-use Rattle.phase_moves.specs.Stands.{IsLocked}
+use Rattle.phase_moves.proofs.Words.{◌≡◌, ◌<◌, ◌≤◌, ◌+◌, ◌∙◌, ℕ, length, ap, refl, arith, length-set, inl, inr, cases_lt, Phase, Holders, phase_of, leave_read, leave_write}
+use Rattle.phase_moves.proofs.Words.{downgrade, most_readers, Given, LockerKind, Parking, readers_of, Fits, IsWriteOpen, open_reads, Hands, Downgrades, MayHand, rows_handed}
+use Rattle.phase_moves.proofs.Words.{held_handed, SameAt, write_has_no_reader, IsLocked}
 
 -- a gift leaves the phase
 pub handed_phase : (g : Given) (c : ℕ) (s : Parking) (h : Holders) → (held_handed c g s h).phase ≡ h.phase
-handed_phase given.Nobody c s h = refl
-handed_phase (given.Writer q) c s h = refl
-handed_phase given.Readers c s h = refl
+handed_phase g c s h = grind arith
 
 -- and the number of the lists of writers
 pub handed_writers : (g : Given) (c : ℕ) (s : Parking) → length (rows_handed c g s).writers ≡ length s.writers
-handed_writers given.Nobody c s = refl
-handed_writers (given.Writer q) c s = length-set s.writers c _
-handed_writers given.Readers c s = refl
+handed_writers (Given.Writer q) c s = length-set s.writers c _
+handed_writers _ c s = refl
 
 pub hands_phase : (c : ℕ) (h : Holders) (s : Parking) (g : Given) (h' : Holders) (s' : Parking) → Hands c h s g h' s' → h'.phase ≡ h.phase
 hands_phase c h s g h' s' k = ap (λ (x : Holders). x.phase) k.held ∙ handed_phase g c s h
@@ -43,33 +27,11 @@ downgrades_writers c q h s g h' s' k = ap (λ (x : Parking). length x.writers) k
 -- ---- how many read then
 
 pub handed_few : (g : Given) (c : ℕ) (h : Holders) (s : Parking) → MayHand c h s g → h.readers ≤ most_readers → length (readers_of s c) ≤ most_readers → (held_handed c g s h).readers ≤ most_readers
-handed_few given.Nobody c h s may le room = le
-handed_few (given.Writer q) c h s may le room = le
-handed_few given.Readers c h s may le room = let none = may.0.readers in omega (arith, none, room)
-
-pub hands_few : (c : ℕ) (h : Holders) (s : Parking) (g : Given) (h' : Holders) (s' : Parking) → Hands c h s g h' s' → h.readers ≤ most_readers → length (readers_of s c) ≤ most_readers → h'.readers ≤ most_readers
-hands_few c h s g h' s' k le parked = subst (λ n. n ≤ most_readers) (sym (ap (λ (x : Holders). x.readers) k.held)) (handed_few g c h s k.may le parked)
-
-pub downgrades_few : (c : ℕ) (q : Phase) (h : Holders) (s : Parking) (g : Given) (h' : Holders) (s' : Parking) → Downgrades c q h s g h' s' → h.readers ≡ 0 → 1 + length (readers_of s c) ≤ most_readers → h'.readers ≤ most_readers
-downgrades_few c q h s g h' s' k none room = subst (λ n. n ≤ most_readers) (sym (ap (λ (x : Holders). x.readers) k.held)) (shared g k.may)
-  where
-    shared : (g : Given) → MayShare c s g → (held_handed c g s (downgrade q h)).readers ≤ most_readers
-    shared given.Nobody may = omega (arith, none)
-    shared (given.Writer p) may = absurd may
-    shared given.Readers may = omega (arith, none, room)
+handed_few g c h s may le room = grind arith
 
 -- what is said of a cell stays where the rows say the same of it
 pub locked_same : (k : LockerKind) (h : Holders) (s s' : Parking) (d r w p : ℕ) → SameAt d s s' → IsLocked k h s d r w p → IsLocked k h s' d r w p
-locked_same k h s s' d r w p same l =
-    record {
-      fits = fits_same k h s s' d same l.fits;
-      phase_is = l.phase_is;
-      reads_are = let a = same.shares in let b = l.reads_are in rw a b;
-      write_is = λ lt. let o = l.write_is lt in record { locked = o.locked; unclaimed = same.claims ∙ o.unclaimed };
-      write_was = λ o. l.write_was (record { locked = o.locked; unclaimed = sym same.claims ∙ o.unclaimed });
-      one = l.one;
-      limit = l.limit;
-    }
+locked_same k h s s' d r w p same l = grind arith
 
 -- beside an open read nothing writes
 pub reading_alone : (k : LockerKind) (h : Holders) (s : Parking) (c r w p : ℕ) → IsLocked k h s c r w p → 0 < r → w ≡ 0
@@ -85,24 +47,12 @@ writing_alone k h s c r w p l lt = let o = write_has_no_reader k h s c l.fits (l
 
 -- a read lock is given back
 pub locked_read : (k k' : LockerKind) (h h' : Holders) (s s' : Parking) (c r w p : ℕ) (g : Given) → IsLocked k h s c (r + 1) w p → k' ≡ k → Hands c (leave_read h) s g h' s' → open_reads h' s' c + 1 ≡ open_reads h s c → (IsWriteOpen h' s' c → ⊥) → Fits k' h' s' c → length (readers_of s c) ≤ most_readers → IsLocked k' h' s' c r w p
-locked_read k k' h h' s s' c r w p g l same hands reads closed fits parked =
-    let none : w ≡ 0 = reading_alone k h s c (r + 1) w p l (omega arith) in
-    record {
-      fits = fits;
-      phase_is = hands_phase c (leave_read h) s g h' s' hands ∙ l.phase_is;
-      reads_are = let a = l.reads_are in omega (arith, a, reads);
-      write_is = λ lt. absurd (omega (arith, none, lt));
-      write_was = λ o. absurd (closed o);
-      one = l.one;
-      limit = hands_few c (leave_read h) s g h' s' hands (let le = l.limit in omega (arith, le)) parked;
-    }
+locked_read k k' h h' s s' c r w p g l same hands reads closed fits parked = grind arith
 
 -- a write lock is given back
 pub locked_write : (k k' : LockerKind) (h h' : Holders) (s s' : Parking) (c p : ℕ) (q : Phase) (g : Given) → Hands c (leave_write q h) s g h' s' → open_reads h' s' c ≡ 0 → (IsWriteOpen h' s' c → ⊥) → Fits k' h' s' c → q ≡ phase_of p → h.readers ≤ most_readers → length (readers_of s c) ≤ most_readers → IsLocked k' h' s' c 0 0 p
-locked_write k k' h h' s s' c p q g hands reads closed fits e le parked =
-    record { fits = fits; phase_is = hands_phase c (leave_write q h) s g h' s' hands ∙ e; reads_are = reads; write_is = λ lt. absurd (omega (arith, lt)); write_was = λ o. absurd (closed o); one = omega arith; limit = hands_few c (leave_write q h) s g h' s' hands le parked }
+locked_write k k' h h' s s' c p q g hands reads closed fits e le parked = grind arith
 
 -- it becomes a read lock
 pub locked_down : (k' : LockerKind) (h h' : Holders) (s s' : Parking) (c p : ℕ) (q : Phase) (g : Given) → Downgrades c q h s g h' s' → open_reads h' s' c ≡ 1 → (IsWriteOpen h' s' c → ⊥) → Fits k' h' s' c → q ≡ phase_of p → h.readers ≡ 0 → 1 + length (readers_of s c) ≤ most_readers → IsLocked k' h' s' c 1 0 p
-locked_down k' h h' s s' c p q g down reads closed fits e none room =
-    record { fits = fits; phase_is = downgrades_phase c q h s g h' s' down ∙ e; reads_are = reads; write_is = λ lt. absurd (omega (arith, lt)); write_was = λ o. absurd (closed o); one = omega arith; limit = downgrades_few c q h s g h' s' down none room }
+locked_down k' h h' s s' c p q g down reads closed fits e none room = grind arith

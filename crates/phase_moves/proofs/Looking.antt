@@ -1,55 +1,11 @@
 -- What the rows tell of what stands open.
-use Rattle.std.proofs.Common.{◌≡◌, ◌==◌, ◌<◌, ◌∙◌, ℕ, List, length, get_or, ap, sym, subst, refl, arith, Bool, true, false, None, Some, [], ◌∷◌, ◌&&◌}
-use Rattle.std.proofs.lemmas.Option.{gets}
-use Rattle.std.proofs.lemmas.Grind.{common_steps}
-use Rattle.std.specs.Prelude.{slice_get, ◌<◌, MatchBool, if◌then◌else◌, is_some, not}
-use Rattle.std.specs.declared.option.Option.{Option}
-use Rattle.phase_bits.specs.declared.holders.Holders.{Holders}
-use Rattle.phase_locker.specs.declared.ways.LockerKind.{LockerKind}
-use Rattle.schedule_rules.specs.declared.plan.CellPlan.{CellPlan}
-use Rattle.schedule_rules.specs.Guards.{Guard, guard_of, numbered, own}
-use Rattle.schedule_rules.specs.Kinds.{cell_at, tolerance_of}
-use Rattle.schedule_rules.specs.Sections.{Section, innermost, generates_for, runs_in}
-use Rattle.schedule_rules.specs.Waits.{cell_of_section, wait_of, without_wait}
-use Rattle.phase_moves.specs.declared.look_up.Running.{Running}
-use Rattle.phase_moves.specs.declared.rows.CellRow.{CellRow}
-use Rattle.phase_moves.specs.declared.rows.Draft.{Draft}
-use Rattle.phase_moves.specs.declared.rows.GuardRow.{GuardRow}
-use Rattle.phase_moves.specs.declared.rows.PartyRow.{PartyRow}
-use Rattle.phase_moves.specs.declared.rows.Rows.{Rows}
-use Rattle.phase_moves.specs.Standing.{Standing, answered, changes_at, content_back, run_in, runner_of, seen_by}
-use Rattle.phase_moves.specs.Stands.{guard_row, party_row, CountsWaits, KeepsDraft, AreInside, AreNumbered, AreShown, AreSized, IsCell, IsExit, Stands, seen_at}
-use Rattle.phase_moves.specs.Reading.{held_of, run_kept, running_kept, running_of, shown_by, value_drafted, value_kept}
-use Rattle.phase_moves.specs.Moves.{Rests}
-use Rattle.phase_moves.proofs.Innermost.{row_run}
-use Rattle.phase_moves.proofs.Places.{read_at}
-use Rattle.phase_moves.proofs.Runs.{inside_found}
-use Rattle.phase_moves.proofs.Hand.{row_shown}
-use Rattle.std.specs.List.{find}
-use Rattle.phase_bits.specs.declared.phase.Phase.{Phase}
-use Rattle.phase_bits.specs.Number.{phase_of}
-use Rattle.phase_locker.specs.declared.tickets.LockNature.TheVariants as nature
-use Rattle.phase_locker.specs.declared.ways.Given.TheVariants as given
-use Rattle.phase_seq.specs.Begins.{runs}
-use Rattle.lazy_cells.specs.Calls.{asking}
-use Rattle.schedule_rules.specs.declared.line.Answer.TheVariants as answer
-use Rattle.schedule_rules.specs.declared.step.Want.{Want}
-use Rattle.schedule_rules.specs.declared.step.Want.TheVariants.{Calls, Turns}
-use Rattle.schedule_rules.specs.Answers.{answer_admitted, answer_barred, drains_by, way_parked}
-use Rattle.schedule_rules.specs.Calls.{initializes, is_fast, lock_asked, run_asked, seeks, seeks_run}
-use Rattle.schedule_rules.specs.Changes.{Asked, Change, Content, effect}
-use Rattle.schedule_rules.specs.Forms.{form_of}
-use Rattle.schedule_rules.specs.Holds.{is_barred, keeps}
-use Rattle.schedule_rules.specs.Legal.{Last}
-use Rattle.schedule_rules.specs.Phases.{runs_generator}
-use Rattle.waiting_rows.proofs.Counted.{none_without}
-use Rattle.phase_moves.specs.declared.rows.Taken.TheVariants as taken
-use Rattle.phase_moves.specs.declared.rows.Target.{Target}
-use Rattle.phase_moves.specs.Meets.{IsMet, IsUnlocked, holding_in, keeps_in, readers_in, wanted_in}
-use Rattle.phase_moves.specs.Tries.{IsAttempting, IsTook, MayWait, WaitsAt, ask_of}
-use Rattle.phase_moves.proofs.Admitting.{judged_no, looked_due, runs_same, turned_so}
-use Rattle.phase_moves.proofs.Seeking.{seeks_as, sought_as}
-use Rattle.phase_moves.proofs.Asked.{none_sought}
+use Rattle.phase_moves.proofs.Words.{◌≡◌, ◌==◌, ◌<◌, ◌∙◌, ℕ, List, length, get_or, ap, sym, subst, refl, arith, Bool, true, None, Some, [], ◌&&◌, gets, common_steps}
+use Rattle.phase_moves.proofs.Words.{slice_get, MatchBool, Option, Holders, LockerKind, CellPlan, Guard, guard_of, numbered, own, cell_at, Section, innermost, cell_of_section}
+use Rattle.phase_moves.proofs.Words.{wait_of, Running, CellRow, GuardRow, PartyRow, Rows, Standing, answered, changes_at, content_back, run_in, runner_of, seen_by, guard_row}
+use Rattle.phase_moves.proofs.Words.{party_row, CountsWaits, KeepsDraft, AreInside, AreNumbered, AreShown, AreSized, IsCell, IsExit, Stands, seen_at, held_of, run_kept}
+use Rattle.phase_moves.proofs.Words.{running_kept, running_of, shown_by, value_drafted, value_kept, Rests, Phase, phase_of, runs, Want, initializes, seeks, seeks_run, Change}
+use Rattle.phase_moves.proofs.Words.{effect, none_without, Target, IsMet, IsAttempting, IsTook, MayWait_of_tries as MayWait, WaitsAt, ask_of, Given, Taken}
+use Rattle.phase_moves.proofs.{Innermost.row_run, Places.read_at, Runs.inside_found, Hand.row_shown, Admitting.runs_same, Asked.none_sought}
 
 is_there : {X : Type 0} (xs : List X) (i : ℕ) → i < length xs → slice_get xs i ≡ None → ⊥
 is_there xs i lt e = grind (arith, common_steps, gets, lt, e)
@@ -60,103 +16,59 @@ got_there xs i x e = grind (arith, common_steps, gets, e)
 module _ {L : Type 0} (held : L → Holders) (place : L → LockerKind) (m : Standing) (v : Rows L) (r : Rests held place m v) where
   -- the row of the cell of the party's innermost section tells that section
   pub runs_by : (p cell : ℕ) (of : PartyRow) (o : Option Running) → p < length v.parties.items → of ≡ get_or v.parties.items p of → of.innermost ≡ Some cell → o ≡ run_kept cell (slice_get v.cells.items cell) → o ≡ running_of m (innermost p m.sections)
-  runs_by p cell of o lt there inner told = by (innermost p m.sections) refl (sym (ap (λ (x : PartyRow). x.innermost) is_row) ∙ inner)
-    where
-      is_row : of ≡ party_row m p
-      is_row = let e : Some of ≡ Some (party_row m p) = sym (read_at v.parties.items p of lt there) ∙ r.stands.party p lt in cc
+  runs_by p cell of o lt there inner told = by (innermost p m.sections) refl (sym (ap (λ (x : PartyRow). x.innermost) is_row) ∙ inner) where
+    is_row : of ≡ party_row m p
+    is_row = let e : Some of ≡ Some (party_row m p) = sym (read_at v.parties.items p of lt there) ∙ r.stands.party p lt in cc
 
-      by : (i : Option Section) → innermost p m.sections ≡ i → cell_of_section i ≡ Some cell → o ≡ running_of m i
-      by None e f = absurd (cc)
-      by (Some s) e f = told ∙ at (slice_get v.cells.items cell) refl
-        where
-          same : s.cell ≡ cell
-          same = cc
+    by : (i : Option Section) → innermost p m.sections ≡ i → cell_of_section i ≡ Some cell → o ≡ running_of m i
+    by None e f = absurd (cc)
+    by (Some s) e f = told ∙ at (slice_get v.cells.items cell) refl where
+      same : s.cell ≡ cell
+      same = cc
 
-          inside : cell < length v.cells.items
-          inside = subst (λ d. d < length v.cells.items) same (inside_found (length v.cells.items) p m.sections s r.stands.sections e)
+      inside : cell < length v.cells.items
+      inside = subst (λ d. d < length v.cells.items) same (inside_found (length v.cells.items) p m.sections s r.stands.sections e)
 
-          at : (q : Option (CellRow L)) → slice_get v.cells.items cell ≡ q → run_kept cell q ≡ running_of m (Some s)
-          at None g = absurd (is_there v.cells.items cell inside g)
-          at (Some row) g =
-              let its : row.plan.kind ≡ (cell_at m.plans s.cell).kind = ap (λ (x : CellPlan). x.kind) (r.stands.cell cell row g).planned ∙ ap (λ d. (cell_at m.plans d).kind) (sym same) in
-              ap (running_kept row.plan.kind cell) (row_run held place m v p cell s (record { rests = r; party = lt; found = e; at = same }) row (got_there v.cells.items cell row g))
-              ∙ (λ i. Some (record { cell = sym same i; kind = its i; want = s.want }))
+      at : (q : Option (CellRow L)) → slice_get v.cells.items cell ≡ q → run_kept cell q ≡ running_of m (Some s)
+      at None g = absurd (is_there v.cells.items cell inside g)
+      at (Some row) g =
+          let its : row.plan.kind ≡ (cell_at m.plans s.cell).kind = ap (λ (x : CellPlan). x.kind) (r.stands.cell cell row g).planned ∙ ap (λ d. (cell_at m.plans d).kind) (sym same) in
+          ap (running_kept row.plan.kind cell) (row_run held place m v p cell s (record { rests = r; party = lt; found = e; at = same }) row (got_there v.cells.items cell row g))
+          ∙ (λ i. Some (record { cell = sym same i; kind = its i; want = s.want }))
 
   -- the row of a guard tells what its holder sees
   pub holds_by : (p g : ℕ) (row : GuardRow) → g < length v.guards.items → row ≡ get_or v.guards.items g row → shown_by v p row ≡ held_of m (guard_of g p m.guards)
-  holds_by p g row lt there = ap (shown_by v p) (row_shown held place m v v p g r row (read_at v.guards.items g row lt there) lt) ∙ by (numbered g m.guards) refl
-    where
-      by : (o : Option Guard) → numbered g m.guards ≡ o → shown_by v p (guard_row o) ≡ held_of m (own p o)
-      by None e = refl
-      by (Some x) e = at x.writes refl (x.party == p) refl
-        where
-          value : (q : Option (CellRow L)) → slice_get v.cells.items x.cell ≡ q → value_kept q ≡ (m.content x.cell).value
-          value None f = absurd (is_there v.cells.items x.cell (r.stands.guards.in_cells g x e) f)
-          value (Some c) f = (r.stands.cell x.cell c f).valued
+  holds_by p g row lt there = ap (shown_by v p) (row_shown held place m v v p g r row (read_at v.guards.items g row lt there) lt) ∙ by (numbered g m.guards) refl where
+    by : (o : Option Guard) → numbered g m.guards ≡ o → shown_by v p (guard_row o) ≡ held_of m (own p o)
+    by None e = refl
+    by (Some x) e = at x.writes refl (x.party == p) refl where
+      value : (q : Option (CellRow L)) → slice_get v.cells.items x.cell ≡ q → value_kept q ≡ (m.content x.cell).value
+      value None f = absurd (is_there v.cells.items x.cell (r.stands.guards.in_cells g x e) f)
+      value (Some c) f = (r.stands.cell x.cell c f).valued
 
-          drafted : x.writes ≡ true → (q : Option (CellRow L)) → slice_get v.cells.items x.cell ≡ q → value_drafted q ≡ (seen_by m x).value
-          drafted w None f = absurd (is_there v.cells.items x.cell (r.stands.guards.in_cells g x e) f)
-          drafted w (Some c) f = ap (λ (d : Draft). d.value) (r.stands.draft x.cell c f g x e w refl)
+      drafted : x.writes ≡ true → (q : Option (CellRow L)) → slice_get v.cells.items x.cell ≡ q → value_drafted q ≡ (seen_by m x).value
+      drafted w q f = grind (arith, is_there, value)
 
-          at : (w : Bool) → x.writes ≡ w → (b : Bool) → (x.party == p) ≡ b → shown_by v p (guard_row (Some x)) ≡ held_of m (own p (Some x))
-          at true w true b = rw (w, b) (ap (λ z. Some (record { cell = x.cell; writes = true; value = z })) (drafted w (slice_get v.cells.items x.cell) refl))
-          at true w false b = rw (w, b) refl
-          at false w true b = rw (w, b) (ap (λ z. Some (record { cell = x.cell; writes = false; value = z })) (value (slice_get v.cells.items x.cell) refl))
-          at false w false b = rw (w, b) refl
+      at : (w : Bool) → x.writes ≡ w → (b : Bool) → (x.party == p) ≡ b → shown_by v p (guard_row (Some x)) ≡ held_of m (own p (Some x))
+      at w e b f = grind (arith, value, drafted)
 
 -- ---- an attempt that is turned back, and one that looks at the cell as it is: it takes no lock
 
 -- one that was turned back
-pub met_turned : (m : Standing) (p : ℕ) (t : Target) → (initializes (cell_at m.plans t.cell).kind t.want && runs p (runner_of (run_in t.cell m.sections))) ≡ true → IsMet p t taken.Cyclic given.Nobody m
-met_turned m p t turned =
-    record {
-      moment = Last;
-      chosen = false;
-      answered = sym (turned_so (initializes (cell_at m.plans t.cell).kind t.want && generates_for p (find (runs_in t.cell) m.sections)) answer.Cyclic _ (ap (λ b. initializes (cell_at m.plans t.cell).kind t.want && b) (sym (runs_same p t.cell m.sections)) ∙ turned));
-      gives = refl;
-      wanted = refl;
-    }
+pub met_turned : (m : Standing) (p : ℕ) (t : Target) → (initializes (cell_at m.plans t.cell).kind t.want && runs p (runner_of (run_in t.cell m.sections))) ≡ true → IsMet p t Taken.Cyclic Given.Nobody m
+met_turned m p t turned = grind (arith, runs_same)
 
 -- it is answered by what the cell holds
-pub met_looked : (m : Standing) (p : ℕ) (t : Target) → seeks (cell_at m.plans t.cell).kind t.want ≡ None → wait_of p m.waits ≡ None → IsMet p t (taken.Nothing (phase_of (m.content t.cell).phase)) given.Nobody m
-met_looked m p t none free =
-    record {
-      moment = Last;
-      chosen = false;
-      answered = looked_due x t.cell p m.registry y t.want none
-          ∙ sym (judged_no (initializes x.kind t.want && generates_for p (find (runs_in t.cell) m.sections)) (keeps_in p t.cell t.want m) (is_barred (wanted_in t.cell t.want m) (holding_in t.cell (without_wait p m.waits) m)) false answer.Cyclic
-          (answer_barred (is_fast t.want) x.place (way_parked x.kind t.want (drains_by (wanted_in t.cell t.want m) (holding_in t.cell (without_wait p m.waits) m) false))) (answer_admitted x.kind (tolerance_of x) t.cell m.registry.is_open t.want y)
-          (ap (λ s. seeks_run s && generates_for p (find (runs_in t.cell) m.sections)) none) (ap (λ w. keeps w (wanted_in t.cell t.want m) (readers_in t.cell m.waits m)) free) (ap (λ n. is_barred n (holding_in t.cell (without_wait p m.waits) m)) unwanted));
-      gives = tt;
-      wanted = by t.want none;
-    }
-  where
-    x : CellPlan
-    x = cell_at m.plans t.cell
-
-    y : Content
-    y = m.content t.cell
-
-    unwanted : wanted_in t.cell t.want m ≡ nature.None
-    unwanted = ap (λ s. lock_asked (asking s (is_fast t.want) (tolerance_of (cell_at m.plans t.cell))) (m.content t.cell).phase) none
-
-    by : (w : Want) → seeks (cell_at m.plans t.cell).kind w ≡ None → IsUnlocked (cell_at m.plans t.cell).kind w
-    by (Calls j) e = ap (seeks_as (form_of (cell_at m.plans t.cell).kind j)) (sym e) ∙ sought_as (cell_at m.plans t.cell).kind j
-    by Turns e = tt
+pub met_looked : (m : Standing) (p : ℕ) (t : Target) → seeks (cell_at m.plans t.cell).kind t.want ≡ None → wait_of p m.waits ≡ None → IsMet p t (Taken.Nothing (phase_of (m.content t.cell).phase)) Given.Nobody m
+met_looked m p t none free = grind arith
 
 -- nothing happened in its section
 unchanged : (m : Standing) (c : ℕ) (w : Want) → seeks (cell_at m.plans c).kind w ≡ None → changes_at c w m ≡ []
-unchanged m c (Calls j) none =
-    ap (λ s. if run_asked (asking s (is_fast (Calls j)) (tolerance_of (cell_at m.plans c))) (m.content c).phase && not (runs_generator (cell_at m.plans c).kind (tolerance_of (cell_at m.plans c)) m.registry.is_open (m.content c).phase) then Asked m.registry.is_open j ∷ [] else []) none
-unchanged m c Turns none = refl
+unchanged m c w none = grind arith
 
 -- so nothing is published
 still : (m : Standing) (c d : ℕ) (chs : List Change) → chs ≡ [] → content_back (Some (record { cell = c; changes = chs })) m d ≡ m.content d
-still m c d chs e = ap (λ z. content_back (Some (record { cell = c; changes = z })) m d) e ∙ by (c == d)
-  where
-    by : (b : Bool) → (if b then m.content d else m.content d) ≡ m.content d
-    by true = refl
-    by false = refl
+still m c d chs e = grind arith
 
 module _ {L : Type 0} (held : L → Holders) (place : L → LockerKind) (hand : ℕ) (m : Standing) (v : Rows L) where
   -- what rows of these cells stand for
@@ -195,19 +107,17 @@ module _ {L : Type 0} (held : L → Holders) (place : L → LockerKind) (m : Sta
   nothing = none_sought (cell_at m.plans t.cell) t.want (ap (λ (z : CellPlan). ask_of z t.want) (sym here.planned) ∙ none)
 
   free : wait_of p m.waits ≡ None
-  free = by waits is.waited is.waits_so
-    where
-      by : (w : Bool) → MatchBool w (WaitsAt t.cell (wait_of p m.waits)) (wait_of p m.waits ≡ None) → (w ≡ true → MayWait (cell_at m.plans t.cell) t.want) → wait_of p m.waits ≡ None
-      by true k so = let sought = (so refl).sought in absurd (let f : false ≡ true = sym (ap is_some nothing) ∙ sought in cc)
-      by false k so = k
+  free = by waits is.waited is.waits_so where
+    by : (w : Bool) → MatchBool w (WaitsAt t.cell (wait_of p m.waits)) (wait_of p m.waits ≡ None) → (w ≡ true → MayWait (cell_at m.plans t.cell) t.want) → wait_of p m.waits ≡ None
+    by w k so = grind arith
 
-  same : m ≡ answered p t.cell given.Nobody (changes_at t.cell t.want m) m
+  same : m ≡ answered p t.cell Given.Nobody (changes_at t.cell t.want m) m
   same = λ i. record m { waits = sym (none_without p m.waits free) i; content = λ d. sym (still m t.cell d (changes_at t.cell t.want m) (unchanged m t.cell t.want nothing)) i }
 
   -- the rows are as they were
   module _ (v' : Rows L) (cells : v'.cells.items ≡ v.cells.items) (guards : v'.guards ≡ v.guards) (parties : v'.parties ≡ v.parties) (parks : v'.parks ≡ v.parks) (exit : v'.exit ≡ v.exit) where
-    pub looks : (q : Phase) → q ≡ (held row.seq.locker).phase → IsTook held place m v p t (taken.Nothing q) given.Nobody v'
-    looks q q_is = subst (λ z. IsTook held place m v p t (taken.Nothing z) given.Nobody v') (sym (q_is ∙ here.locked.phase_is))
+    pub looks : (q : Phase) → q ≡ (held row.seq.locker).phase → IsTook held place m v p t (Taken.Nothing q) Given.Nobody v'
+    looks q q_is = subst (λ z. IsTook held place m v p t (Taken.Nothing z) Given.Nobody v') (sym (q_is ∙ here.locked.phase_is))
         (record {
           stands = subst (λ z. Stands held place (length v.guards.items) z v') same (stays held place (length v.guards.items) m v v' cells guards parties parks exit is.rests.stands);
           told = ap (λ (chs : List Change). phase_of (effect (cell_at m.plans t.cell) chs (m.content t.cell)).phase) (sym (unchanged m t.cell t.want nothing));

@@ -1,78 +1,30 @@
 -- What an attempt took is the answer that is due of what it met, and what it gave it may give.
-use Rattle.std.proofs.Common.{◌≡◌, ◌≢◌, ◌<◌, ◌∙◌, ℕ, List, length, ap, sym, subst, refl, arith, Bool, true, false, None, Some, inl, inr, ◌&&◌, ◌||◌}
-use Rattle.std.proofs.lemmas.Bool.{cases_lt}
-use Rattle.std.specs.Prelude.{◌⊎◌, MatchBool, if◌then◌else◌, nat_lt}
-use Rattle.std.specs.List.{find}
-use Rattle.std.specs.declared.option.Option.{Option}
-use Rattle.phase_bits.specs.declared.holders.Holders.{Holders}
-use Rattle.phase_bits.specs.Flags.{has, initialized}
-use Rattle.phase_bits.specs.Number.{number}
-use Rattle.exit_registry.specs.Registry.{Registry}
-use Rattle.phase_locker.specs.declared.ways.Given.{Given}
-use Rattle.phase_locker.specs.declared.ways.Given.TheVariants as given
-use Rattle.phase_locker.specs.declared.ways.How.{How}
-use Rattle.phase_locker.specs.declared.ways.Who.{Who}
-use Rattle.phase_locker.specs.declared.ways.LockerKind.{LockerKind}
-use Rattle.phase_locker.specs.declared.tickets.LockNature.{LockNature}
-use Rattle.phase_locker.specs.Natures.{bars, got}
-use Rattle.phase_locker.specs.Rows.{Rows as Parking, row_of, freed}
-use Rattle.phase_locker.specs.Gifts.{MayHand, MayShare, rows_handed}
-use Rattle.phase_locker.specs.Attempts.{MayWait, given_up, keeps as row_keeps}
-use Rattle.phase_seq.specs.declared.ask.Ask.{Ask}
-use Rattle.phase_seq.specs.declared.ask.Want.{Want as Sought}
-use Rattle.phase_seq.specs.declared.ask.Want.TheVariants as want
-use Rattle.phase_seq.specs.declared.section.Begun.{Begun}
-use Rattle.phase_seq.specs.declared.section.Begun.TheVariants as begun
-use Rattle.phase_seq.specs.Asks.{asks_run, initializes as run_sought, nature_of, shall_init, wake_of}
-use Rattle.phase_seq.specs.Begins.{begun_of, is_cyclic, section_by}
-use Rattle.phase_seq.specs.Exactly.{is_run}
-use Rattle.phase_seq.specs.Phases.{flags_refused}
-use Rattle.phase_seq.specs.Registers.{is_refused}
-use Rattle.schedule_rules.specs.declared.line.Answer.TheVariants as answer
-use Rattle.schedule_rules.specs.declared.plan.CellPlan.{CellPlan}
-use Rattle.schedule_rules.specs.declared.step.Want.{Want}
-use Rattle.schedule_rules.specs.declared.step.Want.TheVariants.{Calls, Turns}
-use Rattle.schedule_rules.specs.Answers.{answer_admitted, answer_barred, answer_of_attempt, drains_by, way_parked}
-use Rattle.schedule_rules.specs.Phases.{is_accessible}
-use Rattle.schedule_rules.specs.Kinds.{is_owned}
-use Rattle.schedule_rules.specs.Calls.{initializes, is_fast, seeks, wakes_as}
-use Rattle.schedule_rules.specs.Changes.{Content}
-use Rattle.schedule_rules.specs.Forms.{form_of, is_to_read}
-use Rattle.schedule_rules.specs.History.{count}
-use Rattle.schedule_rules.specs.Holds.{has_own, is_barred, keeps, wants_to_write}
-use Rattle.schedule_rules.specs.Kinds.{cell_at, tolerance_of}
-use Rattle.schedule_rules.specs.Legal.{First, Last}
-use Rattle.schedule_rules.specs.Sections.{generates_for, runs_in}
-use Rattle.schedule_rules.specs.Waits.{Wait, drains_on, is_drain, wait_of, without_wait}
-use Rattle.schedule_rules.specs.Transcripts.{most_parties}
-use Rattle.waiting_rows.specs.Given.{IsListed, given_on}
-use Rattle.waiting_rows.proofs.GivenOn.{listed_hand, listed_share}
-use Rattle.waiting_rows.proofs.RowCounts.{claims_shown, shares_shown}
-use Rattle.phase_moves.specs.declared.rows.Target.{Target}
-use Rattle.phase_moves.specs.Calls.{registry_for}
-use Rattle.phase_moves.specs.Gifts.{IsGift, MayGive, stand_on}
-use Rattle.phase_moves.specs.Meets.{GivesDown, GivesFirst, GivesLast, IsCallOf, IsMet, IsOf, IsReaching, IsUnlocked, answer_taken, holding_in, keeps_in, meets, takes_write, wanted_in, writers_in}
-use Rattle.phase_moves.specs.Standing.{Standing, answered, changes_at, content_tried, reads_in, run_in, runner_of, writes_in}
-use Rattle.phase_moves.specs.Stands.{AreShown, IsLocked, kind_at}
-use Rattle.phase_moves.specs.Tries.{is_quick, taken_of}
+use Rattle.phase_moves.proofs.Words.{◌≡◌, ◌≢◌, ◌<◌, ◌∙◌, ℕ, List, length, ap, sym, subst, refl, arith, Bool, true, false, None, Some, inl, inr, ◌&&◌, ◌||◌, cases_lt, ◌⊎◌}
+use Rattle.phase_moves.proofs.Words.{MatchBool, if◌then◌else◌, nat_lt, find, Option, Holders, has, initialized, number, Registry, Given, How, Who, LockerKind, LockNature}
+use Rattle.phase_moves.proofs.Words.{bars, got, Parking, row_of, freed, MayHand, MayShare, rows_handed, MayWait, given_up, keeps as row_keeps, Ask, Sought, Begun, asks_run}
+use Rattle.phase_moves.proofs.Words.{run_sought, nature_of, shall_init, wake_of, begun_of, is_cyclic, is_run, flags_refused, is_refused, CellPlan, Turns, answer_admitted}
+use Rattle.phase_moves.proofs.Words.{answer_barred, answer_of_attempt, drains_by, way_parked, is_accessible, is_owned, initializes, is_fast, wakes_as, Content, count}
+use Rattle.phase_moves.proofs.Words.{is_barred, keeps_of_holds as keeps, wants_to_write, cell_at, tolerance_of, First, Last, generates_for, runs_in, Wait, drains_on, is_drain}
+use Rattle.phase_moves.proofs.Words.{wait_of, without_wait, most_parties, IsListed, given_on, listed_hand, listed_share, claims_shown, shares_shown, Target, registry_for}
+use Rattle.phase_moves.proofs.Words.{IsGift, MayGive, stand_on, GivesDown, GivesFirst, GivesLast, IsMet, IsOf, IsReaching, answer_taken, holding_in, keeps_in, meets}
+use Rattle.phase_moves.proofs.Words.{wanted_in, writers_in, Standing, answered, changes_at, content_tried, reads_in, run_in, runner_of, writes_in, AreShown, IsLocked, kind_at}
+use Rattle.phase_moves.proofs.Words.{is_quick, taken_of, Answer}
 use Rattle.phase_moves.proofs.Asked.{IsAsked, asked_left, declines_same, own_same, wakes_same, wanted_same}
-use Rattle.phase_moves.proofs.Attempts.{run_writes, stays_asked, writes_begun}
 use Rattle.phase_moves.proofs.Barring.{barred_same, locked_same, misses_due, readers_same, row_kept, waits_due}
 use Rattle.phase_moves.proofs.Judged.{IsBarred, IsClear, IsJudged, IsKept, IsWaiting}
 use Rattle.phase_moves.proofs.Sharing.{gives_none, clear_none as clear_none_of, gives_first as gives_first_of, reaching as reaching_of, shown_given as shown_given_of}
 use Rattle.phase_moves.proofs.Settling.{IsDeclined, IsSettled, MayDecline, begun_declined, begun_settled}
-use Rattle.phase_moves.proofs.Admitting.{FitsSought, admitted_due, begun_met, judged_no, met_fits, runs_same, turned_no}
-use Rattle.phase_moves.proofs.Seeking.{form_none, form_read, form_write, gets_read, gets_write, seeks_as, sought_as, write_wanted}
-use Rattle.phase_moves.proofs.GivenUp.{ran_asked, waits_by}
+use Rattle.phase_moves.proofs.Admitting.{FitsSought, admitted_due, begun_met, judged_no, met_fits, runs_same}
+use Rattle.phase_moves.proofs.{Attempts.run_writes, Attempts.writes_begun, GivenUp.ran_asked, GivenUp.waits_by}
 
 -- it waits, or it is barred and does not wait
 record Waits (e : Begun) : Type 0 where
   way : How
-  begins : e ≡ begun.Wait way
+  begins : e ≡ Begun.Wait way
 
 record Misses (ask : Ask) (e : Begun) : Type 0 where
   quick : ask.fast ≡ true
-  begins : e ≡ begun.Missed
+  begins : e ≡ Begun.Missed
 
 module _ (n : ℕ) (k : LockerKind) (h : Holders) (s : Parking) (m : Standing) (p : ℕ) (t : Target) (locked : IsLocked k h s t.cell (reads_in t.cell m) (writes_in t.cell m) (m.content t.cell).phase) (placed : k ≡ kind_at (cell_at m.plans t.cell).place) (shown : AreShown n m.waits s) (sizes : length s.writers ≡ length s.readers) (few : length s.rows < most_parties)
     (cell_in : t.cell < length s.readers) (party_in : p < length s.rows) (ask : Ask) (asked : IsAsked (cell_at m.plans t.cell) t.want ask) (waited : (w : Wait) → wait_of p m.waits ≡ Some w → w.cell ≡ t.cell) (awake : is_quick (cell_at m.plans t.cell) t.want ≡ true → wait_of p m.waits ≡ None) (shared_turn : t.want ≡ Turns → is_owned (cell_at m.plans t.cell).place ≡ false) where
@@ -109,15 +61,15 @@ module _ (n : ℕ) (k : LockerKind) (h : Holders) (s : Parking) (m : Standing) (
   shown_given = shown_given_of n k h s m p t locked placed shown sizes few cell_in party_in waited
 
   shown_freed : AreShown n others freed_p
-  shown_freed = shown_given given.Nobody tt
+  shown_freed = shown_given Given.Nobody tt
 
-  reaching : (g : Given) → IsListed t.cell freed_p g → g ≢ given.Nobody → IsReaching p t.cell g m
+  reaching : (g : Given) → IsListed t.cell freed_p g → g ≢ Given.Nobody → IsReaching p t.cell g m
   reaching = reaching_of n k h s m p t locked placed shown sizes few cell_in party_in waited
 
-  gives_first : (g : Given) → keeps_in p t.cell t.want m ≡ false → g ≢ given.Nobody → MayHand t.cell (given_up (row_of s p).waiting h) freed_p g → GivesFirst p t g m
+  gives_first : (g : Given) → keeps_in p t.cell t.want m ≡ false → g ≢ Given.Nobody → MayHand t.cell (given_up (row_of s p).waiting h) freed_p g → GivesFirst p t g m
   gives_first = gives_first_of n k h s m p t locked placed shown sizes few cell_in party_in waited
 
-  clear_none : (g : Given) → IsListed t.cell freed_p g → IsClear k who ask h s g → g ≡ given.Nobody
+  clear_none : (g : Given) → IsListed t.cell freed_p g → IsClear k who ask h s g → g ≡ Given.Nobody
   clear_none = clear_none_of n k h s m p t locked placed shown sizes few cell_in party_in waited ask
 
   -- ---- what is answered
@@ -141,46 +93,41 @@ module _ (n : ℕ) (k : LockerKind) (h : Holders) (s : Parking) (m : Standing) (
     own_no = sym (own_same x t.want ask asked (generates_for p (find (runs_in t.cell) m.sections))) ∙ ap (λ b. run_sought ask.want && b) (sym (runs_same p t.cell m.sections)) ∙ calm
 
     kept_due : (e : Begun) (g : Given) (ws : List Wait) → IsKept k who ask h s e g → IsDue (begun_settled ask o h.phase e) ws false
-    kept_due e g ws kept =
-        admitted_is e kept.begins
-        ∙ sym (turned_no (initializes x.kind t.want && generates_for p (find (runs_in t.cell) m.sections)) (keeps_in p t.cell t.want m) (is_barred wanted (holding_in t.cell ws m)) answer.Cyclic (answer_barred (is_fast t.want) x.place (way_parked x.kind t.want (drains_by wanted (holding_in t.cell ws m) false))) (answer_admitted x.kind (tolerance_of x) t.cell m.registry.is_open t.want y) own_no (sym kept_is ∙ kept.kept))
+    kept_due e g ws kept = grind (arith, admitted_is, own_no, kept_is)
 
     judged_due : (e : Begun) (g : Given) → (j : IsJudged k who ask h s e g) → IsDue (begun_settled ask o h.phase e) (given_on t.cell g others) (waits_by e)
-    judged_due e g j = by (bars j.mid (nature_of ask h.phase)) refl j.judged
-      where
-        ws : List Wait
-        ws = given_on t.cell g others
+    judged_due e g j = by (bars j.mid (nature_of ask h.phase)) refl j.judged where
+      ws : List Wait
+      ws = given_on t.cell g others
 
-        shown_mid : AreShown n (given_on t.cell g others) j.rows
-        shown_mid = subst (λ (z : Parking). AreShown n (given_on t.cell g others) z) (sym j.rows_are) (shown_given g (listed_hand t.cell (given_up (row_of s p).waiting h) freed_p g j.may))
+      shown_mid : AreShown n (given_on t.cell g others) j.rows
+      shown_mid = subst (λ (z : Parking). AreShown n (given_on t.cell g others) z) (sym j.rows_are) (shown_given g (listed_hand t.cell (given_up (row_of s p).waiting h) freed_p g j.may))
 
-        barred_is : bars j.mid (nature_of ask h.phase) ≡ is_barred wanted (holding_in t.cell (given_on t.cell g others) m)
-        barred_is = ap (bars j.mid) wanted_is ∙ barred_same k j.mid j.rows t.cell (reads_in t.cell m) (writes_in t.cell m) (given_on t.cell g others) j.fits (j.reads ∙ locked.reads_are) (λ lt. j.writes (locked.write_is lt)) (λ w. locked.write_was (j.only w)) shown_mid.single shown_mid.shows wanted
+      barred_is : bars j.mid (nature_of ask h.phase) ≡ is_barred wanted (holding_in t.cell (given_on t.cell g others) m)
+      barred_is = ap (bars j.mid) wanted_is ∙ barred_same k j.mid j.rows t.cell (reads_in t.cell m) (writes_in t.cell m) (given_on t.cell g others) j.fits (j.reads ∙ locked.reads_are) (λ lt. j.writes (locked.write_is lt)) (λ w. locked.write_was (j.only w)) shown_mid.single shown_mid.shows wanted
 
-        locks : j.mid.locked ≡ (nat_lt 0 (writers_in t.cell (given_on t.cell g others) m) || nat_lt 0 (count (drains_on t.cell) (given_on t.cell g others)))
-        locks = locked_same k j.mid j.rows t.cell (reads_in t.cell m) (writes_in t.cell m) (given_on t.cell g others) j.fits (j.reads ∙ locked.reads_are) (λ lt. j.writes (locked.write_is lt)) (λ w. locked.write_was (j.only w)) shown_mid.single shown_mid.shows
+      locks : j.mid.locked ≡ (nat_lt 0 (writers_in t.cell (given_on t.cell g others) m) || nat_lt 0 (count (drains_on t.cell) (given_on t.cell g others)))
+      locks = locked_same k j.mid j.rows t.cell (reads_in t.cell m) (writes_in t.cell m) (given_on t.cell g others) j.fits (j.reads ∙ locked.reads_are) (λ lt. j.writes (locked.write_is lt)) (λ w. locked.write_was (j.only w)) shown_mid.single shown_mid.shows
 
-        due_by : (chosen b : Bool) → is_barred wanted (holding_in t.cell (given_on t.cell g others) m) ≡ b
-            → answer_of_attempt x t.want (meets p t.cell t.want (given_on t.cell g others) m) chosen ≡ (if b then answer_barred (is_fast t.want) x.place (way_parked x.kind t.want (drains_by wanted (holding_in t.cell (given_on t.cell g others) m) chosen)) else answer_admitted x.kind (tolerance_of x) t.cell m.registry.is_open t.want y)
-        due_by chosen b f =
-            judged_no (initializes x.kind t.want && generates_for p (find (runs_in t.cell) m.sections)) (keeps_in p t.cell t.want m) (is_barred wanted (holding_in t.cell (given_on t.cell g others) m)) b answer.Cyclic (answer_barred (is_fast t.want) x.place (way_parked x.kind t.want (drains_by wanted (holding_in t.cell (given_on t.cell g others) m) chosen))) (answer_admitted x.kind (tolerance_of x) t.cell m.registry.is_open t.want y) own_no (sym kept_is ∙ j.dropped) f
+      due_by : (chosen b : Bool) → is_barred wanted (holding_in t.cell (given_on t.cell g others) m) ≡ b
+          → answer_of_attempt x t.want (meets p t.cell t.want (given_on t.cell g others) m) chosen ≡ (if b then answer_barred (is_fast t.want) x.place (way_parked x.kind t.want (drains_by wanted (holding_in t.cell (given_on t.cell g others) m) chosen)) else answer_admitted x.kind (tolerance_of x) t.cell m.registry.is_open t.want y)
+      due_by chosen b f = grind (arith, judged_no, own_no, kept_is)
 
-        -- it is barred
-        barred : (f : Bool) → ask.fast ≡ f → is_barred wanted (holding_in t.cell (given_on t.cell g others) m) ≡ true → MatchBool f (e ≡ begun.Missed) (IsWaiting k who ask h s j.fresh j.mid e) → IsDue (begun_settled ask o h.phase e) (given_on t.cell g others) (waits_by e)
-        barred true f is w =
-            subst (λ z. IsDue (begun_settled ask o h.phase z) (given_on t.cell g others) (waits_by z)) (sym w)
-            (misses_due x t.want (way_parked x.kind t.want (drains_by wanted (holding_in t.cell (given_on t.cell g others) m) false)) (sym asked.fast ∙ f) ∙ sym (due_by false true is))
-        barred false f is w = subst (λ z. IsDue (begun_settled ask o h.phase z) (given_on t.cell g others) (waits_by z)) (sym w.begins) (way ∙ sym (due_by (is_drain w.way) true is))
-          where
-            may : MayWait (kind_at x.place) j.fresh (wakes_as x.kind t.want) wanted j.mid w.way
-            may = subst (λ z. MayWait (kind_at x.place) j.fresh z wanted j.mid w.way) (wakes_same x t.want ask asked) (subst (λ z. MayWait (kind_at x.place) j.fresh (wake_of ask.want) z j.mid w.way) wanted_is (subst (λ z. MayWait z j.fresh (wake_of ask.want) (nature_of ask h.phase) j.mid w.way) placed w.may))
+      -- it is barred
+      barred : (f : Bool) → ask.fast ≡ f → is_barred wanted (holding_in t.cell (given_on t.cell g others) m) ≡ true → MatchBool f (e ≡ Begun.Missed) (IsWaiting k who ask h s j.fresh j.mid e) → IsDue (begun_settled ask o h.phase e) (given_on t.cell g others) (waits_by e)
+      barred true f is w =
+          subst (λ z. IsDue (begun_settled ask o h.phase z) (given_on t.cell g others) (waits_by z)) (sym w)
+          (misses_due x t.want (way_parked x.kind t.want (drains_by wanted (holding_in t.cell (given_on t.cell g others) m) false)) (sym asked.fast ∙ f) ∙ sym (due_by false true is))
+      barred false f is w = subst (λ z. IsDue (begun_settled ask o h.phase z) (given_on t.cell g others) (waits_by z)) (sym w.begins) (way ∙ sym (due_by (is_drain w.way) true is)) where
+        may : MayWait (kind_at x.place) j.fresh (wakes_as x.kind t.want) wanted j.mid w.way
+        may = subst (λ z. MayWait (kind_at x.place) j.fresh z wanted j.mid w.way) (wakes_same x t.want ask asked) (subst (λ z. MayWait (kind_at x.place) j.fresh (wake_of ask.want) z j.mid w.way) wanted_is (subst (λ z. MayWait z j.fresh (wake_of ask.want) (nature_of ask h.phase) j.mid w.way) placed w.may))
 
-            way : answer.Waiting w.way ≡ answer_barred (is_fast t.want) x.place (way_parked x.kind t.want (drains_by wanted (holding_in t.cell (given_on t.cell g others) m) (is_drain w.way)))
-            way = waits_due x t.want wanted (holding_in t.cell (given_on t.cell g others) m) j.fresh j.mid (sym asked.fast ∙ f) locks is w.way may
+        way : Answer.Waiting w.way ≡ answer_barred (is_fast t.want) x.place (way_parked x.kind t.want (drains_by wanted (holding_in t.cell (given_on t.cell g others) m) (is_drain w.way)))
+        way = waits_due x t.want wanted (holding_in t.cell (given_on t.cell g others) m) j.fresh j.mid (sym asked.fast ∙ f) locks is w.way may
 
-        by : (b : Bool) → bars j.mid (nature_of ask h.phase) ≡ b → MatchBool b (IsBarred k who ask h s j.fresh j.mid e) (e ≡ begun_of who ask h.phase (got (nature_of ask h.phase) h.phase)) → IsDue (begun_settled ask o h.phase e) (given_on t.cell g others) (waits_by e)
-        by true f w = barred ask.fast refl (sym barred_is ∙ f) w
-        by false f w = admitted_is e w ∙ sym (due_by (waits_by e) false (sym barred_is ∙ f))
+      by : (b : Bool) → bars j.mid (nature_of ask h.phase) ≡ b → MatchBool b (IsBarred k who ask h s j.fresh j.mid e) (e ≡ begun_of who ask h.phase (got (nature_of ask h.phase) h.phase)) → IsDue (begun_settled ask o h.phase e) (given_on t.cell g others) (waits_by e)
+      by true f w = barred ask.fast refl (sym barred_is ∙ f) w
+      by false f w = admitted_is e w ∙ sym (due_by (waits_by e) false (sym barred_is ∙ f))
 
     -- it waits, is missed or is admitted
     abbrev Sorted : Begun → Type 0
@@ -188,211 +135,123 @@ module _ (n : ℕ) (k : LockerKind) (h : Holders) (s : Parking) (m : Standing) (
 
     sort : (e : Begun) (first : Given) → IsKept k who ask h s e first ⊎ IsJudged k who ask h s e first → Sorted e
     sort e first (inl kept) = inr kept.begins
-    sort e first (inr j) = by (bars j.mid (nature_of ask h.phase)) j.judged
-      where
-        by : (b : Bool) → MatchBool b (IsBarred k who ask h s j.fresh j.mid e) (e ≡ begun_of who ask h.phase (got (nature_of ask h.phase) h.phase)) → Sorted e
-        by true w = barred ask.fast refl w
-          where
-            barred : (f : Bool) → ask.fast ≡ f → MatchBool f (e ≡ begun.Missed) (IsWaiting k who ask h s j.fresh j.mid e) → Sorted e
-            barred true f w = inl (inr (record { quick = f; begins = w }))
-            barred false f w = inl (inl (record { way = w.way; begins = w.begins }))
-        by false w = inr w
+    sort e first (inr j) = by (bars j.mid (nature_of ask h.phase)) j.judged where
+      by : (b : Bool) → MatchBool b (IsBarred k who ask h s j.fresh j.mid e) (e ≡ begun_of who ask h.phase (got (nature_of ask h.phase) h.phase)) → Sorted e
+      by b w = grind arith
 
     -- what a call may give that does not wait
-    quiet_missed : (first : Given) (e : Begun) → ask.fast ≡ true → IsKept k who ask h s e first ⊎ IsJudged k who ask h s e first → first ≡ given.Nobody
-    quiet_missed first e fast (inl kept) = kept.quiet
-    quiet_missed first e fast (inr j) = by first refl
-      where
-        some : first ≢ given.Nobody → ⊥
-        some ne =
-            let gift = gives_first first (sym kept_is ∙ j.dropped) ne j.may in
-            let own = gift.own in
-            let none : false ≡ true = sym (ap has_own (awake (sym asked.fast ∙ fast))) ∙ own in
-            cc
-
-        by : (z : Given) → first ≡ z → first ≡ given.Nobody
-        by given.Nobody f = f
-        by (given.Writer q) f = absurd (some (λ z. (let a : given.Writer q ≡ given.Nobody = sym f ∙ z in cc)))
-        by given.Readers f = absurd (some (λ z. (let a : given.Readers ≡ given.Nobody = sym f ∙ z in cc)))
+    quiet_missed : (first : Given) (e : Begun) → ask.fast ≡ true → IsKept k who ask h s e first ⊎ IsJudged k who ask h s e first → first ≡ Given.Nobody
+    quiet_missed first e fast f = grind arith
 
     -- what is got is of the kind that is wanted
-    of_fits : (z : Begun) (g : Given) → FitsSought ask.want z → (writes_begun z ≡ 1 → g ≡ given.Nobody) → IsOf p t g m (taken_of z)
-    of_fits (begun.Wait way) g fits none = absurd fits
-    of_fits begun.Missed g fits none = absurd fits
-    of_fits begun.Cyclic g fits none = absurd fits
-    of_fits (begun.Nothing q) g fits none = by t.want asked.sought
-      where
-        by : (w : Want) → seeks x.kind w ≡ Some ask.want → IsUnlocked x.kind w
-        by (Calls j) e = form_none (form_of x.kind j) ask.want fits (ap (seeks_as (form_of x.kind j)) (sym e) ∙ sought_as x.kind j)
-        by Turns e = tt
-    of_fits (begun.Read l q) g fits none = by t.want asked.sought
-      where
-        by : (w : Want) → seeks x.kind w ≡ Some ask.want → IsCallOf x.kind w is_to_read
-        by (Calls j) e = form_read (form_of x.kind j) ask.want fits (ap (seeks_as (form_of x.kind j)) (sym e) ∙ sought_as x.kind j)
-        by Turns e = let f : ask.want ≡ want.Finalize = cc in let a : false ≡ true = ap gets_read (sym f) ∙ fits in absurd (cc)
-    of_fits (begun.Write l q) g fits none =
-        (by t.want asked.sought, ap wants_to_write (sym wanted_is ∙ write_wanted ask.want (shall_init ask.tol h.phase) (has (number h.phase) initialized) fits), none refl)
-      where
-        by : (w : Want) → seeks x.kind w ≡ Some ask.want → IsCallOf x.kind w takes_write
-        by (Calls j) e = form_write (form_of x.kind j) ask.want fits (ap (seeks_as (form_of x.kind j)) (sym e) ∙ sought_as x.kind j)
-        by Turns e = let f : ask.want ≡ want.Finalize = cc in let a : false ≡ true = ap gets_write (sym f) ∙ fits in absurd (cc)
-    of_fits (begun.Run z) g fits none = tt
-    of_fits (begun.Final z) g fits none = tt
+    of_fits : (z : Begun) (g : Given) → FitsSought ask.want z → (writes_begun z ≡ 1 → g ≡ Given.Nobody) → IsOf p t g m (taken_of z)
+    of_fits z g fits none = grind arith
 
     -- a turn may wait
     slow_turn : t.want ≡ Turns → is_quick x t.want ≡ true → ⊥
     slow_turn turns quick = let f : false ≡ true = sym (shared_turn turns) ∙ sym (ap (λ w. is_fast w || is_owned x.place) turns) ∙ quick in cc
 
     of_settled : (b : Begun) (g : Given) (h' : Holders) → IsSettled k who ask o h s b g h' → IsOf p t g m (taken_of b)
-    of_settled b g h' st = subst (λ z. IsOf p t g m (taken_of z)) (sym st.begins) (by (sort st.entered st.first st.how))
-      where
-        -- what is not declined gave as it entered
-        entered_gave : is_run st.entered ≡ false → g ≡ st.first
-        entered_gave e = elim st.gave [
-          | inl f ↦ f
-          | inr d ↦ (let f : false ≡ true = sym e ∙ d.ran in absurd (cc))
-        ]
+    of_settled b g h' st = subst (λ z. IsOf p t g m (taken_of z)) (sym st.begins) (by (sort st.entered st.first st.how)) where
+      -- what is not declined gave as it entered
+      entered_gave : is_run st.entered ≡ false → g ≡ st.first
+      entered_gave e = elim st.gave [ inl f ↦ f | inr d ↦ (let f : false ≡ true = sym e ∙ d.ran in absurd (cc)) ]
 
-        listed : IsListed t.cell freed_p g
-        listed = by st.how st.gave
-          where
-            first_listed : IsKept k who ask h s st.entered st.first ⊎ IsJudged k who ask h s st.entered st.first → IsListed t.cell freed_p st.first
-            first_listed (inl kept) = subst (λ z. IsListed t.cell freed_p z) (sym kept.quiet) tt
-            first_listed (inr j) = listed_hand t.cell (given_up (row_of s p).waiting h) freed_p st.first j.may
+      listed : IsListed t.cell freed_p g
+      listed = by st.how st.gave where
+        by : IsKept k who ask h s st.entered st.first ⊎ IsJudged k who ask h s st.entered st.first → (g ≡ st.first) ⊎ IsDeclined k who ask o h s st.entered st.first g → IsListed t.cell freed_p g
+        by how e = grind arith
 
-            by : IsKept k who ask h s st.entered st.first ⊎ IsJudged k who ask h s st.entered st.first → (g ≡ st.first) ⊎ IsDeclined k who ask o h s st.entered st.first g → IsListed t.cell freed_p g
-            by how (inl e) = subst (λ z. IsListed t.cell freed_p z) (sym e) (first_listed how)
-            by how (inr d) = declined_listed ask.want d.may
-              where
-                declined_listed : (w : Sought) → MayDecline k who ask o h s w g → IsListed t.cell freed_p g
-                declined_listed want.Init may = may
-                declined_listed want.Read may = listed_share t.cell freed_p g may
-                declined_listed want.Write may = absurd may
-                declined_listed want.ReadOnly may = absurd may
-                declined_listed want.WriteOnly may = absurd may
-                declined_listed want.Finalize may = absurd may
-
-        by : Sorted st.entered → IsOf p t g m (taken_of (begun_settled ask o h.phase st.entered))
-        by (inl (inl w)) = subst (λ z. IsOf p t g m (taken_of (begun_settled ask o h.phase z))) (sym w.begins) tt
-        by (inl (inr w)) =
-            subst (λ z. IsOf p t g m (taken_of (begun_settled ask o h.phase z))) (sym w.begins)
-            (entered_gave (ap is_run w.begins) ∙ quiet_missed st.first st.entered w.quick st.how, awake (sym asked.fast ∙ w.quick), λ turns. slow_turn turns (sym asked.fast ∙ w.quick))
-        by (inr e) = of_fits (begun_settled ask o h.phase st.entered) g (subst (λ z. FitsSought ask.want (begun_settled ask o h.phase z)) (sym e) (met_fits who o h.phase ask)) (λ f. clear_none g listed (st.alone (ap writes_begun st.begins ∙ f)))
+      by : Sorted st.entered → IsOf p t g m (taken_of (begun_settled ask o h.phase st.entered))
+      by e = grind (arith, begun_settled, entered_gave, quiet_missed, slow_turn, of_fits, met_fits, clear_none, listed, writes_begun)
 
     -- what gives then is a call that is declined
     gives_last : (e : Begun) (first g : Given) → IsKept k who ask h s e first ⊎ IsJudged k who ask h s e first → IsDeclined k who ask o h s e first g → GivesLast p t (taken_of (begun_settled ask o h.phase e)) g m
-    gives_last e first g j d = subst (λ z. GivesLast p t (taken_of z) g m) (sym (declined_then e d.ran)) (subst (λ w. GivesLast p t (taken_of (begun_declined w)) g m) refl (by ask.want refl d.may))
-      where
-        declined_then : (z : Begun) → is_run z ≡ true → begun_settled ask o h.phase z ≡ begun_declined ask.want
-        declined_then (begun.Run z) f = ap (λ c. if c then begun_declined ask.want else begun.Run (section_by z.who z.want (stays_asked o h.phase) z.ticket)) d.refuses
-        declined_then (begun.Wait way) f = absurd (cc)
-        declined_then begun.Missed f = absurd (cc)
-        declined_then begun.Cyclic f = absurd (cc)
-        declined_then (begun.Nothing z) f = absurd (cc)
-        declined_then (begun.Read l z) f = absurd (cc)
-        declined_then (begun.Write l z) f = absurd (cc)
-        declined_then (begun.Final z) f = absurd (cc)
+    gives_last e first g j d = subst (λ z. GivesLast p t (taken_of z) g m) (sym (declined_then e d.ran)) (subst (λ w. GivesLast p t (taken_of (begun_declined w)) g m) refl (by ask.want refl d.may)) where
+      declined_then : (z : Begun) → is_run z ≡ true → begun_settled ask o h.phase z ≡ begun_declined ask.want
+      declined_then z f = grind arith
 
-        admitted : Sorted e → e ≡ begun_of who ask h.phase (got (nature_of ask h.phase) h.phase)
-        admitted (inl (inl w)) = absurd (let f : false ≡ true = sym (ap is_run w.begins) ∙ d.ran in cc)
-        admitted (inl (inr w)) = absurd (let f : false ≡ true = sym (ap is_run w.begins) ∙ d.ran in cc)
-        admitted (inr f) = f
+      admitted : Sorted e → e ≡ begun_of who ask h.phase (got (nature_of ask h.phase) h.phase)
+      admitted e = grind arith
 
-        run_asked : asks_run ask h.phase ≡ true
-        run_asked = ran_asked who ask h.phase (nature_of ask h.phase) (ap is_run (sym (admitted (sort e first j))) ∙ d.ran)
+      run_asked : asks_run ask h.phase ≡ true
+      run_asked = ran_asked who ask h.phase (nature_of ask h.phase) (ap is_run (sym (admitted (sort e first j))) ∙ d.ran)
 
-        wrote : wants_to_write wanted ≡ true
-        wrote = ap wants_to_write (sym wanted_is ∙ run_writes ask.want (shall_init ask.tol h.phase) (has (number h.phase) initialized) run_asked)
+      wrote : wants_to_write wanted ≡ true
+      wrote = ap wants_to_write (sym wanted_is ∙ run_writes ask.want (shall_init ask.tol h.phase) (has (number h.phase) initialized) run_asked)
 
-        -- it is declined
-        lacks : is_accessible x.kind (content_tried t.cell t.want m).phase ≡ false
-        lacks =
-            ap (λ (z : Content). is_accessible x.kind z.phase) (asked_left x t.want m.registry.is_open y)
-            ∙ ap (λ b. is_accessible x.kind (if b then flags_refused else y.phase)) (sym (declines_same x t.want ask asked m.registry y.phase) ∙ (λ i. asks_run ask (sym locked.phase_is i) && is_refused ask.tol.leak o (sym locked.phase_is i)) ∙ (λ i. run_asked i && d.refuses i))
+      -- it is declined
+      lacks : is_accessible x.kind (content_tried t.cell t.want m).phase ≡ false
+      lacks =
+          ap (λ (z : Content). is_accessible x.kind z.phase) (asked_left x t.want m.registry.is_open y)
+          ∙ ap (λ b. is_accessible x.kind (if b then flags_refused else y.phase)) (sym (declines_same x t.want ask asked m.registry y.phase) ∙ (λ i. asks_run ask (sym locked.phase_is i) && is_refused ask.tol.leak o (sym locked.phase_is i)) ∙ (λ i. run_asked i && d.refuses i))
 
-        -- nothing stands beside its lock
-        free : stand_on t.cell (answered p t.cell given.Nobody (changes_at t.cell t.want m) m) ≡ 0
-        free =
-            let shares_are = shares_shown t.cell others freed_p shown_freed.single shown_freed.shows in
-            let claims_are = claims_shown t.cell others freed_p shown_freed.single shown_freed.shows in
-            let no_shares = d.clear.shares_none in
-            let no_claims = d.clear.claims_none in
-            let reads = locked.reads_are in
-            let no_reads = d.clear.reads_none in
-            let writes = unwritten in
-            omega (arith, shares_are, claims_are, no_shares, no_claims, reads, no_reads, writes)
-          where
+      -- nothing stands beside its lock
+      free : stand_on t.cell (answered p t.cell Given.Nobody (changes_at t.cell t.want m) m) ≡ 0
+      free =
+          let shares_are = shares_shown t.cell others freed_p shown_freed.single shown_freed.shows in
+          let claims_are = claims_shown t.cell others freed_p shown_freed.single shown_freed.shows in let no_shares = d.clear.shares_none in
+          let no_claims = d.clear.claims_none in let reads = locked.reads_are in let no_reads = d.clear.reads_none in let writes = unwritten in
+          omega (arith, shares_are, claims_are, no_shares, no_claims, reads, no_reads, writes) where
             unwritten : writes_in t.cell m ≡ 0
-            unwritten = elim (cases_lt 0 (writes_in t.cell m)) [
-              | inr le ↦ omega (arith, le)
-              | inl lt ↦ absurd (d.clear.closed (locked.write_is lt))
-            ]
+            unwritten = elim (cases_lt 0 (writes_in t.cell m)) [ inr le ↦ omega (arith, le) | inl lt ↦ absurd (d.clear.closed (locked.write_is lt)) ]
 
-        gift : (z : Given) → IsListed t.cell freed_p z → z ≢ given.Nobody → IsGift t.cell (answered p t.cell given.Nobody (changes_at t.cell t.want m) m) z
-        gift z listed ne = record { parks = (reaching z listed ne).parks; reach = (reaching z listed ne).reach; free = free }
+      gift : (z : Given) → IsListed t.cell freed_p z → z ≢ Given.Nobody → IsGift t.cell (answered p t.cell Given.Nobody (changes_at t.cell t.want m) m) z
+      gift z listed ne = record { parks = (reaching z listed ne).parks; reach = (reaching z listed ne).reach; free = free }
 
-        given_back : (z : Given) → IsListed t.cell freed_p z → MayGive t.cell (answered p t.cell given.Nobody (changes_at t.cell t.want m) m) z
-        given_back given.Nobody listed = tt
-        given_back (given.Writer q) listed = gift (given.Writer q) listed (λ z. (let f : given.Writer q ≡ given.Nobody = z in cc))
-        given_back given.Readers listed = gift given.Readers listed (λ z. (let f : given.Readers ≡ given.Nobody = z in cc))
+      given_back : (z : Given) → IsListed t.cell freed_p z → MayGive t.cell (answered p t.cell Given.Nobody (changes_at t.cell t.want m) m) z
+      given_back z listed = grind (arith, gift)
 
-        given_down : (z : Given) → MayShare t.cell freed_p z → GivesDown p t z m
-        given_down given.Nobody may = tt
-        given_down (given.Writer q) may = absurd may
-        given_down given.Readers may = record { reaching = reaching given.Readers (listed_share t.cell freed_p given.Readers may) (λ z. (let f : given.Readers ≡ given.Nobody = z in cc)); wrote = wrote; lacks = lacks }
+      given_down : (z : Given) → MayShare t.cell freed_p z → GivesDown p t z m
+      given_down Given.Nobody may = tt
+      given_down (Given.Writer q) may = absurd may
+      given_down Given.Readers may = record { reaching = reaching Given.Readers (listed_share t.cell freed_p Given.Readers may) (λ z. (let f : Given.Readers ≡ Given.Nobody = z in cc)); wrote = wrote; lacks = lacks }
 
-        by : (w : Sought) → ask.want ≡ w → MayDecline k who ask o h s w g → GivesLast p t (taken_of (begun_declined w)) g m
-        by want.Init f may = given_back g may
-        by want.Read f may = given_down g may
-        by want.Write f may = absurd may
-        by want.ReadOnly f may = absurd may
-        by want.WriteOnly f may = absurd may
-        by want.Finalize f may = absurd may
+      by : (w : Sought) → ask.want ≡ w → MayDecline k who ask o h s w g → GivesLast p t (taken_of (begun_declined w)) g m
+      by w f may = grind (arith, given_back, given_down)
 
     -- the answer is due, and the gift allowed
     pub met : (b : Begun) (g : Given) (h' : Holders) → IsSettled k who ask o h s b g h' → IsMet p t (taken_of b) g m
-    met b g h' st = by st.how st.gave
-      where
-        quiet_judged : (first : Given) → first ≡ given.Nobody → IsJudged k who ask h s st.entered first → IsDue b others (waits_by st.entered)
-        quiet_judged first e j = subst (λ z. IsDue z others (waits_by st.entered)) (sym st.begins) (subst (λ z. IsDue (begun_settled ask o h.phase st.entered) (given_on t.cell z others) (waits_by st.entered)) e (judged_due st.entered first j))
+    met b g h' st = by st.how st.gave where
+      quiet_judged : (first : Given) → first ≡ Given.Nobody → IsJudged k who ask h s st.entered first → IsDue b others (waits_by st.entered)
+      quiet_judged first e j = subst (λ z. IsDue z others (waits_by st.entered)) (sym st.begins) (subst (λ z. IsDue (begun_settled ask o h.phase st.entered) (given_on t.cell z others) (waits_by st.entered)) e (judged_due st.entered first j))
 
-        gives_then : IsKept k who ask h s st.entered st.first ⊎ IsJudged k who ask h s st.entered st.first → IsDeclined k who ask o h s st.entered st.first g → GivesLast p t (taken_of b) g m
-        gives_then j d = subst (λ z. GivesLast p t (taken_of z) g m) (sym st.begins) (gives_last st.entered st.first g j d)
+      gives_then : IsKept k who ask h s st.entered st.first ⊎ IsJudged k who ask h s st.entered st.first → IsDeclined k who ask o h s st.entered st.first g → GivesLast p t (taken_of b) g m
+      gives_then j d = subst (λ z. GivesLast p t (taken_of z) g m) (sym st.begins) (gives_last st.entered st.first g j d)
 
-        wanted_of : IsOf p t g m (taken_of b)
-        wanted_of = of_settled b g h' st
+      wanted_of : IsOf p t g m (taken_of b)
+      wanted_of = of_settled b g h' st
 
-        by : IsKept k who ask h s st.entered st.first ⊎ IsJudged k who ask h s st.entered st.first → (g ≡ st.first) ⊎ IsDeclined k who ask o h s st.entered st.first g → IsMet p t (taken_of b) g m
-        by (inl kept) (inl e) =
+      by : IsKept k who ask h s st.entered st.first ⊎ IsJudged k who ask h s st.entered st.first → (g ≡ st.first) ⊎ IsDeclined k who ask o h s st.entered st.first g → IsMet p t (taken_of b) g m
+      by (inl kept) (inl e) =
+          record {
+            moment = Last;
+            chosen = false;
+            answered = subst (λ z. IsDue z others false) (sym st.begins) (kept_due st.entered st.first others kept);
+            gives = subst (λ z. GivesLast p t (taken_of b) z m) (sym (e ∙ kept.quiet)) (gives_none p t m (taken_of b));
+            wanted = wanted_of;
+          }
+      by (inl kept) (inr d) =
+          record {
+            moment = Last;
+            chosen = false;
+            answered = subst (λ z. IsDue z others false) (sym st.begins) (kept_due st.entered st.first others kept);
+            gives = gives_then (inl kept) d;
+            wanted = wanted_of;
+          }
+      by (inr j) (inr d) = record { moment = Last; chosen = waits_by st.entered; answered = quiet_judged st.first d.quiet j; gives = gives_then (inr j) d; wanted = wanted_of }
+      by (inr j) (inl e) = at g refl where
+        first : g ≢ Given.Nobody → IsMet p t (taken_of b) g m
+        first ne =
             record {
-              moment = Last;
-              chosen = false;
-              answered = subst (λ z. IsDue z others false) (sym st.begins) (kept_due st.entered st.first others kept);
-              gives = subst (λ z. GivesLast p t (taken_of b) z m) (sym (e ∙ kept.quiet)) (gives_none p t m (taken_of b));
+              moment = First;
+              chosen = waits_by st.entered;
+              answered = subst (λ z. IsDue z (given_on t.cell g others) (waits_by st.entered)) (sym st.begins) (subst (λ z. IsDue (begun_settled ask o h.phase st.entered) (given_on t.cell z others) (waits_by st.entered)) (sym e) (judged_due st.entered st.first j));
+              gives = gives_first g (sym kept_is ∙ j.dropped) ne (subst (λ z. MayHand t.cell (given_up (row_of s p).waiting h) freed_p z) (sym e) j.may);
               wanted = wanted_of;
             }
-        by (inl kept) (inr d) =
-            record {
-              moment = Last;
-              chosen = false;
-              answered = subst (λ z. IsDue z others false) (sym st.begins) (kept_due st.entered st.first others kept);
-              gives = gives_then (inl kept) d;
-              wanted = wanted_of;
-            }
-        by (inr j) (inr d) = record { moment = Last; chosen = waits_by st.entered; answered = quiet_judged st.first d.quiet j; gives = gives_then (inr j) d; wanted = wanted_of }
-        by (inr j) (inl e) = at g refl
-          where
-            first : g ≢ given.Nobody → IsMet p t (taken_of b) g m
-            first ne =
-                record {
-                  moment = First;
-                  chosen = waits_by st.entered;
-                  answered = subst (λ z. IsDue z (given_on t.cell g others) (waits_by st.entered)) (sym st.begins) (subst (λ z. IsDue (begun_settled ask o h.phase st.entered) (given_on t.cell z others) (waits_by st.entered)) (sym e) (judged_due st.entered st.first j));
-                  gives = gives_first g (sym kept_is ∙ j.dropped) ne (subst (λ z. MayHand t.cell (given_up (row_of s p).waiting h) freed_p z) (sym e) j.may);
-                  wanted = wanted_of;
-                }
 
-            at : (z : Given) → g ≡ z → IsMet p t (taken_of b) g m
-            at given.Nobody f = record { moment = Last; chosen = waits_by st.entered; answered = quiet_judged st.first (sym e ∙ f) j; gives = subst (λ z. GivesLast p t (taken_of b) z m) (sym f) (gives_none p t m (taken_of b)); wanted = wanted_of }
-            at (given.Writer q) f = first (λ z. (let a : given.Writer q ≡ given.Nobody = sym f ∙ z in cc))
-            at given.Readers f = first (λ z. (let a : given.Readers ≡ given.Nobody = sym f ∙ z in cc))
+        at : (z : Given) → g ≡ z → IsMet p t (taken_of b) g m
+        at Given.Nobody f = record { moment = Last; chosen = waits_by st.entered; answered = quiet_judged st.first (sym e ∙ f) j; gives = subst (λ z. GivesLast p t (taken_of b) z m) (sym f) (gives_none p t m (taken_of b)); wanted = wanted_of }
+        at (Given.Writer q) f = first (λ z. (let a : Given.Writer q ≡ Given.Nobody = sym f ∙ z in cc))
+        at Given.Readers f = first (λ z. (let a : Given.Readers ≡ Given.Nobody = sym f ∙ z in cc))

@@ -1,26 +1,9 @@
 -- Rows stand for what is open after one cell was called: the one lemma that every move ends in.
-use Rattle.std.proofs.Common.{◌≡◌, ◌≢◌, ◌<◌, ◌∙◌, ℕ, List, length, set, ap, sym, subst, true, Some, inl, inr, length-set}
-use Rattle.std.proofs.lemmas.Bool.{cases_eq}
-use Rattle.std.specs.Prelude.{slice_get, ◌⊎◌}
-use Rattle.phase_bits.specs.declared.holders.Holders.{Holders}
-use Rattle.exit_registry.specs.Registry.{cells_of}
-use Rattle.phase_locker.specs.declared.ways.LockerKind.{LockerKind}
-use Rattle.phase_locker.specs.Rows.{Rows as Parking, SameSize}
-use Rattle.phase_locker.specs.Others.{SameAt, OthersStay}
-use Rattle.phase_moves.specs.declared.rows.CellRow.{CellRow}
-use Rattle.phase_moves.specs.declared.rows.Exit.{Exit}
-use Rattle.phase_moves.specs.declared.rows.PartyRow.{PartyRow}
-use Rattle.phase_moves.specs.declared.rows.Rows.{Rows}
-use Rattle.phase_moves.specs.Standing.{Standing, seen_by}
-use Rattle.schedule_rules.specs.Changes.{effect}
-use Rattle.schedule_rules.specs.Guards.{Guard, numbered}
-use Rattle.schedule_rules.specs.History.{count}
-use Rattle.schedule_rules.specs.Waits.{waits_at}
-use Rattle.schedule_rules.specs.Transcripts.{most_parties}
-use Rattle.phase_moves.specs.Stands.{CountsWaits, KeepsDraft, draft_of, Seen, seen_at, IsCell, Stands, IsExit, AreShown, AreNumbered, slot_row, party_row, AreInside}
-use Rattle.phase_locker.specs.Left.{Left}
-use Rattle.phase_moves.proofs.Lockers.{locked_same}
-use Rattle.phase_moves.proofs.Places.{slice_get_set_same, slice_get_set_other}
+use Rattle.phase_moves.proofs.Words.{◌≡◌, ◌≢◌, ◌<◌, ◌∙◌, ℕ, List, length, set, ap, sym, subst, true, Some, inl, inr, length-set, cases_eq, slice_get, ◌⊎◌, Holders, cells_of}
+use Rattle.phase_moves.proofs.Words.{LockerKind, Parking, SameSize, SameAt, OthersStay, CellRow, Exit, PartyRow, Rows, Standing, seen_by, effect, Guard, numbered, count}
+use Rattle.phase_moves.proofs.Words.{waits_at, most_parties, CountsWaits, KeepsDraft, draft_of, Seen, seen_at, IsCell, Stands, IsExit, AreShown, AreNumbered, slot_row}
+use Rattle.phase_moves.proofs.Words.{party_row, AreInside, Left}
+use Rattle.phase_moves.proofs.{Lockers.locked_same, Places.slice_get_set_same, Places.slice_get_set_other}
 
 -- an exit that is not touched, where it stands as it did
 pub exit_kept : (n : ℕ) (m m' : Standing) (x x' : Exit) → x' ≡ x → m'.registry ≡ m.registry → m'.owner ≡ m.owner → m'.turns ≡ m.turns → IsExit n m x → IsExit n m' x'
@@ -37,15 +20,7 @@ module _ {L : Type 0} (held : L → Holders) (place : L → LockerKind) where
   cell_beside : (z z' : Seen) (s s' : Parking) (d : ℕ) (row : CellRow L) → z' ≡ z → SameAt d s s' → IsCell held place z s d row → IsCell held place z' s' d row
   cell_beside z z' s s' d row e same k =
       subst (λ (y : Seen). IsCell held place y s' d row) (sym e)
-      (record {
-        planned = k.planned;
-        valued = k.valued;
-        known = k.known;
-        locked = locked_same _ _ s s' d _ _ _ same k.locked;
-        placed = k.placed;
-        runner = k.runner;
-        runs = k.runs;
-      })
+      (record { planned = k.planned; valued = k.valued; known = k.known; locked = locked_same _ _ s s' d _ _ _ same k.locked; placed = k.placed; runner = k.runner; runs = k.runs })
 
   -- a call at cell c was made, of whose row this was left, and nothing else was touched but who is parked
   pub record IsCalled (c : ℕ) (row row' : CellRow L) (v v' : Rows L) : Type 0 where
@@ -103,44 +78,43 @@ module _ {L : Type 0} (held : L → Holders) (place : L → LockerKind) where
               writers = k.lists ∙ t.sizes.writers ∙ sym size;
               few = subst (λ n. n < most_parties) (sym k.same.parties) t.sizes.few;
             };
-      }
-    where
-      size : length v'.cells.items ≡ length v.cells.items
-      size = ap (λ (xs : List (CellRow L)). length xs) cells ∙ length-set v.cells.items c row
+      } where
+        size : length v'.cells.items ≡ length v.cells.items
+        size = ap (λ (xs : List (CellRow L)). length xs) cells ∙ length-set v.cells.items c row
 
-      here_at : (r : CellRow L) → Some row ≡ Some r → IsCell held place (seen_at c m') v'.parks c r
-      here_at r e = let s : row ≡ r = cc in subst (λ (x : CellRow L). IsCell held place (seen_at c m') v'.parks c x) s here
+        here_at : (r : CellRow L) → Some row ≡ Some r → IsCell held place (seen_at c m') v'.parks c r
+        here_at r e = let s : row ≡ r = cc in subst (λ (x : CellRow L). IsCell held place (seen_at c m') v'.parks c x) s here
 
-      by : (d : ℕ) (r : CellRow L) → (d ≡ c) ⊎ (d ≢ c) → slice_get (set v.cells.items c row) d ≡ Some r → IsCell held place (seen_at d m') v'.parks d r
-      by d r (inl q) e =
-          subst (λ i. IsCell held place (seen_at i m') v'.parks i r) (sym q)
-          (here_at r (sym (slice_get_set_same v.cells.items c row lt) ∙ ap (λ i. slice_get (set v.cells.items c row) i) (sym q) ∙ e))
-      by d r (inr ne) e =
-          cell_beside (seen_at d m) (seen_at d m') v.parks v'.parks d r (k.around d ne) (k.others.cells d ne) (t.cell d r (sym (slice_get_set_other v.cells.items c d row ne) ∙ e))
+        by : (d : ℕ) (r : CellRow L) → (d ≡ c) ⊎ (d ≢ c) → slice_get (set v.cells.items c row) d ≡ Some r → IsCell held place (seen_at d m') v'.parks d r
+        by d r (inl q) e =
+            subst (λ i. IsCell held place (seen_at i m') v'.parks i r) (sym q)
+            (here_at r (sym (slice_get_set_same v.cells.items c row lt) ∙ ap (λ i. slice_get (set v.cells.items c row) i) (sym q) ∙ e))
+        by d r (inr ne) e =
+            cell_beside (seen_at d m) (seen_at d m') v.parks v'.parks d r (k.around d ne) (k.others.cells d ne) (t.cell d r (sym (slice_get_set_other v.cells.items c d row ne) ∙ e))
 
-      count_at : (r : CellRow L) → Some row ≡ Some r → CountsWaits c m'.waits r
-      count_at r e = let s : row ≡ r = cc in subst (λ (x : CellRow L). CountsWaits c m'.waits x) s many
+        count_at : (r : CellRow L) → Some row ≡ Some r → CountsWaits c m'.waits r
+        count_at r e = let s : row ≡ r = cc in subst (λ (x : CellRow L). CountsWaits c m'.waits x) s many
 
-      counts : (d : ℕ) (r : CellRow L) → (d ≡ c) ⊎ (d ≢ c) → slice_get (set v.cells.items c row) d ≡ Some r → CountsWaits d m'.waits r
-      counts d r (inl q) e =
-          subst (λ i. CountsWaits i m'.waits r) (sym q)
-          (count_at r (sym (slice_get_set_same v.cells.items c row lt) ∙ ap (λ i. slice_get (set v.cells.items c row) i) (sym q) ∙ e))
-      counts d r (inr ne) e = t.counted d r (sym (slice_get_set_other v.cells.items c d row ne) ∙ e) ∙ sym (k.counts d ne)
+        counts : (d : ℕ) (r : CellRow L) → (d ≡ c) ⊎ (d ≢ c) → slice_get (set v.cells.items c row) d ≡ Some r → CountsWaits d m'.waits r
+        counts d r (inl q) e =
+            subst (λ i. CountsWaits i m'.waits r) (sym q)
+            (count_at r (sym (slice_get_set_same v.cells.items c row lt) ∙ ap (λ i. slice_get (set v.cells.items c row) i) (sym q) ∙ e))
+        counts d r (inr ne) e = t.counted d r (sym (slice_get_set_other v.cells.items c d row ne) ∙ e) ∙ sym (k.counts d ne)
 
-      keeps_at : (r : CellRow L) → Some row ≡ Some r → KeepsDraft c m' r
-      keeps_at r e = let s : row ≡ r = cc in subst (λ (x : CellRow L). KeepsDraft c m' x) s keeps
+        keeps_at : (r : CellRow L) → Some row ≡ Some r → KeepsDraft c m' r
+        keeps_at r e = let s : row ≡ r = cc in subst (λ (x : CellRow L). KeepsDraft c m' x) s keeps
 
-      -- the holder of a guard of another cell sees what it saw
-      seen : (x : Guard) → x.cell ≢ c → seen_by m' x ≡ seen_by m x
-      seen x ne = let z = k.around x.cell ne in λ i. effect (z i).plan x.changes (z i).content
+        -- the holder of a guard of another cell sees what it saw
+        seen : (x : Guard) → x.cell ≢ c → seen_by m' x ≡ seen_by m x
+        seen x ne = let z = k.around x.cell ne in λ i. effect (z i).plan x.changes (z i).content
 
-      drafts : (d : ℕ) (r : CellRow L) → (d ≡ c) ⊎ (d ≢ c) → slice_get (set v.cells.items c row) d ≡ Some r → KeepsDraft d m' r
-      drafts d r (inl q) e =
-          subst (λ i. KeepsDraft i m' r) (sym q)
-          (keeps_at r (sym (slice_get_set_same v.cells.items c row lt) ∙ ap (λ i. slice_get (set v.cells.items c row) i) (sym q) ∙ e))
-      drafts d r (inr ne) e =
-          λ g x f w at. let beside : x.cell ≢ c = (λ q. ne (sym at ∙ q)) in
-          t.draft d r (sym (slice_get_set_other v.cells.items c d row ne) ∙ e) g x (k.drafts g x f w beside) w at ∙ ap draft_of (sym (seen x beside))
+        drafts : (d : ℕ) (r : CellRow L) → (d ≡ c) ⊎ (d ≢ c) → slice_get (set v.cells.items c row) d ≡ Some r → KeepsDraft d m' r
+        drafts d r (inl q) e =
+            subst (λ i. KeepsDraft i m' r) (sym q)
+            (keeps_at r (sym (slice_get_set_same v.cells.items c row lt) ∙ ap (λ i. slice_get (set v.cells.items c row) i) (sym q) ∙ e))
+        drafts d r (inr ne) e =
+            λ g x f w at. let beside : x.cell ≢ c = (λ q. ne (sym at ∙ q)) in
+            t.draft d r (sym (slice_get_set_other v.cells.items c d row ne) ∙ e) g x (k.drafts g x f w beside) w at ∙ ap draft_of (sym (seen x beside))
 
   -- a list of rows that is not touched, where what it shows stays
   pub parties_same : (hand : ℕ) (m m' : Standing) (v v' : Rows L) → Stands held place hand m v → v'.parties ≡ v.parties → ((p : ℕ) → party_row m' p ≡ party_row m p) → HasParties m' v v'
@@ -150,8 +124,7 @@ module _ {L : Type 0} (held : L → Holders) (place : L → LockerKind) where
   -- the row of one party is written, and those of others stay
   pub parties_set : (hand : ℕ) (m m' : Standing) (v v' : Rows L) (p : ℕ) (row : PartyRow) → Stands held place hand m v → v'.parties.items ≡ set v.parties.items p row → row ≡ party_row m' p → ((q : ℕ) → q ≢ p → party_row m' q ≡ party_row m q) → HasParties m' v v'
   parties_set hand m m' v v' p row t e here same =
-      record { count = ap (λ (xs : List PartyRow). length xs) e ∙ length-set v.parties.items p row; row = λ q lt. ap (λ (xs : List PartyRow). slice_get xs q) e ∙ by q lt (cases_eq q p) }
-    where
-      by : (q : ℕ) → q < length v.parties.items → (q ≡ p) ⊎ (q ≢ p) → slice_get (set v.parties.items p row) q ≡ Some (party_row m' q)
-      by q lt (inl f) = rw f (slice_get_set_same v.parties.items p row (subst (λ i. i < length v.parties.items) f lt) ∙ ap (λ x. Some x) here)
-      by q lt (inr ne) = slice_get_set_other v.parties.items p q row ne ∙ t.party q lt ∙ ap (λ x. Some x) (sym (same q ne))
+      record { count = ap (λ (xs : List PartyRow). length xs) e ∙ length-set v.parties.items p row; row = λ q lt. ap (λ (xs : List PartyRow). slice_get xs q) e ∙ by q lt (cases_eq q p) } where
+        by : (q : ℕ) → q < length v.parties.items → (q ≡ p) ⊎ (q ≢ p) → slice_get (set v.parties.items p row) q ≡ Some (party_row m' q)
+        by q lt (inl f) = rw f (slice_get_set_same v.parties.items p row (subst (λ i. i < length v.parties.items) f lt) ∙ ap (λ x. Some x) here)
+        by q lt (inr ne) = slice_get_set_other v.parties.items p q row ne ∙ t.party q lt ∙ ap (λ x. Some x) (sym (same q ne))

@@ -1,50 +1,14 @@
 -- A guard is opened, put into its row, and taken out of it.
-use Rattle.std.proofs.Common.{◌≡◌, ◌≢◌, ◌==◌, ◌<◌, ◌≤◌, ◌+◌, ◌∙◌, ℕ, List, [], ◌∷◌, ◌++◌, length, set, ap, sym, subst, refl, arith, Bool, true, false, cond, None, Some, inl, inr, length-set}
-use Rattle.std.proofs.lemmas.Bool.{cases_eq, cases_lt}
-use Rattle.std.proofs.lemmas.Grind.{common_steps}
-use Rattle.std.proofs.lemmas.Option.{gets}
-use Rattle.std.specs.Prelude.{slice_get, ◌⊎◌, if◌then◌else◌}
-use Rattle.std.specs.declared.option.Option.{Option}
-use Rattle.phase_bits.specs.declared.holders.Holders.{Holders}
-use Rattle.phase_locker.specs.declared.ways.LockerKind.{LockerKind}
-use Rattle.schedule_rules.specs.History.{count}
-use Rattle.schedule_rules.specs.Sections.{runs_in, Section}
-use Rattle.schedule_rules.specs.Guards.{Guard, numbered, reader}
-use Rattle.schedule_rules.specs.Changes.{Change}
-use Rattle.schedule_rules.specs.Kinds.{cell_at}
-use Rattle.schedule_rules.specs.Holds.{writes_cell}
-use Rattle.phase_moves.specs.declared.rows.GuardRow.{GuardRow}
-use Rattle.phase_moves.specs.declared.rows.GuardRow.TheVariants as guard
-use Rattle.phase_moves.specs.declared.rows.Rows.{Rows}
-use Rattle.phase_moves.specs.Standing.{Standing, guarded, run_in, reads_in, writes_in, writer_asked, opened}
-use Rattle.phase_moves.specs.Stands.{Stands, IsCell, IsExit, AreShown, AreSized, AreInside, seen_at, slot_row, guard_row}
-use Rattle.phase_locker.specs.Rows.{Rows as Parking}
-use Rattle.phase_moves.specs.Moves.{Rests}
-use Rattle.phase_moves.proofs.Drafts.{found_beside}
-use Rattle.phase_moves.proofs.Guards.{once_with, reads_elsewhere, writes_elsewhere}
-use Rattle.phase_moves.proofs.Moved.{IsMoved}
-use Rattle.phase_moves.proofs.Places.{slice_get_set_same, slice_get_set_other}
-use Rattle.phase_locker.specs.declared.ways.Who.{Who}
-use Rattle.phase_locker.specs.Fits.{IsWriteOpen}
-use Rattle.phase_seq.specs.declared.section.Begun.{Begun}
-use Rattle.phase_seq.specs.declared.section.Begun.TheVariants as begun
-use Rattle.phase_seq.specs.Stands.{BegunStands, begins_write}
-use Rattle.phase_moves.proofs.Attempts.{writes_begun, wrote}
+use Rattle.phase_moves.proofs.Words.{◌≡◌, ◌≢◌, ◌==◌, ◌<◌, ◌≤◌, ◌+◌, ◌∙◌, ℕ, List, [], ◌∷◌, ◌++◌, length, set, ap, sym, subst, refl, arith, Bool, true, false, None, Some, inl}
+use Rattle.phase_moves.proofs.Words.{inr, length-set, cases_eq, cases_lt, common_steps, gets, slice_get, ◌⊎◌, Option, Holders, LockerKind, Section, Guard, numbered, reader}
+use Rattle.phase_moves.proofs.Words.{Change, cell_at, GuardRow, Rows, Standing, guarded, run_in, reads_in, writes_in, writer_asked, opened, Stands, IsCell, IsExit, AreShown}
+use Rattle.phase_moves.proofs.Words.{AreSized, AreInside, seen_at, slot_row, guard_row, Parking, Rests, Who, IsWriteOpen, Begun, BegunStands, begins_write}
+use Rattle.phase_moves.proofs.{Drafts.found_beside, Guards.once_with, Guards.writes_elsewhere, Moved.IsMoved, Places.slice_get_set_same, Places.slice_get_set_other}
+use Rattle.phase_moves.proofs.Attempts.{wrote}
 
 -- the guards with one more
 numbered_with : (y : Guard) (g : ℕ) (gs : List Guard) → g ≢ y.number → numbered g (y ∷ gs) ≡ numbered g gs
 numbered_with y g gs ne = grind (arith, ne)
-
--- a hand that holds no guard shows what another shows
-empty_hand : (m : Standing) (hand n g : ℕ) → numbered hand m.guards ≡ None → g ≢ n → slot_row n m g ≡ slot_row hand m g
-empty_hand m hand n g none ne = by (g == hand) refl
-  where
-    no : (g == n) ≡ false
-    no = grind (arith, ne)
-
-    by : (b : Bool) → (g == hand) ≡ b → slot_row n m g ≡ slot_row hand m g
-    by true e = let s : g ≡ hand = grind (arith, e) in let f : numbered g m.guards ≡ None = ap (λ i. numbered i m.guards) s ∙ none in rw (no, e, f) refl
-    by false e = rw (no, e) refl
 
 -- what is seen of a cell with a read guard more
 pub seen_reader : (n p c : ℕ) (m : Standing) → seen_at c (guarded (reader n p c) m) ≡ record { plan = cell_at m.plans c; content = m.content c; reads = reads_in c m + 1; writes = writes_in c m; run = run_in c m.sections }
@@ -52,58 +16,12 @@ seen_reader n p c m = let e : (c == c) ≡ true = grind arith in rw e refl
 
 -- and with a write guard more
 pub seen_writer : (n p c : ℕ) (chs : List Change) (m : Standing) → seen_at c (guarded (writer_asked n p c chs) m) ≡ record { plan = cell_at m.plans c; content = m.content c; reads = reads_in c m; writes = writes_in c m + 1; run = run_in c m.sections }
-seen_writer n p c chs m =
-    let e : (c == c) ≡ true = grind arith in
-    let w : count (writes_cell c) m.guards + 1 + count (runs_in c) m.sections ≡ writes_in c m + 1 = omega arith in
-    rw e (λ i. record { plan = cell_at m.plans c; content = m.content c; reads = reads_in c m; writes = w i; run = run_in c m.sections })
+seen_writer n p c chs m = grind arith
 
 module _ {L : Type 0} (held : L → Holders) (place : L → LockerKind) where
   -- after a move that left the hand empty, a guard is opened
   pub guard_opened : (c hand hand' n : ℕ) (m m' : Standing) (v v' : Rows L) (y : Guard) → IsMoved held place c hand hand' m m' v v' → y.number ≡ n → y.cell ≡ c → length v.guards.items ≤ n → numbered n m'.guards ≡ None → numbered hand' m'.guards ≡ None → c < length v.cells.items → IsMoved held place c hand n m (guarded y m') v v'
-  guard_opened c hand hand' n m m' v v' y k number at room fresh empty lt =
-      record {
-        around = λ d ne. around d ne ∙ k.around d ne;
-        counts = k.counts;
-        drafts = drafts;
-        others = k.others;
-        same = k.same;
-        lists = k.lists;
-        guards = k.guards;
-        slots = λ g l. slots g l ∙ k.slots g l;
-        exit = record { registry_is = k.exit.registry_is; owner_is = k.exit.owner_is; turns_are = k.exit.turns_are; cells_are = k.exit.cells_are };
-        waits = k.waits;
-        numbers =
-            record {
-              once = λ g. once_with y g m'.guards (ap (λ i. numbered i m'.guards) number ∙ fresh) (k.numbers.once g);
-              in_rows = λ g x e ne. k.numbers.in_rows g x (sym (numbered_with y g m'.guards (λ q. ne (q ∙ number))) ∙ e) (other g x (sym (numbered_with y g m'.guards (λ q. ne (q ∙ number))) ∙ e));
-              in_cells = λ g x e. here g x e (cases_eq g y.number);
-            };
-        sections = k.sections;
-      }
-    where
-      around : (d : ℕ) → d ≢ c → seen_at d (guarded y m') ≡ seen_at d m'
-      around d ne =
-          let r = reads_elsewhere y d (λ e. ne (e ∙ at)) in
-          let w = writes_elsewhere y d (λ e. ne (e ∙ at)) in
-          rw (r, w) refl
-
-      slots : (g : ℕ) → g < length v.guards.items → slot_row n (guarded y m') g ≡ slot_row hand' m' g
-      slots g l =
-          let ne : g ≢ n = λ e. absurd (omega (arith, l, room, e)) in
-          ap (λ o. cond (g == n) guard.Free (guard_row o)) (numbered_with y g m'.guards (λ q. ne (q ∙ number))) ∙ empty_hand m' hand' n g empty ne
-
-      drafts : (g : ℕ) (x : Guard) → numbered g (y ∷ m'.guards) ≡ Some x → x.writes ≡ true → x.cell ≢ c → numbered g m.guards ≡ Some x
-      drafts g x e w ne = elim (found_beside y g m'.guards x e) [
-        | inl q ↦ absurd (ne (ap (λ (z : Guard). z.cell) (sym q) ∙ at))
-        | inr f ↦ k.drafts g x f w ne
-      ]
-
-      other : (g : ℕ) (x : Guard) → numbered g m'.guards ≡ Some x → g ≢ hand'
-      other g x e = λ q. let n : None ≡ Some x = sym empty ∙ ap (λ i. numbered i m'.guards) (sym q) ∙ e in absurd (cc)
-
-      here : (g : ℕ) (x : Guard) → numbered g (y ∷ m'.guards) ≡ Some x → (g ≡ y.number) ⊎ (g ≢ y.number) → x.cell < length v.cells.items
-      here g x e (inl q) = let is : y ≡ x = grind (arith, e, q) in subst (λ (z : Guard). z.cell < length v.cells.items) is (subst (λ i. i < length v.cells.items) (sym at) lt)
-      here g x e (inr ne) = k.numbers.in_cells g x (sym (numbered_with y g m'.guards ne) ∙ e)
+  guard_opened c hand hand' n m m' v v' y k number at room fresh empty lt = grind (arith, once_with, numbered_with, cases_eq, writes_elsewhere, found_beside)
 
   -- only the rows of guards change
   reslotted : (hand n : ℕ) (m : Standing) (v v' : Rows L) → Stands held place hand m v → v'.cells ≡ v.cells → v'.parties ≡ v.parties → v'.parks ≡ v.parks → v'.exit ≡ v.exit
@@ -124,84 +42,66 @@ module _ {L : Type 0} (held : L → Holders) (place : L → LockerKind) where
 
   -- the empty hand is named anew
   pub rehand : (hand n : ℕ) (m : Standing) (v : Rows L) → Stands held place hand m v → numbered hand m.guards ≡ None → length v.guards.items ≤ n → Stands held place n m v
-  rehand hand n m v t none room =
-      reslotted hand n m v v t refl refl refl refl (λ g l. t.slot g l ∙ ap (λ x. Some x) (sym (empty_hand m hand n g none (λ e. absurd (omega (arith, l, room, e))))))
-      (λ g x e ne. t.guards.in_rows g x e (λ q. let f : None ≡ Some x = sym none ∙ ap (λ i. numbered i m.guards) (sym q) ∙ e in absurd (cc)))
+  rehand hand n m v t none room = grind arith
 
   -- the row of the step is pushed
   pub pushed : (m : Standing) (v v' : Rows L) (row : GuardRow) → Stands held place (length v.guards.items) m v → row ≡ guard_row (numbered (length v.guards.items) m.guards) → v'.guards.items ≡ v.guards.items ++ row ∷ [] → v'.cells ≡ v.cells → v'.parties ≡ v.parties → v'.parks ≡ v.parks → v'.exit ≡ v.exit
       → Stands held place (length v.guards.items + 1) m v'
   pushed m v v' row t is guards cells parties parks exit =
-      reslotted n (n + 1) m v v' t cells parties parks exit (λ g l. ap (λ (xs : List GuardRow). slice_get xs g) guards ∙ by g (cases_lt g n) (subst (λ i. g < i) size l)) in_rows
-    where
-      n : ℕ
-      n = length v.guards.items
+      reslotted n (n + 1) m v v' t cells parties parks exit (λ g l. ap (λ (xs : List GuardRow). slice_get xs g) guards ∙ by g (cases_lt g n) (subst (λ i. g < i) size l)) in_rows where
+        n : ℕ
+        n = length v.guards.items
 
-      size : length v'.guards.items ≡ n + 1
-      size = ap (λ (xs : List GuardRow). length xs) guards ∙ grind (arith, common_steps)
+        size : length v'.guards.items ≡ n + 1
+        size = ap (λ (xs : List GuardRow). length xs) guards ∙ grind (arith, common_steps)
 
-      next : (g : ℕ) → g < n + 1 → slot_row (n + 1) m g ≡ guard_row (numbered g m.guards)
-      next g l = let no : (g == n + 1) ≡ false = grind (arith, l) in rw no refl
+        next : (g : ℕ) → g < n + 1 → slot_row (n + 1) m g ≡ guard_row (numbered g m.guards)
+        next g l = let no : (g == n + 1) ≡ false = grind (arith, l) in rw no refl
 
-      before : (g : ℕ) → g < n → slot_row n m g ≡ guard_row (numbered g m.guards)
-      before g l = let no : (g == n) ≡ false = grind (arith, l) in rw no refl
+        before : (g : ℕ) → g < n → slot_row n m g ≡ guard_row (numbered g m.guards)
+        before g l = let no : (g == n) ≡ false = grind (arith, l) in rw no refl
 
-      last : (xs : List GuardRow) (r : GuardRow) → slice_get (xs ++ r ∷ []) (length xs) ≡ Some r
-      last xs r = grind (arith, common_steps, gets)
+        last : (xs : List GuardRow) (r : GuardRow) → slice_get (xs ++ r ∷ []) (length xs) ≡ Some r
+        last xs r = grind (arith, common_steps, gets)
 
-      first : (xs : List GuardRow) (r : GuardRow) (g : ℕ) → g < length xs → slice_get (xs ++ r ∷ []) g ≡ slice_get xs g
-      first xs r g l = grind (arith, common_steps, gets)
+        first : (xs : List GuardRow) (r : GuardRow) (g : ℕ) → g < length xs → slice_get (xs ++ r ∷ []) g ≡ slice_get xs g
+        first xs r g l = grind (arith, common_steps, gets)
 
-      by : (g : ℕ) → (g < n) ⊎ (n ≤ g) → g < n + 1 → slice_get (v.guards.items ++ row ∷ []) g ≡ Some (slot_row (n + 1) m g)
-      by g (inl l) k = first v.guards.items row g l ∙ t.slot g l ∙ ap (λ x. Some x) (before g l ∙ sym (next g k))
-      by g (inr l) k =
-          let q : g ≡ n = omega (arith, l, k) in
-          ap (λ i. slice_get (v.guards.items ++ row ∷ []) i) q ∙ last v.guards.items row ∙ ap (λ x. Some x) (is ∙ ap (λ i. guard_row (numbered i m.guards)) (sym q) ∙ sym (next g k))
+        by : (g : ℕ) → (g < n) ⊎ (n ≤ g) → g < n + 1 → slice_get (v.guards.items ++ row ∷ []) g ≡ Some (slot_row (n + 1) m g)
+        by g e k = grind (arith, first, before, next, n, last)
 
-      in_rows : (g : ℕ) (x : Guard) → numbered g m.guards ≡ Some x → g ≢ n + 1 → g < length v'.guards.items
-      in_rows g x e ne =
-          elim (cases_eq g n) [
-            | inl q ↦ omega (arith, q, size)
-            | inr ne2 ↦ (let l = t.guards.in_rows g x e ne2 in omega (arith, l, size))
-          ]
+        in_rows : (g : ℕ) (x : Guard) → numbered g m.guards ≡ Some x → g ≢ n + 1 → g < length v'.guards.items
+        in_rows g x e ne = elim (cases_eq g n) [ inl q ↦ omega (arith, q, size) | inr ne2 ↦ (let l = t.guards.in_rows g x e ne2 in omega (arith, l, size)) ]
 
   -- the row of a guard is taken
-  pub taken : (m : Standing) (v v' : Rows L) (g : ℕ) → Stands held place (length v.guards.items) m v → numbered (length v.guards.items) m.guards ≡ None → g < length v.guards.items → v'.guards.items ≡ set v.guards.items g guard.Free → v'.cells ≡ v.cells → v'.parties ≡ v.parties → v'.parks ≡ v.parks → v'.exit ≡ v.exit
+  pub taken : (m : Standing) (v v' : Rows L) (g : ℕ) → Stands held place (length v.guards.items) m v → numbered (length v.guards.items) m.guards ≡ None → g < length v.guards.items → v'.guards.items ≡ set v.guards.items g GuardRow.Free → v'.cells ≡ v.cells → v'.parties ≡ v.parties → v'.parks ≡ v.parks → v'.exit ≡ v.exit
       → Stands held place g m v'
   taken m v v' g t none lt guards cells parties parks exit =
-      reslotted (length v.guards.items) g m v v' t cells parties parks exit (λ j l. ap (λ (xs : List GuardRow). slice_get xs j) guards ∙ by j (cases_eq j g) (subst (λ i. j < i) size l)) in_rows
-    where
-      size : length v'.guards.items ≡ length v.guards.items
-      size = ap (λ (xs : List GuardRow). length xs) guards ∙ length-set v.guards.items g guard.Free
+      reslotted (length v.guards.items) g m v v' t cells parties parks exit (λ j l. ap (λ (xs : List GuardRow). slice_get xs j) guards ∙ by j (cases_eq j g) (subst (λ i. j < i) size l)) in_rows where
+        size : length v'.guards.items ≡ length v.guards.items
+        size = ap (λ (xs : List GuardRow). length xs) guards ∙ length-set v.guards.items g GuardRow.Free
 
-      slots : (j : ℕ) → j ≢ g → j < length v.guards.items → slot_row (length v.guards.items) m j ≡ slot_row g m j
-      slots j ne l = let a : (j == g) ≡ false = grind (arith, ne) in let b : (j == length v.guards.items) ≡ false = grind (arith, l) in rw (a, b) refl
+        slots : (j : ℕ) → j ≢ g → j < length v.guards.items → slot_row (length v.guards.items) m j ≡ slot_row g m j
+        slots j ne l = let a : (j == g) ≡ false = grind (arith, ne) in let b : (j == length v.guards.items) ≡ false = grind (arith, l) in rw (a, b) refl
 
-      itself : slot_row g m g ≡ guard.Free
-      itself = let a : (g == g) ≡ true = grind arith in rw a refl
+        itself : slot_row g m g ≡ GuardRow.Free
+        itself = let a : (g == g) ≡ true = grind arith in rw a refl
 
-      by : (j : ℕ) → (j ≡ g) ⊎ (j ≢ g) → j < length v.guards.items → slice_get (set v.guards.items g guard.Free) j ≡ Some (slot_row g m j)
-      by j (inl q) l = rw q (slice_get_set_same v.guards.items g guard.Free lt ∙ ap (λ x. Some x) (sym itself))
-      by j (inr ne) l = slice_get_set_other v.guards.items g j guard.Free ne ∙ t.slot j l ∙ ap (λ x. Some x) (slots j ne l)
+        by : (j : ℕ) → (j ≡ g) ⊎ (j ≢ g) → j < length v.guards.items → slice_get (set v.guards.items g GuardRow.Free) j ≡ Some (slot_row g m j)
+        by j e l = grind (arith, slice_get_set_same, itself, slice_get_set_other, slots)
 
-      in_rows : (j : ℕ) (x : Guard) → numbered j m.guards ≡ Some x → j ≢ g → j < length v'.guards.items
-      in_rows j x e ne =
-          elim (cases_eq j (length v.guards.items)) [
-            | inl q ↦ (let f : None ≡ Some x = sym none ∙ ap (λ i. numbered i m.guards) (sym q) ∙ e in absurd (cc))
-            | inr ne2 ↦ (let l = t.guards.in_rows j x e ne2 in omega (arith, l, size))
-          ]
+        in_rows : (j : ℕ) (x : Guard) → numbered j m.guards ≡ Some x → j ≢ g → j < length v'.guards.items
+        in_rows j x e ne = grind (arith, cases_eq, size)
 
   -- so nothing is in hand
   pub pushed_rests : (m : Standing) (v v' : Rows L) (row : GuardRow) → Stands held place (length v.guards.items) m v → row ≡ guard_row (numbered (length v.guards.items) m.guards) → v'.guards.items ≡ v.guards.items ++ row ∷ [] → v'.cells ≡ v.cells → v'.parties ≡ v.parties → v'.parks ≡ v.parks → v'.exit ≡ v.exit → Rests held place m v'
   pushed_rests m v v' row t is guards cells parties parks exit =
-      record { stands = subst (λ i. Stands held place i m v') (sym size) (pushed m v v' row t is guards cells parties parks exit); empty = ap (λ i. numbered i m.guards) size ∙ by (numbered (length v.guards.items + 1) m.guards) refl }
-    where
-      size : length v'.guards.items ≡ length v.guards.items + 1
-      size = ap (λ (xs : List GuardRow). length xs) guards ∙ grind (arith, common_steps)
+      record { stands = subst (λ i. Stands held place i m v') (sym size) (pushed m v v' row t is guards cells parties parks exit); empty = ap (λ i. numbered i m.guards) size ∙ by (numbered (length v.guards.items + 1) m.guards) refl } where
+        size : length v'.guards.items ≡ length v.guards.items + 1
+        size = ap (λ (xs : List GuardRow). length xs) guards ∙ grind (arith, common_steps)
 
-      by : (o : Option Guard) → numbered (length v.guards.items + 1) m.guards ≡ o → o ≡ None
-      by None e = refl
-      by (Some x) e = let l = t.guards.in_rows (length v.guards.items + 1) x e (λ q. absurd (omega (arith, q))) in absurd (omega (arith, l))
+        by : (o : Option Guard) → numbered (length v.guards.items + 1) m.guards ≡ o → o ≡ None
+        by o e = grind arith
 
 -- ---- what is opened by what was begun, and a section more
 
@@ -211,54 +111,12 @@ no_more j f = elim (cases_lt 0 j) [ inl lt ↦ absurd (f lt) | inr le ↦ omega 
 
 -- what opens a write hold leaves it open
 pub opens : (who : Who) (b : Begun) (running : Option ℕ) (h : Holders) (s : Parking) → begins_write b ≡ true → BegunStands who b running h s → IsWriteOpen h s who.cell
-opens who (begun.Wait way) running h s e k = absurd (cc)
-opens who begun.Missed running h s e k = absurd (cc)
-opens who begun.Cyclic running h s e k = absurd (cc)
-opens who (begun.Nothing q) running h s e k = absurd (cc)
-opens who (begun.Read t q) running h s e k = absurd (cc)
-opens who (begun.Write t q) running h s e k = k.1
-opens who (begun.Run o) running h s e k = subst (λ (w : Who). IsWriteOpen h s w.cell) k.1 k.2.locked
-opens who (begun.Final o) running h s e k = subst (λ (w : Who). IsWriteOpen h s w.cell) k.1 k.2.locked
-
--- as many are opened as this says
-pub as_many : (b : Begun) (o : Bool) → begins_write b ≡ o → writes_begun b ≡ (if o then 1 else 0)
-as_many (begun.Wait way) o e = ap (λ x. if x then 1 else 0) e
-as_many begun.Missed o e = ap (λ x. if x then 1 else 0) e
-as_many begun.Cyclic o e = ap (λ x. if x then 1 else 0) e
-as_many (begun.Nothing q) o e = ap (λ x. if x then 1 else 0) e
-as_many (begun.Read t q) o e = ap (λ x. if x then 1 else 0) e
-as_many (begun.Write t q) o e = ap (λ x. if x then 1 else 0) e
-as_many (begun.Run x) o e = ap (λ x. if x then 1 else 0) e
-as_many (begun.Final x) o e = ap (λ x. if x then 1 else 0) e
+opens who b running h s e k = grind arith
 
 pub wrote_all : (d : Bool) (b : Begun) → begins_write b ≡ true → wrote d b ≡ true
-wrote_all d (begun.Wait way) e = e
-wrote_all d begun.Missed e = e
-wrote_all d begun.Cyclic e = e
-wrote_all d (begun.Nothing q) e = absurd (cc)
-wrote_all d (begun.Read t q) e = absurd (cc)
-wrote_all d (begun.Write t q) e = e
-wrote_all d (begun.Run o) e = e
-wrote_all d (begun.Final o) e = e
+wrote_all d b e = grind arith
 
 module _ {L : Type 0} (held : L → Holders) (place : L → LockerKind) where
   -- a section more
   pub section_opened : (c hand hand' : ℕ) (m m' : Standing) (v v' : Rows L) (s : Section) → IsMoved held place c hand hand' m m' v v' → s.cell ≡ c → c < length v.cells.items → IsMoved held place c hand hand' m (opened s m'.registry m') v v'
-  section_opened c hand hand' m m' v v' s k at lt =
-      record {
-        around = λ d ne. around d ne ∙ k.around d ne;
-        counts = k.counts;
-        drafts = k.drafts;
-        others = k.others;
-        same = k.same;
-        lists = k.lists;
-        guards = k.guards;
-        slots = k.slots;
-        exit = record { registry_is = k.exit.registry_is; owner_is = k.exit.owner_is; turns_are = k.exit.turns_are; cells_are = k.exit.cells_are };
-        waits = k.waits;
-        numbers = k.numbers;
-        sections = (subst (λ d. d < length v.cells.items) (sym at) lt, k.sections);
-      }
-    where
-      around : (d : ℕ) → d ≢ c → seen_at d (opened s m'.registry m') ≡ seen_at d m'
-      around d ne = let e : (s.cell == d) ≡ false = grind (arith, ne, at) in rw e refl
+  section_opened c hand hand' m m' v v' s k at lt = grind arith

@@ -1,12 +1,7 @@
 -- A cell is registered where a run of its generator begins, and not where the run is refused.
-use Rattle.std.proofs.Common.{◌≡◌, ℕ, ◌==◌, refl, Bool, true, false, ◌∙◌, ap, sym, not, ◌&&◌, ◌||◌, Some}
-use Rattle.std.specs.Prelude.{if◌then◌else◌}
-use Rattle.phase_bits.specs.Flags.{has, without_flags}
-use Rattle.phase_bits.specs.Number.{number}
-use Rattle.phase_bits.specs.declared.phase.Phase.{Phase}
-use Rattle.exit_registry.specs.Registry.{Registry, after_register, registered as registered_in}
-use Rattle.phase_seq.specs.Phases.{flags_generate, flags_staying, initialization_flags, registered, registration}
-use Rattle.phase_seq.specs.Registers.{after_asking, is_refused}
+use Rattle.phase_moves.proofs.Words.{◌≡◌, ℕ, ◌==◌, refl, Bool, true, false, ◌∙◌, ap, sym, not, ◌&&◌, ◌||◌, Some, if◌then◌else◌, has, without_flags, number, Phase, Registry}
+use Rattle.phase_moves.proofs.Words.{after_register, registered as registered_in, flags_generate, flags_staying, initialization_flags, registered_of_phases as registered}
+use Rattle.phase_moves.proofs.Words.{registration, after_asking, is_refused}
 
 open_flag : (o : Bool) → has (registration o) registered ≡ false → o ≡ false
 open_flag true e = absurd (cc)
@@ -19,11 +14,10 @@ neither false b e = refl
 -- a call that is refused at an empty phase met a closed registry
 refused_closed : (leak o : Bool) (n : ℕ) → (n == 0) ≡ true → not (flags_generate leak (flags_staying o n)) ≡ true → o ≡ false
 refused_closed leak o n z e =
-    open_flag o (neither (has (registration o) registered) leak (ap (λ b. has (if b then registration o else without_flags n initialization_flags) registered || leak) (sym z) ∙ off (flags_generate leak (flags_staying o n)) e))
-  where
-    off : (b : Bool) → not b ≡ true → b ≡ false
-    off true f = absurd (cc)
-    off false f = refl
+    open_flag o (neither (has (registration o) registered) leak (ap (λ b. has (if b then registration o else without_flags n initialization_flags) registered || leak) (sym z) ∙ off (flags_generate leak (flags_staying o n)) e)) where
+      off : (b : Bool) → not b ≡ true → b ≡ false
+      off true f = absurd (cc)
+      off false f = refl
 
 closed_stays : (c : ℕ) (m : Registry) → m.is_open ≡ false → after_register c m ≡ m
 closed_stays c m e = ap (λ b. if b then registered_in c m else m) e
@@ -31,16 +25,14 @@ closed_stays c m e = ap (λ b. if b then registered_in c m else m) e
 module _ (leak : Bool) (m : Registry) (c : ℕ) (p : Phase) where
   nothing : (runs z : Bool) → (number p == 0) ≡ z → not (flags_generate leak (flags_staying m.is_open (number p))) ≡ true → (if runs && z then after_register c m else m) ≡ m
   nothing true true is e = closed_stays c m (refused_closed leak m.is_open (number p) is e)
-  nothing true false is e = refl
-  nothing false z is e = refl
+  nothing _ _ is e = refl
 
   -- the registry is as after a run that begins
   pub asked_as_run : (runs b : Bool) → b ≡ (if is_refused leak (Some m) p then false else runs) → after_asking runs c p m ≡ after_asking b c p m
-  asked_as_run runs b e = by (is_refused leak (Some m) p) refl e
-    where
-      by : (r : Bool) → is_refused leak (Some m) p ≡ r → b ≡ (if r then false else runs) → after_asking runs c p m ≡ after_asking b c p m
-      by true is f = nothing runs (number p == 0) refl is ∙ sym (ap (λ d. if d && (number p == 0) then after_register c m else m) f)
-      by false is f = ap (λ d. if d && (number p == 0) then after_register c m else m) (sym f)
+  asked_as_run runs b e = by (is_refused leak (Some m) p) refl e where
+    by : (r : Bool) → is_refused leak (Some m) p ≡ r → b ≡ (if r then false else runs) → after_asking runs c p m ≡ after_asking b c p m
+    by true is f = nothing runs (number p == 0) refl is ∙ sym (ap (λ d. if d && (number p == 0) then after_register c m else m) f)
+    by false is f = ap (λ d. if d && (number p == 0) then after_register c m else m) (sym f)
 
 pub some_same : {X : Type 0} (x y : X) → Some x ≡ Some y → x ≡ y
 some_same x y e = cc

@@ -1,12 +1,6 @@
 -- The sections that run.
-use Rattle.std.proofs.Common.{◌≡◌, ◌≢◌, ◌==◌, ◌<◌, ◌≤◌, ℕ, List, [], ◌∷◌, refl, subst, arith, Bool, true, false, cond, None, Some}
-use Rattle.schedule_rules.specs.History.{count}
-use Rattle.schedule_rules.specs.Sections.{Section, innermost, without_innermost, runs_in}
-use Rattle.schedule_rules.specs.Waits.{cell_of_section}
-use Rattle.schedule_rules.proofs.Found.{found_counts}
-use Rattle.schedule_rules.proofs.Opened.{innermost_kept}
-use Rattle.phase_moves.specs.Standing.{run_in}
-use Rattle.phase_moves.specs.Stands.{AreInside}
+use Rattle.phase_moves.proofs.Words.{◌≡◌, ◌≢◌, ◌==◌, ◌<◌, ◌≤◌, ℕ, List, [], ◌∷◌, refl, arith, Bool, true, false, cond, None, Some, count, Section, innermost}
+use Rattle.phase_moves.proofs.Words.{without_innermost, runs_in, cell_of_section, found_counts, innermost_kept, run_in, AreInside}
 
 -- where no section is counted none runs
 pub none_runs : (c : ℕ) (ss : List Section) → count (runs_in c) ss ≡ 0 → run_in c ss ≡ None
@@ -26,17 +20,11 @@ run_top p (x ∷ ss) s e n = grind (arith, run_top p ss s, found_counts (λ y. y
 -- they stay inside
 pub inside_ended : (n p : ℕ) (ss : List Section) → AreInside n ss → AreInside n (without_innermost p ss)
 inside_ended n p [] k = tt
-inside_ended n p (x ∷ ss) k =
-    elim (x.party == p) as (λ v. AreInside n (cond v ss (x ∷ without_innermost p ss))) [
-      | true ↦ k.1
-      | false ↦ (k.0, inside_ended n p ss k.1)
-    ]
+inside_ended n p (x ∷ ss) k = elim (x.party == p) as (λ v. AreInside n (cond v ss (x ∷ without_innermost p ss))) [ true ↦ k.1 | false ↦ (k.0, inside_ended n p ss k.1) ]
 
 -- one that is found is inside
 pub inside_found : (n p : ℕ) (ss : List Section) (s : Section) → AreInside n ss → innermost p ss ≡ Some s → s.cell < n
 inside_found n p [] s k e = absurd (cc)
-inside_found n p (x ∷ ss) s k e = by (x.party == p) e (inside_found n p ss s k.1)
-  where
-    by : (b : Bool) → cond b (Some x) (innermost p ss) ≡ Some s → (innermost p ss ≡ Some s → s.cell < n) → s.cell < n
-    by true e rest = let same : x ≡ s = cc in subst (λ (y : Section). y.cell < n) same k.0
-    by false e rest = rest e
+inside_found n p (x ∷ ss) s k e = by (x.party == p) e (inside_found n p ss s k.1) where
+  by : (b : Bool) → cond b (Some x) (innermost p ss) ≡ Some s → (innermost p ss ≡ Some s → s.cell < n) → s.cell < n
+  by b e rest = grind arith

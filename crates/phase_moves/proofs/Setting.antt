@@ -1,28 +1,9 @@
 -- The holder of a write guard sets a value.
-use Rattle.std.proofs.Common.{◌≡◌, ◌≢◌, ◌==◌, ◌<◌, ◌≤◌, ◌+◌, ◌∙◌, ℕ, List, [], ◌∷◌, length, set, get_or, ap, sym, subst, refl, arith, None, Some, inl, inr}
-use Rattle.std.proofs.lemmas.Bool.{cases_eq}
-use Rattle.std.specs.Prelude.{slice_get, ◌⊎◌, if◌then◌else◌}
-use Rattle.phase_bits.specs.declared.holders.Holders.{Holders}
-use Rattle.phase_locker.specs.declared.ways.LockerKind.{LockerKind}
-use Rattle.phase_locker.specs.Rows.{Rows as Parking}
-use Rattle.phase_locker.specs.Others.{OthersStay}
-use Rattle.phase_locker.proofs.Others.{others_refl}
-use Rattle.schedule_rules.specs.History.{count}
-use Rattle.schedule_rules.specs.Kinds.{cell_at}
-use Rattle.schedule_rules.specs.Sections.{runs_in}
-use Rattle.schedule_rules.specs.Guards.{Guard, numbered, put_in}
-use Rattle.schedule_rules.specs.Holds.{writes_cell}
-use Rattle.schedule_rules.proofs.Opened.{put as with_value, numbered_put, numbered_put_other, reads_put, writes_put}
-use Rattle.phase_moves.specs.declared.rows.CellRow.{CellRow}
-use Rattle.phase_moves.specs.declared.rows.Draft.{Draft}
-use Rattle.phase_moves.specs.declared.rows.GuardRow.TheVariants as guard
-use Rattle.phase_moves.specs.declared.rows.Rows.{Rows}
-use Rattle.phase_moves.specs.Standing.{Standing, put, run_in, seen_by}
-use Rattle.phase_moves.specs.Stands.{KeepsDraft, draft_of, guard_row, Seen, seen_at, slot_row, AreShown, IsCell, Stands}
-use Rattle.phase_moves.specs.Moves.{Rests, IsOpenWriter}
-use Rattle.phase_moves.proofs.Drafts.{alone}
-use Rattle.phase_moves.proofs.Guards.{found_itself, its_number, slots_same}
-use Rattle.phase_moves.proofs.Moved.{IsMoved, moved, exit_kept, parties_same}
+use Rattle.phase_moves.proofs.Words.{◌≡◌, ◌≢◌, ◌==◌, ◌<◌, ◌≤◌, ◌∙◌, ℕ, List, [], ◌∷◌, length, set, get_or, ap, sym, subst, refl, arith, None, Some, inl, inr, cases_eq}
+use Rattle.phase_moves.proofs.Words.{slice_get, ◌⊎◌, Holders, LockerKind, Parking, OthersStay, others_refl, count, Guard, numbered, put_in, writes_cell, with_value}
+use Rattle.phase_moves.proofs.Words.{numbered_put, numbered_put_other, reads_put, writes_put, CellRow, Draft, Rows, Standing, put, seen_by, KeepsDraft, draft_of, Seen}
+use Rattle.phase_moves.proofs.Words.{seen_at, slot_row, AreShown, IsCell, Stands, Rests, IsOpenWriter}
+use Rattle.phase_moves.proofs.{Drafts.alone, Guards.found_itself, Guards.its_number, Guards.slots_same, Moved.IsMoved, Moved.moved, Moved.exit_kept, Moved.parties_same}
 use Rattle.phase_moves.proofs.Places.{read_at}
 
 -- no number is more often a guard's
@@ -37,17 +18,11 @@ module _ {L : Type 0} (held : L → Holders) (place : L → LockerKind) (m : Sta
 
   -- a guard with a number has it still: it is that of the value, or another
   found_put : (j : ℕ) (y : Guard) → numbered j (put_in g value m.guards) ≡ Some y → ((j ≡ g) × (with_value value x ≡ y)) ⊎ ((j ≢ g) × (numbered j m.guards ≡ Some y))
-  found_put j y e = elim (cases_eq j g) [
-    | inl q ↦ inl (let f : Some (with_value value x) ≡ Some y = sym (numbered_put g value m.guards x is.found) ∙ ap (λ i. numbered i (put_in g value m.guards)) (sym q) ∙ e in (q, (cc)))
-    | inr ne ↦ inr (ne, sym (numbered_put_other g j value m.guards ne) ∙ e)
-  ]
+  found_put j y e = grind (arith, cases_eq, with_value, numbered_put, numbered_put_other)
 
   -- it was there, on its cell
   number_put : (j : ℕ) (y : Guard) → numbered j (put_in g value m.guards) ≡ Some y → (P : ℕ → Type 0) → ((z : Guard) → numbered j m.guards ≡ Some z → P z.cell) → P y.cell
-  number_put j y e P k = elim (found_put j y e) [
-    | inl q ↦ subst (λ (z : Guard). P z.cell) q.1 (k x (ap (λ i. numbered i m.guards) q.0 ∙ is.found))
-    | inr q ↦ k y q.1
-  ]
+  number_put j y e P k = elim (found_put j y e) [ inl q ↦ subst (λ (z : Guard). P z.cell) q.1 (k x (ap (λ i. numbered i m.guards) q.0 ∙ is.found)) | inr q ↦ k y q.1 ]
 
   module _ (v' : Rows L) (row row' : CellRow L) (row_is : row ≡ get_or v.cells.items c row) (row'_is : row' ≡ record row { draft = record row.draft { value = Some value } }) (cells : v'.cells.items ≡ set v.cells.items c row') (guards : v'.guards ≡ v.guards) (parties : v'.parties ≡ v.parties) (parks : v'.parks ≡ v.parks) (exit : v'.exit ≡ v.exit) where
     abbrev n : ℕ
@@ -57,16 +32,10 @@ module _ {L : Type 0} (held : L → Holders) (place : L → LockerKind) (m : Sta
     row_at = read_at v.cells.items c row set_inside row_is
 
     seen_put : (d : ℕ) → seen_at d (put g value m) ≡ seen_at d m
-    seen_put d =
-        let r = reads_put d g value m.guards in
-        let w = writes_put d g value m.guards in
-        λ i. record { plan = cell_at m.plans d; content = m.content d; reads = r i; writes = w i + count (runs_in d) m.sections; run = run_in d m.sections }
+    seen_put d = grind (arith, reads_put, writes_put)
 
     slot_put : (j : ℕ) → slot_row n (put g value m) j ≡ slot_row n m j
-    slot_put j = elim (cases_eq j g) [
-      | inl q ↦ ap (λ o. if j == n then guard.Free else guard_row o) (ap (λ i. numbered i (put_in g value m.guards)) q ∙ numbered_put g value m.guards x is.found) ∙ ap (λ o. if j == n then guard.Free else guard_row o) (sym is.found ∙ ap (λ i. numbered i m.guards) (sym q))
-      | inr ne ↦ slots_same m (put g value m) n j (λ e. numbered_put_other g j value m.guards ne)
-    ]
+    slot_put j = grind (arith, cases_eq, numbered_put, slots_same, numbered_put_other)
 
     -- the row of its cell
     cell_put : IsCell held place (seen_at c (put g value m)) v'.parks c row'
@@ -80,10 +49,9 @@ module _ {L : Type 0} (held : L → Holders) (place : L → LockerKind) (m : Sta
     draft_put j y e w there = elim (found_put j y e) [
       | inl q ↦ ap (λ (r : CellRow L). r.draft) row'_is ∙ ap (λ (d : Draft). record d { value = Some value }) (is.rests.stands.draft c row row_at g x is.found is.writes at) ∙ ap (λ z. draft_of (seen_by (put g value m) z)) q.1
       | inr q ↦ absurd (alone j m.guards x (found_itself g m.guards x is.found) is.writes one y (λ f. q.0 (f ∙ its_number g m.guards x is.found)) q.1 w (there ∙ sym at))
-    ]
-      where
-        one : count (writes_cell x.cell) m.guards ≤ 1
-        one = subst (λ d. count (writes_cell d) m.guards ≤ 1) (sym at) (let most = (is.rests.stands.cell c row row_at).locked.one in omega (arith, most))
+    ] where
+      one : count (writes_cell x.cell) m.guards ≤ 1
+      one = subst (λ d. count (writes_cell d) m.guards ≤ 1) (sym at) (let most = (is.rests.stands.cell c row row_at).locked.one in omega (arith, most))
 
     put_moved : IsMoved held place c n n m (put g value m) v v'
     put_moved =
@@ -91,10 +59,7 @@ module _ {L : Type 0} (held : L → Holders) (place : L → LockerKind) (m : Sta
         record {
           around = λ d ne. seen_put d;
           counts = λ d ne. refl;
-          drafts = λ j y e w ne. (elim (found_put j y e) [
-            | inl q ↦ absurd (ne (ap (λ (z : Guard). z.cell) (sym q.1) ∙ at))
-            | inr q ↦ q.1
-          ]);
+          drafts = λ j y e w ne. (elim (found_put j y e) [ inl q ↦ absurd (ne (ap (λ (z : Guard). z.cell) (sym q.1) ∙ at)) | inr q ↦ q.1 ]);
           others = subst (λ (s : Parking). OthersStay c v.parks s) (sym parks) (others_refl c v.parks);
           same = record { parties = ap (λ (s : Parking). length s.rows) parks; cells = ap (λ (s : Parking). length s.readers) parks };
           lists = ap (λ (s : Parking). length s.writers) parks;
@@ -118,7 +83,6 @@ module _ {L : Type 0} (held : L → Holders) (place : L → LockerKind) (m : Sta
           stands = subst (λ i. Stands held place i (put g value m) v') (sym size)
               (moved held place c n n m (put g value m) v v' row' is.rests.stands set_inside cells cell_put (ap (λ (r : CellRow L). r.waiting) row'_is ∙ is.rests.stands.counted c row row_at) draft_put put_moved (parties_same held place n m (put g value m) v v' is.rests.stands parties (λ p. refl)));
           empty = ap (λ i. numbered i (put_in g value m.guards)) size ∙ numbered_put_other g n value m.guards (λ e. (let f : None ≡ Some x = sym is.rests.empty ∙ ap (λ i. numbered i m.guards) e ∙ is.found in absurd (cc))) ∙ is.rests.empty;
-        }
-      where
-        size : length v'.guards.items ≡ n
-        size = ap (λ (xs : _). length xs.items) guards
+        } where
+          size : length v'.guards.items ≡ n
+          size = ap (λ (xs : _). length xs.items) guards

@@ -1,27 +1,8 @@
 -- The rows before the first step stand for the empty history.
-use Rattle.std.proofs.Common.{◌≡◌, ◌<◌, ◌≤◌, ◌+◌, ◌∙◌, ℕ, List, [], ◌∷◌, ◌++◌, length, get_or, replicate, ap, sym, subst, refl, arith, None, Some, inl, inr}
-use Rattle.std.proofs.Math.ListN.{length-replicate}
-use Rattle.std.proofs.lemmas.Bool.{cases_lt}
-use Rattle.std.proofs.lemmas.Option.{gets}
-use Rattle.std.proofs.lemmas.Grind.{common_steps}
-use Rattle.std.specs.Prelude.{slice_get, vec_capacity, ◌⊎◌}
-use Rattle.phase_bits.specs.declared.holders.Holders.{Holders}
-use Rattle.phase_bits.specs.Number.{phase_of}
-use Rattle.exit_registry.specs.Registry.{new_registry}
-use Rattle.phase_locker.specs.declared.ways.LockerKind.{LockerKind}
-use Rattle.phase_locker.specs.Rows.{Rows as Parking, no_rows}
-use Rattle.phase_locker.specs.Fits.{Fits}
-use Rattle.phase_locker.proofs.Fresh.{new_fits}
-use Rattle.schedule_rules.specs.declared.plan.CellPlan.{CellPlan}
-use Rattle.schedule_rules.specs.declared.plan.Plan.{Plan}
-use Rattle.schedule_rules.specs.Kinds.{cell_at}
-use Rattle.schedule_rules.specs.Transcripts.{most_parties}
-use Rattle.waiting_rows.proofs.Within.{shows_fresh}
-use Rattle.phase_moves.specs.declared.rows.CellRow.{CellRow}
-use Rattle.phase_moves.specs.declared.rows.Rows.{Rows}
-use Rattle.phase_moves.specs.Fresh.{AreFresh, AreFreshCells, IsFreshCell, idle_party}
-use Rattle.phase_moves.specs.Histories.{standing}
-use Rattle.phase_moves.specs.Stands.{AreShown, IsCell, Stands, seen_at}
+use Rattle.phase_moves.proofs.Words.{◌≡◌, ◌<◌, ◌≤◌, ◌+◌, ◌∙◌, ℕ, List, [], ◌∷◌, ◌++◌, length, get_or, replicate, ap, sym, subst, refl, arith, None, Some, inl, inr}
+use Rattle.phase_moves.proofs.Words.{length-replicate, cases_lt, gets, common_steps, slice_get, vec_capacity, ◌⊎◌, Holders, phase_of, new_registry, LockerKind, Parking}
+use Rattle.phase_moves.proofs.Words.{no_rows, Fits, new_fits, CellPlan, Plan, cell_at, most_parties, shows_fresh, CellRow, Rows, AreFresh, AreFreshCells, IsFreshCell}
+use Rattle.phase_moves.proofs.Words.{idle_party, standing, AreShown, IsCell, Stands, seen_at}
 
 all_same : {X : Type 0} (n j : ℕ) (x : X) → j < n → slice_get (replicate n x) j ≡ Some x
 all_same n j x lt = grind (arith, common_steps, gets)
@@ -38,17 +19,16 @@ module _ {L : Type 0} (held : L → Holders) (place : L → LockerKind) where
   -- one row more
   pub row_more : (plans : List CellPlan) (rows rows' : List (CellRow L)) (n : ℕ) (row : CellRow L) → length rows ≡ n → ((c : ℕ) (r : CellRow L) → slice_get rows c ≡ Some r → IsFreshCell held place (cell_at plans c) r) → IsFreshCell held place (cell_at plans n) row → rows' ≡ rows ++ row ∷ []
       → (c : ℕ) (r : CellRow L) → slice_get rows' c ≡ Some r → IsFreshCell held place (cell_at plans c) r
-  row_more plans rows rows' n row size before here e c r there = by (cases_lt c n) (ap (λ xs. slice_get xs c) (sym e) ∙ there)
-    where
-      earlier : c < n → slice_get (rows ++ row ∷ []) c ≡ slice_get rows c
-      earlier lt = grind (arith, common_steps, gets, size, lt)
+  row_more plans rows rows' n row size before here e c r there = by (cases_lt c n) (ap (λ xs. slice_get xs c) (sym e) ∙ there) where
+    earlier : c < n → slice_get (rows ++ row ∷ []) c ≡ slice_get rows c
+    earlier lt = grind (arith, common_steps, gets, size, lt)
 
-      last : n ≤ c → slice_get (rows ++ row ∷ []) c ≡ Some r → (c ≡ n) × (row ≡ r)
-      last le f = (grind (arith, common_steps, gets, size, le, f), grind (arith, common_steps, gets, size, le, f))
+    last : n ≤ c → slice_get (rows ++ row ∷ []) c ≡ Some r → (c ≡ n) × (row ≡ r)
+    last le f = (grind (arith, common_steps, gets, size, le, f), grind (arith, common_steps, gets, size, le, f))
 
-      by : (c < n) ⊎ (n ≤ c) → slice_get (rows ++ row ∷ []) c ≡ Some r → IsFreshCell held place (cell_at plans c) r
-      by (inl lt) f = before c r (sym (earlier lt) ∙ f)
-      by (inr le) f = let z = last le f in subst (λ d. IsFreshCell held place (cell_at plans d) r) (sym z.0) (subst (λ (y : CellRow L). IsFreshCell held place (cell_at plans n) y) z.1 here)
+    by : (c < n) ⊎ (n ≤ c) → slice_get (rows ++ row ∷ []) c ≡ Some r → IsFreshCell held place (cell_at plans c) r
+    by (inl lt) f = before c r (sym (earlier lt) ∙ f)
+    by (inr le) f = let z = last le f in subst (λ d. IsFreshCell held place (cell_at plans d) r) (sym z.0) (subst (λ (y : CellRow L). IsFreshCell held place (cell_at plans n) y) z.1 here)
 
   cell_fresh : (plans : List CellPlan) (parties c : ℕ) (row : CellRow L) → IsFreshCell held place (cell_at plans c) row → IsCell held place (seen_at c (standing plans [])) (no_rows (length plans) parties) c row
   cell_fresh plans parties c row k =
@@ -81,28 +61,27 @@ module _ {L : Type 0} (held : L → Holders) (place : L → LockerKind) where
         guards = guards;
         guard_room = guard_room;
         turn_room = turn_room;
-      }
-    where
-      size : ℕ
-      size = length plan.cells.items
+      } where
+        size : ℕ
+        size = length plan.cells.items
 
-      stands : Stands held place (length v.guards.items) (standing plan.cells.items []) v
-      stands =
-          record {
-            cell = λ c row e. subst (λ (s : Parking). IsCell held place (seen_at c (standing plan.cells.items [])) s c row) (sym parks) (cell_fresh plan.cells.items plan.parties c row (cells.each c row e));
-            counted = λ c row e. (cells.each c row e).calm;
-            draft = λ c row e. (λ g x e w at. absurd (cc));
-            slot = λ g lt. absurd (let z = ap length guards in omega (arith, lt, z));
-            party = λ p lt. ap (λ xs. slice_get xs p) parties ∙ all_same plan.parties p idle_party (let z = ap length parties ∙ length-replicate plan.parties _ in omega (arith, lt, z));
-            exit = record { registry_is = registry; owner_is = owner; turns_are = turns; cells_are = length-replicate (length plan.cells.items) _ ∙ sym cells.count };
-            waits = subst (λ (s : Parking). AreShown (length v.cells.items) [] s) (sym parks) (record { shows = shows_fresh (length plan.cells.items) plan.parties; single = λ p. omega arith; within = λ r w e. absurd (cc) });
-            guards = record { once = λ g. omega arith; in_rows = λ g x e ne. absurd (cc); in_cells = λ g x e. absurd (cc) };
-            sections = tt;
-            sizes =
-                record {
-                  rows = ap (λ (s : Parking). length s.rows) parks ∙ length-replicate plan.parties _ ∙ sym (ap length parties ∙ length-replicate plan.parties _);
-                  readers = ap (λ (s : Parking). length s.readers) parks ∙ length-replicate (length plan.cells.items) _ ∙ sym cells.count;
-                  writers = ap (λ (s : Parking). length s.writers) parks ∙ length-replicate (length plan.cells.items) _ ∙ sym cells.count;
-                  few = subst (λ n. n < most_parties) (sym (ap (λ (s : Parking). length s.rows) parks ∙ length-replicate plan.parties _)) few;
-                };
-          }
+        stands : Stands held place (length v.guards.items) (standing plan.cells.items []) v
+        stands =
+            record {
+              cell = λ c row e. subst (λ (s : Parking). IsCell held place (seen_at c (standing plan.cells.items [])) s c row) (sym parks) (cell_fresh plan.cells.items plan.parties c row (cells.each c row e));
+              counted = λ c row e. (cells.each c row e).calm;
+              draft = λ c row e. (λ g x e w at. absurd (cc));
+              slot = λ g lt. absurd (let z = ap length guards in omega (arith, lt, z));
+              party = λ p lt. ap (λ xs. slice_get xs p) parties ∙ all_same plan.parties p idle_party (let z = ap length parties ∙ length-replicate plan.parties _ in omega (arith, lt, z));
+              exit = record { registry_is = registry; owner_is = owner; turns_are = turns; cells_are = length-replicate (length plan.cells.items) _ ∙ sym cells.count };
+              waits = subst (λ (s : Parking). AreShown (length v.cells.items) [] s) (sym parks) (record { shows = shows_fresh (length plan.cells.items) plan.parties; single = λ p. omega arith; within = λ r w e. absurd (cc) });
+              guards = record { once = λ g. omega arith; in_rows = λ g x e ne. absurd (cc); in_cells = λ g x e. absurd (cc) };
+              sections = tt;
+              sizes =
+                  record {
+                    rows = ap (λ (s : Parking). length s.rows) parks ∙ length-replicate plan.parties _ ∙ sym (ap length parties ∙ length-replicate plan.parties _);
+                    readers = ap (λ (s : Parking). length s.readers) parks ∙ length-replicate (length plan.cells.items) _ ∙ sym cells.count;
+                    writers = ap (λ (s : Parking). length s.writers) parks ∙ length-replicate (length plan.cells.items) _ ∙ sym cells.count;
+                    few = subst (λ n. n < most_parties) (sym (ap (λ (s : Parking). length s.rows) parks ∙ length-replicate plan.parties _)) few;
+                  };
+            }

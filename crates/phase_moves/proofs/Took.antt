@@ -1,68 +1,20 @@
 -- The rows stand for what is open after an attempt.
-use Rattle.std.proofs.Common.{◌≡◌, ◌≢◌, ◌==◌, ◌<◌, ◌≤◌, ◌+◌, ◌∙◌, ℕ, List, ◌∷◌, length, set, get_or, ap, sym, subst, refl, arith, Bool, true, false, None, Some}
-use Rattle.std.specs.Prelude.{if◌then◌else◌, ◌&&◌}
-use Rattle.std.specs.declared.option.Option.{Option}
-use Rattle.phase_bits.specs.declared.phase.Phase.{Phase}
-use Rattle.phase_bits.specs.declared.holders.Holders.{Holders}
-use Rattle.phase_bits.specs.Number.{phase_of, IsKnown}
-use Rattle.phase_bits.specs.Records.{most_readers}
-use Rattle.exit_registry.specs.Registry.{Registry, cells_of}
-use Rattle.phase_locker.specs.declared.ways.Given.{Given}
-use Rattle.phase_locker.specs.declared.ways.How.{How}
-use Rattle.phase_locker.specs.declared.ways.Who.{Who}
-use Rattle.phase_locker.specs.declared.ways.LockerKind.{LockerKind}
-use Rattle.phase_locker.specs.declared.tickets.ReadTicket.{ReadTicket}
-use Rattle.phase_locker.specs.declared.tickets.WriteTicket.{WriteTicket}
-use Rattle.phase_locker.specs.Natures.{write_ticket}
-use Rattle.phase_locker.specs.Rows.{Rows as Parking, freed}
-use Rattle.phase_locker.specs.Gifts.{rows_handed}
-use Rattle.phase_locker.specs.Attempts.{rows_waiting}
-use Rattle.phase_locker.specs.Left.{Left}
-use Rattle.phase_locker.specs.Stands.{Opens}
-use Rattle.phase_seq.specs.declared.ask.Ask.{Ask}
-use Rattle.phase_seq.specs.declared.section.Section.{Section as SeqSection}
-use Rattle.phase_seq.specs.declared.section.Begun.{Begun}
-use Rattle.phase_seq.specs.declared.section.Begun.TheVariants as begun
-use Rattle.phase_seq.specs.Begins.{is_cyclic, runs as seq_runs, section_by, running_after}
-use Rattle.phase_seq.specs.Exactly.{is_turned_back, is_run}
-use Rattle.phase_seq.specs.Phases.{flags_refused}
-use Rattle.phase_seq.specs.Stands.{BegunStands, begins_write, reads_begun}
-use Rattle.schedule_rules.specs.declared.plan.CellPlan.{CellPlan}
-use Rattle.schedule_rules.specs.Calls.{initializes}
-use Rattle.schedule_rules.specs.Kinds.{cell_at}
-use Rattle.schedule_rules.specs.Changes.{Content, Change, effect}
-use Rattle.schedule_rules.specs.History.{count}
-use Rattle.schedule_rules.specs.Sections.{Section, innermost, runs_in}
-use Rattle.schedule_rules.specs.Guards.{reader}
-use Rattle.schedule_rules.specs.Holds.{writes_cell}
-use Rattle.schedule_rules.specs.Waits.{wait_of, waits_at, without_wait, cell_of_section}
-use Rattle.schedule_rules.proofs.Opened.{wait_removed, wait_kept}
-use Rattle.waiting_rows.specs.Given.{given_on}
-use Rattle.waiting_rows.proofs.GivenOn.{none_on}
-use Rattle.phase_moves.specs.declared.rows.CellRow.{CellRow}
-use Rattle.phase_moves.specs.declared.rows.PartyRow.{PartyRow}
-use Rattle.phase_moves.specs.declared.rows.Target.{Target}
-use Rattle.phase_moves.specs.declared.rows.Rows.{Rows}
-use Rattle.phase_moves.specs.declared.rows.Taken.TheVariants as taken
-use Rattle.phase_moves.specs.Calls.{registry_for, registry_begun}
-use Rattle.phase_moves.specs.Standing.{Standing, Run, run_in, runner_of, reads_in, writes_in, changes_at, called, answered, waiting, guarded, opened, section_asked, writer_asked, registry_asked}
-use Rattle.phase_moves.specs.Stands.{KeepsDraft, Seen, seen_at, IsCell, IsExit, IsLocked, AreShown, party_row, open_run, run_as, stays_in, target_of}
-use Rattle.phase_moves.specs.Tries.{IsAttempting, IsTook, ask_of, phase_asked, taken_of}
-use Rattle.phase_moves.specs.declared.rows.Taken.{Taken}
-use Rattle.phase_moves.specs.Meets.{IsMet}
+use Rattle.phase_moves.proofs.Words.{◌≡◌, ◌≢◌, ◌==◌, ◌<◌, ◌≤◌, ◌+◌, ◌∙◌, ℕ, List, ◌∷◌, length, set, get_or, ap, sym, subst, refl, arith, Bool, true, false, None, Some}
+use Rattle.phase_moves.proofs.Words.{if◌then◌else◌, ◌&&◌, Option, Phase, Holders, phase_of, IsKnown, most_readers, Registry, cells_of, Given, How, Who, LockerKind, ReadTicket}
+use Rattle.phase_moves.proofs.Words.{WriteTicket, write_ticket, Parking, freed, rows_handed, rows_waiting, Left, Opens, Ask, SeqSection, Begun, is_cyclic, runs as seq_runs}
+use Rattle.phase_moves.proofs.Words.{section_by, running_after, is_turned_back, is_run, flags_refused, BegunStands, begins_write, reads_begun, CellPlan, initializes, cell_at}
+use Rattle.phase_moves.proofs.Words.{Content, Change, effect, count, Section, innermost, runs_in, reader, writes_cell, wait_of, waits_at, without_wait, cell_of_section}
+use Rattle.phase_moves.proofs.Words.{wait_removed, wait_kept, given_on, none_on, CellRow, PartyRow, Target, Rows, registry_for, registry_begun, Standing, Run, run_in}
+use Rattle.phase_moves.proofs.Words.{runner_of, reads_in, writes_in, changes_at, called, answered, waiting, guarded, opened, section_asked, writer_asked, registry_asked}
+use Rattle.phase_moves.proofs.Words.{KeepsDraft, Seen, seen_at, IsCell, IsExit, IsLocked, AreShown, party_row, open_run, run_as, stays_in, target_of, IsAttempting, IsTook}
+use Rattle.phase_moves.proofs.Words.{ask_of, phase_asked, taken_of, Taken, IsMet}
 use Rattle.phase_moves.proofs.Asked.{IsAsked, declined, declines_same, asked_left, is_asked, own_same, told_same, registry_still}
 use Rattle.phase_moves.proofs.Attempts.{IsBegun, Tells, declines, phase_left, phase_told, rows_begun, writes_begun, wrote}
-use Rattle.phase_moves.proofs.Calling.{answered_moved}
-use Rattle.phase_moves.proofs.Drafts.{keeps_first, keeps_reader, keeps_still, shown_still}
-use Rattle.phase_moves.proofs.Guards.{target_given}
-use Rattle.phase_moves.proofs.Known.{effect_known}
-use Rattle.phase_moves.proofs.Lockers.{handed_writers}
-use Rattle.phase_moves.proofs.Moved.{IsMoved, HasParties, parties_set, moved}
-use Rattle.phase_moves.proofs.Opening.{guard_opened, seen_reader, seen_writer, as_many, no_more, opens, section_opened, wrote_all}
-use Rattle.phase_moves.proofs.Parking.{shown_called, shown_waiting, freed_writers, waiting_writers}
-use Rattle.phase_moves.proofs.Places.{itself_eq, read_at}
-use Rattle.phase_moves.proofs.Runs.{none_runs}
-use Rattle.phase_moves.proofs.Waiting.{count_beside, count_elsewhere, count_one_more, waited_here}
+use Rattle.phase_moves.proofs.Opening.{guard_opened, seen_reader, seen_writer, no_more, opens, section_opened, wrote_all}
+use Rattle.phase_moves.proofs.{Calling.answered_moved, Drafts.keeps_first, Drafts.keeps_reader, Drafts.keeps_still, Drafts.shown_still, Guards.target_given}
+use Rattle.phase_moves.proofs.{Known.effect_known, Lockers.handed_writers, Moved.IsMoved, Moved.HasParties, Moved.parties_set, Moved.moved, Parking.shown_called}
+use Rattle.phase_moves.proofs.{Parking.shown_waiting, Parking.freed_writers, Parking.waiting_writers, Places.itself_eq, Places.read_at, Runs.none_runs, Waiting.count_beside}
+use Rattle.phase_moves.proofs.Waiting.{count_elsewhere, count_one_more, waited_here}
 
 module _ {L : Type 0} (held : L → Holders) (place : L → LockerKind) where
   module _ (m : Standing) (v v' : Rows L) (p : ℕ) (t : Target) (waits : Bool) (is : IsAttempting held place m v p t waits) (row row' : CellRow L) (row_is : row ≡ get_or v.cells.items t.cell row) (of of' : PartyRow) (of_is : of ≡ get_or v.parties.items p of)
@@ -124,9 +76,7 @@ module _ {L : Type 0} (held : L → Holders) (place : L → LockerKind) where
     -- ---- the registry
 
     pub exit_with : (r : Registry) → v'.exit.registry ≡ r → cells_of r ≡ cells_of m.registry → IsExit (length v.cells.items) (record m { registry = r }) v'.exit
-    exit_with r e n_is =
-        let z = is.rests.stands.exit in
-        record { registry_is = e; owner_is = owner ∙ z.owner_is; turns_are = ap (λ (ts : _). ts.items) turns ∙ z.turns_are; cells_are = n_is ∙ z.cells_are }
+    exit_with r e n_is = grind arith
 
     pub exit_still : is_run b ≡ false → IsExit (length v.cells.items) m v'.exit
     exit_still e = exit_with m.registry (registry ∙ registry_still row.plan.kind t.cell (held row.seq.locker).phase b v.exit.registry e ∙ is.rests.stands.exit.registry_is) refl
@@ -151,34 +101,7 @@ module _ {L : Type 0} (held : L → Holders) (place : L → LockerKind) where
       -- what holds of the number of readers, and what it met
       module _ (few : (held row'.seq.locker).readers ≤ most_readers) (tell : (z : Taken) → taken_of b ≡ z → IsMet p t z g m) where
         locked_called : (q : ℕ) → (held row'.seq.locker).phase ≡ phase_of q → IsLocked (place row'.seq.locker) (held row'.seq.locker) v'.parks t.cell (reads_in t.cell m + reads_begun b) (writes_in t.cell m + writes_begun b) q
-        locked_called q phase = by (begins_write b) refl
-          where
-            by : (o : Bool) → begins_write b ≡ o → IsLocked (place row'.seq.locker) (held row'.seq.locker) v'.parks t.cell (reads_in t.cell m + reads_begun b) (writes_in t.cell m + writes_begun b) q
-            by false e =
-                let l = cell_here.locked in
-                let z : writes_begun b ≡ 0 = as_many b false e in
-                record {
-                  fits = k.fits;
-                  phase_is = phase;
-                  reads_are = (let a = l.reads_are in let c = op.reads in omega (arith, a, c));
-                  write_is = λ lt. op.writes (l.write_is (omega (arith, z, lt)));
-                  write_was = λ w. (let lt = l.write_was (op.only e w) in omega (arith, lt));
-                  one = (let o = l.one in omega (arith, o, z));
-                  limit = few;
-                }
-            by true e =
-                let l = cell_here.locked in
-                let z : writes_begun b ≡ 1 = as_many b true e in
-                let none = was_none (wrote_all _ b e) in
-                record {
-                  fits = k.fits;
-                  phase_is = phase;
-                  reads_are = (let a = l.reads_are in let c = op.reads in omega (arith, a, c));
-                  write_is = λ lt. opens who b _ _ _ e stands;
-                  write_was = λ w. omega (arith, z);
-                  one = omega (arith, z, none);
-                  limit = few;
-                }
+        locked_called q phase = grind (arith, writes_begun, cell_here, was_none, wrote_all, opens)
 
         -- the row of the cell
         cell_as : (m' : Standing) (z : Content) (o : Option Run) → seen_at t.cell m' ≡ record { plan = x; content = z; reads = reads_in t.cell m + reads_begun b; writes = writes_in t.cell m + writes_begun b; run = o }
@@ -233,11 +156,9 @@ module _ {L : Type 0} (held : L → Holders) (place : L → LockerKind) where
         kept_called same = keeps_still t.cell m row (called p t.cell g m) row' (is.rests.stands.draft t.cell row (read_at v.cells.items t.cell row is.cell row_is)) same refl (λ j z e w. e) (λ j z e w. refl)
 
         kept_answered : wrote true b ≡ true → row'.draft ≡ row.draft → KeepsDraft t.cell (answered p t.cell g chs m) row'
-        kept_answered had same = keeps_still t.cell m row (answered p t.cell g chs m) row' (is.rests.stands.draft t.cell row (read_at v.cells.items t.cell row is.cell row_is)) same refl (λ j z e w. e) (shown_still t.cell m now now_beside (λ some. by some (declined x t.want m.registry.is_open y.phase) refl))
-          where
-            by : count (writes_cell t.cell) m.guards ≢ 0 → (o : Bool) → declined x t.want m.registry.is_open y.phase ≡ o → now t.cell ≡ y
-            by some false f = now_calm f
-            by some true f = let none = was_none (ap (λ b'. wrote b' b) (d_is ∙ f) ∙ had) in absurd (some (omega (arith, none)))
+        kept_answered had same = keeps_still t.cell m row (answered p t.cell g chs m) row' (is.rests.stands.draft t.cell row (read_at v.cells.items t.cell row is.cell row_is)) same refl (λ j z e w. e) (shown_still t.cell m now now_beside (λ some. by some (declined x t.want m.registry.is_open y.phase) refl)) where
+          by : count (writes_cell t.cell) m.guards ≢ 0 → (o : Bool) → declined x t.want m.registry.is_open y.phase ≡ o → now t.cell ≡ y
+          by some o f = grind (arith, now_calm, was_none, wrote, d_is)
 
         -- ---- the rows of parties
 
@@ -267,14 +188,7 @@ module _ {L : Type 0} (held : L → Holders) (place : L → LockerKind) where
 
         -- the section that runs was asked at the phase that is published: where that changes none runs
         runs_now : wrote true b ≡ true → row'.run ≡ row.run → row'.run ≡ open_run x t.cell (effect x chs y).phase (run_in t.cell m.sections)
-        runs_now had e = e ∙ cell_here.runs ∙ by (declined x t.want m.registry.is_open y.phase) refl
-          where
-            by : (o : Bool) → declined x t.want m.registry.is_open y.phase ≡ o → open_run x t.cell y.phase (run_in t.cell m.sections) ≡ open_run x t.cell (effect x chs y).phase (run_in t.cell m.sections)
-            by false f = ap (λ (z : Content). open_run x t.cell z.phase (run_in t.cell m.sections)) (sym (left_is ∙ ap (λ b. record { phase = if b then flags_refused else y.phase; value = y.value }) f))
-            by true f =
-                let none = was_none (ap (λ b'. wrote b' b) (d_is ∙ f) ∙ had) in
-                let no_run = none_runs t.cell m.sections (omega (arith, none)) in
-                ap (open_run x t.cell y.phase) no_run ∙ ap (open_run x t.cell (effect x chs y).phase) (sym no_run)
+        runs_now had e = grind (arith, cell_here, declined, left_is, was_none, wrote, d_is, none_runs)
 
         abbrev seen_as : Content → ℕ → ℕ → Option Run → Seen
         seen_as z r w o = record { plan = x; content = z; reads = reads_in t.cell m + r; writes = writes_in t.cell m + w; run = o }
@@ -290,75 +204,72 @@ module _ {L : Type 0} (held : L → Holders) (place : L → LockerKind) where
 
         -- ---- the arms
 
-        pub took_nothing : (q : Phase) → b ≡ begun.Nothing q → of' ≡ record { waiting = None; innermost = of.innermost } → row'.run ≡ row.run → row'.waiting ≡ count (waits_at t.cell) (given_on t.cell g (without_wait p m.waits)) → row'.draft ≡ row.draft → IsTook held place m v p t (taken.Nothing q) g v'
+        pub took_nothing : (q : Phase) → b ≡ Begun.Nothing q → of' ≡ record { waiting = None; innermost = of.innermost } → row'.run ≡ row.run → row'.waiting ≡ count (waits_at t.cell) (given_on t.cell g (without_wait p m.waits)) → row'.draft ≡ row.draft → IsTook held place m v p t (Taken.Nothing q) g v'
         took_nothing q e o run many draft =
             let had : wrote true b ≡ true = ap (wrote true) e in record {
               stands = moved held place t.cell n n m (answered p t.cell g chs m) v v' row' is.rests.stands is.cell cells
-                  (cell_as (answered p t.cell g chs m) (effect x chs y) (run_in t.cell m.sections) (seen_now ∙ with_holds (effect x chs y) 0 0 (run_in t.cell m.sections) (ap reads_begun e) (ap writes_begun e)) (phase_as (begun.Nothing q) e ∙ told_phase) value_now known_now (kept_runner (ap (λ x. running_after x row.seq.running) e)) (runs_now had run)) many (kept_answered had draft)
-                  (publishes (exit_still (ap is_run e)) (rows_as (begun.Nothing q) e)) (called_parties (answered p t.cell g chs m) refl refl o);
-              told = told_as (begun.Nothing q) e ∙ told_phase;
-              cyclic = cyclic_as (begun.Nothing q) e;
-              met = tell (taken.Nothing q) (ap taken_of e);
+                  (cell_as (answered p t.cell g chs m) (effect x chs y) (run_in t.cell m.sections) (seen_now ∙ with_holds (effect x chs y) 0 0 (run_in t.cell m.sections) (ap reads_begun e) (ap writes_begun e)) (phase_as (Begun.Nothing q) e ∙ told_phase) value_now known_now (kept_runner (ap (λ x. running_after x row.seq.running) e)) (runs_now had run)) many (kept_answered had draft)
+                  (publishes (exit_still (ap is_run e)) (rows_as (Begun.Nothing q) e)) (called_parties (answered p t.cell g chs m) refl refl o);
+              told = told_as (Begun.Nothing q) e ∙ told_phase;
+              cyclic = cyclic_as (Begun.Nothing q) e;
+              met = tell (Taken.Nothing q) (ap taken_of e);
             }
 
-        pub took_read : (l : ReadTicket) (q : Phase) → b ≡ begun.Read l q → of' ≡ record { waiting = None; innermost = of.innermost } → row'.run ≡ row.run → row'.waiting ≡ count (waits_at t.cell) (given_on t.cell g (without_wait p m.waits)) → row'.draft ≡ row.draft → IsTook held place m v p t (taken.Read l q) g v'
+        pub took_read : (l : ReadTicket) (q : Phase) → b ≡ Begun.Read l q → of' ≡ record { waiting = None; innermost = of.innermost } → row'.run ≡ row.run → row'.waiting ≡ count (waits_at t.cell) (given_on t.cell g (without_wait p m.waits)) → row'.draft ≡ row.draft → IsTook held place m v p t (Taken.Read l q) g v'
         took_read l q e o run many draft =
             let had : wrote true b ≡ true = ap (wrote true) e in record {
               stands = moved held place t.cell n n m (guarded (reader n p t.cell) (answered p t.cell g chs m)) v v' row' is.rests.stands is.cell cells
-                  (cell_as (guarded (reader n p t.cell) (answered p t.cell g chs m)) (effect x chs y) (run_in t.cell m.sections) (seen ∙ with_holds (effect x chs y) 1 0 (run_in t.cell m.sections) (ap reads_begun e) (ap writes_begun e)) (phase_as (begun.Read l q) e ∙ told_phase) value_now known_now (kept_runner (ap (λ x. running_after x row.seq.running) e)) (runs_now had run)) many (keeps_reader t.cell (answered p t.cell g chs m) row' n p (kept_answered had draft))
-                  (guard_opened held place t.cell n n n m (answered p t.cell g chs m) v v' (reader n p t.cell) (publishes (exit_still (ap is_run e)) (rows_as (begun.Read l q) e)) refl refl (omega arith) is.rests.empty is.rests.empty is.cell)
+                  (cell_as (guarded (reader n p t.cell) (answered p t.cell g chs m)) (effect x chs y) (run_in t.cell m.sections) (seen ∙ with_holds (effect x chs y) 1 0 (run_in t.cell m.sections) (ap reads_begun e) (ap writes_begun e)) (phase_as (Begun.Read l q) e ∙ told_phase) value_now known_now (kept_runner (ap (λ x. running_after x row.seq.running) e)) (runs_now had run)) many (keeps_reader t.cell (answered p t.cell g chs m) row' n p (kept_answered had draft))
+                  (guard_opened held place t.cell n n n m (answered p t.cell g chs m) v v' (reader n p t.cell) (publishes (exit_still (ap is_run e)) (rows_as (Begun.Read l q) e)) refl refl (omega arith) is.rests.empty is.rests.empty is.cell)
                   (called_parties (guarded (reader n p t.cell) (answered p t.cell g chs m)) refl refl o);
-              told = told_as (begun.Read l q) e ∙ told_phase;
-              cyclic = cyclic_as (begun.Read l q) e;
-              met = tell (taken.Read l q) (ap taken_of e);
-            }
-          where
-            seen : seen_at t.cell (guarded (reader n p t.cell) (answered p t.cell g chs m)) ≡ seen_as (effect x chs y) 1 0 (run_in t.cell m.sections)
-            seen =
-                seen_reader n p t.cell (answered p t.cell g chs m)
-                ∙ (let w : writes_in t.cell m ≡ writes_in t.cell m + 0 = omega arith in λ i. record { plan = x; content = now_here i; reads = reads_in t.cell m + 1; writes = w i; run = run_in t.cell m.sections })
+              told = told_as (Begun.Read l q) e ∙ told_phase;
+              cyclic = cyclic_as (Begun.Read l q) e;
+              met = tell (Taken.Read l q) (ap taken_of e);
+            } where
+              seen : seen_at t.cell (guarded (reader n p t.cell) (answered p t.cell g chs m)) ≡ seen_as (effect x chs y) 1 0 (run_in t.cell m.sections)
+              seen =
+                  seen_reader n p t.cell (answered p t.cell g chs m)
+                  ∙ (let w : writes_in t.cell m ≡ writes_in t.cell m + 0 = omega arith in λ i. record { plan = x; content = now_here i; reads = reads_in t.cell m + 1; writes = w i; run = run_in t.cell m.sections })
 
-        pub took_write : (l : WriteTicket) (q : Phase) → b ≡ begun.Write l q → of' ≡ record { waiting = None; innermost = of.innermost } → row'.run ≡ row.run → row'.waiting ≡ count (waits_at t.cell) (given_on t.cell g (without_wait p m.waits)) → row'.draft ≡ record { phase = q; value = row.value } → IsTook held place m v p t (taken.Write l q) g v'
+        pub took_write : (l : WriteTicket) (q : Phase) → b ≡ Begun.Write l q → of' ≡ record { waiting = None; innermost = of.innermost } → row'.run ≡ row.run → row'.waiting ≡ count (waits_at t.cell) (given_on t.cell g (without_wait p m.waits)) → row'.draft ≡ record { phase = q; value = row.value } → IsTook held place m v p t (Taken.Write l q) g v'
         took_write l q e o run many draft =
             record {
               stands = moved held place t.cell n n m (guarded (writer_asked n p t.cell chs) (called p t.cell g m)) v v' row' is.rests.stands is.cell cells
-                  (cell_as (guarded (writer_asked n p t.cell chs) (called p t.cell g m)) y (run_in t.cell m.sections) (seen ∙ with_holds y 0 1 (run_in t.cell m.sections) (ap reads_begun e) (ap writes_begun e)) (kept_phase (phase_as (begun.Write l q) e)) refl cell_here.known (kept_runner (ap (λ x. running_after x row.seq.running) e)) (run ∙ cell_here.runs)) many (keeps_first t.cell (called p t.cell g m) row' (writer_asked n p t.cell chs) unwritten (draft ∙ (λ i. record { phase = (told_as (begun.Write l q) e ∙ told_phase) i; value = (cell_here.valued ∙ sym value_now) i })))
-                  (guard_opened held place t.cell n n n m (called p t.cell g m) v v' (writer_asked n p t.cell chs) (called_moved m.registry (exit_still (ap is_run e)) (rows_as (begun.Write l q) e)) refl refl (omega arith) is.rests.empty is.rests.empty is.cell)
+                  (cell_as (guarded (writer_asked n p t.cell chs) (called p t.cell g m)) y (run_in t.cell m.sections) (seen ∙ with_holds y 0 1 (run_in t.cell m.sections) (ap reads_begun e) (ap writes_begun e)) (kept_phase (phase_as (Begun.Write l q) e)) refl cell_here.known (kept_runner (ap (λ x. running_after x row.seq.running) e)) (run ∙ cell_here.runs)) many (keeps_first t.cell (called p t.cell g m) row' (writer_asked n p t.cell chs) unwritten (draft ∙ (λ i. record { phase = (told_as (Begun.Write l q) e ∙ told_phase) i; value = (cell_here.valued ∙ sym value_now) i })))
+                  (guard_opened held place t.cell n n n m (called p t.cell g m) v v' (writer_asked n p t.cell chs) (called_moved m.registry (exit_still (ap is_run e)) (rows_as (Begun.Write l q) e)) refl refl (omega arith) is.rests.empty is.rests.empty is.cell)
                   (called_parties (guarded (writer_asked n p t.cell chs) (called p t.cell g m)) refl refl o);
-              told = told_as (begun.Write l q) e ∙ told_phase;
-              cyclic = cyclic_as (begun.Write l q) e;
-              met = tell (taken.Write l q) (ap taken_of e);
-            }
-          where
-            unwritten : count (writes_cell t.cell) m.guards ≡ 0
-            unwritten = let none = was_none (ap (wrote _) e) in omega (arith, none)
+              told = told_as (Begun.Write l q) e ∙ told_phase;
+              cyclic = cyclic_as (Begun.Write l q) e;
+              met = tell (Taken.Write l q) (ap taken_of e);
+            } where
+              unwritten : count (writes_cell t.cell) m.guards ≡ 0
+              unwritten = let none = was_none (ap (wrote _) e) in omega (arith, none)
 
-            seen : seen_at t.cell (guarded (writer_asked n p t.cell chs) (called p t.cell g m)) ≡ seen_as y 0 1 (run_in t.cell m.sections)
-            seen =
-                seen_writer n p t.cell chs (called p t.cell g m)
-                ∙ (let r : reads_in t.cell m ≡ reads_in t.cell m + 0 = omega arith in λ i. record { plan = x; content = y; reads = r i; writes = writes_in t.cell m + 1; run = run_in t.cell m.sections })
+              seen : seen_at t.cell (guarded (writer_asked n p t.cell chs) (called p t.cell g m)) ≡ seen_as y 0 1 (run_in t.cell m.sections)
+              seen =
+                  seen_writer n p t.cell chs (called p t.cell g m)
+                  ∙ (let r : reads_in t.cell m ≡ reads_in t.cell m + 0 = omega arith in λ i. record { plan = x; content = y; reads = r i; writes = writes_in t.cell m + 1; run = run_in t.cell m.sections })
 
         abbrev waiting_m : How → Standing
         waiting_m way = waiting p t.cell t.want way (called p t.cell g m)
 
-        pub took_wait : (way : How) → b ≡ begun.Wait way → of' ≡ record { waiting = Some (record { cell = t.cell; want = t.want }); innermost = of.innermost } → row'.run ≡ row.run → row'.waiting ≡ count (waits_at t.cell) (given_on t.cell g (without_wait p m.waits)) + 1 → row'.draft ≡ row.draft → IsTook held place m v p t (taken.Wait way) g v'
+        pub took_wait : (way : How) → b ≡ Begun.Wait way → of' ≡ record { waiting = Some (record { cell = t.cell; want = t.want }); innermost = of.innermost } → row'.run ≡ row.run → row'.waiting ≡ count (waits_at t.cell) (given_on t.cell g (without_wait p m.waits)) + 1 → row'.draft ≡ row.draft → IsTook held place m v p t (Taken.Wait way) g v'
         took_wait way e o run many draft =
             record {
               stands = moved held place t.cell n n m (waiting_m way) v v' row' is.rests.stands is.cell cells
-                  (cell_as (waiting_m way) y (run_in t.cell m.sections) (seen_still y ∙ with_holds y 0 0 (run_in t.cell m.sections) (ap reads_begun e) (ap writes_begun e)) (kept_phase (phase_as (begun.Wait way) e)) refl cell_here.known (kept_runner (ap (λ x. running_after x row.seq.running) e)) (run ∙ cell_here.runs)) (many ∙ sym (count_one_more (record { party = p; cell = t.cell; want = t.want; way = way; woken = false }) (called p t.cell g m).waits)) (kept_called draft)
-                  (waiting_moved way (exit_still (ap is_run e)) (rows_as (begun.Wait way) e))
+                  (cell_as (waiting_m way) y (run_in t.cell m.sections) (seen_still y ∙ with_holds y 0 0 (run_in t.cell m.sections) (ap reads_begun e) (ap writes_begun e)) (kept_phase (phase_as (Begun.Wait way) e)) refl cell_here.known (kept_runner (ap (λ x. running_after x row.seq.running) e)) (run ∙ cell_here.runs)) (many ∙ sym (count_one_more (record { party = p; cell = t.cell; want = t.want; way = way; woken = false }) (called p t.cell g m).waits)) (kept_called draft)
+                  (waiting_moved way (exit_still (ap is_run e)) (rows_as (Begun.Wait way) e))
                   (parties_set held place n m (waiting_m way) v v' p of' is.rests.stands parties (o ∙ (λ i. record { waiting = Some (record { cell = t.cell; want = t.want }); innermost = (of_here i).innermost }) ∙ ap (λ w. record { waiting = target_of w; innermost = (party_row m p).innermost }) (sym itself))
                   (λ q ne. (λ i. record { waiting = target_of (beside q ne i); innermost = (party_row m q).innermost }) ∙ (λ i. record { waiting = others_wait q ne i; innermost = (party_row m q).innermost })));
               told = tt;
-              cyclic = cyclic_as (begun.Wait way) e;
-              met = tell (taken.Wait way) (ap taken_of e);
-            }
-          where
-            itself : wait_of p (waiting_m way).waits ≡ Some (record { party = p; cell = t.cell; want = t.want; way = way; woken = false })
-            itself = let q = itself_eq p in rw q refl
+              cyclic = cyclic_as (Begun.Wait way) e;
+              met = tell (Taken.Wait way) (ap taken_of e);
+            } where
+              itself : wait_of p (waiting_m way).waits ≡ Some (record { party = p; cell = t.cell; want = t.want; way = way; woken = false })
+              itself = let q = itself_eq p in rw q refl
 
-            beside : (q : ℕ) → q ≢ p → wait_of q (waiting_m way).waits ≡ wait_of q (called p t.cell g m).waits
-            beside q ne = let f : (p == q) ≡ false = grind (arith, ne) in rw f refl
+              beside : (q : ℕ) → q ≢ p → wait_of q (waiting_m way).waits ≡ wait_of q (called p t.cell g m).waits
+              beside q ne = let f : (p == q) ≡ false = grind (arith, ne) in rw f refl
 
         -- a section that runs
         abbrev sec : Section
@@ -368,7 +279,7 @@ module _ {L : Type 0} (held : L → Holders) (place : L → LockerKind) where
         run_r = record { section = section_asked n p t.cell t.want m; outer = cell_of_section (innermost p m.sections) }
 
         pub took_run : (s : SeqSection) → reads_begun b ≡ 0 → writes_begun b ≡ 1 → (held row'.seq.locker).phase ≡ (held row.seq.locker).phase → v'.parks ≡ rows_handed t.cell g (freed p v.parks) → IsExit (length v.cells.items) (record m { registry = registry_asked t.cell t.want m }) v'.exit → row'.seq.running ≡ runner_of (Some run_r)
-            → s ≡ section_by who (run_as x.kind t.want) (stays_in x t.want m.registry.is_open y.phase) write_ticket → false ≡ (initializes x.kind t.want && seq_runs p (runner_of (run_in t.cell m.sections))) → IsMet p t taken.Runs g m → of' ≡ record { waiting = None; innermost = Some t.cell } → row'.run ≡ Some (record { run = record { party = p; want = t.want; outer = of.innermost }; section = s }) → row'.waiting ≡ count (waits_at t.cell) (given_on t.cell g (without_wait p m.waits)) → row'.draft ≡ row.draft → IsTook held place m v p t taken.Runs g v'
+            → s ≡ section_by who (run_as x.kind t.want) (stays_in x t.want m.registry.is_open y.phase) write_ticket → false ≡ (initializes x.kind t.want && seq_runs p (runner_of (run_in t.cell m.sections))) → IsMet p t Taken.Runs g m → of' ≡ record { waiting = None; innermost = Some t.cell } → row'.run ≡ Some (record { run = record { party = p; want = t.want; outer = of.innermost }; section = s }) → row'.waiting ≡ count (waits_at t.cell) (given_on t.cell g (without_wait p m.waits)) → row'.draft ≡ row.draft → IsTook held place m v p t Taken.Runs g v'
         took_run s none one phase rows exit runner section turned told o run many draft =
             record {
               stands = moved held place t.cell n n m run_m v v' row' is.rests.stands is.cell cells
@@ -379,20 +290,18 @@ module _ {L : Type 0} (held : L → Holders) (place : L → LockerKind) where
               told = tt;
               cyclic = turned;
               met = told;
-            }
-          where
-            run_m : Standing
-            run_m = opened (section_asked n p t.cell t.want m) (registry_asked t.cell t.want m) (called p t.cell g m)
+            } where
+              run_m : Standing
+              run_m = opened (section_asked n p t.cell t.want m) (registry_asked t.cell t.want m) (called p t.cell g m)
 
-            seen : seen_at t.cell (opened (section_asked n p t.cell t.want m) (registry_asked t.cell t.want m) (called p t.cell g m)) ≡ seen_as y 0 1 (Some run_r)
-            seen =
-                let q = itself_eq t.cell in
-                let r : reads_in t.cell m ≡ reads_in t.cell m + 0 = omega arith in
-                let w : count (writes_cell t.cell) m.guards + (count (runs_in t.cell) m.sections + 1) ≡ writes_in t.cell m + 1 = omega arith in
-                rw q (λ i. record { plan = x; content = y; reads = r i; writes = w i; run = Some run_r })
+              seen : seen_at t.cell (opened (section_asked n p t.cell t.want m) (registry_asked t.cell t.want m) (called p t.cell g m)) ≡ seen_as y 0 1 (Some run_r)
+              seen =
+                  let q = itself_eq t.cell in let r : reads_in t.cell m ≡ reads_in t.cell m + 0 = omega arith in
+                  let w : count (writes_cell t.cell) m.guards + (count (runs_in t.cell) m.sections + 1) ≡ writes_in t.cell m + 1 = omega arith in
+                  rw q (λ i. record { plan = x; content = y; reads = r i; writes = w i; run = Some run_r })
 
-            itself : innermost p (sec ∷ m.sections) ≡ Some sec
-            itself = let q = itself_eq p in rw q refl
+              itself : innermost p (sec ∷ m.sections) ≡ Some sec
+              itself = let q = itself_eq p in rw q refl
 
-            beside : (q : ℕ) → q ≢ p → innermost q (sec ∷ m.sections) ≡ innermost q m.sections
-            beside q ne = let f : (p == q) ≡ false = grind (arith, ne) in rw f refl
+              beside : (q : ℕ) → q ≢ p → innermost q (sec ∷ m.sections) ≡ innermost q m.sections
+              beside q ne = let f : (p == q) ≡ false = grind (arith, ne) in rw f refl

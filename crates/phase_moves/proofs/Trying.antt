@@ -1,33 +1,8 @@
 -- What the code reads of the cell before an attempt.
-use Rattle.std.proofs.Common.{◌≡◌, ◌≢◌, ◌<◌, ◌∙◌, ℕ, length, get_or, ap, sym, subst, arith, Bool, true, false, None, Some, inl, inr}
-use Rattle.std.specs.Prelude.{MatchBool}
-use Rattle.std.proofs.lemmas.Bool.{cases_lt}
-use Rattle.std.specs.declared.option.Option.{Option}
-use Rattle.phase_bits.specs.declared.holders.Holders.{Holders}
-use Rattle.phase_bits.specs.Number.{number}
-use Rattle.phase_locker.specs.declared.ways.LockerKind.{LockerKind}
-use Rattle.phase_locker.specs.declared.ways.Row.{Row}
-use Rattle.phase_locker.specs.declared.ways.Waiting.TheVariants as waiting_as
-use Rattle.phase_locker.specs.Rows.{row_of}
-use Rattle.phase_locker.specs.Fits.{Fits, IsWriteOpen}
-use Rattle.phase_locker.specs.Stands.{MayCall, MayCallAgain}
-use Rattle.phase_seq.specs.declared.ask.Ask.{Ask}
-use Rattle.phase_seq.specs.Registers.{MayRegister}
-use Rattle.schedule_rules.specs.declared.plan.CellPlan.{CellPlan}
-use Rattle.lazy_cells.specs.Kinds.{is_finalizable}
-use Rattle.schedule_rules.specs.Kinds.{cell_at}
-use Rattle.schedule_rules.specs.Waits.{Wait, wait_of}
-use Rattle.waiting_rows.specs.Shown.{wait_row}
-use Rattle.waiting_rows.proofs.RowCounts.{never_free}
-use Rattle.phase_moves.specs.declared.rows.CellRow.{CellRow}
-use Rattle.phase_moves.specs.declared.rows.Target.{Target}
-use Rattle.phase_moves.specs.declared.rows.Rows.{Rows}
-use Rattle.phase_moves.specs.Calls.{Calling}
-use Rattle.phase_moves.specs.Standing.{Standing, writes_in}
-use Rattle.phase_moves.specs.Stands.{seen_at, IsCell}
-use Rattle.phase_moves.specs.Tries.{IsAttempting, WaitsAt, ask_of, has_want, is_quick}
-use Rattle.phase_moves.proofs.Asked.{is_asked}
-use Rattle.phase_moves.proofs.Places.{read_at}
+use Rattle.phase_moves.proofs.Words.{◌≡◌, ◌∙◌, ℕ, get_or, ap, arith, Bool, true, false, None, Some, MatchBool, cases_lt, Holders, LockerKind, Fits, MayCall, MayCallAgain, Ask}
+use Rattle.phase_moves.proofs.Words.{MayRegister, CellPlan, is_finalizable, wait_of, CellRow, Target, Rows, Calling, Standing, seen_at, IsCell, IsAttempting, WaitsAt, ask_of}
+use Rattle.phase_moves.proofs.Words.{has_want, is_quick}
+use Rattle.phase_moves.proofs.{Asked.is_asked, Places.read_at}
 
 module _ {L : Type 0} (held : L → Holders) (place : L → LockerKind) (m : Standing) (v : Rows L) (p : ℕ) (t : Target) (waits : Bool) (is : IsAttempting held place m v p t waits) (row : CellRow L) (row_is : row ≡ get_or v.cells.items t.cell row) where
   here : IsCell held place (seen_at t.cell m) v.parks t.cell row
@@ -45,28 +20,9 @@ module _ {L : Type 0} (held : L → Holders) (place : L → LockerKind) (m : Sta
   may_wait ask e w = (is_asked row.plan t.want ask e).fast ∙ ap (λ (x : CellPlan). is_quick x t.want) here.planned ∙ (is.waits_so w).slow
 
   pub may_call : Calling waits (record { cell = t.cell; party = p }) v.parks
-  may_call = by waits is.waited
-    where
-      cell_in : t.cell < length v.parks.readers
-      cell_in = let a = is.cell in let d = is.rests.stands.sizes.readers in omega (arith, a, d)
-
-      party_in : p < length v.parks.rows
-      party_in = let a = is.party in let d = is.rests.stands.sizes.rows in omega (arith, a, d)
-
-      waiting_at : (o : Option Wait) → row_of v.parks p ≡ wait_row o → WaitsAt t.cell o → ((row_of v.parks p).waiting ≢ waiting_as.Free) × ((row_of v.parks p).cell ≡ t.cell)
-      waiting_at None e w = absurd w
-      waiting_at (Some x) e w = (λ f. never_free x.way x.woken (sym (ap (λ (r : Row). r.waiting) e) ∙ f), ap (λ (r : Row). r.cell) e ∙ w)
-
-      by : (b : Bool) → MatchBool b (WaitsAt t.cell (wait_of p m.waits)) (wait_of p m.waits ≡ None) → MatchBool b (MayCallAgain (record { cell = t.cell; party = p }) v.parks) (MayCall (record { cell = t.cell; party = p }) v.parks)
-      by true w = (let k = waiting_at (wait_of p m.waits) (is.rests.stands.waits.shows.row p) w in record { cell = cell_in; party = party_in; waits = k.0; here = k.1 })
-      by false w = record { cell = cell_in; party = party_in; free = ap (λ (r : Row). r.waiting) (is.rests.stands.waits.shows.row p ∙ ap wait_row w) }
+  may_call = by waits is.waited where
+    by : (b : Bool) → MatchBool b (WaitsAt t.cell (wait_of p m.waits)) (wait_of p m.waits ≡ None) → MatchBool b (MayCallAgain (record { cell = t.cell; party = p }) v.parks) (MayCall (record { cell = t.cell; party = p }) v.parks)
+    by b w = grind arith
 
   pub may_register : is_finalizable row.plan.kind ≡ true → MayRegister t.cell (held row.seq.locker) v.parks v.exit.registry
-  may_register e =
-      let x = is.rests.stands.exit in
-      let sure : is_finalizable (cell_at m.plans t.cell).kind ≡ true = ap (λ (c : CellPlan). is_finalizable c.kind) (sym here.planned) ∙ e in
-      subst (λ r. MayRegister t.cell (held row.seq.locker) v.parks r) (sym x.registry_is)
-      (record { inside = (let a = is.cell in let c = x.cells_are in omega (arith, a, c)); unknown = λ z closed. is.unknown sure (sym (ap number here.locked.phase_is) ∙ z) (none closed) })
-    where
-      none : (IsWriteOpen (held row.seq.locker) v.parks t.cell → ⊥) → writes_in t.cell m ≡ 0
-      none closed = elim (cases_lt 0 (writes_in t.cell m)) [ inl lt ↦ absurd (closed (here.locked.write_is lt)) | inr le ↦ omega (arith, le) ]
+  may_register e = grind (arith, here, cases_lt)

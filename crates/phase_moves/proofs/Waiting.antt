@@ -1,74 +1,31 @@
 -- How many calls and turns wait at a cell.
-use Rattle.std.proofs.Common.{◌∷◌, ◌≡◌, ◌≢◌, ◌==◌, ◌<◌, ◌≤◌, ◌+◌, ◌∙◌, ℕ, List, length, ap, sym, refl, arith, Bool, true, false, cond, None, Some}
-use Rattle.std.proofs.lemmas.List.Sums.{count_by-le-length}
-use Rattle.std.specs.Prelude.{MatchBool, if◌then◌else◌, is_some}
-use Rattle.std.specs.declared.option.Option.{Option}
-use Rattle.phase_locker.specs.declared.ways.Given.{Given}
-use Rattle.phase_locker.specs.declared.ways.Given.TheVariants as given
-use Rattle.phase_locker.specs.declared.ways.How.{How}
-use Rattle.phase_locker.specs.declared.ways.How.TheVariants as how
-use Rattle.phase_locker.specs.declared.ways.Row.{Row}
-use Rattle.phase_locker.specs.declared.ways.Waiting.{Waiting}
-use Rattle.phase_locker.specs.declared.ways.Waiting.TheVariants as waiting
-use Rattle.phase_locker.specs.Rows.{Rows as Parking, Rows, row_of, free_row, readers_of, occurs, shared, reads_at, shares_at, IsSound, HasFree}
-use Rattle.schedule_rules.specs.declared.step.Want.{Want}
-use Rattle.schedule_rules.specs.History.{count}
-use Rattle.schedule_rules.specs.Waits.{Wait, wait_of, waits_at, without_wait, wait_woken, wake_reader, wake_writer}
-use Rattle.waiting_rows.specs.Given.{given_on}
-use Rattle.waiting_rows.specs.Shown.{IsSingle, Shows, wait_row}
-use Rattle.waiting_rows.proofs.Counted.{count_map, count_without, one_of}
-use Rattle.waiting_rows.proofs.Passing.{count_test}
-use Rattle.waiting_rows.proofs.RowCounts.{count_rows}
-use Rattle.phase_moves.specs.Stands.{target_of}
-use Rattle.phase_moves.specs.Tries.{WaitsAt, waiting_with}
-use Rattle.std.proofs.Math.ListN.{get_or, set}
-use Rattle.std.proofs.lemmas.List.{length-set}
-use Rattle.phase_locker.proofs.Counts.{count-set, shares-shared, share_is, free_is}
-use Rattle.phase_locker.proofs.Holding.{all_read}
-use Rattle.phase_locker.proofs.Shares.{length-shared, row-shared_other}
-use Rattle.phase_bits.specs.Records.{most_readers}
+use Rattle.phase_moves.proofs.Words.{◌∷◌, ◌≡◌, ◌≢◌, ◌==◌, ◌<◌, ◌≤◌, ◌+◌, ◌∙◌, ℕ, List, length, refl, arith, Bool, true, false, None, Some, count_by-le-length, MatchBool}
+use Rattle.phase_moves.proofs.Words.{if◌then◌else◌, is_some, Option, Given, Row, Waiting, Parking, Parking as Rows, row_of, free_row, readers_of, occurs, shared, reads_at}
+use Rattle.phase_moves.proofs.Words.{shares_at, IsSound, HasFree, count, Wait, wait_of, waits_at, without_wait, given_on, IsSingle, Shows, wait_row, count_map, count_without}
+use Rattle.phase_moves.proofs.Words.{one_of, count_test, count_rows, target_of, WaitsAt, waiting_with, get_or, set, length-set, count-set, shares-shared, share_is, free_is}
+use Rattle.phase_moves.proofs.Words.{all_read, length-shared, row-shared_other, most_readers}
 
 -- ---- a gift leaves it
 
-woken_there : (d : ℕ) (b : Bool) (w : Wait) → waits_at d (cond b (wait_woken w) w) ≡ waits_at d w
-woken_there d true w = refl
-woken_there d false w = refl
-
 pub count_given : (d c : ℕ) (g : Given) (ws : List Wait) → count (waits_at d) (given_on c g ws) ≡ count (waits_at d) ws
-count_given d c given.Nobody ws = refl
-count_given d c (given.Writer q) ws = count_map (waits_at d) (waits_at d) (wake_writer q) ws (λ w. woken_there d _ w)
-count_given d c given.Readers ws = count_map (waits_at d) (waits_at d) (wake_reader c) ws (λ w. woken_there d _ w)
+count_given d c g ws = grind (arith, count_map)
 
 -- ---- there are not more than parties
 
 abbrev waits_so : Waiting → Bool
-waits_so waiting.Free = false
-waits_so waiting.Spin = true
-waits_so waiting.ParkedRead = true
-waits_so waiting.ParkedWrite = true
-waits_so waiting.Drain = true
-waits_so waiting.ShareRead = true
-waits_so waiting.ShareWrite = true
+waits_so Waiting.Free = false
+waits_so _ = true
 
 abbrev stands_at : ℕ → Row → Bool
 stands_at c r = if waits_so r.waiting then r.cell == c else false
 
 row_waits : (c : ℕ) (w : Wait) → stands_at c (wait_row (Some w)) ≡ waits_at c w
-row_waits c w = by w.party w.cell w.want w.way w.woken
-  where
-    by : (p x : ℕ) (want : Want) (way : How) (woken : Bool) → stands_at c (wait_row (Some (record { party = p; cell = x; want = want; way = way; woken = woken }))) ≡ waits_at c (record { party = p; cell = x; want = want; way = way; woken = woken })
-    by p x want how.Spin woken = refl
-    by p x want how.ParkedRead true = refl
-    by p x want how.ParkedRead false = refl
-    by p x want how.ParkedWrite true = refl
-    by p x want how.ParkedWrite false = refl
-    by p x want how.Drain woken = refl
+row_waits c w = grind arith
 
 pub few_wait : (c : ℕ) (ws : List Wait) (s : Parking) → IsSingle ws → Shows ws s → count (waits_at c) ws ≤ length s.rows
 few_wait c ws s single shows =
     let all = count_rows (stands_at c) ws s.rows refl single shows.row ∙ count_test (λ (w : Wait). stands_at c (wait_row (Some w))) (waits_at c) ws (row_waits c) in
-    let most = count_by-le-length (stands_at c) s.rows in
-    omega (arith, all, most)
+    let most = count_by-le-length (stands_at c) s.rows in omega (arith, all, most)
 
 -- ---- one more waits, at its cell and at no other
 
@@ -81,39 +38,24 @@ count_elsewhere d w ws ne = let q : (w.cell == d) ≡ false = grind (arith, ne) 
 -- ---- an attempt at a cell, of a party that waits there or nowhere
 
 pub waited_here : (waits : Bool) (c : ℕ) (o : Option Wait) → MatchBool waits (WaitsAt c o) (o ≡ None) → (w : Wait) → o ≡ Some w → w.cell ≡ c
-waited_here true c None k w e = absurd k
-waited_here true c (Some x) k w e = let same : x ≡ w = cc in ap (λ (z : Wait). z.cell) (sym same) ∙ k
-waited_here false c o k w e = let f : None ≡ Some w = sym k ∙ e in absurd (cc)
+waited_here waits c o k w e = grind arith
 
 module _ (p c : ℕ) (ws : List Wait) (single : IsSingle ws) (g : Given) (at : (w : Wait) → wait_of p ws ≡ Some w → w.cell ≡ c) where
   -- at another cell as many wait
   pub count_beside : (d : ℕ) → d ≢ c → count (waits_at d) (given_on c g (without_wait p ws)) ≡ count (waits_at d) ws
-  count_beside d ne =
-      count_given d c g (without_wait p ws)
-      ∙ (let less = count_without (waits_at d) p ws single in let none = by (wait_of p ws) refl in omega (arith, less, none))
-    where
-      by : (o : Option Wait) → wait_of p ws ≡ o → one_of (waits_at d) o ≡ 0
-      by None e = refl
-      by (Some w) e = let q = at w e in let f : (w.cell == d) ≡ false = grind (arith, q, ne) in rw f refl
+  count_beside d ne = grind (arith, count_given, count_without, one_of)
 
   -- and here one less, where the party waited
   pub count_here : count (waits_at c) ws ≡ count (waits_at c) (given_on c g (without_wait p ws)) + (if is_some (target_of (wait_of p ws)) then 1 else 0)
   count_here =
-      let less = count_without (waits_at c) p ws single in
-      let same = count_given c c g (without_wait p ws) in
-      let one = by (wait_of p ws) refl in
-      omega (arith, less, same, one)
-    where
-      by : (o : Option Wait) → wait_of p ws ≡ o → one_of (waits_at c) o ≡ (if is_some (target_of o) then 1 else 0)
-      by None e = refl
-      by (Some w) e = let q = at w e in let f : (w.cell == c) ≡ true = grind (arith, q) in rw f refl
+      let less = count_without (waits_at c) p ws single in let same = count_given c c g (without_wait p ws) in let one = by (wait_of p ws) refl in
+      omega (arith, less, same, one) where
+        by : (o : Option Wait) → wait_of p ws ≡ o → one_of (waits_at c) o ≡ (if is_some (target_of o) then 1 else 0)
+        by o e = grind arith
 
 -- so it is counted
 counted_with : (was is : Bool) (n k : ℕ) → n ≡ k + (if was then 1 else 0) → waiting_with was is n ≡ k + (if is then 1 else 0)
-counted_with true true n k e = omega (arith, e)
-counted_with true false n k e = omega (arith, e)
-counted_with false true n k e = omega (arith, e)
-counted_with false false n k e = omega (arith, e)
+counted_with was is n k e = grind arith
 
 pub counted_less : (was : Bool) (n k : ℕ) → n ≡ k + (if was then 1 else 0) → waiting_with was false n ≡ k
 counted_less was n k e = let all = counted_with was false n k e in omega (arith, all)
@@ -123,8 +65,7 @@ counted_more was n k e = let all = counted_with was true n k e in omega (arith, 
 
 -- one that waited is counted
 pub some_counted : (was : Bool) (n k : ℕ) → n ≡ k + (if was then 1 else 0) → was ≡ true → 0 < n
-some_counted true n k e f = omega (arith, e)
-some_counted false n k e f = absurd (cc)
+some_counted was n k e f = grind arith
 
 -- ---- the parked readers of a cell are not too many, and leave room for one more where a party does not wait
 
@@ -132,26 +73,22 @@ module _ (c : ℕ) (s : Rows) (inside : c < length s.readers) (sound : IsSound s
   -- the parked readers of a cell are parties
   few_parked : length (readers_of s c) ≤ length s.rows
   few_parked =
-      let all = shares-shared c (readers_of s c) s.rows (all_read c s inside sound) in
-      let size = length-shared c (readers_of s c) s.rows in
-      let most = count_by-le-length (shares_at c) (shared c (readers_of s c) s.rows) in
-      omega (arith, all, size, most)
+      let all = shares-shared c (readers_of s c) s.rows (all_read c s inside sound) in let size = length-shared c (readers_of s c) s.rows in
+      let most = count_by-le-length (shares_at c) (shared c (readers_of s c) s.rows) in omega (arith, all, size, most)
 
-  reads_no : (r : Row) → r.waiting ≡ waiting.Free → reads_at c r ≡ false
+  reads_no : (r : Row) → r.waiting ≡ Waiting.Free → reads_at c r ≡ false
   reads_no r e = rw e refl
 
   -- and one more party does not wait
   fewer_parked : HasFree s → length (readers_of s c) < length s.rows
   fewer_parked f =
-      let all = shares-shared c (readers_of s c) s.rows (all_read c s inside sound) in
-      let size = length-shared c (readers_of s c) s.rows in
+      let all = shares-shared c (readers_of s c) s.rows (all_read c s inside sound) in let size = length-shared c (readers_of s c) s.rows in
       let none : occurs f.party (readers_of s c) ≡ 0 = rw (reads_no (row_of s f.party) f.free) at (sound.readers c f.party inside) in
       let there : get_or (shared c (readers_of s c) s.rows) f.party free_row ≡ row_of s f.party = row-shared_other c (readers_of s c) s.rows f.party none in
       let free = (free_is c (row_of s f.party) f.free).0 in
-      let set_one = rw (there, free, share_is c) at (count-set (shares_at c) (shared c (readers_of s c) s.rows) f.party (record { waiting = waiting.ShareRead; cell = c }) (omega (arith, size, f.inside))) in
-      let most = count_by-le-length (shares_at c) (set (shared c (readers_of s c) s.rows) f.party (record { waiting = waiting.ShareRead; cell = c })) in
-      let same = length-set (shared c (readers_of s c) s.rows) f.party (record { waiting = waiting.ShareRead; cell = c }) in
-      omega (arith, all, size, most, set_one, same)
+      let set_one = rw (there, free, share_is c) at (count-set (shares_at c) (shared c (readers_of s c) s.rows) f.party (record { waiting = Waiting.ShareRead; cell = c }) (omega (arith, size, f.inside))) in
+      let most = count_by-le-length (shares_at c) (set (shared c (readers_of s c) s.rows) f.party (record { waiting = Waiting.ShareRead; cell = c })) in
+      let same = length-set (shared c (readers_of s c) s.rows) f.party (record { waiting = Waiting.ShareRead; cell = c }) in omega (arith, all, size, most, set_one, same)
 
   -- so they are within the limit
   pub few_readers : length (readers_of s c) ≤ most_readers

@@ -1,3 +1,5 @@
+-- The words of all
+pub mod Words
 -- Rows of parties, and how many pass a test
 pub mod Slots
 pub mod Passing

@@ -1,14 +1,8 @@
 -- The lists of the parked calls, and how they change.
-use Rattle.std.proofs.Common.{◌≡◌, ◌≢◌, ◌==◌, ℕ, ◌+◌, ◌<◌, List, [], ◌∷◌, ◌++◌, length, refl, arith, Bool, true, false, cond, ◌∙◌, ap, sym, not, map, ◌||◌, ◌&&◌}
-use Rattle.std.proofs.lemmas.Grind.{common_steps}
-use Rattle.std.proofs.lemmas.List.{append-nil}
-use Rattle.std.proofs.lemmas.List.Elements.{filter-append}
-use Rattle.std.specs.List.{list_any}
-use Rattle.phase_locker.specs.Rows.{is_empty, occurs, without}
-use Rattle.phase_locker.proofs.Filters.{occurs-append}
-use Rattle.schedule_rules.specs.History.{count}
-use Rattle.schedule_rules.specs.Waits.{Wait, party_if, parks_to_read, parks_to_write, parked_readers, parked_writers, without_wait, wake_reader, wake_writer}
-use Rattle.waiting_rows.proofs.Each.{woken_to_read, reader_party, writer_party, writer_gone, writer_reads, writer_other}
+use Rattle.waiting_rows.proofs.Words.{◌≡◌, ◌≢◌, ◌==◌, ℕ, ◌+◌, ◌<◌, List, [], ◌∷◌, ◌++◌, refl, arith, Bool, true, false, cond, ◌∙◌, ap, sym, not, map, ◌||◌, ◌&&◌, append-nil}
+use Rattle.waiting_rows.proofs.Words.{filter-append, list_any, is_empty, occurs, without, occurs-append, Wait, party_if, parks_to_read, parks_to_write, parked_readers}
+use Rattle.waiting_rows.proofs.Words.{parked_writers, without_wait, wake_reader, wake_writer}
+use Rattle.waiting_rows.proofs.Each.{woken_to_read, reader_party, writer_party, writer_reads}
 
 -- ---- the parties of the calls that pass a test, in order of parking
 
@@ -29,10 +23,7 @@ listed_writers c (w ∷ ws) = ap (λ ps. ps ++ party_if (parks_to_write c w) w.p
 
 -- one party more
 pub empty-append : (ps : List ℕ) (b : Bool) (p : ℕ) → (b || not (is_empty ps)) ≡ not (is_empty (ps ++ party_if b p))
-empty-append [] true p = refl
-empty-append [] false p = refl
-empty-append (q ∷ ps) true p = refl
-empty-append (q ∷ ps) false p = refl
+empty-append ps b p = grind arith
 
 -- some call passes where the list is not empty
 pub any_listed : (t : Wait → Bool) (ws : List Wait) → list_any t ws ≡ not (is_empty (listed t ws))
@@ -43,48 +34,26 @@ any_listed t (w ∷ ws) = ap (λ b. t w || b) (any_listed t ws) ∙ empty-append
 pub any_readers : (c : ℕ) (ws : List Wait) → list_any (parks_to_read c) ws ≡ not (is_empty (parked_readers c ws))
 any_readers c ws = any_listed (parks_to_read c) ws ∙ ap (λ ps. not (is_empty ps)) (sym (listed_readers c ws))
 
--- the flag of writers
-pub any_writers : (c : ℕ) (ws : List Wait) → list_any (parks_to_write c) ws ≡ not (is_empty (parked_writers c ws))
-any_writers c ws = any_listed (parks_to_write c) ws ∙ ap (λ ps. not (is_empty ps)) (sym (listed_writers c ws))
-
 -- ---- lengths and members
-
--- the list has as many as pass
-pub length_listed : (t : Wait → Bool) (ws : List Wait) → length (listed t ws) ≡ count t ws
-length_listed t [] = refl
-length_listed t (w ∷ ws) = by (t w) (length_listed t ws)
-  where
-    by : (b : Bool) → length (listed t ws) ≡ count t ws → length (listed t ws ++ party_if b w.party) ≡ cond b (count t ws + 1) (count t ws)
-    by true e = grind (arith, common_steps, e)
-    by false e = rw append-nil e
 
 -- a member is the party of a call that passes
 pub any_member : (t : Wait → Bool) (q : ℕ) (ws : List Wait) → 0 < occurs q (listed t ws) → list_any (λ w. (w.party == q) && t w) ws ≡ true
 any_member t q [] k = absurd (omega (arith, k))
-any_member t q (w ∷ ws) k = by (t w) (w.party == q) refl (rw (occurs-append q (listed t ws) (party_if (t w) w.party)) at k) (any_member t q ws)
-  where
-    by : (b e : Bool) → (w.party == q) ≡ e → 0 < occurs q (listed t ws) + occurs q (party_if b w.party) → (0 < occurs q (listed t ws) → list_any (λ w. (w.party == q) && t w) ws ≡ true) → ((e && b) || list_any (λ w. (w.party == q) && t w) ws) ≡ true
-    by true true s k f = refl
-    by true false s k f = let z : occurs q (party_if true w.party) ≡ 0 = grind (arith, s) in f (omega (arith, k, z))
-    by false true s k f = f (omega (arith, k))
-    by false false s k f = f (omega (arith, k))
+any_member t q (w ∷ ws) k = by (t w) (w.party == q) refl (rw (occurs-append q (listed t ws) (party_if (t w) w.party)) at k) (any_member t q ws) where
+  by : (b e : Bool) → (w.party == q) ≡ e → 0 < occurs q (listed t ws) + occurs q (party_if b w.party) → (0 < occurs q (listed t ws) → list_any (λ w. (w.party == q) && t w) ws ≡ true) → ((e && b) || list_any (λ w. (w.party == q) && t w) ws) ≡ true
+  by b e s k f = grind arith
 
 -- ---- without the wait of a party
 
 -- the list is that without the party
 pub listed_without : (t : Wait → Bool) (p : ℕ) (ws : List Wait) → listed t (without_wait p ws) ≡ without p (listed t ws)
 listed_without t p [] = refl
-listed_without t p (w ∷ ws) = by (w.party == p) refl (listed_without t p ws) ∙ sym (filter-append (λ q. not (q == p)) (listed t ws) (party_if (t w) w.party))
-  where
-    one : (b e : Bool) → (w.party == p) ≡ e → without p (party_if b w.party) ≡ cond e [] (party_if b w.party)
-    one true true s = grind (arith, s)
-    one true false s = grind (arith, s)
-    one false true s = refl
-    one false false s = refl
+listed_without t p (w ∷ ws) = by (w.party == p) refl (listed_without t p ws) ∙ sym (filter-append (λ q. not (q == p)) (listed t ws) (party_if (t w) w.party)) where
+  one : (b e : Bool) → (w.party == p) ≡ e → without p (party_if b w.party) ≡ cond e [] (party_if b w.party)
+  one b e s = grind arith
 
-    by : (e : Bool) → (w.party == p) ≡ e → listed t (without_wait p ws) ≡ without p (listed t ws) → listed t (cond (not e) (w ∷ without_wait p ws) (without_wait p ws)) ≡ without p (listed t ws) ++ without p (party_if (t w) w.party)
-    by true s ih = rw (one (t w) true s) (rw append-nil ih)
-    by false s ih = rw (one (t w) false s) (ap (λ ps. ps ++ party_if (t w) w.party) ih)
+  by : (e : Bool) → (w.party == p) ≡ e → listed t (without_wait p ws) ≡ without p (listed t ws) → listed t (cond (not e) (w ∷ without_wait p ws) (without_wait p ws)) ≡ without p (listed t ws) ++ without p (party_if (t w) w.party)
+  by e s ih = grind (arith, one, append-nil)
 
 -- the parked readers
 pub readers_without : (c p : ℕ) (ws : List Wait) → parked_readers c (without_wait p ws) ≡ without p (parked_readers c ws)
@@ -125,14 +94,9 @@ readers_beside_writer q d ws = listed_readers d (map (wake_writer q) ws) ∙ lis
 -- and takes the writer from its list
 pub writer_woken : (q c : ℕ) (ws : List Wait) → parked_writers c (map (wake_writer q) ws) ≡ without q (parked_writers c ws)
 writer_woken q c [] = refl
-writer_woken q c (w ∷ ws) =
-    (λ i. writer_woken q c ws i ++ one i) ∙ sym (filter-append (λ p. not (p == q)) (parked_writers c ws) (party_if (parks_to_write c w) w.party))
-  where
-    by : (e b : Bool) → (w.party == q) ≡ e → parks_to_write c w ≡ b → party_if (parks_to_write c (wake_writer q w)) (wake_writer q w).party ≡ without q (party_if b w.party)
-    by true true s k = rw (writer_gone c q w s) (grind (arith, s))
-    by true false s k = rw (writer_gone c q w s) refl
-    by false true s k = (λ i. party_if (parks_to_write c (writer_other q w s i)) (writer_other q w s i).party) ∙ rw k (grind (arith, s))
-    by false false s k = (λ i. party_if (parks_to_write c (writer_other q w s i)) (writer_other q w s i).party) ∙ rw k refl
+writer_woken q c (w ∷ ws) = (λ i. writer_woken q c ws i ++ one i) ∙ sym (filter-append (λ p. not (p == q)) (parked_writers c ws) (party_if (parks_to_write c w) w.party)) where
+  by : (e b : Bool) → (w.party == q) ≡ e → parks_to_write c w ≡ b → party_if (parks_to_write c (wake_writer q w)) (wake_writer q w).party ≡ without q (party_if b w.party)
+  by e b s k = grind arith
 
-    one : party_if (parks_to_write c (wake_writer q w)) (wake_writer q w).party ≡ without q (party_if (parks_to_write c w) w.party)
-    one = by (w.party == q) (parks_to_write c w) refl refl
+  one : party_if (parks_to_write c (wake_writer q w)) (wake_writer q w).party ≡ without q (party_if (parks_to_write c w) w.party)
+  one = by (w.party == q) (parks_to_write c w) refl refl

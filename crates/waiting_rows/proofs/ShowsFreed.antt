@@ -1,73 +1,39 @@
 -- The rows show who waits after a party waits no longer.
-use Rattle.std.proofs.Common.{◌≡◌, ◌≢◌, ℕ, ◌≤◌, List, [], length, refl, arith, false, ◌∙◌, ap, sym, inl, inr}
-use Rattle.std.proofs.Math.ListN.{get_or, set}
-use Rattle.std.proofs.lemmas.List.{get_or_past}
-use Rattle.std.proofs.lemmas.Bool.{cases_lt}
-use Rattle.phase_locker.specs.declared.ways.Waiting.{Waiting}
-use Rattle.phase_locker.specs.declared.ways.Waiting.TheVariants as waiting
-use Rattle.phase_locker.specs.declared.ways.Row.{Row}
-use Rattle.phase_locker.specs.Rows.{Rows, row_of, free_row, readers_of, writers_of, reads_at, writes_at, without, left, freed, IsSound}
-use Rattle.phase_locker.proofs.Filters.{without_absent}
-use Rattle.schedule_rules.specs.Waits.{Wait, wait_of, without_wait}
-use Rattle.schedule_rules.proofs.Opened.{wait_removed, wait_kept}
-use Rattle.waiting_rows.specs.Shown.{Shows, wait_row}
-use Rattle.waiting_rows.proofs.Lists.{readers_without, writers_without}
-use Rattle.waiting_rows.proofs.Slots.{set_shows_past}
+use Rattle.waiting_rows.proofs.Words.{◌≡◌, ◌≢◌, ℕ, ◌≤◌, List, [], length, refl, arith, false, ◌∙◌, ap, sym, inl, inr, get_or, set, get_or_past, cases_lt, Waiting, Row, Rows}
+use Rattle.waiting_rows.proofs.Words.{row_of, free_row, readers_of, writers_of, reads_at, writes_at, without, left, freed, IsSound, without_absent, Wait, wait_of}
+use Rattle.waiting_rows.proofs.Words.{without_wait, wait_removed, wait_kept, Shows, wait_row}
+use Rattle.waiting_rows.proofs.{Lists.readers_without, Lists.writers_without, Slots.set_shows_past}
 
 -- a party that is not parked to read at the cell is not in its list
 pub unlisted_reader : (d p : ℕ) (s : Rows) → IsSound s → reads_at d (row_of s p) ≡ false → without p (readers_of s d) ≡ readers_of s d
-unlisted_reader d p s sound e =
-    elim (cases_lt d (length s.readers)) [
-      | inl k ↦ without_absent p (readers_of s d) (sound.readers d p k ∙ rw e refl)
-      | inr k ↦ rw (get_or_past s.readers d [] k) refl
-    ]
+unlisted_reader d p s sound e = grind (arith, cases_lt, without_absent, get_or_past)
 
 -- nor one that is not parked to write
 pub unlisted_writer : (d p : ℕ) (s : Rows) → IsSound s → writes_at d (row_of s p) ≡ false → without p (writers_of s d) ≡ writers_of s d
-unlisted_writer d p s sound e =
-    elim (cases_lt d (length s.readers)) [
-      | inl k ↦ without_absent p (writers_of s d) (sound.writers d p k ∙ rw e refl)
-      | inr k ↦ let past : length s.writers ≤ d = omega (arith, k, sound.cells) in rw (get_or_past s.writers d [] past) refl
-    ]
+unlisted_writer d p s sound e = grind (arith, cases_lt, without_absent, get_or_past)
 
 -- a parked reader of one cell is none of another
-pub reads_here : (c d : ℕ) (r : Row) → r ≡ record { waiting = waiting.ParkedRead; cell = c } → d ≢ c → reads_at d r ≡ false
+pub reads_here : (c d : ℕ) (r : Row) → r ≡ record { waiting = Waiting.ParkedRead; cell = c } → d ≢ c → reads_at d r ≡ false
 reads_here c d r e ne = rw e (grind (arith, ne))
 
-pub writes_here : (c d : ℕ) (r : Row) → r ≡ record { waiting = waiting.ParkedWrite; cell = c } → d ≢ c → writes_at d r ≡ false
+pub writes_here : (c d : ℕ) (r : Row) → r ≡ record { waiting = Waiting.ParkedWrite; cell = c } → d ≢ c → writes_at d r ≡ false
 writes_here c d r e ne = rw e (grind (arith, ne))
 
 -- the list of readers after the party left
 pub readers_left : (v : Waiting) (c p : ℕ) (s : Rows) → IsSound s → row_of s p ≡ record { waiting = v; cell = c } → (d : ℕ) → readers_of (left v c p s) d ≡ without p (readers_of s d)
-readers_left waiting.ParkedRead c p s sound row d =
+readers_left Waiting.ParkedRead c p s sound row d =
     set_shows_past s.readers c (without p (readers_of s c)) [] (readers_of s) (λ d. without p (readers_of s d)) (λ d. refl) (λ d ne. unlisted_reader d p s sound (reads_here c d (row_of s p) row ne)) refl (λ k. rw (get_or_past s.readers c [] k) refl) d
-readers_left waiting.Free c p s sound row d = sym (unlisted_reader d p s sound (rw row refl))
-readers_left waiting.Spin c p s sound row d = sym (unlisted_reader d p s sound (rw row refl))
-readers_left waiting.ParkedWrite c p s sound row d = sym (unlisted_reader d p s sound (rw row refl))
-readers_left waiting.Drain c p s sound row d = sym (unlisted_reader d p s sound (rw row refl))
-readers_left waiting.ShareRead c p s sound row d = sym (unlisted_reader d p s sound (rw row refl))
-readers_left waiting.ShareWrite c p s sound row d = sym (unlisted_reader d p s sound (rw row refl))
+readers_left _ c p s sound row d = sym (unlisted_reader d p s sound (rw row refl))
 
 -- and the list of writers
 pub writers_left : (v : Waiting) (c p : ℕ) (s : Rows) → IsSound s → row_of s p ≡ record { waiting = v; cell = c } → (d : ℕ) → writers_of (left v c p s) d ≡ without p (writers_of s d)
-writers_left waiting.ParkedWrite c p s sound row d =
+writers_left Waiting.ParkedWrite c p s sound row d =
     set_shows_past s.writers c (without p (writers_of s c)) [] (writers_of s) (λ d. without p (writers_of s d)) (λ d. refl) (λ d ne. unlisted_writer d p s sound (writes_here c d (row_of s p) row ne)) refl (λ k. rw (get_or_past s.writers c [] k) refl) d
-writers_left waiting.Free c p s sound row d = sym (unlisted_writer d p s sound (rw row refl))
-writers_left waiting.Spin c p s sound row d = sym (unlisted_writer d p s sound (rw row refl))
-writers_left waiting.ParkedRead c p s sound row d = sym (unlisted_writer d p s sound (rw row refl))
-writers_left waiting.Drain c p s sound row d = sym (unlisted_writer d p s sound (rw row refl))
-writers_left waiting.ShareRead c p s sound row d = sym (unlisted_writer d p s sound (rw row refl))
-writers_left waiting.ShareWrite c p s sound row d = sym (unlisted_writer d p s sound (rw row refl))
+writers_left _ c p s sound row d = sym (unlisted_writer d p s sound (rw row refl))
 
 -- the rows after the party left
 pub rows_left : (v : Waiting) (c p : ℕ) (s : Rows) → (left v c p s).rows ≡ set s.rows p free_row
-rows_left waiting.Free c p s = refl
-rows_left waiting.Spin c p s = refl
-rows_left waiting.ParkedRead c p s = refl
-rows_left waiting.ParkedWrite c p s = refl
-rows_left waiting.Drain c p s = refl
-rows_left waiting.ShareRead c p s = refl
-rows_left waiting.ShareWrite c p s = refl
+rows_left v c p s = grind arith
 
 -- a party waits no longer
 pub shows_freed : (p : ℕ) (ws : List Wait) (s : Rows) → IsSound s → Shows ws s → Shows (without_wait p ws) (freed p s)

@@ -1,17 +1,7 @@
 -- Each party waits at most once.
-use Rattle.std.proofs.Common.{◌≡◌, ℕ, ◌+◌, ◌≤◌, List, [], ◌∷◌, refl, arith, cond, None, Some, ◌∙◌, ap, map}
-use Rattle.std.specs.Prelude.{◌==◌}
-use Rattle.std.specs.declared.option.Option.{Option}
-use Rattle.phase_locker.specs.declared.ways.How.{How}
-use Rattle.phase_locker.specs.declared.ways.Given.{Given}
-use Rattle.phase_locker.specs.declared.ways.Given.TheVariants as given
-use Rattle.schedule_rules.specs.declared.step.Step.{Step}
-use Rattle.schedule_rules.specs.declared.plan.CellPlan.{CellPlan}
-use Rattle.schedule_rules.specs.History.{Event, count}
-use Rattle.schedule_rules.specs.Waits.{Wait, Attempt, wait_of, without_wait, with_wait, wake_reader, wake_writer, wake_readers, waits_given_with, cell_concerned_with}
-use Rattle.waiting_rows.specs.Shown.{IsSingle}
+use Rattle.waiting_rows.proofs.Words.{◌≡◌, ℕ, ◌+◌, ◌≤◌, List, [], ◌∷◌, refl, arith, cond, None, Some, map, ◌==◌, Option, How, count, Wait, Attempt, wait_of, without_wait}
+use Rattle.waiting_rows.proofs.Words.{with_wait, wake_reader, wake_writer, IsSingle}
 use Rattle.waiting_rows.proofs.Each.{reader_party, writer_party}
-use Rattle.waiting_rows.proofs.Finding.{changed, wait_readers, wait_writer}
 
 -- a party without a call that waits is in no wait
 pub none_counted : (p : ℕ) (ws : List Wait) → wait_of p ws ≡ None → count (λ (w : Wait). w.party == p) ws ≡ 0
@@ -43,18 +33,6 @@ single_writer q ws single = λ r. omega (arith, counted_map (wake_writer q) r ws
 -- with one wait more of a party that has none
 pub single_with : (p : ℕ) (way : How) (o : Option Attempt) (ws : List Wait) → wait_of p ws ≡ None → IsSingle ws → IsSingle (with_wait p way o ws)
 single_with p way None ws none single = single
-single_with p way (Some a) ws none single = λ r. at r (none_counted p ws none) (single r)
-  where
-    at : (r : ℕ) → count (λ (w : Wait). w.party == p) ws ≡ 0 → count (λ (w : Wait). w.party == r) ws ≤ 1 → cond (p == r) (count (λ (w : Wait). w.party == r) ws + 1) (count (λ (w : Wait). w.party == r) ws) ≤ 1
-    at r zero one = grind arith
-
-module _ (cells : List CellPlan) where
-  -- a party that does not wait is given nothing
-  pub none_given : (all : List Wait) (h : List Event) (s : Step) (g : Given) (ws : List Wait) (p : ℕ) → wait_of p ws ≡ None → wait_of p (waits_given_with cells all h s g ws) ≡ None
-  none_given all h s given.Nobody ws p none = none
-  none_given all h s (given.Writer q) ws p none = wait_writer q p ws ∙ ap (λ o. changed (wake_writer q) o) none
-  none_given all h s given.Readers ws p none = by (cell_concerned_with cells all h s.party s.act)
-    where
-      by : (o : Option ℕ) → wait_of p (wake_readers o ws) ≡ None
-      by None = none
-      by (Some c) = wait_readers c p ws ∙ ap (λ o. changed (wake_reader c) o) none
+single_with p way (Some a) ws none single = λ r. at r (none_counted p ws none) (single r) where
+  at : (r : ℕ) → count (λ (w : Wait). w.party == p) ws ≡ 0 → count (λ (w : Wait). w.party == r) ws ≤ 1 → cond (p == r) (count (λ (w : Wait). w.party == r) ws + 1) (count (λ (w : Wait). w.party == r) ws) ≤ 1
+  at r zero one = grind arith

@@ -1,13 +1,7 @@
 -- Rows that show who waits are sound.
-use Rattle.std.proofs.Common.{◌≡◌, ◌<◌, ◌^◌, length, ◌∙◌, Bool, None, Some, refl}
-use Rattle.std.specs.Prelude.{if◌then◌else◌, List}
-use Rattle.std.specs.declared.option.Option.{Option}
-use Rattle.phase_locker.specs.Rows.{Rows as Parking, IsSound}
-use Rattle.schedule_rules.specs.Waits.{Wait, wait_of}
-use Rattle.waiting_rows.specs.Shown.{Shows, IsSingle}
-use Rattle.waiting_rows.proofs.Counted.{one_of}
-use Rattle.waiting_rows.proofs.Members.{occurs_readers, occurs_writers}
-use Rattle.waiting_rows.proofs.Reaching.{passes, row_reads, row_writes}
+use Rattle.waiting_rows.proofs.Words.{◌≡◌, ◌<◌, ◌^◌, length, ◌∙◌, Bool, None, Some, refl, if◌then◌else◌, List, Option, Rows as Parking, IsSound, Wait, wait_of, Shows}
+use Rattle.waiting_rows.proofs.Words.{IsSingle}
+use Rattle.waiting_rows.proofs.{Counted.one_of, Members.occurs_readers, Members.occurs_writers, Reaching.passes, Reaching.row_reads, Reaching.row_writes}
 
 one_passes : (t : Wait → Bool) (o : Option Wait) (b : Bool) → b ≡ passes t o → one_of t o ≡ (if b then 1 else 0)
 one_passes t None b e = rw e refl

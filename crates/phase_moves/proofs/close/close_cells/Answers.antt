@@ -1,4 +1,4 @@
-use Rattle.std.proofs.Common.{◌∙◌}
+use Rattle.phase_moves.proofs.Words.{◌∙◌}
 use Rattle.phase_moves.proofs.Closing.{last_closing, rest_closing, rest_few}
 use Rattle.phase_moves.proofs.close.close_cells.Goals as goal
 

@@ -1,7 +1,4 @@
-use Rattle.std.proofs.Common.{◌≡◌, ◌∙◌, ◌≤◌, ap, length, subst, sym, true}
-use Rattle.schedule_rules.specs.declared.plan.CellPlan.{CellPlan}
-use Rattle.phase_moves.specs.Fresh.{IsFreshCell}
-use Rattle.phase_moves.specs.Stands.{kind_at}
+use Rattle.phase_moves.proofs.Words.{◌≡◌, ◌∙◌, ◌≤◌, ap, length, subst, sym, true, CellPlan, IsFreshCell, kind_at}
 use Rattle.phase_moves.proofs.Starting.{planned_at, row_more, size_more}
 use Rattle.phase_moves.proofs.fresh.fresh_cells.Goals as goal
 

@@ -1,7 +1,4 @@
-use Rattle.std.specs.Prelude.{ℕ, ◌≡◌, ◌≤◌, length, slice_get, vec_capacity}
-use Rattle.std.specs.declared.option.Option.TheVariants.{Some}
-use Rattle.schedule_rules.specs.Kinds.{cell_at}
-use Rattle.phase_moves.specs.Fresh.{IsFreshCell}
+use Rattle.phase_moves.proofs.Words.{ℕ, ◌≡◌, ◌≤◌, length, slice_get, vec_capacity, Some, cell_at, IsFreshCell}
 use Rattle.phase_moves.proofs.fresh.fresh_cells.Given as goal
 
 abbrev pub invariant-loop-plan : goal.invariant-loop-plan

@@ -1,9 +1,6 @@
-use Rattle.std.proofs.Common.{◌∙◌, refl, sym, ap}
-use Rattle.std.specs.Vec.{with_item}
-use Rattle.phase_moves.proofs.Places.{set_there}
-use Rattle.phase_moves.proofs.Arms.{counted_few, counted_some, does, none_before}
+use Rattle.phase_moves.proofs.Words.{◌∙◌, refl, sym, ap, with_item}
 use Rattle.phase_moves.proofs.Trying.{call_fits, may_ask, may_call, may_register, may_wait}
-use Rattle.phase_moves.proofs.Looking.{looks}
+use Rattle.phase_moves.proofs.{Places.set_there, Arms.counted_few, Arms.counted_some, Arms.does, Arms.none_before, Looking.looks}
 use Rattle.phase_moves.proofs.rows.Rows.attempt.Goals as goal
 
 pub call-begun-requires-clause-calls : goal.call-begun-requires-clause-calls
@@ -41,8 +38,7 @@ takes-taken-requires-clause-few g c =
 
 pub returns-clause-attempts : goal.returns-clause-attempts
 returns-clause-attempts g c = λ m is.
-    let r = c.call-begun.ensures in
-    let e = c.takes-taken.ensures in
+    let r = c.call-begun.ensures in let e = c.takes-taken.ensures in
     rw (e.taken, e.row, e.party, e.parks) (does g.L.PhaseLocker.held g.L.PhaseLocker.place m c.args.self.now _ c.args.party c.args.target c.args.waits is c.index_mut-row.result.now _ c.index_mut-row.ensures.value c.index_mut-of.result.now _ c.index_mut-of.ensures.value
     refl refl refl refl refl refl refl c.call-begun.result.0 c.call-begun.result.1 r.registry r.running r.stands r.opens r.left c.in-Some.ask (sym c.ask_of.ensures ∙ c.in-Some.is) r.cyclic r.calls refl refl refl refl)
 

@@ -1,4 +1,4 @@
-use Rattle.std.proofs.Common.{refl}
+use Rattle.phase_moves.proofs.Words.{refl}
 use Rattle.phase_moves.proofs.Calling.{clone_readers, clones}
 use Rattle.phase_moves.proofs.rows.Rows.clone_guard.Goals as goal
 

@@ -1,4 +1,4 @@
-use Rattle.std.proofs.Common.{refl}
+use Rattle.phase_moves.proofs.Words.{refl}
 use Rattle.phase_moves.proofs.Closing.{pops}
 use Rattle.phase_moves.proofs.rows.Rows.close_guards.Goals as goal
 

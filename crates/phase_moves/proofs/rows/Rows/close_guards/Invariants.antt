@@ -1,5 +1,4 @@
-use Rattle.std.proofs.Common.{◌≡◌, length}
-use Rattle.phase_moves.specs.Closing.{CanClose}
+use Rattle.phase_moves.proofs.Words.{◌≡◌, length, CanClose}
 use Rattle.phase_moves.proofs.rows.Rows.close_guards.Given as goal
 
 abbrev pub invariant-loop-row : goal.invariant-loop-row

@@ -1,4 +1,4 @@
-use Rattle.std.proofs.Common.{refl}
+use Rattle.phase_moves.proofs.Words.{refl}
 use Rattle.phase_moves.proofs.Leaving.{writer_row, row_fits, writer_draft, writer_open, writer_known, write_down}
 use Rattle.phase_moves.proofs.Giving.{gives_down_at}
 use Rattle.phase_moves.proofs.rows.Rows.downgrade.Goals as goal

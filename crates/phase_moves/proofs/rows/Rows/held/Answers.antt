@@ -1,4 +1,4 @@
-use Rattle.std.proofs.Common.{◌≡◌, ◌<◌, ◌∙◌, length, get_or, subst}
+use Rattle.phase_moves.proofs.Words.{◌≡◌, ◌<◌, ◌∙◌, length, get_or, subst}
 use Rattle.phase_moves.proofs.Looking.{holds_by}
 use Rattle.phase_moves.proofs.rows.Rows.held.Goals as goal
 

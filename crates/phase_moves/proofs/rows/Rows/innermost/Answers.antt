@@ -1,4 +1,4 @@
-use Rattle.std.proofs.Common.{◌≡◌, get_or, subst}
+use Rattle.phase_moves.proofs.Words.{◌≡◌, get_or, subst}
 use Rattle.phase_moves.proofs.Looking.{runs_by}
 use Rattle.phase_moves.proofs.rows.Rows.innermost.Goals as goal
 

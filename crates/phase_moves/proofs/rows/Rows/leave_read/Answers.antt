@@ -1,6 +1,5 @@
-use Rattle.std.proofs.Common.{refl}
-use Rattle.phase_moves.proofs.Leaving.{reader_row, row_fits, reader_open, read_left}
-use Rattle.phase_moves.proofs.Giving.{gives_read_at}
+use Rattle.phase_moves.proofs.Words.{refl}
+use Rattle.phase_moves.proofs.{Leaving.reader_row, Leaving.row_fits, Leaving.reader_open, Leaving.read_left, Giving.gives_read_at}
 use Rattle.phase_moves.proofs.rows.Rows.leave_read.Goals as goal
 
 pub release_read-requires-clause-fits : goal.release_read-requires-clause-fits

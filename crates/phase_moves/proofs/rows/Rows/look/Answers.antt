@@ -1,5 +1,4 @@
-use Rattle.std.proofs.Common.{◌∙◌, ap}
-use Rattle.exit_registry.specs.Registry.{Registry}
+use Rattle.phase_moves.proofs.Words.{◌∙◌, ap, Registry}
 use Rattle.phase_moves.proofs.Exiting.{looks}
 use Rattle.phase_moves.proofs.rows.Rows.look.Goals as goal
 

@@ -1,8 +1,4 @@
-use Rattle.std.specs.Prelude.{vec_capacity}
-use Rattle.std.proofs.Common.{◌∙◌, ap, refl, subst, ◌≤◌}
-use Rattle.exit_registry.specs.Registry.{new_registry}
-use Rattle.phase_locker.specs.Rows.{no_rows}
-use Rattle.phase_moves.specs.Fresh.{AreFreshCells}
+use Rattle.phase_moves.proofs.Words.{vec_capacity, ◌∙◌, ap, refl, subst, ◌≤◌, new_registry, no_rows, AreFreshCells}
 use Rattle.phase_moves.proofs.Starting.{fresh}
 use Rattle.phase_moves.proofs.rows.Rows.new.Goals as goal
 

@@ -1,4 +1,4 @@
-use Rattle.std.proofs.Common.{refl}
+use Rattle.phase_moves.proofs.Words.{refl}
 use Rattle.phase_moves.proofs.Opening.{pushed_rests}
 use Rattle.phase_moves.proofs.rows.Rows.push.Goals as goal
 

@@ -1,4 +1,4 @@
-use Rattle.std.proofs.Common.{refl, ◌<◌, length, arith}
+use Rattle.phase_moves.proofs.Words.{refl, ◌<◌, length, arith}
 use Rattle.phase_moves.proofs.Setting.{puts, set_inside}
 use Rattle.phase_moves.proofs.rows.Rows.set.Goals as goal
 

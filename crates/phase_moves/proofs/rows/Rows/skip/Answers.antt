@@ -1,4 +1,4 @@
-use Rattle.std.proofs.Common.{refl}
+use Rattle.phase_moves.proofs.Words.{refl}
 use Rattle.phase_moves.proofs.Exiting.{skips}
 use Rattle.phase_moves.proofs.rows.Rows.skip.Goals as goal
 

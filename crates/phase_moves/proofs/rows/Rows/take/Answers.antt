@@ -1,8 +1,5 @@
-use Rattle.std.proofs.Common.{refl, ◌≡◌, ◌∙◌, sym, ap, arith, ◌<◌, length, set, get_or, Some}
-use Rattle.std.specs.Prelude.{slice_get}
-use Rattle.phase_moves.specs.Reading.{is_row_of}
-use Rattle.phase_moves.proofs.Places.{read_at, read_once}
-use Rattle.phase_moves.proofs.Hand.{not_taken, is_taken}
+use Rattle.phase_moves.proofs.Words.{refl, ◌≡◌, ◌∙◌, sym, ap, arith, ◌<◌, length, set, get_or, Some, slice_get, is_row_of}
+use Rattle.phase_moves.proofs.{Places.read_at, Places.read_once, Hand.not_taken, Hand.is_taken}
 use Rattle.phase_moves.proofs.rows.Rows.take.Goals as goal
 
 pub returns-then-not-is_of-clause-takes : goal.returns-then-not-is_of-clause-takes
