@@ -10,17 +10,9 @@ use Rattle.phase_moves.proofs.{Asked.IsAsked, Asked.asks_same, Asked.call_left, 
 
 -- ---- the three answers of an attempt
 
-pub turned_no : {X : Type 0} (i k b : Bool) (x y z : X) → i ≡ false → k ≡ true → (if i then x else if not k && b then y else z) ≡ z
-turned_no false true b x y z e f = refl
-turned_no _ _ b x y z e f = absurd (cc)
-
 pub judged_no : {X : Type 0} (i k b b' : Bool) (x y z : X) → i ≡ false → k ≡ false → b ≡ b' → (if i then x else if not k && b then y else z) ≡ (if b' then y else z)
 judged_no false false b b' x y z e f g = ap (λ c. if c then y else z) g
 judged_no _ _ b b' x y z e f g = absurd (cc)
-
-pub turned_so : {X : Type 0} (i : Bool) (x y : X) → i ≡ true → (if i then x else y) ≡ x
-turned_so true x y e = refl
-turned_so false x y e = absurd (cc)
 
 -- ---- a call of its own run
 

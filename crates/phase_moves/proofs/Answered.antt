@@ -14,17 +14,12 @@ module _ (k : LockerKind) (who : Who) (ask : Ask) (h : Holders) (s : Parking) wh
   plain o (Begun.Wait way) g h' s' e d = record { phase = d.phase; listed = d.listed; rows = d.rows; alone = λ z. absurd (cc); told = tt }
   plain o Begun.Missed g h' s' e d = absurd d.told
   plain o Begun.Cyclic g h' s' e d = absurd d.told
-  plain o (Begun.Nothing q) g h' s' e d =
-      let z = calm ask o h.phase d.told.1 in
-      record { phase = rw z d.phase; listed = d.listed; rows = d.rows; alone = rw z (λ f. absurd (cc)); told = rw z d.told.0 }
-  plain o (Begun.Read t q) g h' s' e d =
-      let z = calm ask o h.phase d.told.1 in
-      record { phase = rw z d.phase; listed = d.listed; rows = d.rows; alone = rw z (λ f. absurd (cc)); told = rw z d.told.0 }
   plain o (Begun.Write t q) g h' s' e d =
-      let z = calm ask o h.phase d.told.1 in
-      record { phase = d.phase; listed = d.listed; rows = d.rows; alone = λ f. d.alone refl; told = rw z d.told.0 }
+      let z = calm ask o h.phase d.told.1 in record { phase = d.phase; listed = d.listed; rows = d.rows; alone = λ f. d.alone refl; told = rw z d.told.0 }
   plain o (Begun.Run x) g h' s' e d = absurd (cc)
   plain o (Begun.Final x) g h' s' e d = record { phase = d.phase; listed = d.listed; rows = d.rows; alone = λ f. d.alone refl; told = d.told }
+  plain o _ g h' s' e d =
+      let z = calm ask o h.phase d.told.1 in record { phase = rw z d.phase; listed = d.listed; rows = d.rows; alone = rw z (λ f. absurd (cc)); told = rw z d.told.0 }
 
   -- a run that was entered: the generator runs, beside these flags
   runs : (o : Option Registry) (x : SeqSection) (g : Given) (h' : Holders) (s' : Parking) → IsEntered who ask h s (Begun.Run x) g h' s' → IsBegun who ask o h s (Begun.Run (section_by x.who x.want (stays_asked o h.phase) x.ticket)) g h' s'
@@ -86,22 +81,16 @@ module _ (k : LockerKind) (who : Who) (ask : Ask) (h : Holders) (s : Parking) wh
     by true e k = at_once m x h1 s1 r h' s' quiet e k
     by false e k =
         subst (λ (q : Begun × Given). IsBegun who ask (Some m) h s q.0 q.1 h' s') (sym k.answer) (subst (λ z. IsBegun who ask (Some m) h s (Begun.Run (section_by x.who x.want (staying m.is_open h.phase) x.ticket)) Given.Nobody z s') (sym k.held) (subst (λ z. IsBegun who ask (Some m) h s (Begun.Run (section_by x.who x.want (staying m.is_open h.phase) x.ticket)) Given.Nobody h1 z) (sym k.rows) (runs (Some m) x Given.Nobody h1 s1 quiet)))
-  settled m (Begun.Wait how) g h1 s1 r h' s' d st = stays (Some m) (Begun.Wait how) g h1 s1 r h' s' refl d st
-  settled m (Begun.Nothing p) g h1 s1 r h' s' d st = stays (Some m) (Begun.Nothing p) g h1 s1 r h' s' refl d st
-  settled m (Begun.Read t p) g h1 s1 r h' s' d st = stays (Some m) (Begun.Read t p) g h1 s1 r h' s' refl d st
-  settled m (Begun.Write t p) g h1 s1 r h' s' d st = stays (Some m) (Begun.Write t p) g h1 s1 r h' s' refl d st
-  settled m (Begun.Final x) g h1 s1 r h' s' d st = stays (Some m) (Begun.Final x) g h1 s1 r h' s' refl d st
-  settled m _ g h1 s1 r h' s' d st = absurd d.told
+  settled m Begun.Missed g h1 s1 r h' s' d st = absurd d.told
+  settled m Begun.Cyclic g h1 s1 r h' s' d st = absurd d.told
+  settled m b g h1 s1 r h' s' d st = stays (Some m) b g h1 s1 r h' s' refl d st
 
   -- on a cell without a registry
   unsettled : (b : Begun) (g : Given) (h' : Holders) (s' : Parking) → IsEntered who ask h s b g h' s' → IsBegun who ask None h s b g h' s'
   unsettled (Begun.Run x) g h' s' d = subst (λ y. IsBegun who ask None h s (Begun.Run y) g h' s') ((λ i. section_by (d.told.0 i).who (d.told.0 i).want unregistered (d.told.0 i).ticket) ∙ sym d.told.0) (runs None x g h' s' d)
-  unsettled (Begun.Wait how) g h' s' d = plain None (Begun.Wait how) g h' s' refl d
-  unsettled (Begun.Nothing p) g h' s' d = plain None (Begun.Nothing p) g h' s' refl d
-  unsettled (Begun.Read t p) g h' s' d = plain None (Begun.Read t p) g h' s' refl d
-  unsettled (Begun.Write t p) g h' s' d = plain None (Begun.Write t p) g h' s' refl d
-  unsettled (Begun.Final x) g h' s' d = plain None (Begun.Final x) g h' s' refl d
-  unsettled _ g h' s' d = absurd d.told
+  unsettled Begun.Missed g h' s' d = absurd d.told
+  unsettled Begun.Cyclic g h' s' d = absurd d.told
+  unsettled b g h' s' d = plain None b g h' s' refl d
 
   -- what is turned away stays so
   still : (m : Registry) (b : Begun) (g : Given) (h1 : Holders) (s1 : Parking) (r : Begun × Given) (h' : Holders) (s' : Parking) → is_away b ≡ true → Settles ask.tol.leak m h.phase (b, g) h1 s1 r h' s' → Stays (b, g) h1 s1 r h' s'

@@ -3,11 +3,11 @@ use Rattle.phase_moves.proofs.Words.{◌≡◌, ◌<◌, ◌≤◌, ◌+◌, ◌
 use Rattle.phase_moves.proofs.Words.{MatchBool, if◌then◌else◌, is_some, Option, Phase, Holders, phase_of, most_readers, Registry, cells_of, Given, How, Who, LockerKind}
 use Rattle.phase_moves.proofs.Words.{ReadTicket, WriteTicket, write_ticket, Parking, IsSound, freed, readers_of, row_of, free_row, rows_handed, Left, Opens, Ask, SeqSection}
 use Rattle.phase_moves.proofs.Words.{Begun, is_cyclic, runs as seq_runs, section_by, running_after, is_turned_back, is_run, BegunStands, begins_write, reads_begun, CellPlan}
-use Rattle.phase_moves.proofs.Words.{Want, Calls, Turns, initializes, seeks, cell_at, Content, tries_registration, innermost, is_turn, count, most_parties, Wait, wait_of}
-use Rattle.phase_moves.proofs.Words.{waits_at, without_wait, cell_of_section, given_on, CellRow, PartyRow, Target, Rows, CallOf, registry_for, registry_begun, Standing}
-use Rattle.phase_moves.proofs.Words.{run_in, runner_of, reads_in, writes_in, section_asked, registry_asked, Stands, seen_at, IsCell, IsExit, IsLocked, AreShown, party_row}
-use Rattle.phase_moves.proofs.Words.{open_run, run_as, stays_in, IsAttempting, IsTook, MayWait_of_tries as MayWait, WaitsAt, ask_of, draft_after, is_quick, opens_section}
-use Rattle.phase_moves.proofs.Words.{party_after, run_after, taken_of, waiting_after, waiting_with, Taken, IsMet, sound_of, freed_free, freed_size, Sought}
+use Rattle.phase_moves.proofs.Words.{Turns, initializes, seeks, cell_at, Content, innermost, is_turn, count, most_parties, Wait, wait_of, waits_at, without_wait}
+use Rattle.phase_moves.proofs.Words.{cell_of_section, given_on, CellRow, PartyRow, Target, Rows, CallOf, registry_for, registry_begun, Standing, run_in, runner_of, writes_in}
+use Rattle.phase_moves.proofs.Words.{section_asked, registry_asked, Stands, seen_at, IsCell, IsExit, AreShown, party_row, open_run, run_as, stays_in, IsAttempting, IsTook}
+use Rattle.phase_moves.proofs.Words.{MayWait_of_tries as MayWait, WaitsAt, ask_of, draft_after, is_quick, opens_section, party_after, run_after, taken_of, waiting_after}
+use Rattle.phase_moves.proofs.Words.{waiting_with, Taken, IsMet, sound_of, freed_free, freed_size, Sought}
 use Rattle.phase_moves.proofs.Asked.{IsAsked, asked_as, stays_same, run_calls, registry_run, cells_stay}
 use Rattle.phase_moves.proofs.Attempts.{is_away, IsBegun, IsTurned, Tells, declines, phase_left, rows_begun, stays_asked, writes_begun, wrote}
 use Rattle.phase_moves.proofs.Waiting.{fewer_readers, count_here, counted_less, counted_more, few_wait, some_counted, waited_here}
@@ -111,10 +111,7 @@ module _ {L : Type 0} (held : L → Holders) (place : L → LockerKind) where
 
     pub counted_few : row.waiting < most_parties
     counted_few =
-        let st = is.rests.stands in
-        let most = few_wait t.cell m.waits v.parks st.waits.single st.waits.shows in
-        let few = st.sizes.few in
-        let same = counted_before in
+        let st = is.rests.stands in let most = few_wait t.cell m.waits v.parks st.waits.single st.waits.shows in let few = st.sizes.few in let same = counted_before in
         omega (arith, most, few, same)
 
     many_less : row'.waiting ≡ waiting_with (is_some of.waiting) false row.waiting → row'.waiting ≡ count (waits_at t.cell) (given_on t.cell g (without_wait p m.waits))
@@ -127,16 +124,7 @@ module _ {L : Type 0} (held : L → Holders) (place : L → LockerKind) where
     stays_away : (z : Begun) → b ≡ z → is_run z ≡ false → running_after z row.seq.running ≡ row.seq.running → IsTurned (held row.seq.locker) v.parks b g (held row'.seq.locker) v'.parks → of' ≡ of → row'.run ≡ row.run → row'.waiting ≡ row.waiting → row'.draft ≡ row.draft → Stands held place n m v'
     stays_away z e still runner d o run many draft =
         moved held place t.cell n n m m v v' row' is.rests.stands is.cell cells
-        (let k0 = cell_here in
-        record {
-          planned = plan ∙ k0.planned;
-          valued = value ∙ k0.valued;
-          known = k0.known;
-          locked = subst (λ (s : Parking). IsLocked (place row'.seq.locker) (held row'.seq.locker) s t.cell (reads_in t.cell m) (writes_in t.cell m) y.phase) (sym d.rows) (subst (λ (h : Holders). IsLocked (place row'.seq.locker) h v.parks t.cell (reads_in t.cell m) (writes_in t.cell m) y.phase) (sym d.held) (subst (λ k. IsLocked k (held row.seq.locker) v.parks t.cell (reads_in t.cell m) (writes_in t.cell m) y.phase) (sym k.place) k0.locked));
-          placed = k.place ∙ k0.placed;
-          runner = running ∙ ap (λ x. running_after x row.seq.running) e ∙ runner ∙ k0.runner;
-          runs = run ∙ k0.runs;
-        })
+        (grind (arith, cell_here))
         (many ∙ counted_before)
         (keeps_still t.cell m row m row' (is.rests.stands.draft t.cell row (read_at v.cells.items t.cell row is.cell row_is)) draft refl (λ g x e w. e) (λ g x e w. refl))
         (answered_moved held place t.cell n m v v' m.waits m.content m.registry is.rests.stands k.others k.same (ap (λ (s : Parking). length s.writers) d.rows) guards (exit_still (ap is_run e ∙ still)) (subst (λ (s : Parking). AreShown (length v.cells.items) m.waits s) (sym d.rows) is.rests.stands.waits) (λ d ne. refl) (λ d ne. refl))
@@ -188,8 +176,7 @@ module _ {L : Type 0} (held : L → Holders) (place : L → LockerKind) where
       told_met e z same =
           subst (λ z. IsMet p t z g m) same
           (met (length v.cells.items) (place row.seq.locker) (held row.seq.locker) v.parks m p t cell_here.locked cell_here.placed is.rests.stands.waits sizes_in is.rests.stands.sizes.few in_parks party_in ask asked_here (waits_here waits is.waited) (awake waits is.waited is.waits_so) is.shared (ap (is_cyclic ask.want p) (sym cell_here.runner) ∙ sym cyc ∙ e) b g (held row'.seq.locker)
-          (subst (λ r. IsSettled (place row.seq.locker) who ask (registry_for x.kind r) (held row.seq.locker) v.parks b g (held row'.seq.locker)) is.rests.stands.exit.registry_is
-          (subst (λ (y : CellPlan). IsSettled (place row.seq.locker) who ask (registry_for y.kind v.exit.registry) (held row.seq.locker) v.parks b g (held row'.seq.locker)) cell_here.planned (settled e))))
+          (grind (arith, cell_here, settled)))
 
       did : is_away b ≡ false → Begun_
       did e = elim all [ inl d ↦ absurd (let f : false ≡ true = sym e ∙ d.away in cc) | inr d ↦ d ]
@@ -236,31 +223,17 @@ module _ {L : Type 0} (held : L → Holders) (place : L → LockerKind) where
 
       does_run : (s : SeqSection) → b ≡ Begun.Run s → of' ≡ record { waiting = None; innermost = Some t.cell } → row'.run ≡ Some (record { run = record { party = p; want = t.want; outer = of.innermost }; section = s }) → row'.waiting ≡ count (waits_at t.cell) (given_on t.cell g (without_wait p m.waits)) → row'.draft ≡ row.draft → IsTook held place m v p t Taken.Runs g v'
       does_run s e o run many draft =
-          let d = run_began s e in
-          let tells = told_as d (Begun.Run s) e in
-          let call : is_turn t.want ≡ false = run_calls x t.want ask asked_here (held row.seq.locker).phase tells.1 in
-          let here = cell_here in
+          let d = run_began s e in let tells = told_as d (Begun.Run s) e in
+          let call : is_turn t.want ≡ false = run_calls x t.want ask asked_here (held row.seq.locker).phase tells.1 in let here = cell_here in
           took_run d (few_now (ap is_turned_back e)) (told_met (ap is_turned_back e)) s (ap reads_begun e) (ap writes_begun e) (phase_as d (Begun.Run s) e) (rows_as d (Begun.Run s) e) (exit_run e call)
           (running ∙ ap (λ x. running_after x row.seq.running) e ∙ ap (λ (z : SeqSection). Some z.who.party) tells.0 ∙ (rw call refl))
           (tells.0 ∙ (λ i. section_by who ask.want (stays_asked (registry_for (here.planned i).kind (is.rests.stands.exit.registry_is i)) (here.locked.phase_is i)) write_ticket) ∙ ap (λ q. section_by who ask.want q write_ticket) (stays_same x t.want m.registry y.phase call) ∙ ap (λ w. section_by who w (stays_in x t.want m.registry.is_open y.phase) write_ticket) (asked_as x t.want ask asked_here _ tells.1)) (cyclic_as (Begun.Run s) e) (told_met (ap is_turned_back e) Taken.Runs (ap taken_of e)) o run many draft where
             exit_run : b ≡ Begun.Run s → is_turn t.want ≡ false → IsExit (length v.cells.items) (record m { registry = registry_asked t.cell t.want m }) v'.exit
-            exit_run e call = by t.want refl call where
-              here : IsCell held place (seen_at t.cell m) v.parks t.cell row
-              here = cell_here
-
-              by : (w : Want) → t.want ≡ w → is_turn w ≡ false → IsExit (length v.cells.items) (record m { registry = registry_asked t.cell w m }) v'.exit
-              by (Calls c) q f =
-                  exit_with (registry_asked t.cell (Calls c) m)
-                  (registry ∙ (λ i. registry_begun (here.planned i).kind t.cell (here.locked.phase_is i) b (is.rests.stands.exit.registry_is i)) ∙ registry_run x t.cell y.phase b m.registry (ap is_run e))
-                  (cells_stay t.cell (tries_registration x.kind y.phase) m.registry)
-              by Turns q f = absurd (cc)
+            exit_run e call = grind (arith, cell_here, exit_with, registry_run, cells_stay)
 
       does_final : (s : SeqSection) → b ≡ Begun.Final s → of' ≡ record { waiting = None; innermost = Some t.cell } → row'.run ≡ Some (record { run = record { party = p; want = t.want; outer = of.innermost }; section = s }) → row'.waiting ≡ count (waits_at t.cell) (given_on t.cell g (without_wait p m.waits)) → row'.draft ≡ row.draft → IsTook held place m v p t Taken.Runs g v'
       does_final s e o run many draft =
-          let d = final_began s e in
-          let tells = told_as d (Begun.Final s) e in
-          let turn : t.want ≡ Turns = final_turns x t.want ask asked_here tells.1 in
-          let here = cell_here in
+          let d = final_began s e in let tells = told_as d (Begun.Final s) e in let turn : t.want ≡ Turns = final_turns x t.want ask asked_here tells.1 in let here = cell_here in
           took_run d (few_now (ap is_turned_back e)) (told_met (ap is_turned_back e)) s (ap reads_begun e) (ap writes_begun e) (phase_as d (Begun.Final s) e) (rows_as d (Begun.Final s) e)
           (subst (λ w. IsExit (length v.cells.items) (record m { registry = registry_asked t.cell w m }) v'.exit) (sym turn) (exit_still (ap is_run e)))
           (running ∙ ap (λ x. running_after x row.seq.running) e ∙ here.runner ∙ ap runner_of (none_runs t.cell m.sections (let z = was_none d (ap (wrote _) e) in omega (arith, z))) ∙ sym (ap (λ w. if is_turn w then None else Some p) turn))

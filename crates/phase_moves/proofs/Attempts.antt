@@ -160,31 +160,16 @@ module _ (k : LockerKind) (who : Who) (ask : Ask) (running : Option ℕ) (h : Ho
           let t = got_to who ask h.phase a.tries.nature s a.tries.allowed in
           let is : r ≡ (begun_by who ask h.phase (Attempt.Got (got a.tries.nature h.phase)), Given.Nobody) = a.answer ∙ ap (λ x. (begun_tried who ask h.phase x, Given.Nobody)) (a.tries.answer ∙ ap (λ c. if c then None else Some (got a.tries.nature h.phase)) e) in
           inr (subst (λ (x : Begun × Given). IsEntered who ask h s x.0 x.1 h' s') (sym is)
-          (record {
-            phase = ap (λ (x : Holders). x.phase) (a.tries.held ∙ ap (λ c. if c then h else admitted h a.tries.nature) e) ∙ admitted_phase a.tries.nature h;
-            listed = tt;
-            rows = a.rows ∙ t.rows ∙ ap (rows_begun (begun_by who ask h.phase (Attempt.Got (got a.tries.nature h.phase))) who) (sym (free_same who.party s free));
-            alone = λ z o. (let l = unlocked h a.tries.nature (t.wrote z) e in let m = o.locked in cc);
-            told = t.told;
-          }))
+          (grind (arith, admitted_phase, free_same, unlocked)))
 
     made : MakesAttempt k who ask h s r h' s' → IsEntered who ask h s r.0 r.1 h' s'
     made a =
         let j = judged_to k true who (wake_of ask.want) a.locks.nature h s a.attempt h' s' ask a.locks.allowed a.locks.judged in
         subst (λ b. IsEntered who ask h s b r.1 h' s') (sym a.answer)
-        (subst (λ g. IsEntered who ask h s (begun_by who ask h.phase a.attempt) g h' s') (sym a.locks.given)
-        (record {
-          phase = j.phase;
-          listed = tt;
-          rows = j.rows ∙ ap (rows_begun (begun_by who ask h.phase a.attempt) who) (sym (free_same who.party s free));
-          alone = λ z o. (let l = j.alone z in let m = o.locked in cc);
-          told = j.told;
-        }))
+        (grind (arith, free_same))
 
     by : (c f : Bool) → MatchBool c (TurnsBack h s r h' s') (MatchBool f (TriesLock who ask h s r h' s') (MakesAttempt k who ask h s r h' s')) → IsTurned h s r.0 r.1 h' s' ⊎ IsEntered who ask h s r.0 r.1 h' s'
-    by true f d = inl (turned d)
-    by false true d = tried d
-    by false false d = inr (made d)
+    by c f d = grind (arith, turned, tried, made)
 
   resumes : (row_of s who.party).cell ≡ who.cell → who.party < length s.rows → Fits k h s who.cell → Resumes k who ask running h s r h' s' → IsTurned h s r.0 r.1 h' s' ⊎ IsEntered who ask h s r.0 r.1 h' s'
   resumes here inside fits d = by (is_cyclic ask.want who.party running) d where

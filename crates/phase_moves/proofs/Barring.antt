@@ -1,9 +1,9 @@
 -- A locker bars as the rules do, keeps what they keep, and a barred call waits in a way that is due.
 use Rattle.phase_moves.proofs.Words.{◌≡◌, ◌==◌, ◌<◌, ◌≤◌, ◌+◌, ◌∙◌, ℕ, List, [], ◌∷◌, refl, arith, Bool, true, false, None, Some, not, ◌||◌, ◌&&◌, inl, inr, cases_lt, nat_lt}
-use Rattle.phase_moves.proofs.Words.{Option, Holders, most_readers, LockNature, How, LockerKind, bars, Parking, claims, drains, drains_at, row_of, Fits, IsWriteOpen}
-use Rattle.phase_moves.proofs.Words.{open_reads, MayWait, keeps as row_keeps, write_has_no_reader, Want, CellPlan, answer_barred, drains_by, way_parked, is_fast, wakes_as}
-use Rattle.phase_moves.proofs.Words.{count, Holding, is_barred, keeps_of_holds as keeps, Wait, drains_on, is_drain, shares_read, shares_write, wait_of, IsSingle, Shows}
-use Rattle.phase_moves.proofs.Words.{wait_row, claims_shown, count_rows, shares_shown, answer_missed, kind_at, is_quick, Answer}
+use Rattle.phase_moves.proofs.Words.{Option, Holders, LockNature, How, LockerKind, bars, Parking, drains, drains_at, row_of, Fits, IsWriteOpen, open_reads, MayWait}
+use Rattle.phase_moves.proofs.Words.{keeps as row_keeps, write_has_no_reader, Want, CellPlan, answer_barred, drains_by, way_parked, is_fast, wakes_as, count, Holding}
+use Rattle.phase_moves.proofs.Words.{is_barred, keeps_of_holds as keeps, Wait, drains_on, is_drain, shares_read, shares_write, wait_of, IsSingle, Shows, wait_row}
+use Rattle.phase_moves.proofs.Words.{claims_shown, count_rows, shares_shown, answer_missed, kind_at, is_quick, Answer}
 
 -- ---- tests of numbers
 
@@ -62,21 +62,15 @@ module _ (k : LockerKind) (h : Holders) (s : Parking) (c reads writes : ℕ) (ws
   locked_same = by h.locked refl where
     by : (b : Bool) → h.locked ≡ b → b ≡ (nat_lt 0 writers || nat_lt 0 drainers)
     by false e =
-        let none = fits.locked e in
-        let shown = claims_shown c ws s single shows in
+        let none = fits.locked e in let shown = claims_shown c ws s single shows in
         let closed : writes ≡ 0 = elim (cases_lt 0 writes) [ inl lt ↦ (let o = (write_is lt).locked in absurd (cc)) | inr le ↦ omega (arith, le) ] in
-        let w = not_less writers (omega (arith, none, shown, closed)) in
-        let d = not_less drainers (omega (arith, none, shown)) in
-        rw (w, d) refl
+        let w = not_less writers (omega (arith, none, shown, closed)) in let d = not_less drainers (omega (arith, none, shown)) in rw (w, d) refl
     by true e = elim (cases_lt 0 writers) [
       | inl lt ↦ (let w = less writers lt in rw w refl)
       | inr le ↦ (let lt : 0 < drainers = drains_then le in let d = less drainers lt in let w = not_less writers (omega (arith, le)) in rw (w, d) refl)
     ] where
       drains_then : writers ≤ 0 → 0 < drainers
-      drains_then le = elim (cases_lt 0 (claims s c)) [
-        | inl lt ↦ (let shown = claims_shown c ws s single shows in omega (arith, lt, shown, le))
-        | inr none ↦ (let some = write_was (record { locked = e; unclaimed = omega (arith, none) }) in absurd (omega (arith, some, le)))
-      ]
+      drains_then le = grind (arith, cases_lt, claims_shown)
 
   -- beside a write nobody reads
   pub unread_written : 0 < writers → readers ≡ 0
@@ -85,9 +79,7 @@ module _ (k : LockerKind) (h : Holders) (s : Parking) (c reads writes : ℕ) (ws
   -- it bars as the rules do
   pub barred_same : (n : LockNature) → bars h n ≡ is_barred n (record { readers = readers; written = nat_lt 0 writers; drained = nat_lt 0 drainers })
   barred_same LockNature.None = refl
-  barred_same LockNature.Read =
-      (λ i. (locked_same i && (readers_same i == 0)) || (readers_same i == most_readers))
-      ∙ read_same (nat_lt 0 writers) (nat_lt 0 drainers) (readers == 0) (readers == most_readers) (λ e. is_zero readers (unread_written (positive writers e)))
+  barred_same LockNature.Read = grind (arith, locked_same, readers_same, read_same, is_zero, unread_written, positive)
   barred_same LockNature.Write = (λ i. locked_same i || not (readers_same i == 0)) ∙ write_same (nat_lt 0 writers) (nat_lt 0 drainers) (readers == 0) (nat_lt 0 readers) (some_not readers)
 
 -- ---- what is kept

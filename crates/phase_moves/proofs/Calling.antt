@@ -2,7 +2,7 @@
 use Rattle.phase_moves.proofs.Words.{◌≡◌, ◌≢◌, ◌==◌, ◌<◌, ◌+◌, ◌∙◌, ℕ, List, length, set, get_or, ap, sym, subst, refl, arith, true, Some, IsNone, OnSome, ◌↔◌, Option}
 use Rattle.phase_moves.proofs.Words.{Holders, Registry, admit_read, most_readers, LockerKind, ReadTicket, Parking, SameSize, claims, Fits, KeepsFit, open_reads, OthersStay}
 use Rattle.phase_moves.proofs.Words.{Content, Guard, numbered, reader, reads_cell, count, Wait, waits_at, found_counts, shares_shown, CellRow, Rows, Standing, cloned}
-use Rattle.phase_moves.proofs.Words.{reads_in, writes_in, CountsWaits, KeepsDraft, Seen, seen_at, IsCell, IsExit, IsLocked, AreShown, Stands, IsOpenReader, IsFull, ClonesAs}
+use Rattle.phase_moves.proofs.Words.{reads_in, writes_in, CountsWaits, KeepsDraft, seen_at, IsCell, IsExit, IsLocked, AreShown, Stands, IsOpenReader, IsFull, ClonesAs}
 use Rattle.phase_moves.proofs.{Drafts.beside_reader, Drafts.keeps_still, Guards.found_itself, Guards.reads_here, Lockers.reading_alone, Opening.guard_opened}
 use Rattle.phase_moves.proofs.{Opening.seen_reader, Moved.IsMoved, Moved.parties_same, Moved.moved, Places.read_at}
 
@@ -44,10 +44,7 @@ module _ {L : Type 0} (held : L → Holders) (place : L → LockerKind) where
     pub clone_full : (held row.seq.locker).readers ≡ most_readers → IsFull x.cell m
     clone_full e =
         subst (λ d. IsFull d m) (sym at)
-        (let are = clone_row.locked.reads_are in
-        let most = clone_row.locked.fits.shared in
-        let shown = shares_shown c m.waits v.parks is.rests.stands.waits.single is.rests.stands.waits.shows in
-        omega (arith, are, most, shown, e))
+        (grind (arith, clone_row, shares_shown))
 
     -- one more reads
     pub clone_more : v'.cells.items ≡ set v.cells.items c row' → v'.guards ≡ v.guards → v'.parties ≡ v.parties → v'.parks ≡ v.parks → v'.exit ≡ v.exit → row'.plan ≡ row.plan → row'.waiting ≡ row.waiting → row'.value ≡ row.value → row'.draft ≡ row.draft → row'.run ≡ row.run → row'.seq.running ≡ row.seq.running → place row'.seq.locker ≡ place row.seq.locker
@@ -64,9 +61,7 @@ module _ {L : Type 0} (held : L → Holders) (place : L → LockerKind) where
 
           now : IsLocked (place row'.seq.locker) (held row'.seq.locker) v'.parks c (reads_in c m + 1) (writes_in c m) (m.content c).phase
           now =
-              let l = clone_row.locked in
-              let some = clone_some in
-              let none = reading_alone (place row.seq.locker) (held row.seq.locker) v.parks c _ _ _ l some in
+              let l = clone_row.locked in let some = clone_some in let none = reading_alone (place row.seq.locker) (held row.seq.locker) v.parks c _ _ _ l some in
               let readers : (held row'.seq.locker).readers ≡ (held row.seq.locker).readers + 1 = ap (λ (h : Holders). h.readers) more in
               let same : open_reads (held row'.seq.locker) v'.parks c ≡ open_reads (held row'.seq.locker) v.parks c = ap (λ (s : Parking). open_reads (held row'.seq.locker) s c) parks in
               record {
@@ -83,8 +78,7 @@ module _ {L : Type 0} (held : L → Holders) (place : L → LockerKind) where
           here =
               let k0 = clone_row in
               subst (λ d. IsCell held place (seen_at c (cloned n (record x { cell = d }) m)) v'.parks c row') (sym at)
-              (subst (λ (z : Seen). IsCell held place z v'.parks c row') (sym (seen_reader n x.party c m))
-              (record { planned = plan ∙ k0.planned; valued = value ∙ k0.valued; known = k0.known; locked = now; placed = stays ∙ k0.placed; runner = running ∙ k0.runner; runs = run ∙ k0.runs }))
+              (grind (arith, seen_reader, n, now))
 
     -- as many do
     clone_none : v'.cells.items ≡ set v.cells.items c row' → v'.guards ≡ v.guards → v'.parties ≡ v.parties → v'.parks ≡ v.parks → v'.exit ≡ v.exit → row'.plan ≡ row.plan → row'.waiting ≡ row.waiting → row'.value ≡ row.value → row'.draft ≡ row.draft → row'.run ≡ row.run → row'.seq.running ≡ row.seq.running → place row'.seq.locker ≡ place row.seq.locker

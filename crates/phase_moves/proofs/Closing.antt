@@ -1,9 +1,9 @@
 -- What is open is given back, one after another.
 use Rattle.phase_moves.proofs.Words.{◌≡◌, ◌≢◌, ◌<◌, ◌+◌, ◌∙◌, ℕ, List, [], ◌∷◌, ◌++◌, length, ◌==◌, ap, sym, subst, refl, arith, Bool, false, None, Some, common_steps, gets}
 use Rattle.phase_moves.proofs.Words.{slice_get_within, slice_get, if◌then◌else◌, Option, Holders, LockerKind, Given, ReadTicket, WriteTicket, IsWriteOpen, Parking}
-use Rattle.phase_moves.proofs.Words.{fits_beside, SeqSection, LazySequentializer, Want, Calls, Turns, Guard, numbered, count, cell_at, Section, runs_in, CellRow, GuardRow}
-use Rattle.phase_moves.proofs.Words.{OpenRun, Rows, Run, Standing, left_of_standing as left, run_in, runner_of, IsCell, Stands, guard_row, open_run, section_of, seen_at}
-use Rattle.phase_moves.proofs.Words.{slot_row, Rests, LeavesRead, LeavesWrite, IsReader, IsWriter, AreClosing, CanClose, IsClosing, IsOpenRun, IsPopped, RunsFor, StayBeside}
+use Rattle.phase_moves.proofs.Words.{fits_beside, SeqSection, LazySequentializer, Want, Guard, numbered, count, cell_at, Section, runs_in, CellRow, GuardRow, Rows, Run}
+use Rattle.phase_moves.proofs.Words.{Standing, left_of_standing as left, run_in, IsCell, Stands, guard_row, section_of, seen_at, slot_row, Rests, LeavesRead, LeavesWrite}
+use Rattle.phase_moves.proofs.Words.{IsReader, IsWriter, AreClosing, CanClose, IsClosing, IsOpenRun, IsPopped, RunsFor, StayBeside}
 use Rattle.phase_moves.proofs.{Ending.asked_run, Finalizing.asked_final, Hand.read_row, Hand.write_row, Hand.left_empty, Hand.beyond, Known.stays_known, Opening.rehand}
 
 -- ---- lists whose last is popped
@@ -51,23 +51,14 @@ module _ {L : Type 0} (held : L → Holders) (place : L → LockerKind) where
             party = λ p lt. ap (λ ps. slice_get ps.items p) parties ∙ can.rests.stands.party p (subst (λ ps. p < length ps.items) parties lt);
             exit = rw (cells, exit) can.rests.stands.exit;
             waits = rw (cells, parks) can.rests.stands.waits;
-            guards = record {
-              once = can.rests.stands.guards.once;
-              in_rows = λ g x e ne. below g x e ne;
-              in_cells = λ g x e. subst (λ cs. x.cell < length cs.items) (sym cells) (can.rests.stands.guards.in_cells g x e);
-            };
+            guards = grind (arith, below);
             sections = rw cells can.rests.stands.sections;
             sizes = rw (cells, parties, parks) can.rests.stands.sizes;
           };
           row_is = (let a : Some row ≡ Some (slot_row (length old.guards.items) m k) = sym (last_at new.guards.items old.guards.items row popped) ∙ can.rests.stands.slot k (let e = n_is in omega (arith, e)) in cc) ∙ shows (length old.guards.items) k (let e = n_is in omega (arith, e));
         } where
           below : (g : ℕ) (x : Guard) → numbered g m.guards ≡ Some x → g ≢ k → g < k
-          below g x e ne =
-              let inside : g < length old.guards.items = can.rests.stands.guards.in_rows g x e other in
-              let n : length old.guards.items ≡ k + 1 = n_is in
-              omega (arith, inside, n, ne) where
-                other : g ≢ length old.guards.items
-                other q = let clash : Some x ≡ None = sym e ∙ ap (λ i. numbered i m.guards) q ∙ can.rests.empty in cc
+          below g x e ne = grind (arith, n_is)
 
   -- nothing is in hand after a guard was given back
   rests_again : (hand : ℕ) (m : Standing) (v : Rows L) → Stands held place hand m v → numbered hand m.guards ≡ None → Rests held place m v
@@ -124,18 +115,10 @@ module _ {L : Type 0} (held : L → Holders) (place : L → LockerKind) where
     open_at r e = let some : 0 < count (runs_in c) can.m.sections = runs_counted c can.m.sections r e in here.locked.write_is (omega (arith, some))
 
     runs_for : (r : Run) → run_in c can.m.sections ≡ Some r → (w : Want) → r.section.want ≡ w → RunsFor held place w (section_at can.m c r) row.seq v.parks
-    runs_for r e (Calls k) w = record { party = here.runner ∙ ap runner_of e ∙ (rw w refl); asked = asked_run (cell_at can.m.plans c).kind r.section.want (rw w refl); known = stays_known (cell_at can.m.plans c) r.section.want r.section.is_open (can.m.content c).phase here.known; locked = open_at r e }
-    runs_for r e Turns w = record { asked = asked_final (cell_at can.m.plans c).kind r.section.want (rw w refl); locked = open_at r e }
+    runs_for r e w f = grind (arith, here, asked_run, stays_known, open_at, asked_final)
 
     by : (q : Option Run) → run_in c can.m.sections ≡ q → IsOpenRun held place c v.parks row.seq o.run.want o.section
-    by None e = absurd (let clash : Some o ≡ None = sym taken ∙ here.runs ∙ ap (open_run (cell_at can.m.plans c) c (can.m.content c).phase) e in cc)
-    by (Some r) e =
-        let there = sym taken ∙ here.runs ∙ ap (open_run (cell_at can.m.plans c) c (can.m.content c).phase) e in
-        let same : o ≡ record { run = record { party = r.section.party; want = r.section.want; outer = r.outer }; section = section_at can.m c r } = cc in
-        subst (λ (z : OpenRun). IsOpenRun held place c v.parks row.seq z.run.want z.section) (sym same)
-        (record { at = refl; inside = inside; fits = here.locked.fits; runs = runs_for r e r.section.want refl }) where
-          inside : c < length v.parks.readers
-          inside = let lt : c < length v.cells.items = slice_get_within v.cells.items c row at in subst (λ n. c < n) (sym can.rests.stands.sizes.readers) lt
+    by q e = grind (arith, here, runs_for, slice_get_within)
 
   -- what is open in another cell stays so
   stays_open : (c n : ℕ) (s s' : Parking) (seq : LazySequentializer L (Unit {0})) (w : Want) (section : SeqSection) → StayBeside n s s' → c ≢ n → IsOpenRun held place c s seq w section → IsOpenRun held place c s' seq w section
@@ -150,8 +133,7 @@ module _ {L : Type 0} (held : L → Holders) (place : L → LockerKind) where
         open_still k = record { locked = k.locked; unclaimed = (beside.others.cells section.who.cell (λ q. ne (sym is.at ∙ q))).claims ∙ k.unclaimed }
 
         by : (x : Want) → RunsFor held place x section seq s → RunsFor held place x section seq s'
-        by (Calls k) r = record { party = r.party; asked = r.asked; known = r.known; locked = open_still r.locked }
-        by Turns r = record { asked = r.asked; locked = open_still r.locked }
+        by x r = grind (arith, open_still)
 
   -- the last of them
   pub last_closing : (s : Parking) (rows rest : List (CellRow L)) (row : CellRow L) (n : ℕ) → AreClosing held place s rows → rows ≡ rest ++ row ∷ [] → n ≡ length rest → IsClosing held place n s row
@@ -160,6 +142,5 @@ module _ {L : Type 0} (held : L → Holders) (place : L → LockerKind) where
   -- and the others
   pub rest_closing : (s s' : Parking) (rows rest : List (CellRow L)) (row : CellRow L) (n : ℕ) → AreClosing held place s rows → rows ≡ rest ++ row ∷ [] → n ≡ length rest → StayBeside n s s' → AreClosing held place s' rest
   rest_closing s s' rows rest row n all popped is beside c r at o taken =
-      let lt : c < length rest = slice_get_within rest c r at in
-      let there : slice_get rows c ≡ Some r = other_at rest rows row c popped lt ∙ at in
+      let lt : c < length rest = slice_get_within rest c r at in let there : slice_get rows c ≡ Some r = other_at rest rows row c popped lt ∙ at in
       stays_open c n s s' r.seq o.run.want o.section beside (omega (arith, lt, is)) (all c r there o taken)

@@ -1,12 +1,11 @@
 -- A run ends, and its call goes on.
-use Rattle.phase_moves.proofs.Words.{◌≡◌, ◌==◌, ◌<◌, ◌≤◌, ◌+◌, ◌∙◌, ℕ, [], ◌∷◌, length, set, get_or, ap, sym, subst, refl, arith, Bool, true, false, None, Some, Option}
-use Rattle.phase_moves.proofs.Words.{is_some_of_option as is_some, Phase, Holders, phase_of, IsKnown, leave_write, most_readers, Given, LockerKind, Parking, HasFree}
-use Rattle.phase_moves.proofs.Words.{IsWriteOpen, open_reads, Hands, Downgrades, Left, ReadTicket, WriteTicket, Sought as SeqWant, SeqSection, Finished}
-use Rattle.phase_moves.proofs.Words.{run_sought as initializes, reached, Finishes, GoesOn, FinishedStands, IsRunning, reads_finished, CellPlan, Kind, Want, cell_at, Content}
-use Rattle.phase_moves.proofs.Words.{Ran, content_of_run, reader, Section, is_turn, runs_in, without_innermost, writes_cell, count, wait_of, listed_hand, listed_share}
-use Rattle.phase_moves.proofs.Words.{CellRow, OpenRun, PartyRow, Rows, Standing, run_in, reads_in, writes_in, runner_of, run_closed, guarded, seen_by, writer_of, Seen}
-use Rattle.phase_moves.proofs.Words.{draft_of, seen_at, IsCell, IsLocked, Stands, run_as, section_of, stays_in, target_of, IsEnding, EndsAs, GoesAs, write_has_no_reader}
-use Rattle.phase_moves.proofs.Words.{MayGive, MayGiveDown}
+use Rattle.phase_moves.proofs.Words.{◌≡◌, ◌==◌, ◌<◌, ◌+◌, ◌∙◌, ℕ, [], ◌∷◌, length, set, get_or, ap, sym, subst, refl, arith, Bool, true, false, None, Some, Option}
+use Rattle.phase_moves.proofs.Words.{is_some_of_option as is_some, Phase, Holders, phase_of, IsKnown, leave_write, Given, LockerKind, Parking, HasFree, IsWriteOpen}
+use Rattle.phase_moves.proofs.Words.{open_reads, Hands, Downgrades, Left, ReadTicket, WriteTicket, Sought as SeqWant, SeqSection, Finished, run_sought as initializes, reached}
+use Rattle.phase_moves.proofs.Words.{Finishes, GoesOn, FinishedStands, IsRunning, reads_finished, CellPlan, Kind, Want, cell_at, Content, Ran, content_of_run, reader, Section}
+use Rattle.phase_moves.proofs.Words.{is_turn, runs_in, without_innermost, writes_cell, count, wait_of, listed_hand, listed_share, CellRow, OpenRun, PartyRow, Rows, Standing}
+use Rattle.phase_moves.proofs.Words.{run_in, reads_in, writes_in, runner_of, run_closed, guarded, seen_by, writer_of, Seen, draft_of, seen_at, IsCell, IsLocked, Stands}
+use Rattle.phase_moves.proofs.Words.{run_as, section_of, stays_in, target_of, IsEnding, EndsAs, GoesAs, write_has_no_reader, MayGive, MayGiveDown}
 use Rattle.phase_moves.proofs.Innermost.{in_cells, cell_here, runs_here, o_is, its_row, write_open, seen_closed, seen_without, closed_moved, without_moved, without_it}
 use Rattle.phase_moves.proofs.Innermost.{cell_ended, counted_ended, no_writers, parties_ended}
 use Rattle.phase_moves.proofs.{Known.change_known, Known.stays_known, Leaving.parked_few, Leaving.parked_fewer, Lockers.locked_write, Lockers.locked_down}
@@ -207,17 +206,7 @@ module _ {L : Type 0} (held : L → Holders) (place : L → LockerKind) (m : Sta
         let d = how (Finished.Write l q) e in
         record {
           stands = moved held place c n n m (guarded (writer_of n s made) gone) v v' row' ok inside cells
-              (subst (λ (z : Seen). IsCell held place z v'.parks c row') (sym seen)
-              (cell_now (m.content c) 0 1 (value ∙ here.valued) here.known
-              (record {
-                fits = left_here.fits;
-                phase_is = ap (λ (h : Holders). h.phase) d.3 ∙ here.locked.phase_is;
-                reads_are = reads_here (Finished.Write l q) e;
-                write_is = λ lt. (stands_here (Finished.Write l q) e).0;
-                write_was = λ o. omega arith;
-                one = omega arith;
-                limit = subst (λ (h : Holders). h.readers ≤ most_readers) (sym d.3) here.locked.limit;
-              })))
+              (grind (arith, seen, cell_now, here, left_here, phase_is, reads_here, stands_here))
               (counted_ended held place m v p c s is.inner row row_is row' Given.Nobody calm)
               (keeps_first c gone row' (writer_of n s made) unwritten (draft ∙ drafted (told_as q (d.2 ∙ phase_is true d.0)) (subst (IsMadeAs made) d.0 made_is)))
               (guard_opened held place c n n n m gone v v' (writer_of n s made) (without_moved held place m v p c s is.inner row row_is v' left_here guards exit d.4) refl is.inner.at (omega arith) is.inner.rests.empty is.inner.rests.empty inside)

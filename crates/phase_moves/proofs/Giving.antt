@@ -24,19 +24,11 @@ module _ {L : Type 0} (held : L → Holders) (place : L → LockerKind) (hand : 
   gift : g ≢ Given.Nobody → IsListed x.cell v.parks g → stand_on x.cell (left x Given.Nobody m) ≡ 0 → IsGift x.cell (left x Given.Nobody m) g
   gift ne listed free = record { parks = parking _ _ v.parks x.cell (cell_at m.plans x.cell).place g its.locked.fits its.placed listed ne; reach = reaches_given x.cell g m.waits v.parks t.waits.shows listed; free = free }
 
-  free_read : x.writes ≡ false → IsIdle (leave_read (held row.seq.locker)) → stand_on x.cell (left x Given.Nobody m) ≡ 0
-  free_read r idle = grind (arith, its, count_less, there, reads_here, count_same, never_writes, read_open, reading_alone, shares_shown, claims_shown)
-
   free_write : (q : Phase) → x.writes ≡ true → IsIdle (leave_write q (held row.seq.locker)) → stand_on x.cell (left x Given.Nobody m) ≡ 0
   free_write q w idle =
-      let reads = no_reads held place hand m v x t found row row_is w Given.Nobody in
-      let writes = no_writes held place hand m v x t found row row_is w Given.Nobody in
-      let readers = idle.readers in
-      let most = its.locked.fits.shared in
-      let opened = write_open held place hand m v x t found row row_is w in
-      let unclaimed = opened.unclaimed in
-      let shown = shares_shown x.cell m.waits v.parks t.waits.single t.waits.shows in
-      let claimed = claims_shown x.cell m.waits v.parks t.waits.single t.waits.shows in
+      let reads = no_reads held place hand m v x t found row row_is w Given.Nobody in let writes = no_writes held place hand m v x t found row row_is w Given.Nobody in
+      let readers = idle.readers in let most = its.locked.fits.shared in let opened = write_open held place hand m v x t found row row_is w in let unclaimed = opened.unclaimed in
+      let shown = shares_shown x.cell m.waits v.parks t.waits.single t.waits.shows in let claimed = claims_shown x.cell m.waits v.parks t.waits.single t.waits.shows in
       omega (arith, reads, writes, readers, most, unclaimed, shown, claimed)
 
   pub gives_write : (q : Phase) → x.writes ≡ true → (h' : Holders) (s' : Parking) → Hands x.cell (leave_write q (held row.seq.locker)) v.parks g h' s' → MayGive x.cell (left x Given.Nobody m) g
@@ -51,7 +43,7 @@ module _ {L : Type 0} (held : L → Holders) (place : L → LockerKind) (hand : 
         subst (IsGift x.cell (left x Given.Nobody m)) e (gift ne (listed_hand x.cell _ v.parks g hands.may) (free_write q w (idle_at x.cell _ v.parks g hands.may ne)))
 
   pub gives_read : x.writes ≡ false → (h' : Holders) (s' : Parking) → Hands x.cell (leave_read (held row.seq.locker)) v.parks g h' s' → MayGive x.cell (left x Given.Nobody m) g
-  gives_read r h' s' hands = grind (arith, gift, listed_hand, free_read, idle_at)
+  gives_read r h' s' hands = grind (arith, gift, listed_hand, idle_at, its, count_less, there, reads_here, count_same, never_writes, read_open, reading_alone, shares_shown, claims_shown)
 
 -- the same, at the cell that the code names
 pub gives_read_at : {L : Type 0} (held : L → Holders) (place : L → LockerKind) (hand : ℕ) (m : Standing) (v : Rows L) (x : Guard) (t : Stands held place hand m v) (found : numbered hand m.guards ≡ Some x) (c : ℕ) → x.cell ≡ c → (row : CellRow L) → slice_get v.cells.items c ≡ Some row → (g : Given) → x.writes ≡ false
@@ -85,9 +77,7 @@ module _ {L : Type 0} (held : L → Holders) (place : L → LockerKind) (m : Sta
   module _ (n : Standing) (plans : n.plans ≡ m.plans) (waits : n.waits ≡ m.waits) (reads : reads_in c n ≡ 0) (writes : writes_in c n ≡ 0) (q : Phase) (g : Given) (h' : Holders) (s' : Parking) (hands : Hands c (leave_write q (held row.seq.locker)) v.parks g h' s') where
     free : g ≢ Given.Nobody → stand_on c n ≡ 0
     free ne =
-        let idle = idle_at c (leave_write q (held row.seq.locker)) v.parks g hands.may ne in
-        let readers = idle.readers in
-        let most = here.locked.fits.shared in
+        let idle = idle_at c (leave_write q (held row.seq.locker)) v.parks g hands.may ne in let readers = idle.readers in let most = here.locked.fits.shared in
         let unclaimed = (run_open held place m v p c s is row row_is).unclaimed in
         let shown = shares_shown c m.waits v.parks is.rests.stands.waits.single is.rests.stands.waits.shows in
         let claimed = claims_shown c m.waits v.parks is.rests.stands.waits.single is.rests.stands.waits.shows in
@@ -99,9 +89,7 @@ module _ {L : Type 0} (held : L → Holders) (place : L → LockerKind) (m : Sta
     pub gives_closed : MayGive c n g
     gives_closed = by g refl where
       by : (d : Given) → g ≡ d → MayGive c n d
-      by Given.Nobody e = tt
-      by (Given.Writer r) e = subst (IsGift c n) e (gift_closed (λ z. (let f : Given.Writer r ≡ Given.Nobody = sym e ∙ z in cc)))
-      by Given.Readers e = subst (IsGift c n) e (gift_closed (λ z. (let f : Given.Readers ≡ Given.Nobody = sym e ∙ z in cc)))
+      by d e = grind (arith, gift_closed)
 
   -- at a section that a reader goes on from
   pub gives_down : (q : Phase) (g : Given) (h' : Holders) (s' : Parking) → Downgrades c q (held row.seq.locker) v.parks g h' s' → MayGiveDown c m g

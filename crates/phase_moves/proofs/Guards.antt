@@ -1,7 +1,7 @@
 -- The rows of guards, after one is taken off or opened.
-use Rattle.phase_moves.proofs.Words.{◌≡◌, ◌≢◌, ◌==◌, ◌≤◌, ◌+◌, ◌∙◌, ℕ, List, ◌∷◌, ap, refl, arith, Bool, true, false, cond, None, Some, cases_eq, Option, count, Guard}
-use Rattle.phase_moves.proofs.Words.{numbered, without_guard, reads_cell, writes_cell, Wait, wait_of, wait_woken, found_passes, none_found, none_counted, count_removed}
-use Rattle.phase_moves.proofs.Words.{guard_kept, Given, given_on, changed_of_finding as changed, wait_readers, wait_writer, Standing, slot_row, target_of}
+use Rattle.phase_moves.proofs.Words.{◌≡◌, ◌≢◌, ◌==◌, ◌≤◌, ◌+◌, ◌∙◌, ℕ, List, ◌∷◌, ap, refl, arith, Bool, true, false, cond, None, Some, cases_eq, count, Guard, numbered}
+use Rattle.phase_moves.proofs.Words.{without_guard, reads_cell, writes_cell, Wait, wait_of, wait_woken, found_passes, none_found, none_counted, count_removed, guard_kept}
+use Rattle.phase_moves.proofs.Words.{Given, given_on, wait_readers, wait_writer, Standing, slot_row, target_of}
 
 -- a guard has its number
 pub its_number : (g : ℕ) (gs : List Guard) (x : Guard) → numbered g gs ≡ Some x → x.number ≡ g
@@ -14,8 +14,7 @@ found_itself g gs x e = ap (λ n. numbered n gs) (its_number g gs x e) ∙ e
 -- each number is a guard's at most once: after one is taken off it is no guard's
 pub gone : (g : ℕ) (gs : List Guard) (x : Guard) → numbered g gs ≡ Some x → count (λ (y : Guard). y.number == g) gs ≤ 1 → numbered g (without_guard g gs) ≡ None
 gone g gs x e one =
-    let all = count_removed (λ (y : Guard). y.number == g) g gs x e in
-    let here = ap (λ b. cond {A = ℕ} b 1 0) (found_passes (λ (y : Guard). y.number == g) gs x e) in
+    let all = count_removed (λ (y : Guard). y.number == g) g gs x e in let here = ap (λ b. cond {A = ℕ} b 1 0) (found_passes (λ (y : Guard). y.number == g) gs x e) in
     none_found (λ (y : Guard). y.number == g) (without_guard g gs) (omega (arith, all, here, one))
 
 pub once_without : (g k : ℕ) (gs : List Guard) (x : Guard) → numbered g gs ≡ Some x → count (λ (y : Guard). y.number == k) gs ≤ 1 → count (λ (y : Guard). y.number == k) (without_guard g gs) ≤ 1
@@ -27,10 +26,6 @@ once_with y k gs e one = let none = none_counted (λ (x : Guard). x.number == y.
 -- what is left was there
 pub left_there : (g k : ℕ) (gs : List Guard) (x y : Guard) → numbered g gs ≡ Some x → count (λ (z : Guard). z.number == g) gs ≤ 1 → numbered k (without_guard g gs) ≡ Some y → (k ≢ g) × (numbered k gs ≡ Some y)
 left_there g k gs x y e one f = grind (arith, cases_eq, gone, guard_kept)
-
--- of a guard on one cell, no test of another is passed
-pub reads_elsewhere : (x : Guard) (d : ℕ) → d ≢ x.cell → reads_cell d x ≡ false
-reads_elsewhere x d ne = grind (arith, ne)
 
 pub writes_elsewhere : (x : Guard) (d : ℕ) → d ≢ x.cell → writes_cell d x ≡ false
 writes_elsewhere x d ne = grind (arith, ne)
@@ -58,12 +53,8 @@ count_less t g gs x e f = let all = count_removed t g gs x e in let yes = ap (λ
 pub slots_same : (m m' : Standing) (hand g : ℕ) → (g ≢ hand → numbered g m'.guards ≡ numbered g m.guards) → slot_row hand m' g ≡ slot_row hand m g
 slots_same m m' hand g guards = grind arith
 
--- what the calls that wait ask stays at a gift
-target_changed : (f : Wait → Wait) → ((w : Wait) → target_of (Some (f w)) ≡ target_of (Some w)) → (o : Option Wait) → target_of (changed f o) ≡ target_of o
-target_changed f same o = grind arith
-
 target_woken : (b : Bool) (w : Wait) → target_of (Some (cond b (wait_woken w) w)) ≡ target_of (Some w)
 target_woken b w = grind arith
 
 pub target_given : (c : ℕ) (g : Given) (ws : List Wait) (p : ℕ) → target_of (wait_of p (given_on c g ws)) ≡ target_of (wait_of p ws)
-target_given c g ws p = grind (arith, wait_writer, target_changed, target_woken, wait_readers)
+target_given c g ws p = grind (arith, wait_writer, target_woken, wait_readers)

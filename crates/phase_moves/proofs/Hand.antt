@@ -60,7 +60,4 @@ module _ {L : Type 0} (held : L → Holders) (place : L → LockerKind) (m : Sta
         all = taken held place m v v' g r.stands r.empty lt guards cells parties parks exit
 
         by : (o : Option Guard) → numbered g m.guards ≡ o → TakenAs held place v g o m v'
-        by None q = absurd (never (row_shown row e lt ∙ ap guard_row q) f) where
-          never : row ≡ GuardRow.Free → is_row_of p row ≡ true → ⊥
-          never s t = let n : false ≡ true = ap (is_row_of p) (sym s) ∙ t in cc
-        by (Some x) q = (all, q)
+        by o q = grind (arith, row_shown, all)

@@ -1,10 +1,10 @@
 -- What stands open after one step more is a move of what stood open.
 use Rattle.phase_moves.proofs.Words.{◌≡◌, ◌≢◌, ◌∙◌, ℕ, List, [], ◌∷◌, length, ap, sym, refl, arith, Bool, true, false, None, Some, ◌==◌, Option, Phase, Given, ReadTicket}
-use Rattle.phase_moves.proofs.Words.{WriteTicket, Refusal, CellPlan, Act, Change, Ran, Put, RanIfAsked, registry, owner, ended_turns, finishing, owner_by, Guard, guards}
-use Rattle.phase_moves.proofs.Words.{numbered, guard_of, own, reader, reader_beside, Event, accepts, replay, content_after_back, Section, sections, innermost, Wait, waits}
-use Rattle.phase_moves.proofs.Words.{wait_of, without_wait, waits_given_with, cell_concerned_with, found_passes, given_on, none_without, given_concerned, Lent, Loan, standing}
-use Rattle.phase_moves.proofs.Words.{event, answer_of, changed, lending, lent_in, was_used, Standing, left_of_standing as left, downgraded, cloned, ended, finalized}
-use Rattle.phase_moves.proofs.Words.{run_closed, writer_of, owned, put, round_looked, Look, answer_of_look, is_other, Finished, Answer}
+use Rattle.phase_moves.proofs.Words.{WriteTicket, Refusal, CellPlan, Act, Change, Ran, Put, RanIfAsked, registry, owner, ended_turns, finishing, Guard, guards, numbered}
+use Rattle.phase_moves.proofs.Words.{guard_of, own, reader, reader_beside, Event, accepts, replay, content_after_back, Section, sections, innermost, Wait, waits, wait_of}
+use Rattle.phase_moves.proofs.Words.{without_wait, waits_given_with, cell_concerned_with, found_passes, given_on, none_without, given_concerned, Lent, Loan, standing, event}
+use Rattle.phase_moves.proofs.Words.{answer_of, changed, lending, lent_in, was_used, Standing, left_of_standing as left, downgraded, cloned, ended, finalized, run_closed}
+use Rattle.phase_moves.proofs.Words.{writer_of, owned, put, round_looked, Look, answer_of_look, is_other, Finished, Answer}
 use Rattle.phase_moves.proofs.Guards.{its_number}
 
 owned_by : (p : ℕ) (x : Guard) (o : Option Guard) → own p o ≡ Some x → (o ≡ Some x) × (x.party ≡ p)
@@ -123,11 +123,6 @@ module _ (cells : List CellPlan) (h : List Event) (p : ℕ) where
   -- ---- the exit, of a party that may own it
 
   module _ (free : is_other (owner h) p ≡ false) where
-    owns : owner_by p true (owner h) ≡ Some p
-    owns = by (owner h) free where
-      by : (o : Option ℕ) → is_other o p ≡ false → owner_by p true o ≡ Some p
-      by o e = grind arith
-
     -- a look for the cells that were registered since the last one
     pub exit_looks : wait_of p ws ≡ None → (o : Look) → standing cells (event p Act.Exit (record { answer = answer_of_look o; given = Given.Nobody }) ∷ h) ≡ round_looked (owned p (standing cells h))
-    exit_looks awake o = grind (arith, none_without, owns)
+    exit_looks awake o = grind (arith, none_without)

@@ -66,10 +66,8 @@ module _ {L : Type 0} (held : L → Holders) (place : L → LockerKind) (m : Sta
 
   no_runs : count (runs_in c) (without_innermost s.party m.sections) ≡ 0
   no_runs =
-      let one = cell_here.locked.one in
-      let less = ended_runs c in
-      let yes : cond {A = ℕ} (runs_in c s) 1 0 ≡ 1 = (let e : (s.cell == c) ≡ true = (let q = is.at in grind (arith, q)) in rw e refl) in
-      omega (arith, one, less, yes)
+      let one = cell_here.locked.one in let less = ended_runs c in
+      let yes : cond {A = ℕ} (runs_in c s) 1 0 ≡ 1 = (let e : (s.cell == c) ≡ true = (let q = is.at in grind (arith, q)) in rw e refl) in omega (arith, one, less, yes)
 
   runs_beside : (d : ℕ) → d ≢ c → count (runs_in d) (without_innermost s.party m.sections) ≡ count (runs_in d) m.sections
   runs_beside d ne = grind (arith, ended_runs)
@@ -85,8 +83,7 @@ module _ {L : Type 0} (held : L → Holders) (place : L → LockerKind) (m : Sta
   seen_without =
       let r = no_reads in
       let w : count (writes_cell c) m.guards + count (runs_in c) (without_innermost s.party m.sections) ≡ 0 = (let x = no_writers in let y = no_runs in omega (arith, x, y)) in
-      let o = none_runs c (without_innermost s.party m.sections) no_runs in
-      λ i. record { plan = cell_at m.plans c; content = m.content c; reads = r i; writes = w i; run = o i }
+      let o = none_runs c (without_innermost s.party m.sections) no_runs in λ i. record { plan = cell_at m.plans c; content = m.content c; reads = r i; writes = w i; run = o i }
 
   pub without_moved : (v' : Rows L) {l l' : L} → Left held place c l l' v.parks v'.parks → v'.guards ≡ v.guards → v'.exit ≡ v.exit → v'.parks ≡ v.parks → IsMoved held place c n n m without_it v v'
   without_moved v' k guards exit parks = grind (arith, runs_beside, run_beside, exit_kept, inside_ended)
@@ -107,11 +104,9 @@ module _ {L : Type 0} (held : L → Holders) (place : L → LockerKind) (m : Sta
 
     pub seen_closed : seen_at c (closed s (Some (record { cell = s.cell; changes = chs })) g m) ≡ record { plan = cell_at m.plans c; content = effect (cell_at m.plans c) chs (m.content c); reads = 0; writes = 0; run = None }
     seen_closed =
-        let a = content_here in
-        let r = no_reads in
+        let a = content_here in let r = no_reads in
         let w : count (writes_cell c) m.guards + count (runs_in c) (without_innermost s.party m.sections) ≡ 0 = (let x = no_writers in let y = no_runs in omega (arith, x, y)) in
-        let o = none_runs c (without_innermost s.party m.sections) no_runs in
-        λ i. record { plan = cell_at m.plans c; content = a i; reads = r i; writes = w i; run = o i }
+        let o = none_runs c (without_innermost s.party m.sections) no_runs in λ i. record { plan = cell_at m.plans c; content = a i; reads = r i; writes = w i; run = o i }
 
     pub closed_moved : (ts : List Turned) (v' : Rows L) {l l' : L} → Left held place c l l' v.parks v'.parks → v'.guards ≡ v.guards → IsExit (length v.cells.items) (record m { turns = ts }) v'.exit → length v'.parks.writers ≡ length v.parks.writers → IsListed c v.parks g → v'.parks ≡ rows_handed c g v.parks
         → IsMoved held place c n n m (record (closed s (Some (record { cell = s.cell; changes = chs })) g m) { turns = ts }) v v'

@@ -13,10 +13,6 @@ use Rattle.phase_moves.proofs.{Attempts.free_same, Attempts.got_to, Attempts.wri
 given_up_few : (w : Waiting) (h : Holders) → h.readers ≤ most_readers → (given_up w h).readers ≤ most_readers
 given_up_few w h le = grind arith
 
--- nobody keeps what it has not
-none_kept : (n : LockNature) (h : Holders) → keeps Waiting.Free n h ≡ false
-none_kept n h = grind arith
-
 module _ (k : LockerKind) (who : Who) (ask : Ask) (h : Holders) (s : Parking) where
   -- the lock that it wants
   abbrev pub wanted : LockNature
@@ -100,7 +96,7 @@ module _ (k : LockerKind) (who : Who) (ask : Ask) (h : Holders) (s : Parking) wh
   module _ (running : Option ℕ) (r : Begun × Given) (h' : Holders) (s' : Parking) (calm : is_cyclic ask.want who.party running ≡ false) (fits : Fits k h s who.cell) where
     -- a call of a party that does not wait
     first_met : row_of s who.party ≡ free_row → Begins k who ask running h s r h' s' → IsMetBy r.0 r.1 h'
-    first_met free d = grind (arith, none_kept, free_same, apart_so, tried_so, judged_so)
+    first_met free d = grind (arith, free_same, apart_so, tried_so, judged_so)
 
     module _ (cell : who.cell < length s.readers) (party : who.party < length s.rows) (sound : IsSound s) (sound_then : IsSound (freed who.party s)) (room : length (readers_of (freed who.party s) who.cell) ≤ most_readers) (here : (row_of s who.party).cell ≡ who.cell) (slow : ask.fast ≡ false) where
       abbrev v : Waiting
@@ -134,8 +130,7 @@ module _ (k : LockerKind) (who : Who) (ask : Ask) (h : Holders) (s : Parking) wh
 
       gives_met : (n : LockNature) (a : Attempt) → n ≡ wanted → r.0 ≡ begun_by who ask h.phase a → keeps v n h ≡ false → GivesUp k who (wake_of ask.want) n h s (a, r.1) h' s' → IsMetBy r.0 r.1 h'
       gives_met n a ruled answer e j =
-          let size = freed_size who.party s in
-          let inside : who.cell < length (freed who.party s).readers = omega (arith, size.1, cell) in
+          let size = freed_size who.party s in let inside : who.cell < length (freed who.party s).readers = omega (arith, size.1, cell) in
           let phase : j.between.phase ≡ h.phase = hands_phase who.cell (given_up v h) (freed who.party s) r.1 j.between j.rows j.hands ∙ given_phase v in
           let fits_then = hands_fit r.1 k (given_up v h) (freed who.party s) who.cell j.between j.rows inside sound_then (gives_up_freed k h s who.cell who.party cell sound.cells party here fits) j.hands in
           let reads_then = hands_reads r.1 who.cell (given_up v h) (freed who.party s) j.between j.rows inside sound_then j.hands ∙ subst (λ y. open_reads (given_up v h) y who.cell ≡ open_reads h s who.cell) there (given_up_reads v h s who.cell who.party party row) in

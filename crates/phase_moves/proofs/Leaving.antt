@@ -5,8 +5,8 @@ use Rattle.phase_moves.proofs.Words.{open_reads, Hands, Downgrades, rows_handed,
 use Rattle.phase_moves.proofs.Words.{found_counts, guard_kept, Shows, given_on, IsListed, shows_on, single_on, within_on, listed_hand, listed_share, sound_of, CellRow, Draft}
 use Rattle.phase_moves.proofs.Words.{Rows, Standing, left_of_standing as left, downgraded, reads_in, writes_in, seen_by, run_in, CountsWaits, draft_of, Seen, seen_at, IsCell}
 use Rattle.phase_moves.proofs.Words.{IsLocked, Stands, slot_row, party_row, Left, IsReader, IsWriter, write_has_no_reader}
-use Rattle.phase_moves.proofs.Guards.{its_number, found_itself, gone, once_without, left_there, reads_elsewhere, writes_elsewhere, writes_here, reads_here, never_reads}
-use Rattle.phase_moves.proofs.Guards.{never_writes, count_same, count_less, slots_same, target_given}
+use Rattle.phase_moves.proofs.Guards.{its_number, found_itself, gone, once_without, left_there, writes_elsewhere, writes_here, reads_here, never_reads, never_writes}
+use Rattle.phase_moves.proofs.Guards.{count_same, count_less, slots_same, target_given}
 use Rattle.phase_moves.proofs.Lockers.{locked_read, locked_write, locked_down, writing_alone, hands_writers, downgrades_writers}
 use Rattle.phase_moves.proofs.Moved.{IsCalled, IsMoved, HasParties, exit_kept, parties_same, moved}
 use Rattle.phase_moves.proofs.{Drafts.keeps_none, Drafts.keeps_still, Opening.guard_opened, Opening.seen_reader, Waiting.few_readers, Waiting.fewer_readers}
@@ -38,7 +38,7 @@ module _ {L : Type 0} (held : L → Holders) (place : L → LockerKind) (hand : 
 
   -- other cells are as they were
   around : (g : Given) (d : ℕ) → d ≢ x.cell → seen_at d (left x g m) ≡ seen_at d m
-  around g d ne = grind (arith, content_beside, count_same, itself, reads_elsewhere, writes_elsewhere)
+  around g d ne = grind (arith, content_beside, count_same, itself, writes_elsewhere)
 
   -- a guard that is left was there
   pub still_there : (g : Given) (j : ℕ) (y : Guard) → numbered j (left x g m).guards ≡ Some y → (j ≢ x.number) × (numbered j m.guards ≡ Some y)
@@ -103,26 +103,13 @@ module _ {L : Type 0} (held : L → Holders) (place : L → LockerKind) (hand : 
       → Hands x.cell (leave_read (held row.seq.locker)) v.parks g (held row'.seq.locker) s' → open_reads (held row'.seq.locker) s' x.cell + 1 ≡ open_reads (held row.seq.locker) v.parks x.cell → (IsWriteOpen (held row'.seq.locker) s' x.cell → ⊥) → Left held place x.cell row.seq.locker row'.seq.locker v.parks s'
       → IsCell held place (seen_at x.cell (left x g m)) s' x.cell row'
   read_back g row' s' r plan value run running hands less closed k =
-      let k0 = its_cell in
-      let fewer = count_less (reads_cell x.cell) x.number m.guards x there (reads_here x r) in
+      let k0 = its_cell in let fewer = count_less (reads_cell x.cell) x.number m.guards x there (reads_here x r) in
       let same = count_same (writes_cell x.cell) x.number m.guards x there (never_writes x x.cell r) in
       let now : IsLocked (place row'.seq.locker) (held row'.seq.locker) s' x.cell (reads_in x.cell (left x g m)) (writes_in x.cell m) (m.content x.cell).phase =
       locked_read (place row.seq.locker) (place row'.seq.locker) (held row.seq.locker) (held row'.seq.locker) v.parks s' x.cell _ _ _ g (subst (λ n. IsLocked (place row.seq.locker) (held row.seq.locker) v.parks x.cell n (writes_in x.cell m) (m.content x.cell).phase) fewer k0.locked) k.place hands less closed k.fits (parked_few held place hand m v t x.cell (inside held place hand m v x t found)) in
       let content = kept_back g r in
       subst (λ (z : Seen). IsCell held place z s' x.cell row') (λ i. record { plan = cell_at m.plans x.cell; content = sym content i; reads = reads_in x.cell (left x g m); writes = sym same i + count (runs_in x.cell) m.sections; run = run_in x.cell m.sections })
-      (record {
-        planned = plan ∙ k0.planned;
-        valued = value ∙ k0.valued;
-        known = k0.known;
-        locked = now;
-        placed = k.place ∙ k0.placed;
-        runner = running ∙ k0.runner;
-        runs = run ∙ k0.runs;
-      })
-
-  -- what is published after a write guard is given back
-  seen_back : (g : Given) → x.writes ≡ true → (left x g m).content x.cell ≡ seen_by m x
-  seen_back g w = grind arith
+      (grind arith)
 
   -- nothing is left on the cell
   module _ (w : x.writes ≡ true) where
@@ -131,10 +118,8 @@ module _ {L : Type 0} (held : L → Holders) (place : L → LockerKind) (hand : 
 
     pub no_reads : (g : Given) → reads_in x.cell (left x g m) ≡ 0
     no_reads g =
-        let l = some in
-        let same = count_same (reads_cell x.cell) x.number m.guards x there (never_reads x x.cell w) in
-        let zero = writing_alone (place row.seq.locker) (held row.seq.locker) v.parks x.cell _ _ _ its_cell.locked (omega (arith, l)) in
-        omega (arith, same, zero)
+        let l = some in let same = count_same (reads_cell x.cell) x.number m.guards x there (never_reads x x.cell w) in
+        let zero = writing_alone (place row.seq.locker) (held row.seq.locker) v.parks x.cell _ _ _ its_cell.locked (omega (arith, l)) in omega (arith, same, zero)
 
     pub no_writes : (g : Given) → writes_in x.cell (left x g m) ≡ 0
     no_writes g = let fewer = count_less (writes_cell x.cell) x.number m.guards x there (writes_here x w) in let most = its_cell.locked.one in omega (arith, fewer, most)
@@ -146,15 +131,14 @@ module _ {L : Type 0} (held : L → Holders) (place : L → LockerKind) (hand : 
     pub write_gone : (g : Given) (row' : CellRow L) (s' : Parking) (r : ℕ) → row'.plan ≡ row.plan → row'.value ≡ (seen_by m x).value → row'.run ≡ row.run → row'.seq.running ≡ row.seq.running → place row'.seq.locker ≡ place row.seq.locker
         → IsLocked (place row'.seq.locker) (held row'.seq.locker) s' x.cell r 0 (seen_by m x).phase
         → IsCell held place (record { plan = cell_at m.plans x.cell; content = (left x g m).content x.cell; reads = r; writes = 0; run = run_in x.cell m.sections }) s' x.cell row'
-    write_gone g row' s' r plan value run running stays locked = grind (arith, its_cell, seen_back, no_run, effect_known)
+    write_gone g row' s' r plan value run running stays locked = grind (arith, its_cell, no_run, effect_known)
 
     -- the lock is given back
     pub write_back : (g : Given) (row' : CellRow L) (s' : Parking) (q : Phase) → row'.plan ≡ row.plan → q ≡ phase_of (seen_by m x).phase → row'.value ≡ (seen_by m x).value → row'.run ≡ row.run → row'.seq.running ≡ row.seq.running
         → Hands x.cell (leave_write q (held row.seq.locker)) v.parks g (held row'.seq.locker) s' → open_reads (held row'.seq.locker) s' x.cell ≡ 0 → (IsWriteOpen (held row'.seq.locker) s' x.cell → ⊥) → Left held place x.cell row.seq.locker row'.seq.locker v.parks s'
         → IsCell held place (seen_at x.cell (left x g m)) s' x.cell row'
     write_back g row' s' q plan phase value run running hands none closed k =
-        let r = no_reads g in
-        let o = no_writes g in
+        let r = no_reads g in let o = no_writes g in
         subst (λ (z : Seen). IsCell held place z s' x.cell row') (λ i. record { plan = cell_at m.plans x.cell; content = (left x g m).content x.cell; reads = sym r i; writes = sym o i; run = run_in x.cell m.sections })
         (write_gone g row' s' 0 plan value run running k.place (locked_write (place row.seq.locker) (place row'.seq.locker) (held row.seq.locker) (held row'.seq.locker) v.parks s' x.cell (seen_by m x).phase q g hands none closed k.fits phase its_cell.locked.limit (parked_few held place hand m v t x.cell (inside held place hand m v x t found))))
 
@@ -163,8 +147,7 @@ module _ {L : Type 0} (held : L → Holders) (place : L → LockerKind) (hand : 
         → Downgrades x.cell q (held row.seq.locker) v.parks g (held row'.seq.locker) s' → open_reads (held row'.seq.locker) s' x.cell ≡ 1 → (IsWriteOpen (held row'.seq.locker) s' x.cell → ⊥) → Left held place x.cell row.seq.locker row'.seq.locker v.parks s' → HasFree v.parks
         → IsCell held place (seen_at x.cell (downgraded n x g m)) s' x.cell row'
     down_back n g row' s' q plan phase value run running down reads closed k free =
-        let r = no_reads g in
-        let o = no_writes g in
+        let r = no_reads g in let o = no_writes g in
         subst (λ (z : Seen). IsCell held place z s' x.cell row') ((λ i. record { plan = cell_at m.plans x.cell; content = (left x g m).content x.cell; reads = sym r i + 1; writes = sym o i; run = run_in x.cell m.sections }) ∙ sym (seen_reader n x.party x.cell (left x g m)))
         (write_gone g row' s' 1 plan value run running k.place (locked_down (place row'.seq.locker) (held row.seq.locker) (held row'.seq.locker) v.parks s' x.cell (seen_by m x).phase q g down reads closed k.fits phase (write_has_no_reader (place row.seq.locker) (held row.seq.locker) v.parks x.cell its_cell.locked.fits (write_open w)) (parked_fewer held place hand m v t x.cell (inside held place hand m v x t found) free)))
 
@@ -198,13 +181,7 @@ module _ {L : Type 0} (held : L → Holders) (place : L → LockerKind) (hand : 
 
     -- a write guard
     pub leaves_write : Hands x.cell (leave_write q (held row.seq.locker)) v.parks g (held row'.seq.locker) v'.parks → open_reads (held row'.seq.locker) v'.parks x.cell ≡ 0 → Stands held place hand (left x g m) v'
-    leaves_write hands none =
-        moved held place x.cell hand hand m (left x g m) v v' row' t (inside held place hand m v x t found) k.cells
-        (write_back held place hand m v x t found row k.row_at w g row' v'.parks q k.plan phase value k.run k.running hands none closed k.left)
-        calm
-        (keeps_none x.cell (left x g m) row' unwritten)
-        (gone_back (hands_writers x.cell _ v.parks g _ v'.parks hands) (listed_hand x.cell _ v.parks g hands.may) hands.rows)
-        (parties_left held place hand m v v' x t k.parties g)
+    leaves_write hands none = search (arith, moved, inside, write_back, calm, keeps_none, unwritten, gone_back, hands_writers, listed_hand, parties_left) depth 7
 
     -- a write guard, and its holder reads on
     pub leaves_down : Downgrades x.cell q (held row.seq.locker) v.parks g (held row'.seq.locker) v'.parks → open_reads (held row'.seq.locker) v'.parks x.cell ≡ 1 → HasFree v.parks → (n : ℕ) → length v.guards.items ≤ n → numbered n (without_guard x.number m.guards) ≡ None → Stands held place n (downgraded n x g m) v'

@@ -1,11 +1,10 @@
 -- The value of a cell is lent.
 use Rattle.phase_moves.proofs.Words.{◌≡◌, ◌≢◌, ◌==◌, ◌<◌, ◌≤◌, ◌+◌, ◌∙◌, ℕ, List, [], ◌∷◌, length, set, get_or, ap, sym, subst, refl, arith, Bool, true, false, Some, inl, inr}
 use Rattle.phase_moves.proofs.Words.{cases_eq, cases_lt, slice_get, ◌⊎◌, not, if◌then◌else◌, Holders, IsKnown, phase_of, admit_write, bars_write, leave_write, most_readers}
-use Rattle.phase_moves.proofs.Words.{Given, LockerKind, Fits, IsWriteOpen, KeepsFit, NobodyParked, open_reads, Hands, MayHand, rows_handed, Left, OthersStay, Parking}
-use Rattle.phase_moves.proofs.Words.{SameSize, claims, readers_of, others_refl, lends_value, CellPlan, Content, Change, effect, Guard, numbered, count, cell_at, Wait}
-use Rattle.phase_moves.proofs.Words.{drains_on, shares_read, shares_write, waits_at, claims_shown, shares_shown, Lent, Loan, Published, CellRow, Rows, Finds, IsFound}
-use Rattle.phase_moves.proofs.Words.{IsLending, IsLent, changed, changes_lent, content_of, in_use, lent_in, Standing, reads_in, writes_in, run_in, seen_at, IsCell, IsLocked}
-use Rattle.phase_moves.proofs.Words.{AreShown, Stands, open_run}
+use Rattle.phase_moves.proofs.Words.{Given, LockerKind, Fits, IsWriteOpen, KeepsFit, NobodyParked, open_reads, Hands, MayHand, rows_handed, Left, Parking, claims, readers_of}
+use Rattle.phase_moves.proofs.Words.{others_refl, lends_value, CellPlan, Content, Change, effect, Guard, numbered, count, cell_at, Wait, drains_on, shares_read, shares_write}
+use Rattle.phase_moves.proofs.Words.{waits_at, claims_shown, shares_shown, Lent, Loan, Published, CellRow, Rows, Finds, IsFound, IsLending, IsLent, changed, changes_lent}
+use Rattle.phase_moves.proofs.Words.{content_of, in_use, lent_in, Standing, reads_in, writes_in, run_in, seen_at, IsCell, IsLocked, Stands, open_run}
 use Rattle.phase_moves.proofs.{Calling.answered_moved, Drafts.keeps_still, Drafts.none_writes, Leaving.parked_few, Lockers.locked_write, Moved.exit_kept, Moved.moved}
 use Rattle.phase_moves.proofs.{Moved.parties_same, Places.itself_eq, Places.read_at, Opening.no_more, Runs.none_runs}
 
@@ -69,18 +68,13 @@ module _ {L : Type 0} (held : L → Holders) (place : L → LockerKind) (hand : 
   held_on none barred = used_by (reads_in c m + writes_in c m + count (waits_at c) m.waits) (by (cases_eq (held row.seq.locker).readers 0)) where
     by : ((held row.seq.locker).readers ≡ 0) ⊎ ((held row.seq.locker).readers ≢ 0) → 0 < reads_in c m + writes_in c m + count (waits_at c) m.waits
     by (inl e) =
-        let waits = many in
-        let writes = claim_waits c m.waits in
-        let drains = drain_waits c m.waits in
+        let waits = many in let writes = claim_waits c m.waits in let drains = drain_waits c m.waits in
         let shown = claims_shown c m.waits v.parks is.stands.waits.single is.stands.waits.shows in
         let some : 0 < writes_in c m = here.locked.write_was (record { locked = barred_as (held row.seq.locker) barred e; unclaimed = omega (arith, waits, none, writes, drains, shown) }) in
         omega (arith, some)
     by (inr ne) =
-        let waits = many in
-        let reads = share_waits c m.waits in
-        let shown = shares_shown c m.waits v.parks is.stands.waits.single is.stands.waits.shows in
-        let are = here.locked.reads_are in
-        omega (arith, waits, none, reads, shown, are, ne)
+        let waits = many in let reads = share_waits c m.waits in let shown = shares_shown c m.waits v.parks is.stands.waits.single is.stands.waits.shows in
+        let are = here.locked.reads_are in omega (arith, waits, none, reads, shown, are, ne)
 
   -- nobody holds it
   module _ (none : row.waiting ≡ 0) (free : bars_write (held row.seq.locker) ≡ false) where
@@ -113,8 +107,7 @@ module _ {L : Type 0} (held : L → Holders) (place : L → LockerKind) (hand : 
         (record { planned = plan ∙ here.planned; valued = value; known = known; locked = locked; placed = stays ∙ here.placed; runner = running ∙ here.runner; runs = runs })
         (calm ∙ many)
         (keeps_still c m row (record m { content = f }) row' (is.stands.draft c row row_at) draft refl (λ g x e w. e) drafts)
-        (answered_moved held place c hand m v v' m.waits f m.registry is.stands (subst (λ (s : Parking). OthersStay c v.parks s) (sym parks) (others_refl c v.parks)) (subst (λ (s : Parking). SameSize v.parks s) (sym parks) (record { parties = refl; cells = refl })) (ap (λ (s : Parking). length s.writers) parks) guards
-        (exit_kept (length v.cells.items) m m v.exit v'.exit exit refl refl refl is.stands.exit) (subst (λ (s : Parking). AreShown (length v.cells.items) m.waits s) (sym parks) is.stands.waits) beside (λ d ne. refl))
+        (grind (arith, answered_moved, others_refl, exit_kept))
         (parties_same held place hand m (record m { content = f }) v v' is.stands parties (λ p. refl))
 
     -- it is held
@@ -159,8 +152,7 @@ module _ {L : Type 0} (held : L → Holders) (place : L → LockerKind) (hand : 
 
             locked : IsLocked (place row'.seq.locker) (held row'.seq.locker) v'.parks c (reads_in c m) (writes_in c m) (f c).phase
             locked =
-                let r = no_reads none tried.0 in
-                let w = no_writes none tried.0 in
+                let r = no_reads none tried.0 in let w = no_writes none tried.0 in
                 let few : (held l₁).readers ≤ _ = subst (λ n. n ≤ most_readers) (sym (ap (λ (h : Holders). h.readers) tried.1)) here.locked.limit in
                 subst (λ n. IsLocked (place row'.seq.locker) (held row'.seq.locker) v'.parks c n (writes_in c m) (f c).phase) (sym r)
                 (subst (λ n. IsLocked (place row'.seq.locker) (held row'.seq.locker) v'.parks c 0 n (f c).phase) (sym w)

@@ -1,11 +1,11 @@
 -- What the rows tell of what stands open.
-use Rattle.phase_moves.proofs.Words.{◌≡◌, ◌==◌, ◌<◌, ◌∙◌, ℕ, List, length, get_or, ap, sym, subst, refl, arith, Bool, true, false, None, Some, [], ◌&&◌, gets, common_steps}
+use Rattle.phase_moves.proofs.Words.{◌≡◌, ◌==◌, ◌<◌, ◌∙◌, ℕ, List, length, get_or, ap, sym, subst, refl, arith, Bool, true, None, Some, [], ◌&&◌, gets, common_steps}
 use Rattle.phase_moves.proofs.Words.{slice_get, MatchBool, Option, Holders, LockerKind, CellPlan, Guard, guard_of, numbered, own, cell_at, Section, innermost, cell_of_section}
-use Rattle.phase_moves.proofs.Words.{wait_of, Running, CellRow, Draft, GuardRow, PartyRow, Rows, Standing, answered, changes_at, content_back, run_in, runner_of, seen_by}
-use Rattle.phase_moves.proofs.Words.{guard_row, party_row, CountsWaits, KeepsDraft, AreInside, AreNumbered, AreShown, AreSized, IsCell, IsExit, Stands, seen_at, held_of}
-use Rattle.phase_moves.proofs.Words.{run_kept, running_kept, running_of, shown_by, value_drafted, value_kept, Rests, Phase, phase_of, runs, Want, initializes, seeks}
-use Rattle.phase_moves.proofs.Words.{seeks_run, Change, effect, none_without, Target, IsMet, IsAttempting, IsTook, MayWait_of_tries as MayWait, WaitsAt, ask_of, Given, Taken}
-use Rattle.phase_moves.proofs.{Innermost.row_run, Places.read_at, Runs.inside_found, Hand.row_shown, Admitting.runs_same, Admitting.turned_so, Asked.none_sought}
+use Rattle.phase_moves.proofs.Words.{wait_of, Running, CellRow, GuardRow, PartyRow, Rows, Standing, answered, changes_at, content_back, run_in, runner_of, seen_by, guard_row}
+use Rattle.phase_moves.proofs.Words.{party_row, CountsWaits, KeepsDraft, AreInside, AreNumbered, AreShown, AreSized, IsCell, IsExit, Stands, seen_at, held_of, run_kept}
+use Rattle.phase_moves.proofs.Words.{running_kept, running_of, shown_by, value_drafted, value_kept, Rests, Phase, phase_of, runs, Want, initializes, seeks, seeks_run, Change}
+use Rattle.phase_moves.proofs.Words.{effect, none_without, Target, IsMet, IsAttempting, IsTook, MayWait_of_tries as MayWait, WaitsAt, ask_of, Given, Taken}
+use Rattle.phase_moves.proofs.{Innermost.row_run, Places.read_at, Runs.inside_found, Hand.row_shown, Admitting.runs_same, Asked.none_sought}
 
 is_there : {X : Type 0} (xs : List X) (i : ℕ) → i < length xs → slice_get xs i ≡ None → ⊥
 is_there xs i lt e = grind (arith, common_steps, gets, lt, e)
@@ -47,20 +47,16 @@ module _ {L : Type 0} (held : L → Holders) (place : L → LockerKind) (m : Sta
       value (Some c) f = (r.stands.cell x.cell c f).valued
 
       drafted : x.writes ≡ true → (q : Option (CellRow L)) → slice_get v.cells.items x.cell ≡ q → value_drafted q ≡ (seen_by m x).value
-      drafted w None f = absurd (is_there v.cells.items x.cell (r.stands.guards.in_cells g x e) f)
-      drafted w (Some c) f = ap (λ (d : Draft). d.value) (r.stands.draft x.cell c f g x e w refl)
+      drafted w q f = grind (arith, is_there, value)
 
       at : (w : Bool) → x.writes ≡ w → (b : Bool) → (x.party == p) ≡ b → shown_by v p (guard_row (Some x)) ≡ held_of m (own p (Some x))
-      at true w true b = rw (w, b) (ap (λ z. Some (record { cell = x.cell; writes = true; value = z })) (drafted w (slice_get v.cells.items x.cell) refl))
-      at false w true b = rw (w, b) (ap (λ z. Some (record { cell = x.cell; writes = false; value = z })) (value (slice_get v.cells.items x.cell) refl))
-      at true w false b = rw (w, b) refl
-      at false w false b = rw (w, b) refl
+      at w e b f = grind (arith, value, drafted)
 
 -- ---- an attempt that is turned back, and one that looks at the cell as it is: it takes no lock
 
 -- one that was turned back
 pub met_turned : (m : Standing) (p : ℕ) (t : Target) → (initializes (cell_at m.plans t.cell).kind t.want && runs p (runner_of (run_in t.cell m.sections))) ≡ true → IsMet p t Taken.Cyclic Given.Nobody m
-met_turned m p t turned = grind (arith, turned_so, runs_same)
+met_turned m p t turned = grind (arith, runs_same)
 
 -- it is answered by what the cell holds
 pub met_looked : (m : Standing) (p : ℕ) (t : Target) → seeks (cell_at m.plans t.cell).kind t.want ≡ None → wait_of p m.waits ≡ None → IsMet p t (Taken.Nothing (phase_of (m.content t.cell).phase)) Given.Nobody m

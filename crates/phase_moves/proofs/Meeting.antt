@@ -14,7 +14,7 @@ use Rattle.phase_moves.proofs.Barring.{barred_same, locked_same, misses_due, rea
 use Rattle.phase_moves.proofs.Judged.{IsBarred, IsClear, IsJudged, IsKept, IsWaiting}
 use Rattle.phase_moves.proofs.Sharing.{gives_none, clear_none as clear_none_of, gives_first as gives_first_of, reaching as reaching_of, shown_given as shown_given_of}
 use Rattle.phase_moves.proofs.Settling.{IsDeclined, IsSettled, MayDecline, begun_declined, begun_settled}
-use Rattle.phase_moves.proofs.Admitting.{FitsSought, admitted_due, begun_met, judged_no, met_fits, runs_same, turned_no}
+use Rattle.phase_moves.proofs.Admitting.{FitsSought, admitted_due, begun_met, judged_no, met_fits, runs_same}
 use Rattle.phase_moves.proofs.{Attempts.run_writes, Attempts.writes_begun, GivenUp.ran_asked, GivenUp.waits_by}
 
 -- it waits, or it is barred and does not wait
@@ -93,7 +93,7 @@ module _ (n : ℕ) (k : LockerKind) (h : Holders) (s : Parking) (m : Standing) (
     own_no = sym (own_same x t.want ask asked (generates_for p (find (runs_in t.cell) m.sections))) ∙ ap (λ b. run_sought ask.want && b) (sym (runs_same p t.cell m.sections)) ∙ calm
 
     kept_due : (e : Begun) (g : Given) (ws : List Wait) → IsKept k who ask h s e g → IsDue (begun_settled ask o h.phase e) ws false
-    kept_due e g ws kept = grind (arith, admitted_is, turned_no, own_no, kept_is)
+    kept_due e g ws kept = grind (arith, admitted_is, own_no, kept_is)
 
     judged_due : (e : Begun) (g : Given) → (j : IsJudged k who ask h s e g) → IsDue (begun_settled ask o h.phase e) (given_on t.cell g others) (waits_by e)
     judged_due e g j = by (bars j.mid (nature_of ask h.phase)) refl j.judged where
@@ -111,8 +111,7 @@ module _ (n : ℕ) (k : LockerKind) (h : Holders) (s : Parking) (m : Standing) (
 
       due_by : (chosen b : Bool) → is_barred wanted (holding_in t.cell (given_on t.cell g others) m) ≡ b
           → answer_of_attempt x t.want (meets p t.cell t.want (given_on t.cell g others) m) chosen ≡ (if b then answer_barred (is_fast t.want) x.place (way_parked x.kind t.want (drains_by wanted (holding_in t.cell (given_on t.cell g others) m) chosen)) else answer_admitted x.kind (tolerance_of x) t.cell m.registry.is_open t.want y)
-      due_by chosen b f =
-          judged_no (initializes x.kind t.want && generates_for p (find (runs_in t.cell) m.sections)) (keeps_in p t.cell t.want m) (is_barred wanted (holding_in t.cell (given_on t.cell g others) m)) b Answer.Cyclic (answer_barred (is_fast t.want) x.place (way_parked x.kind t.want (drains_by wanted (holding_in t.cell (given_on t.cell g others) m) chosen))) (answer_admitted x.kind (tolerance_of x) t.cell m.registry.is_open t.want y) own_no (sym kept_is ∙ j.dropped) f
+      due_by chosen b f = grind (arith, judged_no, own_no, kept_is)
 
       -- it is barred
       barred : (f : Bool) → ask.fast ≡ f → is_barred wanted (holding_in t.cell (given_on t.cell g others) m) ≡ true → MatchBool f (e ≡ Begun.Missed) (IsWaiting k who ask h s j.fresh j.mid e) → IsDue (begun_settled ask o h.phase e) (given_on t.cell g others) (waits_by e)
@@ -164,11 +163,7 @@ module _ (n : ℕ) (k : LockerKind) (h : Holders) (s : Parking) (m : Standing) (
         by how e = grind arith
 
       by : Sorted st.entered → IsOf p t g m (taken_of (begun_settled ask o h.phase st.entered))
-      by (inl (inl w)) = subst (λ z. IsOf p t g m (taken_of (begun_settled ask o h.phase z))) (sym w.begins) tt
-      by (inl (inr w)) =
-          subst (λ z. IsOf p t g m (taken_of (begun_settled ask o h.phase z))) (sym w.begins)
-          (entered_gave (ap is_run w.begins) ∙ quiet_missed st.first st.entered w.quick st.how, awake (sym asked.fast ∙ w.quick), λ turns. slow_turn turns (sym asked.fast ∙ w.quick))
-      by (inr e) = of_fits (begun_settled ask o h.phase st.entered) g (subst (λ z. FitsSought ask.want (begun_settled ask o h.phase z)) (sym e) (met_fits who o h.phase ask)) (λ f. clear_none g listed (st.alone (ap writes_begun st.begins ∙ f)))
+      by e = grind (arith, begun_settled, entered_gave, quiet_missed, slow_turn, of_fits, met_fits, clear_none, listed, writes_begun)
 
     -- what gives then is a call that is declined
     gives_last : (e : Begun) (first g : Given) → IsKept k who ask h s e first ⊎ IsJudged k who ask h s e first → IsDeclined k who ask o h s e first g → GivesLast p t (taken_of (begun_settled ask o h.phase e)) g m
@@ -195,12 +190,8 @@ module _ (n : ℕ) (k : LockerKind) (h : Holders) (s : Parking) (m : Standing) (
       free : stand_on t.cell (answered p t.cell Given.Nobody (changes_at t.cell t.want m) m) ≡ 0
       free =
           let shares_are = shares_shown t.cell others freed_p shown_freed.single shown_freed.shows in
-          let claims_are = claims_shown t.cell others freed_p shown_freed.single shown_freed.shows in
-          let no_shares = d.clear.shares_none in
-          let no_claims = d.clear.claims_none in
-          let reads = locked.reads_are in
-          let no_reads = d.clear.reads_none in
-          let writes = unwritten in
+          let claims_are = claims_shown t.cell others freed_p shown_freed.single shown_freed.shows in let no_shares = d.clear.shares_none in
+          let no_claims = d.clear.claims_none in let reads = locked.reads_are in let no_reads = d.clear.reads_none in let writes = unwritten in
           omega (arith, shares_are, claims_are, no_shares, no_claims, reads, no_reads, writes) where
             unwritten : writes_in t.cell m ≡ 0
             unwritten = elim (cases_lt 0 (writes_in t.cell m)) [ inr le ↦ omega (arith, le) | inl lt ↦ absurd (d.clear.closed (locked.write_is lt)) ]
@@ -209,9 +200,7 @@ module _ (n : ℕ) (k : LockerKind) (h : Holders) (s : Parking) (m : Standing) (
       gift z listed ne = record { parks = (reaching z listed ne).parks; reach = (reaching z listed ne).reach; free = free }
 
       given_back : (z : Given) → IsListed t.cell freed_p z → MayGive t.cell (answered p t.cell Given.Nobody (changes_at t.cell t.want m) m) z
-      given_back Given.Nobody listed = tt
-      given_back (Given.Writer q) listed = gift (Given.Writer q) listed (λ z. (let f : Given.Writer q ≡ Given.Nobody = z in cc))
-      given_back Given.Readers listed = gift Given.Readers listed (λ z. (let f : Given.Readers ≡ Given.Nobody = z in cc))
+      given_back z listed = grind (arith, gift)
 
       given_down : (z : Given) → MayShare t.cell freed_p z → GivesDown p t z m
       given_down Given.Nobody may = tt
@@ -219,9 +208,7 @@ module _ (n : ℕ) (k : LockerKind) (h : Holders) (s : Parking) (m : Standing) (
       given_down Given.Readers may = record { reaching = reaching Given.Readers (listed_share t.cell freed_p Given.Readers may) (λ z. (let f : Given.Readers ≡ Given.Nobody = z in cc)); wrote = wrote; lacks = lacks }
 
       by : (w : Sought) → ask.want ≡ w → MayDecline k who ask o h s w g → GivesLast p t (taken_of (begun_declined w)) g m
-      by Sought.Init f may = given_back g may
-      by Sought.Read f may = given_down g may
-      by _ f may = absurd may
+      by w f may = grind (arith, given_back, given_down)
 
     -- the answer is due, and the gift allowed
     pub met : (b : Begun) (g : Given) (h' : Holders) → IsSettled k who ask o h s b g h' → IsMet p t (taken_of b) g m

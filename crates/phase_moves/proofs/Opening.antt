@@ -1,10 +1,10 @@
 -- A guard is opened, put into its row, and taken out of it.
 use Rattle.phase_moves.proofs.Words.{◌≡◌, ◌≢◌, ◌==◌, ◌<◌, ◌≤◌, ◌+◌, ◌∙◌, ℕ, List, [], ◌∷◌, ◌++◌, length, set, ap, sym, subst, refl, arith, Bool, true, false, None, Some, inl}
-use Rattle.phase_moves.proofs.Words.{inr, length-set, cases_eq, cases_lt, common_steps, gets, slice_get, ◌⊎◌, if◌then◌else◌, Option, Holders, LockerKind, Section, Guard}
-use Rattle.phase_moves.proofs.Words.{numbered, reader, Change, cell_at, GuardRow, Rows, Standing, guarded, run_in, reads_in, writes_in, writer_asked, opened, Stands, IsCell}
-use Rattle.phase_moves.proofs.Words.{IsExit, AreShown, AreSized, AreInside, seen_at, slot_row, guard_row, Parking, Rests, Who, IsWriteOpen, Begun, BegunStands, begins_write}
-use Rattle.phase_moves.proofs.{Drafts.found_beside, Guards.once_with, Guards.reads_elsewhere, Guards.writes_elsewhere, Moved.IsMoved, Places.slice_get_set_same}
-use Rattle.phase_moves.proofs.{Places.slice_get_set_other, Attempts.writes_begun, Attempts.wrote}
+use Rattle.phase_moves.proofs.Words.{inr, length-set, cases_eq, cases_lt, common_steps, gets, slice_get, ◌⊎◌, Option, Holders, LockerKind, Section, Guard, numbered, reader}
+use Rattle.phase_moves.proofs.Words.{Change, cell_at, GuardRow, Rows, Standing, guarded, run_in, reads_in, writes_in, writer_asked, opened, Stands, IsCell, IsExit, AreShown}
+use Rattle.phase_moves.proofs.Words.{AreSized, AreInside, seen_at, slot_row, guard_row, Parking, Rests, Who, IsWriteOpen, Begun, BegunStands, begins_write}
+use Rattle.phase_moves.proofs.{Drafts.found_beside, Guards.once_with, Guards.writes_elsewhere, Moved.IsMoved, Places.slice_get_set_same, Places.slice_get_set_other}
+use Rattle.phase_moves.proofs.Attempts.{wrote}
 
 -- the guards with one more
 numbered_with : (y : Guard) (g : ℕ) (gs : List Guard) → g ≢ y.number → numbered g (y ∷ gs) ≡ numbered g gs
@@ -21,7 +21,7 @@ seen_writer n p c chs m = grind arith
 module _ {L : Type 0} (held : L → Holders) (place : L → LockerKind) where
   -- after a move that left the hand empty, a guard is opened
   pub guard_opened : (c hand hand' n : ℕ) (m m' : Standing) (v v' : Rows L) (y : Guard) → IsMoved held place c hand hand' m m' v v' → y.number ≡ n → y.cell ≡ c → length v.guards.items ≤ n → numbered n m'.guards ≡ None → numbered hand' m'.guards ≡ None → c < length v.cells.items → IsMoved held place c hand n m (guarded y m') v v'
-  guard_opened c hand hand' n m m' v v' y k number at room fresh empty lt = grind (arith, once_with, numbered_with, cases_eq, reads_elsewhere, writes_elsewhere, found_beside)
+  guard_opened c hand hand' n m m' v v' y k number at room fresh empty lt = grind (arith, once_with, numbered_with, cases_eq, writes_elsewhere, found_beside)
 
   -- only the rows of guards change
   reslotted : (hand n : ℕ) (m : Standing) (v v' : Rows L) → Stands held place hand m v → v'.cells ≡ v.cells → v'.parties ≡ v.parties → v'.parks ≡ v.parks → v'.exit ≡ v.exit
@@ -68,10 +68,7 @@ module _ {L : Type 0} (held : L → Holders) (place : L → LockerKind) where
         first xs r g l = grind (arith, common_steps, gets)
 
         by : (g : ℕ) → (g < n) ⊎ (n ≤ g) → g < n + 1 → slice_get (v.guards.items ++ row ∷ []) g ≡ Some (slot_row (n + 1) m g)
-        by g (inl l) k = first v.guards.items row g l ∙ t.slot g l ∙ ap (λ x. Some x) (before g l ∙ sym (next g k))
-        by g (inr l) k =
-            let q : g ≡ n = omega (arith, l, k) in
-            ap (λ i. slice_get (v.guards.items ++ row ∷ []) i) q ∙ last v.guards.items row ∙ ap (λ x. Some x) (is ∙ ap (λ i. guard_row (numbered i m.guards)) (sym q) ∙ sym (next g k))
+        by g e k = grind (arith, first, before, next, n, last)
 
         in_rows : (g : ℕ) (x : Guard) → numbered g m.guards ≡ Some x → g ≢ n + 1 → g < length v'.guards.items
         in_rows g x e ne = elim (cases_eq g n) [ inl q ↦ omega (arith, q, size) | inr ne2 ↦ (let l = t.guards.in_rows g x e ne2 in omega (arith, l, size)) ]
@@ -91,15 +88,10 @@ module _ {L : Type 0} (held : L → Holders) (place : L → LockerKind) where
         itself = let a : (g == g) ≡ true = grind arith in rw a refl
 
         by : (j : ℕ) → (j ≡ g) ⊎ (j ≢ g) → j < length v.guards.items → slice_get (set v.guards.items g GuardRow.Free) j ≡ Some (slot_row g m j)
-        by j (inl q) l = rw q (slice_get_set_same v.guards.items g GuardRow.Free lt ∙ ap (λ x. Some x) (sym itself))
-        by j (inr ne) l = slice_get_set_other v.guards.items g j GuardRow.Free ne ∙ t.slot j l ∙ ap (λ x. Some x) (slots j ne l)
+        by j e l = grind (arith, slice_get_set_same, itself, slice_get_set_other, slots)
 
         in_rows : (j : ℕ) (x : Guard) → numbered j m.guards ≡ Some x → j ≢ g → j < length v'.guards.items
-        in_rows j x e ne =
-            elim (cases_eq j (length v.guards.items)) [
-              | inl q ↦ (let f : None ≡ Some x = sym none ∙ ap (λ i. numbered i m.guards) (sym q) ∙ e in absurd (cc))
-              | inr ne2 ↦ (let l = t.guards.in_rows j x e ne2 in omega (arith, l, size))
-            ]
+        in_rows j x e ne = grind (arith, cases_eq, size)
 
   -- so nothing is in hand
   pub pushed_rests : (m : Standing) (v v' : Rows L) (row : GuardRow) → Stands held place (length v.guards.items) m v → row ≡ guard_row (numbered (length v.guards.items) m.guards) → v'.guards.items ≡ v.guards.items ++ row ∷ [] → v'.cells ≡ v.cells → v'.parties ≡ v.parties → v'.parks ≡ v.parks → v'.exit ≡ v.exit → Rests held place m v'
@@ -120,10 +112,6 @@ no_more j f = elim (cases_lt 0 j) [ inl lt ↦ absurd (f lt) | inr le ↦ omega 
 -- what opens a write hold leaves it open
 pub opens : (who : Who) (b : Begun) (running : Option ℕ) (h : Holders) (s : Parking) → begins_write b ≡ true → BegunStands who b running h s → IsWriteOpen h s who.cell
 opens who b running h s e k = grind arith
-
--- as many are opened as this says
-pub as_many : (b : Begun) (o : Bool) → begins_write b ≡ o → writes_begun b ≡ (if o then 1 else 0)
-as_many b o e = grind arith
 
 pub wrote_all : (d : Bool) (b : Begun) → begins_write b ≡ true → wrote d b ≡ true
 wrote_all d b e = grind arith

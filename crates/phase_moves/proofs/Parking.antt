@@ -35,10 +35,8 @@ module _ (n : ℕ) (who : Who) (ws : List Wait) (s : Parking) (g : Given) (shown
   -- the call waits no longer, and what it had was given on
   pub shown_called : AreShown n (given_on who.cell g (without_wait who.party ws)) (rows_handed who.cell g (freed who.party s))
   shown_called =
-      let size = freed_size who.party s in
-      let more = freed_writers who.party s in
-      let free = shows_freed who.party ws s (sound_of ws s shown.single shown.shows sizes few) shown.shows in
-      let alone = single_without who.party ws shown.single in
+      let size = freed_size who.party s in let more = freed_writers who.party s in
+      let free = shows_freed who.party ws s (sound_of ws s shown.single shown.shows sizes few) shown.shows in let alone = single_without who.party ws shown.single in
       record {
         shows = shows_on who.cell g (without_wait who.party ws) (freed who.party s) (omega (arith, size.1, cell)) (sound_of (without_wait who.party ws) (freed who.party s) alone free (more ∙ sizes ∙ sym size.1) (subst (λ n. n < most_parties) (sym size.0) few)) free listed;
         single = single_on who.cell g (without_wait who.party ws) alone;
@@ -48,11 +46,8 @@ module _ (n : ℕ) (who : Who) (ws : List Wait) (s : Parking) (g : Given) (shown
   -- it waits anew
   pub shown_waiting : who.cell < n → (way : How) (want : Want) → AreShown n (with_wait who.party way (Some (record { cell = who.cell; want = want })) (given_on who.cell g (without_wait who.party ws))) (rows_waiting way who (rows_handed who.cell g (freed who.party s)))
   shown_waiting inside way want =
-      let size = freed_size who.party s in
-      let more = freed_writers who.party s in
-      let rows = handed_rows g who.cell (freed who.party s) in
-      let readers = handed_readers g who.cell (freed who.party s) in
-      let writers = handed_writers g who.cell (freed who.party s) in
+      let size = freed_size who.party s in let more = freed_writers who.party s in let rows = handed_rows g who.cell (freed who.party s) in
+      let readers = handed_readers g who.cell (freed who.party s) in let writers = handed_writers g who.cell (freed who.party s) in
       record {
         shows = shows_waiting_at who way (record { cell = who.cell; want = want }) _ (rows_handed who.cell g (freed who.party s)) refl shown_called.shows (omega (arith, rows, size.0, party)) (omega (arith, readers, size.1, cell)) (omega (arith, writers, more, sizes, cell));
         single = single_with who.party way (Some (record { cell = who.cell; want = want })) _ (none_on who.party who.cell g _ (wait_removed who.party ws)) shown_called.single;

@@ -18,14 +18,8 @@ abbrev pub run_settled : Ask → Option Registry → Phase → SeqSection → Be
 run_settled ask o p x = if is_refused ask.tol.leak o p then begun_declined ask.want else Begun.Run (section_by x.who x.want (stays_asked o p) x.ticket)
 
 abbrev pub begun_settled : Ask → Option Registry → Phase → Begun → Begun
-begun_settled ask o p (Begun.Wait way) = Begun.Wait way
-begun_settled ask o p Begun.Missed = Begun.Missed
-begun_settled ask o p Begun.Cyclic = Begun.Cyclic
-begun_settled ask o p (Begun.Nothing q) = Begun.Nothing q
-begun_settled ask o p (Begun.Read t q) = Begun.Read t q
-begun_settled ask o p (Begun.Write t q) = Begun.Write t q
 begun_settled ask o p (Begun.Run x) = run_settled ask o p x
-begun_settled ask o p (Begun.Final x) = Begun.Final x
+begun_settled ask o p b = b
 
 module _ (k : LockerKind) (who : Who) (ask : Ask) (o : Option Registry) (h : Holders) (s : Parking) where
   -- what may be given as the section of a call is given back at once: a call for no lock gives its lock back, and a read

@@ -54,9 +54,7 @@ module _ (n : ℕ) (k : LockerKind) (h : Holders) (s : Parking) (m : Standing) (
     idle = idle_at t.cell (given_up (row_of s p).waiting h) freed_p g may ne
 
     not_idle : given_up (row_of s p).waiting h ≡ h → ⊥
-    not_idle e =
-        let none : IsIdle h = subst (λ (z : Holders). IsIdle z) e idle in
-        not_listed t.cell freed_p g (nobody_freed (locked.fits.idle none.locked none.readers)) listed ne
+    not_idle e = grind (arith, idle, not_listed, nobody_freed, listed)
 
     by : (o : Option Wait) → wait_of p m.waits ≡ o → row_of s p ≡ wait_row o → GivesFirst p t g m
     by None f r = absurd (not_idle (ap (λ (z : Row). given_up z.waiting h) r))
@@ -81,9 +79,7 @@ module _ (n : ℕ) (k : LockerKind) (h : Holders) (s : Parking) (m : Standing) (
 
           free : readers_in t.cell others m + writers_in t.cell others m + count (drains_on t.cell) others ≡ 0
           free =
-              let none = idle.readers in
-              let shares = held_freed.shared in
-              let claims = held_freed.locked idle.locked in
+              let none = idle.readers in let shares = held_freed.shared in let claims = held_freed.locked idle.locked in
               let shares_are = shares_shown t.cell others freed_p shown_freed.single shown_freed.shows in
               let claims_are = claims_shown t.cell others freed_p shown_freed.single shown_freed.shows in
               let reads = subst (λ z. open_reads (given_up (row_of s p).waiting h) z t.cell ≡ open_reads h s t.cell) there (given_up_reads (row_of s p).waiting h s t.cell p party_in row) ∙ locked.reads_are in
@@ -98,13 +94,10 @@ module _ (n : ℕ) (k : LockerKind) (h : Holders) (s : Parking) (m : Standing) (
   -- a share that is given stands on the cell
   shared : (ask : Ask) (g : Given) → IsListed t.cell freed_p g → IsClear k who ask h s g → g ≢ Given.Nobody → ⊥
   shared ask g listed clear ne =
-      let some = gave_share t.cell g others (reaching g listed ne).reach ne in
-      let shown_then = shown_given g listed in
+      let some = gave_share t.cell g others (reaching g listed ne).reach ne in let shown_then = shown_given g listed in
       let shares_are = shares_shown t.cell (given_on t.cell g others) (rows_handed t.cell g freed_p) shown_then.single shown_then.shows in
-      let claims_are = claims_shown t.cell (given_on t.cell g others) (rows_handed t.cell g freed_p) shown_then.single shown_then.shows in
-      let no_shares = clear.shares_none in
-      let no_claims = clear.claims_none in
-      omega (arith, some, shares_are, claims_are, no_shares, no_claims)
+      let claims_are = claims_shown t.cell (given_on t.cell g others) (rows_handed t.cell g freed_p) shown_then.single shown_then.shows in let no_shares = clear.shares_none in
+      let no_claims = clear.claims_none in omega (arith, some, shares_are, claims_are, no_shares, no_claims)
 
   -- beside a lock to write nothing was given
   pub clear_none : (ask : Ask) (g : Given) → IsListed t.cell freed_p g → IsClear k who ask h s g → g ≡ Given.Nobody

@@ -10,7 +10,7 @@ use Rattle.phase_moves.proofs.Words.{KeepsDraft, Seen, seen_at, IsCell, IsExit, 
 use Rattle.phase_moves.proofs.Words.{ask_of, phase_asked, taken_of, Taken, IsMet}
 use Rattle.phase_moves.proofs.Asked.{IsAsked, declined, declines_same, asked_left, is_asked, own_same, told_same, registry_still}
 use Rattle.phase_moves.proofs.Attempts.{IsBegun, Tells, declines, phase_left, phase_told, rows_begun, writes_begun, wrote}
-use Rattle.phase_moves.proofs.Opening.{guard_opened, seen_reader, seen_writer, as_many, no_more, opens, section_opened, wrote_all}
+use Rattle.phase_moves.proofs.Opening.{guard_opened, seen_reader, seen_writer, no_more, opens, section_opened, wrote_all}
 use Rattle.phase_moves.proofs.{Calling.answered_moved, Drafts.keeps_first, Drafts.keeps_reader, Drafts.keeps_still, Drafts.shown_still, Guards.target_given}
 use Rattle.phase_moves.proofs.{Known.effect_known, Lockers.handed_writers, Moved.IsMoved, Moved.HasParties, Moved.parties_set, Moved.moved, Parking.shown_called}
 use Rattle.phase_moves.proofs.{Parking.shown_waiting, Parking.freed_writers, Parking.waiting_writers, Places.itself_eq, Places.read_at, Runs.none_runs, Waiting.count_beside}
@@ -101,7 +101,7 @@ module _ {L : Type 0} (held : L → Holders) (place : L → LockerKind) where
       -- what holds of the number of readers, and what it met
       module _ (few : (held row'.seq.locker).readers ≤ most_readers) (tell : (z : Taken) → taken_of b ≡ z → IsMet p t z g m) where
         locked_called : (q : ℕ) → (held row'.seq.locker).phase ≡ phase_of q → IsLocked (place row'.seq.locker) (held row'.seq.locker) v'.parks t.cell (reads_in t.cell m + reads_begun b) (writes_in t.cell m + writes_begun b) q
-        locked_called q phase = grind (arith, writes_begun, cell_here, as_many, was_none, wrote_all, opens)
+        locked_called q phase = grind (arith, writes_begun, cell_here, was_none, wrote_all, opens)
 
         -- the row of the cell
         cell_as : (m' : Standing) (z : Content) (o : Option Run) → seen_at t.cell m' ≡ record { plan = x; content = z; reads = reads_in t.cell m + reads_begun b; writes = writes_in t.cell m + writes_begun b; run = o }
@@ -158,8 +158,7 @@ module _ {L : Type 0} (held : L → Holders) (place : L → LockerKind) where
         kept_answered : wrote true b ≡ true → row'.draft ≡ row.draft → KeepsDraft t.cell (answered p t.cell g chs m) row'
         kept_answered had same = keeps_still t.cell m row (answered p t.cell g chs m) row' (is.rests.stands.draft t.cell row (read_at v.cells.items t.cell row is.cell row_is)) same refl (λ j z e w. e) (shown_still t.cell m now now_beside (λ some. by some (declined x t.want m.registry.is_open y.phase) refl)) where
           by : count (writes_cell t.cell) m.guards ≢ 0 → (o : Bool) → declined x t.want m.registry.is_open y.phase ≡ o → now t.cell ≡ y
-          by some false f = now_calm f
-          by some true f = let none = was_none (ap (λ b'. wrote b' b) (d_is ∙ f) ∙ had) in absurd (some (omega (arith, none)))
+          by some o f = grind (arith, now_calm, was_none, wrote, d_is)
 
         -- ---- the rows of parties
 
@@ -297,8 +296,7 @@ module _ {L : Type 0} (held : L → Holders) (place : L → LockerKind) where
 
               seen : seen_at t.cell (opened (section_asked n p t.cell t.want m) (registry_asked t.cell t.want m) (called p t.cell g m)) ≡ seen_as y 0 1 (Some run_r)
               seen =
-                  let q = itself_eq t.cell in
-                  let r : reads_in t.cell m ≡ reads_in t.cell m + 0 = omega arith in
+                  let q = itself_eq t.cell in let r : reads_in t.cell m ≡ reads_in t.cell m + 0 = omega arith in
                   let w : count (writes_cell t.cell) m.guards + (count (runs_in t.cell) m.sections + 1) ≡ writes_in t.cell m + 1 = omega arith in
                   rw q (λ i. record { plan = x; content = y; reads = r i; writes = w i; run = Some run_r })
 

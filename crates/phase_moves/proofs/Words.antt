@@ -55,9 +55,9 @@ pub use Rattle.phase_seq.specs.declared.{sequentializer.LazySequentializer.LazyS
 pub use Rattle.schedule_rules.proofs.Found.{found_counts, found_passes, none_counted, none_found}
 pub use Rattle.schedule_rules.proofs.Opened.{count_ended, count_removed, guard_kept, innermost_kept, numbered_put, numbered_put_other, put as with_value, reads_put, wait_kept}
 pub use Rattle.schedule_rules.proofs.Opened.{wait_removed, writes_put}
-pub use Rattle.schedule_rules.specs.{Due.answer_of_look, Exits.ended_turns, Exits.finishing, Exits.owner, Exits.owner_by, Exits.registry, Forms.form_of, Forms.is_to_read}
-pub use Rattle.schedule_rules.specs.{History.accepts, History.count, History.Event, Kinds.cell_at, Kinds.is_owned, Kinds.is_parking, Kinds.tolerance_of, Legal.First}
-pub use Rattle.schedule_rules.specs.{Legal.Last, Refusals.is_other, Replay.content_after_back, Replay.replay, Transcripts.most_parties}
+pub use Rattle.schedule_rules.specs.{Due.answer_of_look, Exits.ended_turns, Exits.finishing, Exits.owner, Exits.registry, Forms.form_of, Forms.is_to_read, History.accepts}
+pub use Rattle.schedule_rules.specs.{History.count, History.Event, Kinds.cell_at, Kinds.is_owned, Kinds.is_parking, Kinds.tolerance_of, Legal.First, Legal.Last}
+pub use Rattle.schedule_rules.specs.{Refusals.is_other, Replay.content_after_back, Replay.replay, Transcripts.most_parties}
 pub use Rattle.schedule_rules.specs.Answers.{answer_admitted, answer_at, answer_barred, answer_of_attempt, begins_run, drains_by, turn_answer_admitted, way_parked}
 pub use Rattle.schedule_rules.specs.Calls.{asks, initializes, is_fast, lock_asked, lock_wanted, run_asked, seeks, seeks_run, wakes_as, woken_as}
 pub use Rattle.schedule_rules.specs.Changes.{Asked, asks_to_lend, Change, Content, content_after, content_asked, content_of_run, effect, Ended, is_declined, Put, Ran}
@@ -78,9 +78,9 @@ pub use Rattle.std.proofs.Common.{◌&&◌, ◌++◌, ◌+◌, ◌<◌, ◌==◌
 pub use Rattle.std.specs.{List.find, Option.is_some as is_some_of_option, Option.unwrap_or, Vec.with_item}
 pub use Rattle.std.specs.Prelude.{if◌then◌else◌, is_some, IsNone, MatchBool, nat_lt, OnSome, slice_get, vec_capacity, ◌↔◌, ◌⊎◌}
 pub use Rattle.std.specs.declared.option.Option.{Option}
-pub use Rattle.waiting_rows.proofs.{Counted.count_map, Counted.count_without, Counted.none_without, Counted.one_of, Finding.changed as changed_of_finding}
-pub use Rattle.waiting_rows.proofs.{Finding.wait_readers, Finding.wait_writer, Gave.gave_share, Passing.count_test, RowCounts.claims_shown, RowCounts.count_rows}
-pub use Rattle.waiting_rows.proofs.{RowCounts.shares_shown, ShowsFreed.shows_freed, ShowsWaiting.shows_waiting_at, Single.single_with, Single.single_without, Sound.sound_of}
-pub use Rattle.waiting_rows.proofs.Within.{shows_fresh, within_with, within_without}
+pub use Rattle.waiting_rows.proofs.{Counted.count_map, Counted.count_without, Counted.none_without, Counted.one_of, Finding.wait_readers, Finding.wait_writer, Gave.gave_share}
+pub use Rattle.waiting_rows.proofs.{Passing.count_test, RowCounts.claims_shown, RowCounts.count_rows, RowCounts.shares_shown, ShowsFreed.shows_freed}
+pub use Rattle.waiting_rows.proofs.{ShowsWaiting.shows_waiting_at, Single.single_with, Single.single_without, Sound.sound_of, Within.shows_fresh, Within.within_with}
+pub use Rattle.waiting_rows.proofs.Within.{within_without}
 pub use Rattle.waiting_rows.proofs.GivenOn.{given_concerned, listed_hand, listed_share, none_on, reaches_given, shows_on, single_on, within_on}
 pub use Rattle.waiting_rows.specs.{Given.given_on, Given.IsListed, Shown.IsSingle, Shown.Shows, Shown.wait_row, Shown.waiting_of}

@@ -1,6 +1,7 @@
 //! A run so far.
 
 ghost use Rattle.std.specs.Prelude.{◌≡◌, ◌<◌, ◌≤◌, ◌^◌, [], IfOk, length, map, vec_capacity};
+ghost use Rattle.schedule_rules.specs.Transcripts.{most_parties};
 ghost use Rattle.phase_schedule.specs.Finals.{final_of_row};
 ghost use Rattle.phase_schedule.specs.Progress.{AreShared, EndsSo, HasMade, MayEnd, MayStep, Steps, TakesPlaces, frame_of_plan};
 
@@ -26,7 +27,7 @@ impl<L: PhaseLocker> Progress<L> {
     ///
     /// `AllocError` where memory is short.
     pub fn new(alloc: Global, plan: &Plan, count: u32) -> Result<Progress<L>, AllocError>
-        requires parties { plan.now.parties < 2 ^ 20 }
+        requires parties { plan.now.parties < most_parties }
         requires cells { length plan.now.cells.items < 2 ^ 32 }
         requires places { TakesPlaces L.takes plan.now.cells.items }
         requires shared { AreShared plan.now.cells.items }

@@ -38,8 +38,7 @@ row_writer q c w own e = grind arith
 -- a writer that is parked on the cell is given a share
 pub shows_handed_writer : (q c : ℕ) (ws : List Wait) (s : Rows) → c < length s.readers → IsSound s → Shows ws s → occurs q (writers_of s c) ≡ 1 → Shows (map (wake_writer q) ws) (rows_handed c (Given.Writer q) s)
 shows_handed_writer q c ws s inside sound shows one =
-    let parked = parked_writer q c ws s inside sound shows one in
-    let writes : writes_at c (row_of s q) ≡ true = is_one-if _ (sym (sound.writers c q inside) ∙ one) in
+    let parked = parked_writer q c ws s inside sound shows one in let writes : writes_at c (row_of s q) ≡ true = is_one-if _ (sym (sound.writers c q inside) ∙ one) in
     let own : parked.wait.party ≡ q = wait_party q ws parked.wait parked.is in
     record {
       row = λ p. set_shows s.rows q (record { waiting = Waiting.ShareWrite; cell = c }) free_row (λ p. wait_row (wait_of p ws)) (λ p. wait_row (wait_of p (map (wake_writer q) ws))) shows.row

@@ -38,8 +38,7 @@ takes-taken-requires-clause-few g c =
 
 pub returns-clause-attempts : goal.returns-clause-attempts
 returns-clause-attempts g c = λ m is.
-    let r = c.call-begun.ensures in
-    let e = c.takes-taken.ensures in
+    let r = c.call-begun.ensures in let e = c.takes-taken.ensures in
     rw (e.taken, e.row, e.party, e.parks) (does g.L.PhaseLocker.held g.L.PhaseLocker.place m c.args.self.now _ c.args.party c.args.target c.args.waits is c.index_mut-row.result.now _ c.index_mut-row.ensures.value c.index_mut-of.result.now _ c.index_mut-of.ensures.value
     refl refl refl refl refl refl refl c.call-begun.result.0 c.call-begun.result.1 r.registry r.running r.stands r.opens r.left c.in-Some.ask (sym c.ask_of.ensures ∙ c.in-Some.is) r.cyclic r.calls refl refl refl refl)
 

@@ -20,29 +20,25 @@ finish-finished-requires-clause-room g c = λ e. end_room g.L.PhaseLocker.held g
 
 pub returns-in-Read-clause-ends : goal.returns-in-Read-clause-ends
 returns-in-Read-clause-ends g c = λ m s is.
-    let r = c.finish-finished.ensures in
-    let e = c.take_run.ensures.row in
+    let r = c.finish-finished.ensures in let e = c.take_run.ensures.row in
     ends_read g.L.PhaseLocker.held g.L.PhaseLocker.place m c.args.self.now c.args.party c.args.cell c.args.made s is c.index_mut-row.result.now c.index_mut-row.ensures.value _ _ c.index_mut.result.now _ c.index_mut.ensures.value c.in-Some.open (sym c.take_run.ensures.run ∙ c.in-Some.is) refl refl refl refl refl
     (ap (λ (x : CellRow _). x.plan) e) (ap (λ (x : CellRow _). x.waiting) e) (ap (λ (x : CellRow _). x.run) e) r.running c.is_some.result (is_made c.args.made c.is_some.result c.is_some.ensures) c.finish-finished.result (rw e at r.finishes) r.stands r.reads (rw e at r.left) c.in-Read.lock c.in-Read.phase c.in-Read.is refl
 
 pub returns-in-Write-clause-ends : goal.returns-in-Write-clause-ends
 returns-in-Write-clause-ends g c = λ m s is.
-    let r = c.finish-finished.ensures in
-    let e = c.take_run.ensures.row in
+    let r = c.finish-finished.ensures in let e = c.take_run.ensures.row in
     ends_write g.L.PhaseLocker.held g.L.PhaseLocker.place m c.args.self.now c.args.party c.args.cell c.args.made s is c.index_mut-row.result.now c.index_mut-row.ensures.value _ _ c.index_mut.result.now _ c.index_mut.ensures.value c.in-Some.open (sym c.take_run.ensures.run ∙ c.in-Some.is) refl refl refl refl refl
     (ap (λ (x : CellRow _). x.plan) e) (ap (λ (x : CellRow _). x.waiting) e) (ap (λ (x : CellRow _). x.run) e) r.running c.is_some.result (is_made c.args.made c.is_some.result c.is_some.ensures) c.finish-finished.result (rw e at r.finishes) r.stands r.reads (rw e at r.left) c.in-Write.lock c.in-Write.phase c.in-Write.is (ap (λ (x : CellRow _). x.value) e) refl
 
 pub returns-in-Failed-clause-ends : goal.returns-in-Failed-clause-ends
 returns-in-Failed-clause-ends g c = λ m s is.
-    let r = c.finish-finished.ensures in
-    let e = c.take_run.ensures.row in
+    let r = c.finish-finished.ensures in let e = c.take_run.ensures.row in
     ends_failed g.L.PhaseLocker.held g.L.PhaseLocker.place m c.args.self.now c.args.party c.args.cell c.args.made s is c.index_mut-row.result.now c.index_mut-row.ensures.value _ _ c.index_mut.result.now _ c.index_mut.ensures.value c.in-Some.open (sym c.take_run.ensures.run ∙ c.in-Some.is) refl refl refl refl refl
     (ap (λ (x : CellRow _). x.plan) e) (ap (λ (x : CellRow _). x.waiting) e) (ap (λ (x : CellRow _). x.run) e) r.running c.is_some.result (is_made c.args.made c.is_some.result c.is_some.ensures) c.finish-finished.result (rw e at r.finishes) r.stands r.reads (rw e at r.left) c.in-Failed.phase c.in-Failed.is (ap (λ (x : CellRow _). x.value) e)
 
 pub returns-in-Phase-clause-ends : goal.returns-in-Phase-clause-ends
 returns-in-Phase-clause-ends g c = λ m s is.
-    let r = c.finish-finished.ensures in
-    let e = c.take_run.ensures.row in
+    let r = c.finish-finished.ensures in let e = c.take_run.ensures.row in
     ends_phase g.L.PhaseLocker.held g.L.PhaseLocker.place m c.args.self.now c.args.party c.args.cell c.args.made s is c.index_mut-row.result.now c.index_mut-row.ensures.value _ _ c.index_mut.result.now _ c.index_mut.ensures.value c.in-Some.open (sym c.take_run.ensures.run ∙ c.in-Some.is) refl refl refl refl refl
     (ap (λ (x : CellRow _). x.plan) e) (ap (λ (x : CellRow _). x.waiting) e) (ap (λ (x : CellRow _). x.run) e) r.running c.is_some.result (is_made c.args.made c.is_some.result c.is_some.ensures) c.finish-finished.result (rw e at r.finishes) r.stands r.reads (rw e at r.left) c.in-Phase.phase c.in-Phase.is refl
 

@@ -19,7 +19,6 @@ returns-in_default-clause-finalizes g c = λ m s is. has_run g.L.PhaseLocker.hel
 
 pub returns-clause-finalizes : goal.returns-clause-finalizes
 returns-clause-finalizes g c = λ m s is.
-    let r = c.finish_final-given.ensures in
-    let e = c.take_run.ensures.row in
+    let r = c.finish_final-given.ensures in let e = c.take_run.ensures.row in
     finalizes_as g.L.PhaseLocker.held g.L.PhaseLocker.place m c.args.self.now c.args.party c.args.cell s is c.index_mut-row.result.now c.index_mut-row.ensures.value _ _ c.index_mut.result.now _ c.index_mut.ensures.value c.in-Some.open (sym c.take_run.ensures.run ∙ c.in-Some.is) refl refl refl refl
     (ap (λ (x : CellRow _). x.plan) e) (ap (λ (x : CellRow _). x.waiting) e) c.args.left (c.value_finalized-row.ensures ∙ (λ i. value_finalized (e i).plan.kind c.args.left (e i).value)) (ap (λ (x : CellRow _). x.run) e) (rw e at r.running) c.args.fine c.finish_final-given.result refl refl (c.push_reserved.ensures.items ∙ (λ i. c.args.self.now.exit.turns.items ++ record { cell = c.args.cell; turn = c.turn_of-turn.ensures i } ∷ [])) (rw e at r.finishes) r.closed r.reads (rw e at r.left)
