@@ -1,7 +1,7 @@
 -- The words of the definitions that these proofs speak of, from where they are defined.
 pub use Rattle.std.specs.declared.option.Option.{Option}
-pub use Rattle.std.proofs.Common.{[], ◌&&◌, ◌++◌, ◌+◌, ◌<◌, ◌==◌, ◌||◌, ◌∙◌, ◌∷◌, ◌≡◌, ◌≢◌, ◌≤◌, ◌⊎◌, ap, arith, Bool, cond, false, get_or, inl, inr, length, List, None, not, refl}
-pub use Rattle.std.proofs.Common.{Some, subst, sym, true, ℕ}
+pub use Rattle.std.proofs.Common.{[], ◌&&◌, ◌++◌, ◌+◌, ◌<◌, ◌==◌, ◌||◌, ◌∙◌, ◌∷◌, ◌≡◌, ◌≢◌, ◌≤◌, ◌⊎◌, ap, arith, Bool, false, get_or, inl, inr, length, List, None, not, refl, Some}
+pub use Rattle.std.proofs.Common.{subst, sym, true, ℕ}
 pub use Rattle.std.proofs.lemmas.Bool.{cases_lt, or_right}
 pub use Rattle.std.specs.Option.{unwrap_or}
 pub use Rattle.std.specs.Prelude.{if◌then◌else◌, is_none, is_some, IsTrue, MatchBool, nat_lt, slice_get, vec_capacity}
@@ -83,4 +83,4 @@ pub use Rattle.phase_moves.proofs.Histories.{made_told, made_write, refused_stay
 pub use Rattle.phase_moves.proofs.Places.{read_at}
 pub use Rattle.phase_acts.specs.Settles.{answer_settled, answer_tried, GivesSettled, IsSettled, IsSettling, reads_on, settled, unlocked, writes_on}
 pub use Rattle.phase_acts.specs.Steps.{answer_back, given_first, HasStepped, IsAwake, IsNext, outcome, step_of}
-pub use Rattle.phase_acts.specs.Tries.{IsTaking, IsTried, IsTrying, MayTry, Tries}
+pub use Rattle.phase_acts.specs.Tries.{IsTried, IsTrying, MayTry, Tries}

@@ -1,5 +1,5 @@
 -- A schedule without a cause can be run.
-use Rattle.phase_schedule.proofs.Words.{[], ◌+◌, ◌<◌, ◌^◌, ◌∷◌, ◌≡◌, All, ap, AreShared, arith, Bool, cause_of, cause_of_plan, cell_at, CellPlan, crowd_of, false, first_cause}
+use Rattle.phase_schedule.proofs.Words.{[], ◌+◌, ◌<◌, ◌^◌, ◌∙◌, ◌∷◌, ◌≡◌, All, ap, AreShared, arith, Bool, cause_of, cause_of_plan, cell_at, CellPlan, crowd_of, false, first_cause}
 use Rattle.phase_schedule.proofs.Words.{first_found, get_or_past, if◌then◌else◌, is_owned, is_placed, IsTrue, IsValid, Kind, length, List, misplaced_of, most_parties}
 use Rattle.phase_schedule.proofs.Words.{names_known_cell, NamesKnown, nat_lt, no_cell, None, Option, Place, refl, RunError, Schedule, Some, Step, true, unknown_of, ℕ}
 use Rattle.std.proofs.lemmas.List.Elements.{All-nil, All-cons, All-head, All-tail}
@@ -17,9 +17,7 @@ known_step parties cells n s e = by (nat_lt s.party parties) (names_known_cell c
   where
     by : (b d : Bool) → nat_lt s.party parties ≡ b → names_known_cell cells s.act ≡ d → (if b then (if d then None else Some (error.UnknownCell n)) else Some (error.UnknownParty n)) ≡ None → NamesKnown parties cells s
     by true true p a q = record { party = grind arith; cell = grind arith }
-    by true false p a q = absurd (cc)
-    by false true p a q = absurd (cc)
-    by false false p a q = absurd (cc)
+    by b d p a q = absurd (cc)
 
 none_found : {X : Type 0} (look : ℕ → X → Option RunError) (P : X → Type 0) → ((n : ℕ) (x : X) → look n x ≡ None → P x) → (n : ℕ) (xs : List X) → first_found look n xs ≡ None → All P xs
 none_found look P each n [] e = All-nil P
@@ -39,11 +37,7 @@ shared_cell parties q place.Park t e = refl
 shared_cell parties q place.Spin t e = refl
 shared_cell parties kind.Lazy (place.Own p) t e = absurd cc
 shared_cell parties kind.LockedLazy (place.Own p) t e = absurd cc
-shared_cell parties kind.LazyFinalize (place.Own p) t e = absurd (grind arith)
-shared_cell parties kind.LockedLazyFinalize (place.Own p) t e = absurd (grind arith)
-shared_cell parties kind.LockedLazyDroped (place.Own p) t e = absurd (grind arith)
-shared_cell parties kind.PrimedLockedLazy (place.Own p) t e = absurd (grind arith)
-shared_cell parties kind.PrimedLockedLazyDroped (place.Own p) t e = absurd (grind arith)
+shared_cell parties q p t e = absurd (grind arith)
 
 -- no cell of a plan without a cause is finalized and belongs to a party, and none that no plan has
 pub shared : (parties : ℕ) (cells : List CellPlan) → cause_of_plan parties cells ≡ None → AreShared cells
@@ -101,8 +95,11 @@ not_misplaced parties c x t = by (is_placed parties x.kind x.place) t
 not_many : (parties : ℕ) → parties < most_parties → crowd_of parties ≡ None
 not_many parties lt = grind arith
 
-pub no_cause : (x : Schedule) → IsValid x → cause_of x ≡ None
+no_cause : (x : Schedule) → IsValid x → cause_of x ≡ None
 no_cause x v =
     let plan : cause_of_plan x.parties x.cells ≡ None =
     rw (not_many x.parties v.parties) (not_found (misplaced_of x.parties) _ (not_misplaced x.parties) 0 x.cells v.placed) in
     rw plan (not_found (unknown_of x.parties (length x.cells)) _ (no_unknown_step x.parties (length x.cells)) 0 x.steps v.known)
+
+pub no_error : (x : Schedule) (e : RunError) → Some e ≡ cause_of x → IsValid x → ⊥
+no_error x e is v = let never : Some e ≡ None = is ∙ no_cause x v in cc
