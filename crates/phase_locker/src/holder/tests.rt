@@ -1,8 +1,9 @@
 //! Calls of the locker that keeps the plain record, on cells that park and on cells that spin.
 
-ghost use Rattle.std.specs.Prelude.{◌≡◌, ◌<◌, count_by, true};
-ghost use Rattle.phase_locker.specs.Rows.{shares_at, claims_at};
-ghost use Rattle.phase_locker.specs.Fits.{KeepsFit, IsWriteOpen, open_reads};
+ghost use Rattle.std.specs.Prelude.{◌≡◌, ◌<◌, count_by, length, true};
+ghost use Rattle.phase_bits.specs.Number.{IsKnown};
+ghost use Rattle.phase_locker.specs.Rows.{row_of, shares_at, claims_at};
+ghost use Rattle.phase_locker.specs.Fits.{Fits, KeepsFit, IsWriteOpen, open_reads};
 
 use crate::holder::HolderLocker;
 use crate::locker::PhaseLocker;
@@ -172,39 +173,149 @@ fn party(party: u32) -> Who
     Who { cell: 0, party }
 }
 
+/// A call of a party that does not wait, at the first cell. The process ends where there is no such party.
+fn lock(
+    rt: &impl Abort,
+    locker: &mut HolderLocker,
+    parks: &mut Parks,
+    caller: u32,
+    wake: LockNature,
+) -> Attempt
+    requires { Fits locker.old.kind locker.old.holders parks.old 0 }
+    ensures { Fits locker.new.kind locker.new.holders parks.new 0 }
+{
+    if waiting(rt, parks, caller) != Waiting::Free || parks.cells() == 0 {
+        rt.abort()
+    }
+    let attempt = match wake {
+        LockNature::Read => locker.lock(parks, party(caller), LockNature::Read, &reads),
+        LockNature::Write => locker.lock(parks, party(caller), LockNature::Write, &writes),
+        LockNature::None => rt.abort(),
+    };
+    attempt.0
+}
+
+/// A call of a party that waits at the first cell. The process ends where there is no such party.
+fn again(
+    rt: &impl Abort,
+    locker: &mut HolderLocker,
+    parks: &mut Parks,
+    caller: u32,
+    wake: LockNature,
+) -> Attempt
+    requires { Fits locker.old.kind locker.old.holders parks.old 0 }
+    ensures { Fits locker.new.kind locker.new.holders parks.new 0 }
+{
+    if waiting(rt, parks, caller) == Waiting::Free || parks.cells() == 0 {
+        rt.abort()
+    }
+    if parks.cell_of(caller) != 0 {
+        rt.abort()
+    }
+    let attempt = match wake {
+        LockNature::Read => locker.again(parks, party(caller), LockNature::Read, &reads),
+        LockNature::Write => locker.again(parks, party(caller), LockNature::Write, &writes),
+        LockNature::None => rt.abort(),
+    };
+    attempt.0
+}
+
+/// How this party waits. The process ends where there is no such party.
+fn waiting(rt: &impl Abort, parks: &Parks, party: u32) -> Waiting
+    ensures inside { party < length parks.now.rows }
+    ensures waiting { result ≡ (row_of parks.now party).waiting }
+{
+    if party as usize >= parks.rows().len() {
+        rt.abort()
+    }
+    parks.waiting(party)
+}
+
+/// A read lock of the first cell is given back. The process ends where none is open.
+fn release_read(
+    rt: &impl Abort,
+    locker: &mut HolderLocker,
+    parks: &mut Parks,
+    t: ReadTicket,
+) -> Given
+    requires { Fits locker.old.kind locker.old.holders parks.old 0 }
+    ensures { Fits locker.new.kind locker.new.holders parks.new 0 }
+{
+    if parks.cells() == 0 || !is_read_open(locker, parks, 0) {
+        rt.abort()
+    }
+    locker.release_read(parks, 0, t)
+}
+
+/// The write lock of the first cell is given back. The process ends where none is open.
+fn release_write(
+    rt: &impl Abort,
+    locker: &mut HolderLocker,
+    parks: &mut Parks,
+    t: WriteTicket,
+    phase: Phase,
+) -> Given
+    requires known { IsKnown phase }
+    requires fits { Fits locker.old.kind locker.old.holders parks.old 0 }
+    ensures { Fits locker.new.kind locker.new.holders parks.new 0 }
+{
+    if parks.cells() == 0 || !is_write_open(locker, parks, 0) {
+        rt.abort()
+    }
+    locker.release_write(parks, 0, t, phase)
+}
+
+/// The write lock of the first cell becomes a read lock, and gives nothing. The process ends where none is open, or where
+/// party 0 waits.
+fn downgrade(
+    rt: &impl Abort,
+    locker: &mut HolderLocker,
+    parks: &mut Parks,
+    t: WriteTicket,
+    phase: Phase,
+) -> ReadTicket
+    requires known { IsKnown phase }
+    requires fits { Fits locker.old.kind locker.old.holders parks.old 0 }
+    ensures { Fits locker.new.kind locker.new.holders parks.new 0 }
+{
+    if parks.cells() == 0 || !is_write_open(locker, parks, 0) {
+        rt.abort()
+    }
+    if waiting(rt, parks, 0) != Waiting::Free {
+        rt.abort()
+    }
+    let (read, given) = locker.downgrade(parks, 0, t, phase);
+    if given != Given::Nobody {
+        rt.abort()
+    }
+    read
+}
+
 #[test]
 fn a_lock_is_handed_over_where_calls_park(rt: HostRuntime) -> Result<(), Fail> {
     let mut parks = Parks::new(rt.alloc(), 1, 3)?;
     let mut locker = HolderLocker::new(LockerKind::Park, Phase::empty());
-    let (attempt, _) = locker.lock(&mut parks, party(0), LockNature::Write, &writes);
+    let attempt = lock(&rt, &mut locker, &mut parks, 0, LockNature::Write);
     let first = written(&rt, attempt);
-    assert_eq!(rt; parks.waiting(1), Waiting::Free);
-    let (attempt, _) = locker.lock(&mut parks, party(1), LockNature::Write, &writes);
+    let attempt = lock(&rt, &mut locker, &mut parks, 1, LockNature::Write);
     assert_eq!(rt; waited(&rt, attempt), How::ParkedWrite);
-    assert_eq!(rt; parks.waiting(2), Waiting::Free);
-    let (attempt, _) = locker.lock(&mut parks, party(2), LockNature::Read, &reads);
+    let attempt = lock(&rt, &mut locker, &mut parks, 2, LockNature::Read);
     assert_eq!(rt; waited(&rt, attempt), How::ParkedRead);
-    assert!(rt; is_write_open(&locker, &parks, 0));
-    let given = locker.release_write(&mut parks, 0, first, Phase::INITIALIZED);
+    let given = release_write(&rt, &mut locker, &mut parks, first, Phase::INITIALIZED);
     assert_eq!(rt; given, Given::Readers);
     assert_eq!(rt; locker.phase(), Phase::INITIALIZED);
-    assert_eq!(rt; parks.waiting(2), Waiting::ShareRead);
-    assert_eq!(rt; parks.cell_of(2), 0);
-    let (attempt, _) = locker.again(&mut parks, party(2), LockNature::Read, &reads);
+    assert_eq!(rt; waiting(&rt, &parks, 2), Waiting::ShareRead);
+    let attempt = again(&rt, &mut locker, &mut parks, 2, LockNature::Read);
     let second = read(&rt, attempt);
-    assert!(rt; is_read_open(&locker, &parks, 0));
-    let given = locker.release_read(&mut parks, 0, second);
+    let given = release_read(&rt, &mut locker, &mut parks, second);
     assert_eq!(rt; given, Given::Writer(1));
-    assert_eq!(rt; parks.waiting(1), Waiting::ShareWrite);
-    assert_eq!(rt; parks.cell_of(1), 0);
-    let (attempt, _) = locker.again(&mut parks, party(1), LockNature::Write, &writes);
+    assert_eq!(rt; waiting(&rt, &parks, 1), Waiting::ShareWrite);
+    let attempt = again(&rt, &mut locker, &mut parks, 1, LockNature::Write);
     let third = written(&rt, attempt);
-    assert_eq!(rt; parks.waiting(1), Waiting::Free);
-    assert!(rt; is_write_open(&locker, &parks, 0));
-    let (fourth, given) = locker.downgrade(&mut parks, 0, third, Phase::REGISTERED);
+    assert_eq!(rt; waiting(&rt, &parks, 1), Waiting::Free);
+    let fourth = downgrade(&rt, &mut locker, &mut parks, third, Phase::REGISTERED);
+    let given = release_read(&rt, &mut locker, &mut parks, fourth);
     assert_eq!(rt; given, Given::Nobody);
-    assert!(rt; is_read_open(&locker, &parks, 0));
-    assert_eq!(rt; locker.release_read(&mut parks, 0, fourth), Given::Nobody);
     assert_eq!(rt; locker.phase(), Phase::REGISTERED);
     Ok(())
 }
@@ -214,19 +325,18 @@ fn a_barred_call_asks_again_where_calls_spin(rt: HostRuntime) -> Result<(), Fail
     let mut parks = Parks::new(rt.alloc(), 1, 2)?;
     let mut locker = HolderLocker::new(LockerKind::Spin, Phase::empty());
     let first = locker.lock_mut();
-    assert_eq!(rt; parks.waiting(1), Waiting::Free);
-    let (attempt, _) = locker.lock(&mut parks, party(1), LockNature::Read, &reads);
+    let attempt = lock(&rt, &mut locker, &mut parks, 1, LockNature::Read);
     assert_eq!(rt; waited(&rt, attempt), How::Spin);
     assert!(rt; missed(locker.try_lock(&writes)));
-    assert!(rt; is_write_open(&locker, &parks, 0));
-    let given = locker.release_write(&mut parks, 0, first, Phase::INITIALIZED);
+    let attempt = again(&rt, &mut locker, &mut parks, 1, LockNature::Read);
+    assert_eq!(rt; waited(&rt, attempt), How::Spin);
+    let given = release_write(&rt, &mut locker, &mut parks, first, Phase::INITIALIZED);
     assert_eq!(rt; given, Given::Nobody);
-    assert_eq!(rt; parks.waiting(1), Waiting::Spin);
-    assert_eq!(rt; parks.cell_of(1), 0);
-    let (attempt, _) = locker.again(&mut parks, party(1), LockNature::Read, &reads);
+    assert_eq!(rt; waiting(&rt, &parks, 1), Waiting::Spin);
+    let attempt = again(&rt, &mut locker, &mut parks, 1, LockNature::Read);
     let second = read(&rt, attempt);
-    assert!(rt; is_read_open(&locker, &parks, 0));
-    assert_eq!(rt; locker.release_read(&mut parks, 0, second), Given::Nobody);
+    let given = release_read(&rt, &mut locker, &mut parks, second);
+    assert_eq!(rt; given, Given::Nobody);
     assert!(rt; !locker.holders.locked && locker.holders.readers == 0);
     locker.set_phase(Phase::FINALIZED);
     assert_eq!(rt; locker.get_phase_unique(), Phase::FINALIZED);
