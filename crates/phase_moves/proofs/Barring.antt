@@ -1,5 +1,5 @@
 -- A locker bars as the rules do, keeps what they keep, and a barred call waits in a way that is due.
-use Rattle.phase_moves.proofs.Words.{◌≡◌, ◌==◌, ◌<◌, ◌≤◌, ◌+◌, ◌∙◌, ℕ, List, [], ◌∷◌, refl, arith, Bool, true, false, None, Some, not, ◌||◌, ◌&&◌, inl, inr, cases_lt, nat_lt}
+use Rattle.phase_moves.proofs.Words.{◌≡◌, ◌==◌, ◌<◌, ◌≤◌, ◌+◌, ◌∙◌, ℕ, List, [], ◌∷◌, refl, arith, Bool, true, false, Some, not, ◌||◌, ◌&&◌, inl, inr, cases_lt, nat_lt}
 use Rattle.phase_moves.proofs.Words.{Option, Holders, LockNature, How, LockerKind, bars, Parking, drains, drains_at, row_of, Fits, IsWriteOpen, open_reads, MayWait}
 use Rattle.phase_moves.proofs.Words.{keeps as row_keeps, write_has_no_reader, Want, CellPlan, answer_barred, drains_by, way_parked, is_fast, wakes_as, count, Holding}
 use Rattle.phase_moves.proofs.Words.{is_barred, keeps_of_holds as keeps, Wait, drains_on, is_drain, shares_read, shares_write, wait_of, IsSingle, Shows, wait_row}
@@ -78,9 +78,7 @@ module _ (k : LockerKind) (h : Holders) (s : Parking) (c reads writes : ℕ) (ws
 
   -- it bars as the rules do
   pub barred_same : (n : LockNature) → bars h n ≡ is_barred n (record { readers = readers; written = nat_lt 0 writers; drained = nat_lt 0 drainers })
-  barred_same LockNature.None = refl
-  barred_same LockNature.Read = grind (arith, locked_same, readers_same, read_same, is_zero, unread_written, positive)
-  barred_same LockNature.Write = (λ i. locked_same i || not (readers_same i == 0)) ∙ write_same (nat_lt 0 writers) (nat_lt 0 drainers) (readers == 0) (nat_lt 0 readers) (some_not readers)
+  barred_same n = grind (arith, locked_same, readers_same, read_same, is_zero, unread_written, positive, write_same, some_not) steps 400000
 
 -- ---- what is kept
 

@@ -56,14 +56,24 @@ module _ {L : Type 0} (held : L → Holders) (place : L → LockerKind) where
     pub count : length v'.parties.items ≡ length v.parties.items
     pub row : (p : ℕ) → p < length v.parties.items → slice_get v'.parties.items p ≡ Some (party_row m' p)
 
+  -- what holds of the row that is written and of each other row holds of all
+  each_row : (P : ℕ → CellRow L → Type 0) (xs : List (CellRow L)) (c : ℕ) (row : CellRow L) → c < length xs → P c row → ((d : ℕ) (r : CellRow L) → d ≢ c → slice_get xs d ≡ Some r → P d r) → (d : ℕ) (r : CellRow L) → slice_get (set xs c row) d ≡ Some r → P d r
+  each_row P xs c row lt here beside d r e = elim (cases_eq d c) [
+    | inl q ↦ (let f : Some row ≡ Some r = sym (slice_get_set_same xs c row lt) ∙ ap (λ i. slice_get (set xs c row) i) (sym q) ∙ e in let s : row ≡ r = cc in
+        subst (λ i. P i r) (sym q) (subst (λ x. P c x) s here))
+    | inr ne ↦ beside d r ne (sym (slice_get_set_other xs c d row ne) ∙ e)
+  ]
+
   -- the rows stand for it
   pub moved : (c hand hand' : ℕ) (m m' : Standing) (v v' : Rows L) (row : CellRow L) → Stands held place hand m v → c < length v.cells.items → v'.cells.items ≡ set v.cells.items c row
       → IsCell held place (seen_at c m') v'.parks c row → CountsWaits c m'.waits row → KeepsDraft c m' row → IsMoved c hand hand' m m' v v' → HasParties m' v v' → Stands held place hand' m' v'
   moved c hand hand' m m' v v' row t lt cells here many keeps k ps =
       record {
-        cell = λ d r e. by d r (cases_eq d c) (ap (λ (xs : List (CellRow L)). slice_get xs d) (sym cells) ∙ e);
-        counted = λ d r e. counts d r (cases_eq d c) (ap (λ (xs : List (CellRow L)). slice_get xs d) (sym cells) ∙ e);
-        draft = λ d r e. drafts d r (cases_eq d c) (ap (λ (xs : List (CellRow L)). slice_get xs d) (sym cells) ∙ e);
+        cell = λ d r e. each_row (λ d r. IsCell held place (seen_at d m') v'.parks d r) v.cells.items c row lt here
+            (λ d r ne f. cell_beside (seen_at d m) (seen_at d m') v.parks v'.parks d r (k.around d ne) (k.others.cells d ne) (t.cell d r f)) d r (at d r e);
+        counted = λ d r e. each_row (λ d r. CountsWaits d m'.waits r) v.cells.items c row lt many (λ d r ne f. t.counted d r f ∙ sym (k.counts d ne)) d r (at d r e);
+        draft = λ d r e. each_row (λ d r. KeepsDraft d m' r) v.cells.items c row lt keeps (λ d r ne f g x j w o. let beside : x.cell ≢ c = (λ q. ne (sym o ∙ q)) in
+            t.draft d r f g x (k.drafts g x j w beside) w o ∙ ap draft_of (sym (seen x beside))) d r (at d r e);
         slot = λ g l. let l' : g < length v.guards.items = subst (λ (xs : _). g < length xs.items) k.guards l in
             ap (λ (xs : _). slice_get xs.items g) k.guards ∙ t.slot g l' ∙ ap (λ x. Some x) (sym (k.slots g l'));
         party = λ p l. ps.row p (subst (λ n. p < n) ps.count l);
@@ -82,39 +92,12 @@ module _ {L : Type 0} (held : L → Holders) (place : L → LockerKind) where
         size : length v'.cells.items ≡ length v.cells.items
         size = ap (λ (xs : List (CellRow L)). length xs) cells ∙ length-set v.cells.items c row
 
-        here_at : (r : CellRow L) → Some row ≡ Some r → IsCell held place (seen_at c m') v'.parks c r
-        here_at r e = let s : row ≡ r = cc in subst (λ (x : CellRow L). IsCell held place (seen_at c m') v'.parks c x) s here
-
-        by : (d : ℕ) (r : CellRow L) → (d ≡ c) ⊎ (d ≢ c) → slice_get (set v.cells.items c row) d ≡ Some r → IsCell held place (seen_at d m') v'.parks d r
-        by d r (inl q) e =
-            subst (λ i. IsCell held place (seen_at i m') v'.parks i r) (sym q)
-            (here_at r (sym (slice_get_set_same v.cells.items c row lt) ∙ ap (λ i. slice_get (set v.cells.items c row) i) (sym q) ∙ e))
-        by d r (inr ne) e =
-            cell_beside (seen_at d m) (seen_at d m') v.parks v'.parks d r (k.around d ne) (k.others.cells d ne) (t.cell d r (sym (slice_get_set_other v.cells.items c d row ne) ∙ e))
-
-        count_at : (r : CellRow L) → Some row ≡ Some r → CountsWaits c m'.waits r
-        count_at r e = let s : row ≡ r = cc in subst (λ (x : CellRow L). CountsWaits c m'.waits x) s many
-
-        counts : (d : ℕ) (r : CellRow L) → (d ≡ c) ⊎ (d ≢ c) → slice_get (set v.cells.items c row) d ≡ Some r → CountsWaits d m'.waits r
-        counts d r (inl q) e =
-            subst (λ i. CountsWaits i m'.waits r) (sym q)
-            (count_at r (sym (slice_get_set_same v.cells.items c row lt) ∙ ap (λ i. slice_get (set v.cells.items c row) i) (sym q) ∙ e))
-        counts d r (inr ne) e = t.counted d r (sym (slice_get_set_other v.cells.items c d row ne) ∙ e) ∙ sym (k.counts d ne)
-
-        keeps_at : (r : CellRow L) → Some row ≡ Some r → KeepsDraft c m' r
-        keeps_at r e = let s : row ≡ r = cc in subst (λ (x : CellRow L). KeepsDraft c m' x) s keeps
+        at : (d : ℕ) (r : CellRow L) → slice_get v'.cells.items d ≡ Some r → slice_get (set v.cells.items c row) d ≡ Some r
+        at d r e = ap (λ (xs : List (CellRow L)). slice_get xs d) (sym cells) ∙ e
 
         -- the holder of a guard of another cell sees what it saw
         seen : (x : Guard) → x.cell ≢ c → seen_by m' x ≡ seen_by m x
         seen x ne = let z = k.around x.cell ne in λ i. effect (z i).plan x.changes (z i).content
-
-        drafts : (d : ℕ) (r : CellRow L) → (d ≡ c) ⊎ (d ≢ c) → slice_get (set v.cells.items c row) d ≡ Some r → KeepsDraft d m' r
-        drafts d r (inl q) e =
-            subst (λ i. KeepsDraft i m' r) (sym q)
-            (keeps_at r (sym (slice_get_set_same v.cells.items c row lt) ∙ ap (λ i. slice_get (set v.cells.items c row) i) (sym q) ∙ e))
-        drafts d r (inr ne) e =
-            λ g x f w at. let beside : x.cell ≢ c = (λ q. ne (sym at ∙ q)) in
-            t.draft d r (sym (slice_get_set_other v.cells.items c d row ne) ∙ e) g x (k.drafts g x f w beside) w at ∙ ap draft_of (sym (seen x beside))
 
   -- a list of rows that is not touched, where what it shows stays
   pub parties_same : (hand : ℕ) (m m' : Standing) (v v' : Rows L) → Stands held place hand m v → v'.parties ≡ v.parties → ((p : ℕ) → party_row m' p ≡ party_row m p) → HasParties m' v v'
