@@ -1,30 +1,11 @@
 -- A step that attempts something is a legal step.
-use Rattle.std.proofs.Common.{◌≡◌, ◌∙◌, ℕ, List, length, ap, sym, subst, refl, Bool, true, false, ◌&&◌, None, Some}
-use Rattle.std.specs.Prelude.{is_none}
-use Rattle.std.specs.declared.option.Option.{Option}
-use Rattle.exit_registry.specs.Registry.{Registry}
-use Rattle.phase_bits.specs.declared.holders.Holders.{Holders}
-use Rattle.phase_locker.specs.declared.ways.LockerKind.{LockerKind}
+use Rattle.phase_acts.proofs.Words.{◌&&◌, ◌∙◌, ◌≡◌, accepts, Act, answer_settled, ap, Bool, Call, Calls, CellPlan, Event, false, given_first, GivesSettled, HasStepped, Holders}
+use Rattle.phase_acts.proofs.Words.{is_none, IsLegalLine, IsNext, IsSettled, IsTaking, IsTried, KeptWith, length, Line, List, LockerKind, None, Option, refl, refusal, Registry}
+use Rattle.phase_acts.proofs.Words.{registry, Rows, Some, step_of, subst, sym, true, Turns, wait_of, waits, Want, ℕ}
 use Rattle.schedule_rules.specs.declared.line.Answer.TheVariants as answer
-use Rattle.schedule_rules.specs.declared.line.Line.{Line}
-use Rattle.lazy_cells.specs.declared.call.Call.{Call}
-use Rattle.schedule_rules.specs.declared.plan.CellPlan.{CellPlan}
-use Rattle.schedule_rules.specs.declared.step.Act.{Act}
-use Rattle.schedule_rules.specs.declared.step.Want.{Want}
-use Rattle.schedule_rules.specs.declared.step.Want.TheVariants.{Calls, Turns}
-use Rattle.schedule_rules.specs.Exits.{registry}
-use Rattle.schedule_rules.specs.History.{Event, accepts}
-use Rattle.schedule_rules.specs.Legal.{IsLegalLine}
-use Rattle.schedule_rules.specs.Refusals.{refusal}
 use Rattle.schedule_rules.specs.Causes.{is_cyclic, is_attempted, is_of_own_run}
-use Rattle.schedule_rules.specs.Waits.{wait_of, waits}
 use Rattle.schedule_rules.proofs.Causes.{cyclic_where_own}
-use Rattle.phase_moves.specs.declared.rows.Rows.{Rows}
 use Rattle.phase_moves.specs.declared.rows.Taken.TheVariants as taken
-use Rattle.phase_moves.specs.Moves.{KeptWith}
-use Rattle.phase_acts.specs.Settles.{IsSettled, answer_settled, GivesSettled}
-use Rattle.phase_acts.specs.Steps.{IsNext, HasStepped, given_first, step_of}
-use Rattle.phase_acts.specs.Tries.{IsTaking, IsTried}
 use Rattle.phase_acts.proofs.Stepping.{stepped}
 use Rattle.phase_acts.proofs.Tried.{after_tried}
 use Rattle.phase_acts.proofs.TriedLegal.{legal_tried, gift_reaches}

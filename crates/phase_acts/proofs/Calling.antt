@@ -1,20 +1,9 @@
 -- A call is refused on a cell of another party, and where cells of its kind do not have it.
-use Rattle.std.proofs.Common.{◌≡◌, ◌<◌, ◌∙◌, ℕ, List, length, get_or, ap, sym, refl, arith, Bool, true, false, None, Some}
-use Rattle.std.specs.Prelude.{IsTrue, nat_lt}
-use Rattle.phase_bits.specs.declared.holders.Holders.{Holders}
-use Rattle.phase_locker.specs.declared.ways.LockerKind.{LockerKind}
+use Rattle.phase_acts.proofs.Words.{◌<◌, ◌∙◌, ◌≡◌, ap, arith, Bool, Call, cell_at, CellPlan, CellRow, Event, false, get_or, Holders, is_of_other, IsAwake, IsTrue, length, List}
+use Rattle.phase_acts.proofs.Words.{LockerKind, nat_lt, no_call, None, read_at, refl, refusal, refusal_free, Rows, Some, step_of, sym, true, ℕ}
 use Rattle.lazy_cells.specs.Calls.{has_call}
-use Rattle.lazy_cells.specs.declared.call.Call.{Call}
 use Rattle.schedule_rules.specs.declared.line.Refusal.TheVariants as refused
-use Rattle.schedule_rules.specs.declared.plan.CellPlan.{CellPlan}
 use Rattle.schedule_rules.specs.declared.step.Act.TheVariants as act
-use Rattle.schedule_rules.specs.History.{Event}
-use Rattle.schedule_rules.specs.Kinds.{cell_at, is_of_other}
-use Rattle.schedule_rules.specs.Refusals.{no_call, refusal, refusal_free}
-use Rattle.phase_moves.specs.declared.rows.CellRow.{CellRow}
-use Rattle.phase_moves.specs.declared.rows.Rows.{Rows}
-use Rattle.phase_moves.proofs.Places.{read_at}
-use Rattle.phase_acts.specs.Steps.{IsAwake, step_of}
 use Rattle.phase_acts.proofs.Lines.{refusal_awake}
 
 pub below : (n m : ℕ) → IsTrue (nat_lt n m) → n < m

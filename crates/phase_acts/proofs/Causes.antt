@@ -1,39 +1,15 @@
 -- Who may attempt what: a call, one more attempt of a call or a turn that waits, and the first attempt of a turn.
-use Rattle.std.proofs.Common.{◌≡◌, ◌∙◌, ◌<◌, ◌≤◌, ℕ, List, length, ap, sym, subst, refl, arith, true, false, None, Some}
-use Rattle.std.specs.Prelude.{◌||◌, vec_capacity, is_some}
-use Rattle.std.specs.declared.option.Option.{Option}
-use Rattle.exit_registry.specs.Registry.{after_turn, first_of}
-use Rattle.phase_bits.specs.declared.holders.Holders.{Holders}
-use Rattle.phase_locker.specs.declared.ways.LockerKind.{LockerKind}
-use Rattle.schedule_rules.specs.declared.line.Line.{Line}
-use Rattle.lazy_cells.specs.declared.call.Call.{Call}
-use Rattle.schedule_rules.specs.declared.plan.CellPlan.{CellPlan}
+use Rattle.phase_acts.proofs.Words.{◌<◌, ◌||◌, ◌∙◌, ◌≡◌, ◌≤◌, after_turn, ap, arith, attempt, attempt_of_turn, attempt_of_wait, Call, Calls, cell_at, cell_of_attempt, CellPlan}
+use Rattle.phase_acts.proofs.Words.{ended_turns, Event, false, first_of, guards, has_want, HasStepped, Holders, is_fast, is_owned, is_some, IsAwake, IsNext, IsTried, IsTrying}
+use Rattle.phase_acts.proofs.Words.{KeptGuards, KeptWith, latest_act, length, Line, List, LockerKind, MayWait, None, numbered, open-accepts, Option, owner, owner_by, refl, refusal}
+use Rattle.phase_acts.proofs.Words.{refusal_by, refusal_free, registry, room-taken, Rows, Some, Standing, standing, Stands, step_of, subst, sym, Target, target_of, true, Turns}
+use Rattle.phase_acts.proofs.Words.{vec_capacity, Wait, wait_of, waits, WaitsAt, Want, ℕ}
 use Rattle.schedule_rules.specs.declared.step.Act.TheVariants as act
-use Rattle.schedule_rules.specs.declared.step.Want.TheVariants.{Calls, Turns}
-use Rattle.schedule_rules.specs.declared.step.Want.{Want}
-use Rattle.schedule_rules.specs.Calls.{is_fast, seeks}
-use Rattle.schedule_rules.specs.Kinds.{is_owned}
-use Rattle.schedule_rules.specs.Kinds.{cell_at}
-use Rattle.schedule_rules.specs.Exits.{registry, owner, owner_by, ended_turns}
-use Rattle.schedule_rules.specs.Guards.{guards, numbered}
-use Rattle.schedule_rules.specs.History.{Event, latest_act}
-use Rattle.schedule_rules.specs.Refusals.{refusal, refusal_by, refusal_free}
-use Rattle.schedule_rules.specs.Waits.{Wait, wait_of, waits, attempt, attempt_of_wait, attempt_of_turn, cell_of_attempt}
-use Rattle.schedule_rules.proofs.Accepts.{open-accepts}
+use Rattle.schedule_rules.specs.Calls.{seeks}
 use Rattle.schedule_rules.proofs.GoesOn.{Matches, wait-matches}
 use Rattle.schedule_rules.proofs.NotCyclic.{again-not-cyclic}
 use Rattle.schedule_rules.proofs.Registered.{fresh-unknown, left-finalizable}
-use Rattle.schedule_rules.proofs.TurnRoom.{room-taken}
 use Rattle.schedule_rules.proofs.WaitsToLock.{attempted-has, waiting-asks, waiting-shared, waiting-slow}
-use Rattle.phase_moves.specs.declared.rows.Rows.{Rows}
-use Rattle.phase_moves.specs.declared.rows.Target.{Target}
-use Rattle.phase_moves.specs.Histories.{standing}
-use Rattle.phase_moves.specs.Moves.{KeptGuards, KeptWith}
-use Rattle.phase_moves.specs.Standing.{Standing}
-use Rattle.phase_moves.specs.Stands.{Stands, target_of}
-use Rattle.phase_moves.specs.Tries.{MayWait, WaitsAt, has_want}
-use Rattle.phase_acts.specs.Steps.{IsAwake, IsNext, HasStepped, step_of}
-use Rattle.phase_acts.specs.Tries.{IsTried, IsTrying}
 use Rattle.phase_acts.proofs.Attempting.{tried_steps}
 use Rattle.phase_acts.proofs.Calling.{below}
 use Rattle.phase_acts.proofs.Keeping.{guards_with}

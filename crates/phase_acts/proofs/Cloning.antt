@@ -1,39 +1,16 @@
 -- One more read guard beside another.
-use Rattle.std.proofs.Common.{◌≡◌, ◌∙◌, ◌+◌, ◌<◌, ℕ, List, length, ap, sym, subst, refl, arith, Bool, true, false, None, Some, inl, inr}
-use Rattle.std.proofs.lemmas.Bool.{cases_lt}
-use Rattle.std.specs.Prelude.{◌==◌, nat_lt, if◌then◌else◌}
-use Rattle.std.specs.declared.option.Option.{Option}
-use Rattle.phase_bits.specs.Records.{most_readers}
-use Rattle.phase_bits.specs.declared.holders.Holders.{Holders}
-use Rattle.phase_locker.specs.declared.tickets.ReadTicket.{ReadTicket}
+use Rattle.phase_acts.proofs.Words.{◌+◌, ◌<◌, ◌==◌, ◌∙◌, ◌≡◌, ap, arith, Bool, cases_lt, CellPlan, clone_barred, clone_beside, cloned, Clones, ClonesAs, count, drains_on}
+use Rattle.phase_acts.proofs.Words.{due_clone, Event, false, found_counts, Guard, guard_of, guards, HasStepped, Held, Holders, holding_with, HoldsBy, if◌then◌else◌, inl, inr}
+use Rattle.phase_acts.proofs.Words.{is_barred, IsAwake, IsFull, IsOpenReader, KeptGuards, KeptWith, length, Line, List, LockerKind, MayClone, most_readers, nat_lt, no_reader, None}
+use Rattle.phase_acts.proofs.Words.{numbered, Option, other_waits, pushed_free, Pushes, reads_cell, reads_here, reads_in, ReadTicket, refl, refusal, Rows, Seen, shares_read}
+use Rattle.phase_acts.proofs.Words.{shares_write, Some, Standing, standing, Stands, step_of, subst, sym, true, waits, writes_in, writes_of, ℕ}
 use Rattle.phase_locker.specs.declared.ways.Given.TheVariants as given
-use Rattle.phase_locker.specs.declared.ways.LockerKind.{LockerKind}
 use Rattle.schedule_rules.specs.declared.line.Answer.TheVariants as answer
-use Rattle.schedule_rules.specs.declared.line.Line.{Line}
 use Rattle.schedule_rules.specs.declared.line.Refusal.TheVariants as refused
-use Rattle.schedule_rules.specs.declared.plan.CellPlan.{CellPlan}
 use Rattle.schedule_rules.specs.declared.step.Act.TheVariants as act
 use Rattle.phase_locker.specs.declared.tickets.LockNature.TheVariants as nature
-use Rattle.schedule_rules.specs.Due.{due_clone}
-use Rattle.schedule_rules.specs.History.{Event, count}
-use Rattle.schedule_rules.specs.Guards.{Guard, guards, guard_of, numbered}
-use Rattle.schedule_rules.specs.Holds.{holding_with, is_barred, reads_cell}
-use Rattle.schedule_rules.specs.Refusals.{refusal, no_reader, writes_of}
-use Rattle.schedule_rules.specs.Waits.{waits, other_waits, shares_read, shares_write, drains_on}
-use Rattle.schedule_rules.proofs.Found.{found_counts}
-use Rattle.phase_moves.specs.declared.look_up.Held.{Held}
 use Rattle.phase_moves.specs.declared.rows.GuardRow.TheVariants as guard
-use Rattle.phase_moves.specs.declared.rows.Rows.{Rows}
-use Rattle.phase_moves.specs.Histories.{standing}
-use Rattle.phase_moves.specs.Moves.{Clones, ClonesAs, IsFull, IsOpenReader, KeptGuards, KeptWith, MayClone, Pushes}
-use Rattle.phase_moves.specs.Reading.{HoldsBy}
-use Rattle.phase_moves.specs.Standing.{Standing, cloned, reads_in, writes_in}
-use Rattle.phase_moves.specs.Stands.{Stands, Seen}
-use Rattle.phase_moves.proofs.Guards.{reads_here}
-use Rattle.phase_moves.proofs.Hand.{pushed_free}
-use Rattle.phase_moves.proofs.Histories.{clone_beside, clone_barred}
 use Rattle.phase_moves.proofs.Opening.{seen_reader}
-use Rattle.phase_acts.specs.Steps.{IsAwake, HasStepped, step_of}
 use Rattle.phase_acts.proofs.Downgrading.{owner_of}
 use Rattle.phase_acts.proofs.Exclusive.{Excludes, excludes}
 use Rattle.phase_acts.proofs.Holding.{Shows}

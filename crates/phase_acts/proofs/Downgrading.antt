@@ -1,36 +1,12 @@
 -- A write guard is given back, and its holder reads on.
-use Rattle.std.proofs.Common.{◌≡◌, ◌≢◌, ◌∙◌, ℕ, List, length, ap, sym, subst, refl, arith, true, false, None, Some}
-use Rattle.std.specs.declared.option.Option.{Option}
-use Rattle.phase_bits.specs.declared.holders.Holders.{Holders}
-use Rattle.phase_locker.specs.Rows.{HasFree}
-use Rattle.phase_locker.specs.declared.tickets.ReadTicket.{ReadTicket}
-use Rattle.phase_locker.specs.declared.tickets.WriteTicket.{WriteTicket}
-use Rattle.phase_locker.specs.declared.ways.Given.{Given}
-use Rattle.phase_locker.specs.declared.ways.LockerKind.{LockerKind}
+use Rattle.phase_acts.proofs.Words.{◌∙◌, ◌≡◌, ◌≢◌, ap, arith, cell_of_guard, CellPlan, downgrade_read, downgraded, Downgrades, Event, false, free_party, Given, GivesDown, Guard}
+use Rattle.phase_acts.proofs.Words.{guard_kept, guard_of, GuardRow, guards, HasFree, HasStepped, Held, Holders, HoldsBy, IsAwake, its_number, KeptGuards, KeptWith, left, length}
+use Rattle.phase_acts.proofs.Words.{Line, List, LockerKind, MayDowngrade, no_writer, None, numbered, Option, own, Pushes, ReadTicket, refl, refusal, Rows, Some, Standing, standing}
+use Rattle.phase_acts.proofs.Words.{Stands, step_of, subst, sym, Takes, true, without_guard, writes_of, WriteTicket, ℕ}
 use Rattle.schedule_rules.specs.declared.line.Answer.TheVariants as answer
-use Rattle.schedule_rules.specs.declared.line.Line.{Line}
 use Rattle.schedule_rules.specs.declared.line.Refusal.TheVariants as refused
-use Rattle.schedule_rules.specs.declared.plan.CellPlan.{CellPlan}
 use Rattle.schedule_rules.specs.declared.step.Act.TheVariants as act
-use Rattle.schedule_rules.specs.History.{Event}
-use Rattle.schedule_rules.specs.Guards.{Guard, guards, guard_of, numbered, own, without_guard}
-use Rattle.schedule_rules.specs.Refusals.{refusal, no_writer, writes_of}
-use Rattle.schedule_rules.specs.Waits.{cell_of_guard}
-use Rattle.schedule_rules.proofs.Opened.{guard_kept}
-use Rattle.waiting_rows.proofs.RowCounts.{free_party}
-use Rattle.phase_moves.specs.declared.look_up.Held.{Held}
-use Rattle.phase_moves.specs.declared.rows.GuardRow.{GuardRow}
 use Rattle.phase_moves.specs.declared.rows.GuardRow.TheVariants as guard
-use Rattle.phase_moves.specs.declared.rows.Rows.{Rows}
-use Rattle.phase_moves.specs.Gifts.{GivesDown}
-use Rattle.phase_moves.specs.Histories.{standing}
-use Rattle.phase_moves.specs.Moves.{Downgrades, KeptGuards, KeptWith, MayDowngrade, Pushes, Takes}
-use Rattle.phase_moves.specs.Reading.{HoldsBy}
-use Rattle.phase_moves.specs.Standing.{Standing, downgraded, left}
-use Rattle.phase_moves.specs.Stands.{Stands}
-use Rattle.phase_moves.proofs.Guards.{its_number}
-use Rattle.phase_moves.proofs.Histories.{downgrade_read}
-use Rattle.phase_acts.specs.Steps.{IsAwake, HasStepped, step_of}
 use Rattle.phase_acts.proofs.Holding.{Shows}
 use Rattle.phase_acts.proofs.Keeping.{guards_with, none_with}
 use Rattle.phase_acts.proofs.Lines.{legal_last, refusal_awake, gave_down}

@@ -1,58 +1,23 @@
 -- Sections end: by the outcome of a generator, and of a finalizer.
-use Rattle.std.proofs.Common.{◌≡◌, ◌==◌, ◌∙◌, ℕ, List, ◌∷◌, length, ap, sym, subst, refl, arith, Bool, true, false, not, None, Some}
-use Rattle.std.specs.declared.option.Option.{Option}
-use Rattle.std.specs.Option.{unwrap_or}
-use Rattle.std.specs.Prelude.{◌&&◌}
-use Rattle.phase_bits.specs.declared.phase.Phase.{Phase}
-use Rattle.phase_bits.specs.declared.holders.Holders.{Holders}
-use Rattle.phase_bits.specs.Number.{phase_of}
-use Rattle.phase_locker.specs.declared.tickets.ReadTicket.{ReadTicket}
-use Rattle.phase_locker.specs.declared.tickets.WriteTicket.{WriteTicket}
-use Rattle.phase_locker.specs.declared.ways.Given.{Given}
+use Rattle.phase_acts.proofs.Words.{◌&&◌, ◌==◌, ◌∙◌, ◌∷◌, ◌≡◌, Answer, answer_back, answer_made, answer_of_made, ap, arith, Bool, Call, Calls, cell_at, cell_concerned}
+use Rattle.phase_acts.proofs.Words.{cell_of_section, CellPlan, due_answer, due_finished, due_made, ended, ended_turns, Ends, ends_run, ends_turn, EndsAs, Event, event, false}
+use Rattle.phase_acts.proofs.Words.{final_ended, finalized, Finalizes, FinalizesAs, finishes_so, finishing, Form, form_of, found_passes, Given, GivesWrite, guarded, HasStepped}
+use Rattle.phase_acts.proofs.Words.{Holders, innermost, is_turn, IsAwake, IsEnded, IsEnding, IsFinalized, IsFinalizing, IsWriter, KeptGuards, KeptWith, Kind, LeavesWrite, length}
+use Rattle.phase_acts.proofs.Words.{Line, List, LockerKind, made_failed, made_read, made_shown, made_told, made_write, MayEnd, MayFinalize, MayGive, MayLeaveWrite, no_outcome}
+use Rattle.phase_acts.proofs.Words.{None, not, Option, other_waits, outcome, Phase, phase_made, phase_of, pushed_free, Pushes, reader, ReadTicket, refl, refusal, refusal_free}
+use Rattle.phase_acts.proofs.Words.{room-running, Rows, run_closed, Running, running_of, RunsBy, Section, sections, Some, Standing, standing, Stands, step_of, subst, sym}
+use Rattle.phase_acts.proofs.Words.{takes_none, true, Turns, unwrap_or, Wait, waits, without_innermost, writer_left, writer_of, WriteTicket, ℕ}
 use Rattle.phase_locker.specs.declared.ways.Given.TheVariants as given
-use Rattle.phase_locker.specs.declared.ways.LockerKind.{LockerKind}
 use Rattle.phase_seq.specs.declared.ask.Want.{Want as SeqWant}
 use Rattle.phase_seq.specs.declared.ask.Want.TheVariants as sought
 use Rattle.phase_seq.specs.declared.section.Finished.{Finished}
 use Rattle.phase_seq.specs.declared.section.Finished.TheVariants as finished
 use Rattle.schedule_rules.specs.declared.line.Answer.TheVariants as answer
-use Rattle.schedule_rules.specs.declared.line.Line.{Line}
 use Rattle.schedule_rules.specs.declared.line.Refusal.TheVariants as refused
-use Rattle.lazy_cells.specs.declared.call.Call.{Call}
-use Rattle.lazy_cells.specs.declared.kind.Kind.{Kind}
-use Rattle.schedule_rules.specs.declared.plan.CellPlan.{CellPlan}
 use Rattle.schedule_rules.specs.declared.step.Act.TheVariants as act
-use Rattle.schedule_rules.specs.declared.step.Want.TheVariants.{Calls, Turns}
-use Rattle.schedule_rules.specs.declared.form.Form.{Form}
 use Rattle.schedule_rules.specs.declared.form.Form.TheVariants.{Told, Shown, Held}
-use Rattle.schedule_rules.specs.declared.line.Answer.{Answer}
-use Rattle.schedule_rules.specs.Answers.{answer_made, answer_of_made}
-use Rattle.schedule_rules.specs.Due.{due_made, due_finished, due_answer, phase_made}
-use Rattle.schedule_rules.specs.Exits.{ended_turns, finishing}
-use Rattle.schedule_rules.specs.Forms.{form_of}
-use Rattle.schedule_rules.specs.Guards.{reader}
-use Rattle.schedule_rules.specs.History.{Event}
-use Rattle.schedule_rules.specs.Kinds.{cell_at}
-use Rattle.schedule_rules.specs.Refusals.{refusal, refusal_free, no_outcome, ends_run, ends_turn}
-use Rattle.schedule_rules.specs.Sections.{Section, innermost, without_innermost, is_turn, sections}
-use Rattle.schedule_rules.specs.Phases.{finishes_so}
-use Rattle.schedule_rules.proofs.Found.{found_passes}
-use Rattle.schedule_rules.specs.Waits.{Wait, cell_of_section, cell_concerned, other_waits, waits}
-use Rattle.schedule_rules.proofs.TurnRoom.{room-running}
-use Rattle.phase_moves.specs.declared.look_up.Running.{Running}
 use Rattle.phase_moves.specs.declared.rows.GuardRow.TheVariants as guard
-use Rattle.phase_moves.specs.declared.rows.Rows.{Rows}
-use Rattle.phase_moves.specs.Ends.{IsEnding, MayEnd, Ends, EndsAs, IsEnded, IsFinalizing, MayFinalize, Finalizes, FinalizesAs, IsFinalized}
-use Rattle.phase_moves.specs.Gifts.{GivesWrite, MayGive}
-use Rattle.phase_moves.specs.Histories.{event, standing}
-use Rattle.phase_moves.specs.Moves.{IsWriter, KeptGuards, KeptWith, LeavesWrite, MayLeaveWrite, Pushes}
-use Rattle.phase_moves.specs.Meets.{takes_none}
-use Rattle.phase_moves.specs.Reading.{RunsBy, running_of}
-use Rattle.phase_moves.specs.Standing.{Standing, guarded, run_closed, ended, finalized, writer_of}
-use Rattle.phase_moves.specs.Stands.{Stands, run_as as sought_as}
-use Rattle.phase_moves.proofs.Hand.{pushed_free}
-use Rattle.phase_moves.proofs.Histories.{made_read, made_write, made_told, made_shown, made_failed, final_ended, writer_left}
-use Rattle.phase_acts.specs.Steps.{IsAwake, HasStepped, answer_back, outcome, step_of}
+use Rattle.phase_moves.specs.Stands.{run_as as sought_as}
 use Rattle.phase_acts.proofs.Formed.{back_made, fits, form_fits, read_made, write_made}
 use Rattle.phase_acts.proofs.Keeping.{guards_with}
 use Rattle.phase_acts.proofs.Lines.{legal_last, refusal_awake, gave_freed, gave_down}

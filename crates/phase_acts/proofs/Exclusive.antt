@@ -1,33 +1,15 @@
 -- The holds of a cell exclude each other, where rows stand for what stands open.
-use Rattle.std.proofs.Common.{◌≡◌, ◌==◌, ◌<◌, ◌≤◌, ◌+◌, ◌∙◌, ℕ, List, [], ◌∷◌, length, subst, refl, arith, Bool, true, false, cond, Some, inl, inr}
-use Rattle.std.proofs.lemmas.Bool.{cases_lt}
+use Rattle.phase_acts.proofs.Words.{[], ◌+◌, ◌<◌, ◌==◌, ◌∙◌, ◌∷◌, ◌≡◌, ◌≤◌, AreInside, arith, Bool, cases_lt, CellPlan, CellRow, claims, claims_shown, cond, count, count_rows}
+use Rattle.phase_acts.proofs.Words.{drains, drains_at, drains_on, Event, false, found_counts, found_passes, Guard, Holders, How, if◌then◌else◌, inl, inr, is_drain, is_read_share}
+use Rattle.phase_acts.proofs.Words.{is_write_share, IsExclusive, IsLocked, length, List, LockerKind, most_readers, reads_cell, reads_in, refl, Rows, runs_in, Section, shares_read}
+use Rattle.phase_acts.proofs.Words.{shares_shown, shares_write, slice_get, Some, Standing, standing, Stands, subst, true, Wait, Want, writes_cell, writes_in, ℕ}
 use Rattle.std.proofs.lemmas.Option.{slice_get_cases}
-use Rattle.std.specs.Prelude.{slice_get, if◌then◌else◌}
 use Rattle.std.specs.List.{find}
-use Rattle.phase_bits.specs.declared.holders.Holders.{Holders}
-use Rattle.phase_bits.specs.Records.{most_readers}
-use Rattle.phase_locker.specs.declared.ways.LockerKind.{LockerKind}
-use Rattle.phase_locker.specs.declared.ways.How.{How}
 use Rattle.phase_locker.specs.declared.ways.How.TheVariants as how
-use Rattle.phase_locker.specs.Rows.{Rows as Parking, claims, drains, drains_at}
+use Rattle.phase_locker.specs.Rows.{Rows as Parking}
 use Rattle.phase_locker.proofs.Leaving.{write_has_no_reader}
-use Rattle.schedule_rules.specs.declared.step.Want.{Want}
-use Rattle.schedule_rules.specs.declared.plan.CellPlan.{CellPlan}
-use Rattle.schedule_rules.specs.History.{Event, count}
-use Rattle.schedule_rules.specs.Guards.{Guard}
-use Rattle.schedule_rules.specs.Sections.{Section, runs_in}
-use Rattle.schedule_rules.specs.Holds.{reads_cell, writes_cell}
-use Rattle.schedule_rules.specs.Waits.{Wait, is_read_share, is_write_share, is_drain, shares_read, shares_write, drains_on}
-use Rattle.schedule_rules.specs.Legal.{IsExclusive}
-use Rattle.schedule_rules.proofs.Found.{found_counts, found_passes}
 use Rattle.waiting_rows.specs.Shown.{Shows, IsSingle, wait_row}
 use Rattle.waiting_rows.proofs.Passing.{count_test}
-use Rattle.waiting_rows.proofs.RowCounts.{count_rows, shares_shown, claims_shown}
-use Rattle.phase_moves.specs.declared.rows.CellRow.{CellRow}
-use Rattle.phase_moves.specs.declared.rows.Rows.{Rows}
-use Rattle.phase_moves.specs.Histories.{standing}
-use Rattle.phase_moves.specs.Standing.{Standing, reads_in, writes_in}
-use Rattle.phase_moves.specs.Stands.{Stands, IsLocked, AreInside}
 
 -- what stands on a cell excludes each other
 pub record Excludes (m : Standing) (c : ℕ) : Type 0 where

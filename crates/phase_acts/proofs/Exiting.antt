@@ -1,36 +1,14 @@
 -- The steps of the exit: who may make one, and the look for registered cells.
-use Rattle.std.proofs.Common.{◌≡◌, ◌==◌, ◌∙◌, ◌<◌, ℕ, List, [], ◌∷◌, length, ap, sym, subst, refl, arith, Bool, true, false, not, ◌||◌, None, Some}
-use Rattle.std.specs.Prelude.{is_some, vec_capacity}
-use Rattle.std.specs.declared.option.Option.{Option}
+use Rattle.phase_acts.proofs.Words.{[], ◌<◌, ◌==◌, ◌||◌, ◌∙◌, ◌∷◌, ◌≡◌, accepts, answer_of_look, ap, arith, attempt_of_turn, Bool, CellPlan, due_answer, due_tried, Event}
+use Rattle.phase_acts.proofs.Words.{exit_looks, false, first_of, HasStepped, Holders, innermost, is_closed, is_other, is_some, IsAwake, IsTurn, KeptGuards, KeptWith, length, Line}
+use Rattle.phase_acts.proofs.Words.{List, LockerKind, Looks, MayLook, MayTry, no_exit, None, not, open-accepts, Option, other_waits, owned, owner, owner_by, Owns, pushed_free}
+use Rattle.phase_acts.proofs.Words.{Pushes, refl, refusal, registry, rest_of, round_looked, Rows, Running, running_of, RunsBy, Section, sections, Some, Standing, standing, step_of}
+use Rattle.phase_acts.proofs.Words.{subst, sym, TakesTurn, Tries, true, turn_taken, Turns, vec_capacity, ℕ}
 use Rattle.exit_registry.specs.declared.registry.Look.{Look}
-use Rattle.exit_registry.specs.Registry.{first_of, rest_of}
-use Rattle.phase_bits.specs.declared.holders.Holders.{Holders}
 use Rattle.phase_locker.specs.declared.ways.Given.TheVariants as given
-use Rattle.phase_locker.specs.declared.ways.LockerKind.{LockerKind}
-use Rattle.schedule_rules.specs.declared.line.Line.{Line}
 use Rattle.schedule_rules.specs.declared.line.Refusal.TheVariants as refused
-use Rattle.schedule_rules.specs.declared.plan.CellPlan.{CellPlan}
 use Rattle.schedule_rules.specs.declared.step.Act.TheVariants as act
-use Rattle.schedule_rules.specs.declared.step.Want.TheVariants.{Turns}
-use Rattle.schedule_rules.specs.Due.{answer_of_look, due_answer, due_tried}
-use Rattle.schedule_rules.specs.Exits.{owner, owner_by, registry}
-use Rattle.schedule_rules.specs.History.{Event, accepts, is_closed}
-use Rattle.schedule_rules.specs.Refusals.{refusal, no_exit, is_other}
-use Rattle.schedule_rules.specs.Sections.{Section, innermost, sections}
-use Rattle.schedule_rules.specs.Waits.{attempt_of_turn, other_waits}
-use Rattle.schedule_rules.proofs.Accepts.{open-accepts}
 use Rattle.phase_moves.specs.declared.rows.GuardRow.TheVariants as guard
-use Rattle.phase_moves.specs.declared.rows.Rows.{Rows}
-use Rattle.phase_moves.specs.declared.look_up.Running.{Running}
-use Rattle.phase_moves.specs.Exits.{Owns, TakesTurn, IsTurn, MayLook, Looks}
-use Rattle.phase_moves.specs.Histories.{standing}
-use Rattle.phase_moves.specs.Moves.{KeptGuards, KeptWith, Pushes}
-use Rattle.phase_moves.specs.Reading.{RunsBy, running_of}
-use Rattle.phase_moves.specs.Standing.{Standing, owned, turn_taken, round_looked}
-use Rattle.phase_moves.proofs.Hand.{pushed_free}
-use Rattle.phase_moves.proofs.Histories.{exit_looks}
-use Rattle.phase_acts.specs.Steps.{IsAwake, HasStepped, step_of}
-use Rattle.phase_acts.specs.Tries.{MayTry, Tries}
 use Rattle.phase_acts.proofs.Causes.{turn_trying, turn_steps}
 use Rattle.phase_acts.proofs.Keeping.{guards_both, guards_with}
 use Rattle.phase_acts.proofs.Lines.{legal_last, refusal_awake}

@@ -1,25 +1,12 @@
 -- What a run goes on as fits what its call answers with.
-use Rattle.std.proofs.Common.{◌≡◌, ℕ, ap, sym, refl, Bool, true, false, None, Some}
-use Rattle.std.specs.Prelude.{if◌then◌else◌}
-use Rattle.std.specs.declared.option.Option.{Option}
-use Rattle.std.specs.Option.{unwrap_or}
+use Rattle.phase_acts.proofs.Words.{◌≡◌, answer_back, answer_made, ap, Bool, Call, call_as, false, Form, form_as, form_of, if◌then◌else◌, is_to_read, Kind, None, Option, Phase}
+use Rattle.phase_acts.proofs.Words.{phase_of, refl, seeks_run, Some, sym, takes_none, takes_write, true, unwrap_or, ℕ}
 use Rattle.lazy_cells.specs.Calls.{seeks}
-use Rattle.lazy_cells.specs.declared.call.Call.{Call}
-use Rattle.lazy_cells.specs.declared.kind.Kind.{Kind}
-use Rattle.phase_bits.specs.Number.{phase_of}
-use Rattle.phase_bits.specs.declared.phase.Phase.{Phase}
 use Rattle.phase_seq.specs.declared.ask.Want.{Want as SeqWant}
 use Rattle.phase_seq.specs.declared.ask.Want.TheVariants as want
-use Rattle.schedule_rules.specs.declared.form.Form.{Form}
 use Rattle.schedule_rules.specs.declared.form.Form.TheVariants.{Told, Shown, Held}
 use Rattle.schedule_rules.specs.declared.line.Answer.TheVariants as answer
-use Rattle.schedule_rules.specs.Answers.{answer_made}
-use Rattle.schedule_rules.specs.Calls.{seeks_run}
-use Rattle.schedule_rules.specs.Forms.{form_of, is_to_read}
-use Rattle.phase_moves.specs.Meets.{takes_none, takes_write}
-use Rattle.phase_moves.specs.Stands.{call_as, form_as}
 use Rattle.phase_moves.proofs.Seeking.{seeks_as, sought_as}
-use Rattle.phase_acts.specs.Steps.{answer_back}
 
 -- a run as this may end a call of this form
 abbrev pub fits : SeqWant → Form → Bool

@@ -1,11 +1,5 @@
 -- Which guard a party has, by what it sees.
-use Rattle.std.proofs.Common.{◌≡◌, ap, refl, Bool, true, false, None, Some}
-use Rattle.std.specs.Prelude.{not, if◌then◌else◌}
-use Rattle.std.specs.declared.option.Option.{Option}
-use Rattle.schedule_rules.specs.Guards.{Guard}
-use Rattle.phase_moves.specs.declared.look_up.Held.{Held}
-use Rattle.phase_moves.specs.Reading.{held_of}
-use Rattle.phase_moves.specs.Standing.{Standing, seen_by}
+use Rattle.phase_acts.proofs.Words.{◌≡◌, ap, Bool, false, Guard, Held, held_of, if◌then◌else◌, None, not, Option, refl, seen_by, Some, Standing, true}
 
 -- what is not so
 pub turned_true : (b : Bool) → not b ≡ true → b ≡ false

@@ -1,8 +1,5 @@
 -- What several moves in a row keep.
-use Rattle.std.proofs.Common.{◌≡◌, ◌∙◌, ◌+◌, ◌<◌, ℕ, length, ap, arith}
-use Rattle.std.specs.Prelude.{vec_capacity}
-use Rattle.phase_moves.specs.declared.rows.Rows.{Rows}
-use Rattle.phase_moves.specs.Moves.{Kept, KeptGuards, KeptWith}
+use Rattle.phase_acts.proofs.Words.{◌+◌, ◌<◌, ◌∙◌, ◌≡◌, ap, arith, Kept, KeptGuards, KeptWith, length, Rows, vec_capacity, ℕ}
 
 module _ {L : Type 0} (a b c : Rows L) where
   pub kept_both : Kept a b → Kept b c → Kept a c

@@ -1,45 +1,20 @@
 -- A value is lent: it is refused as a call is, and where the cell is in use.
-use Rattle.std.proofs.Common.{◌≡◌, ◌≢◌, ◌<◌, ◌∙◌, ℕ, List, length, get_or, ap, sym, subst, refl, Bool, true, false, None, Some}
-use Rattle.std.specs.Prelude.{IsTrue, nat_lt, if◌then◌else◌}
-use Rattle.phase_bits.specs.declared.holders.Holders.{Holders}
+use Rattle.phase_acts.proofs.Words.{◌<◌, ◌∙◌, ◌≡◌, ◌≢◌, accepts, answer_at, answer_lent, ap, Bool, cell_at, CellPlan, CellRow, Content, due_answer, Event, false, get_or}
+use Rattle.phase_acts.proofs.Words.{HasStepped, Holders, if◌then◌else◌, is_accessible, is_of_other, IsAwake, IsTrue, KeptGuards, KeptWith, Kind, length, lent_at_once, Line, List}
+use Rattle.phase_acts.proofs.Words.{LockerKind, names_known_cell, nat_lt, no_call, no_lending, None, numbered, open-accepts, Option, other_waits, pushed_free, Pushes, read_at}
+use Rattle.phase_acts.proofs.Words.{refl, refusal, refusal_free, refusal_to_lend, refused_stays, registry, replay, Rests, Rows, Some, Standing, standing, step_of, subst, sym, true}
+use Rattle.phase_acts.proofs.Words.{Wait, ℕ}
 use Rattle.phase_locker.specs.declared.ways.Given.TheVariants as given
-use Rattle.phase_locker.specs.declared.ways.LockerKind.{LockerKind}
 use Rattle.lazy_cells.specs.Kinds.{lends_value}
-use Rattle.lazy_cells.specs.declared.kind.Kind.{Kind}
 use Rattle.schedule_rules.specs.declared.form.Form.TheVariants.{Shown}
 use Rattle.schedule_rules.specs.declared.line.Answer.TheVariants as answer
-use Rattle.schedule_rules.specs.declared.line.Line.{Line}
 use Rattle.schedule_rules.specs.declared.line.Refusal.TheVariants as refused
-use Rattle.schedule_rules.specs.declared.plan.CellPlan.{CellPlan}
 use Rattle.schedule_rules.specs.declared.step.Act.TheVariants as act
-use Rattle.std.specs.declared.option.Option.{Option}
-use Rattle.schedule_rules.specs.Answers.{answer_at, answer_lent}
-use Rattle.schedule_rules.specs.Phases.{is_accessible}
-use Rattle.schedule_rules.specs.Changes.{Content}
-use Rattle.schedule_rules.specs.Due.{due_answer}
-use Rattle.schedule_rules.specs.Exits.{registry}
-use Rattle.schedule_rules.specs.Guards.{numbered}
-use Rattle.schedule_rules.specs.History.{Event, accepts}
-use Rattle.schedule_rules.specs.Kinds.{cell_at, is_of_other}
-use Rattle.schedule_rules.specs.Refusals.{no_call, no_lending, refusal, refusal_free, refusal_to_lend}
-use Rattle.schedule_rules.specs.Replay.{replay}
-use Rattle.schedule_rules.specs.Transcripts.{names_known_cell}
-use Rattle.schedule_rules.specs.Waits.{Wait, other_waits}
-use Rattle.schedule_rules.proofs.Accepts.{open-accepts}
 use Rattle.phase_moves.specs.declared.lend.Lent.{Lent}
 use Rattle.phase_moves.specs.declared.lend.Lent.TheVariants as lent
 use Rattle.phase_moves.specs.declared.lend.Loan.{Loan}
-use Rattle.phase_moves.specs.declared.rows.CellRow.{CellRow}
 use Rattle.phase_moves.specs.declared.rows.GuardRow.TheVariants as guard
-use Rattle.phase_moves.specs.declared.rows.Rows.{Rows}
-use Rattle.phase_moves.specs.Histories.{standing}
 use Rattle.phase_moves.specs.Lends.{IsLending, IsLent, Lends, MayLend, answer_due, answer_of, in_use, lending, lent_in, was_used}
-use Rattle.phase_moves.specs.Moves.{KeptGuards, KeptWith, Pushes, Rests}
-use Rattle.phase_moves.specs.Standing.{Standing}
-use Rattle.phase_moves.proofs.Hand.{pushed_free}
-use Rattle.phase_moves.proofs.Histories.{lent_at_once, refused_stays}
-use Rattle.phase_moves.proofs.Places.{read_at}
-use Rattle.phase_acts.specs.Steps.{IsAwake, HasStepped, step_of}
 use Rattle.phase_acts.proofs.Calling.{below}
 use Rattle.phase_acts.proofs.Keeping.{guards_with}
 use Rattle.phase_acts.proofs.Lines.{legal_last, legal_refused, refusal_awake}

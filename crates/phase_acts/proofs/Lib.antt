@@ -1,3 +1,5 @@
+-- What the proofs speak of
+pub mod Words
 -- What rows that stand for something tell of the holds of a cell
 pub mod Exclusive
 -- From one move to the next, and to the longer history

@@ -1,26 +1,10 @@
 -- Lines that are legal.
-use Rattle.std.proofs.Common.{◌≡◌, ◌∙◌, ℕ, List, ◌∷◌, ap, sym, subst, refl, true, false, None, Some}
-use Rattle.std.specs.Prelude.{◌==◌, ◌&&◌, ◌||◌, IsTrue, is_some}
-use Rattle.std.proofs.lemmas.Bool.{or_right}
-use Rattle.phase_locker.specs.declared.ways.Given.{Given}
+use Rattle.phase_acts.proofs.Words.{◌&&◌, ◌==◌, ◌||◌, ◌∙◌, ◌∷◌, ◌≡◌, Act, Answer, answer_of, ap, cell_at, cell_concerned, CellPlan, downgrades, due_answer, Event, event, false}
+use Rattle.phase_acts.proofs.Words.{Given, is_freed_last, is_parking, is_readers, is_some, IsGift, IsLegalLine, IsTrue, Last, List, may_give, may_give_last, may_give_on, MayGive}
+use Rattle.phase_acts.proofs.Words.{MayGiveDown, None, none_without, or_right, other_waits, reaches, refl, Refusal, refusal, refusal_by, refusal_free, Some, standing, Step}
+use Rattle.phase_acts.proofs.Words.{step_of, subst, sym, true, wait_of, waits, ℕ}
 use Rattle.phase_locker.specs.declared.ways.Given.TheVariants as given
-use Rattle.schedule_rules.specs.declared.line.Answer.{Answer}
 use Rattle.schedule_rules.specs.declared.line.Answer.TheVariants as answer
-use Rattle.schedule_rules.specs.declared.line.Refusal.{Refusal}
-use Rattle.schedule_rules.specs.declared.plan.CellPlan.{CellPlan}
-use Rattle.schedule_rules.specs.declared.step.Act.{Act}
-use Rattle.schedule_rules.specs.declared.step.Step.{Step}
-use Rattle.schedule_rules.specs.Kinds.{cell_at, is_parking}
-use Rattle.schedule_rules.specs.History.{Event}
-use Rattle.schedule_rules.specs.Waits.{waits, wait_of, other_waits, cell_concerned}
-use Rattle.schedule_rules.specs.Gifts.{reaches, is_readers, downgrades, is_freed_last, may_give_on, may_give_last}
-use Rattle.schedule_rules.specs.Refusals.{refusal, refusal_by, refusal_free}
-use Rattle.schedule_rules.specs.Due.{due_answer}
-use Rattle.schedule_rules.specs.Legal.{IsLegalLine, Last, answer_of, may_give}
-use Rattle.waiting_rows.proofs.Counted.{none_without}
-use Rattle.phase_moves.specs.Gifts.{IsGift, MayGive, MayGiveDown}
-use Rattle.phase_moves.specs.Histories.{standing, event}
-use Rattle.phase_acts.specs.Steps.{step_of}
 
 module _ (cells : List CellPlan) (h : List Event) (s : Step) where
   -- a step that is to be refused

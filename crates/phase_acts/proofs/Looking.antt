@@ -1,35 +1,14 @@
 -- A look at what the holder of a guard sees, and a value that it sets.
-use Rattle.std.proofs.Common.{◌≡◌, ◌∙◌, ℕ, List, length, ap, sym, subst, refl, Bool, true, false, None, Some}
-use Rattle.std.specs.Prelude.{if◌then◌else◌}
-use Rattle.std.specs.Option.{unwrap_or}
-use Rattle.std.specs.declared.option.Option.{Option}
-use Rattle.phase_bits.specs.declared.holders.Holders.{Holders}
+use Rattle.phase_acts.proofs.Words.{◌∙◌, ◌≡◌, Act, answer_of_value, ap, Bool, CellPlan, due_look, Event, false, Guard, guard_of, guards, HasStepped, Held, Holders, HoldsBy}
+use Rattle.phase_acts.proofs.Words.{if◌then◌else◌, inside, IsAwake, IsLegal, IsOpenWriter, KeptGuards, KeptWith, length, Line, List, LockerKind, look_stays, MaySet, no_guard}
+use Rattle.phase_acts.proofs.Words.{no_writer, None, numbered, Option, pushed_free, Pushes, put, refl, refusal, replay, Rows, seen_by, set_puts, Sets, Some, standing, step_of}
+use Rattle.phase_acts.proofs.Words.{subst, sym, true, unwrap_or, writes_of, ℕ}
 use Rattle.phase_locker.specs.declared.ways.Given.TheVariants as given
-use Rattle.phase_locker.specs.declared.ways.LockerKind.{LockerKind}
 use Rattle.schedule_rules.specs.declared.line.Answer.TheVariants as answer
-use Rattle.schedule_rules.specs.declared.line.Line.{Line}
 use Rattle.schedule_rules.specs.declared.line.Refusal.TheVariants as refused
-use Rattle.schedule_rules.specs.declared.plan.CellPlan.{CellPlan}
-use Rattle.schedule_rules.specs.declared.step.Act.{Act}
 use Rattle.schedule_rules.specs.declared.step.Act.TheVariants as act
-use Rattle.schedule_rules.specs.Answers.{answer_of_value}
-use Rattle.schedule_rules.specs.Due.{due_look}
-use Rattle.schedule_rules.specs.History.{Event}
-use Rattle.schedule_rules.specs.Guards.{Guard, guards, guard_of, numbered}
-use Rattle.schedule_rules.specs.Legal.{IsLegal}
-use Rattle.schedule_rules.specs.Refusals.{refusal, no_guard, no_writer, writes_of}
-use Rattle.schedule_rules.specs.Replay.{replay, inside}
 use Rattle.schedule_rules.proofs.Steady.{guard-shows}
-use Rattle.phase_moves.specs.declared.look_up.Held.{Held}
 use Rattle.phase_moves.specs.declared.rows.GuardRow.TheVariants as guard
-use Rattle.phase_moves.specs.declared.rows.Rows.{Rows}
-use Rattle.phase_moves.specs.Histories.{standing}
-use Rattle.phase_moves.specs.Moves.{KeptGuards, IsOpenWriter, KeptWith, MaySet, Pushes, Sets}
-use Rattle.phase_moves.specs.Reading.{HoldsBy}
-use Rattle.phase_moves.specs.Standing.{seen_by, put}
-use Rattle.phase_moves.proofs.Hand.{pushed_free}
-use Rattle.phase_moves.proofs.Histories.{look_stays, set_puts}
-use Rattle.phase_acts.specs.Steps.{IsAwake, HasStepped, step_of}
 use Rattle.phase_acts.proofs.Holding.{none_held, Shows, shows}
 use Rattle.phase_acts.proofs.Keeping.{guards_with}
 use Rattle.phase_acts.proofs.Lines.{legal_last, refusal_awake}

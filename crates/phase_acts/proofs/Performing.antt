@@ -1,26 +1,9 @@
 -- A step, by whether its party waits.
-use Rattle.std.proofs.Common.{◌≡◌, ◌≢◌, ◌∙◌, List, length, ap, sym, subst, refl, true, None, Some}
-use Rattle.std.specs.Prelude.{is_some}
-use Rattle.std.specs.declared.option.Option.{Option}
-use Rattle.phase_bits.specs.declared.holders.Holders.{Holders}
-use Rattle.phase_locker.specs.declared.ways.LockerKind.{LockerKind}
-use Rattle.schedule_rules.specs.declared.line.Line.{Line}
+use Rattle.phase_acts.proofs.Words.{◌∙◌, ◌≡◌, ◌≢◌, Act, ap, AwaitsBy, CellPlan, Event, HasStepped, Holders, is_some, IsAwake, IsNext, IsTried, IsTrying, KeptWith, length, Line}
+use Rattle.phase_acts.proofs.Words.{List, LockerKind, None, Option, refl, refusal, refusal_by, refusal_waiting, Rows, Some, standing, Step, step_of, subst, sym, Target, target_of}
+use Rattle.phase_acts.proofs.Words.{true, Wait, wait_of, waits}
 use Rattle.schedule_rules.specs.declared.line.Refusal.TheVariants as refused
-use Rattle.schedule_rules.specs.declared.plan.CellPlan.{CellPlan}
-use Rattle.schedule_rules.specs.declared.step.Act.{Act}
 use Rattle.schedule_rules.specs.declared.step.Act.TheVariants as act
-use Rattle.schedule_rules.specs.declared.step.Step.{Step}
-use Rattle.schedule_rules.specs.History.{Event}
-use Rattle.schedule_rules.specs.Refusals.{refusal, refusal_by, refusal_waiting}
-use Rattle.schedule_rules.specs.Waits.{Wait, wait_of, waits}
-use Rattle.phase_moves.specs.declared.rows.Rows.{Rows}
-use Rattle.phase_moves.specs.declared.rows.Target.{Target}
-use Rattle.phase_moves.specs.Histories.{standing}
-use Rattle.phase_moves.specs.Moves.{KeptWith}
-use Rattle.phase_moves.specs.Reading.{AwaitsBy}
-use Rattle.phase_moves.specs.Stands.{target_of}
-use Rattle.phase_acts.specs.Steps.{IsAwake, IsNext, HasStepped, step_of}
-use Rattle.phase_acts.specs.Tries.{IsTried, IsTrying}
 use Rattle.phase_acts.proofs.Causes.{again_trying, again_steps}
 
 -- only an Again goes on

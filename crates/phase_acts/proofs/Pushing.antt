@@ -1,16 +1,8 @@
 -- The row of the guard that a step opened is pushed.
-use Rattle.std.proofs.Common.{◌≡◌, ◌∙◌, ℕ, length, ap, sym, subst, refl, arith, true, Some}
-use Rattle.phase_bits.specs.declared.holders.Holders.{Holders}
+use Rattle.phase_acts.proofs.Words.{◌∙◌, ◌≡◌, ap, arith, Guard, guard_row, guarded, Holders, length, LockerKind, numbered, Pushes, reader, ReadTicket, refl, Rests, Rows, Some}
+use Rattle.phase_acts.proofs.Words.{Standing, Stands, subst, sym, true, WriteTicket, ℕ}
 use Rattle.phase_locker.specs.Natures.{read_ticket, write_ticket}
-use Rattle.phase_locker.specs.declared.tickets.ReadTicket.{ReadTicket}
-use Rattle.phase_locker.specs.declared.tickets.WriteTicket.{WriteTicket}
-use Rattle.phase_locker.specs.declared.ways.LockerKind.{LockerKind}
-use Rattle.schedule_rules.specs.Guards.{Guard, numbered, reader}
 use Rattle.phase_moves.specs.declared.rows.GuardRow.TheVariants as guard
-use Rattle.phase_moves.specs.declared.rows.Rows.{Rows}
-use Rattle.phase_moves.specs.Moves.{Pushes, Rests}
-use Rattle.phase_moves.specs.Standing.{Standing, guarded}
-use Rattle.phase_moves.specs.Stands.{Stands, guard_row}
 
 -- the guard opened last is found by its number
 pub opened_found : (n : ℕ) (x : Guard) (m : Standing) → x.number ≡ n → numbered n (guarded x m).guards ≡ Some x

@@ -1,33 +1,14 @@
 -- A guard is given back.
-use Rattle.std.proofs.Common.{◌≡◌, ◌∙◌, ℕ, List, length, ap, sym, subst, refl, arith, Bool, true, false, None, Some}
-use Rattle.std.specs.Prelude.{◌==◌, if◌then◌else◌}
-use Rattle.std.specs.declared.option.Option.{Option}
-use Rattle.phase_bits.specs.declared.holders.Holders.{Holders}
-use Rattle.phase_locker.specs.declared.tickets.ReadTicket.{ReadTicket}
-use Rattle.phase_locker.specs.declared.tickets.WriteTicket.{WriteTicket}
-use Rattle.phase_locker.specs.declared.ways.Given.{Given}
+use Rattle.phase_acts.proofs.Words.{◌==◌, ◌∙◌, ◌≡◌, ap, arith, Bool, cell_of_guard, CellPlan, Event, false, Given, GivesRead, GivesWrite, Guard, guard_of, guard_row, GuardRow}
+use Rattle.phase_acts.proofs.Words.{guards, HasStepped, Holders, if◌then◌else◌, IsAwake, IsNext, IsReader, IsWriter, KeptGuards, KeptWith, LeavesRead, LeavesWrite, left}
+use Rattle.phase_acts.proofs.Words.{left_empty, length, Line, List, LockerKind, MayGive, MayLeaveRead, MayLeaveWrite, no_guard, None, numbered, Option, own, pushed_free, Pushes}
+use Rattle.phase_acts.proofs.Words.{read_row, ReadTicket, refl, refusal, release_left, Rests, Rows, Some, Standing, standing, Stands, step_of, subst, sym, TakenAs, Takes, true}
+use Rattle.phase_acts.proofs.Words.{write_row, writes_of, WriteTicket, ℕ}
 use Rattle.phase_locker.specs.declared.ways.Given.TheVariants as given
-use Rattle.phase_locker.specs.declared.ways.LockerKind.{LockerKind}
 use Rattle.schedule_rules.specs.declared.line.Answer.TheVariants as answer
-use Rattle.schedule_rules.specs.declared.line.Line.{Line}
 use Rattle.schedule_rules.specs.declared.line.Refusal.TheVariants as refused
-use Rattle.schedule_rules.specs.declared.plan.CellPlan.{CellPlan}
 use Rattle.schedule_rules.specs.declared.step.Act.TheVariants as act
-use Rattle.schedule_rules.specs.History.{Event}
-use Rattle.schedule_rules.specs.Guards.{Guard, guards, guard_of, numbered, own}
-use Rattle.schedule_rules.specs.Refusals.{refusal, no_guard, writes_of}
-use Rattle.schedule_rules.specs.Waits.{cell_of_guard}
-use Rattle.phase_moves.specs.declared.rows.GuardRow.{GuardRow}
 use Rattle.phase_moves.specs.declared.rows.GuardRow.TheVariants as guard
-use Rattle.phase_moves.specs.declared.rows.Rows.{Rows}
-use Rattle.phase_moves.specs.Gifts.{MayGive, GivesRead, GivesWrite}
-use Rattle.phase_moves.specs.Histories.{standing}
-use Rattle.phase_moves.specs.Moves.{IsReader, IsWriter, TakenAs, Takes, LeavesRead, LeavesWrite, MayLeaveRead, MayLeaveWrite, KeptGuards, KeptWith, Pushes, Rests}
-use Rattle.phase_moves.specs.Standing.{Standing, left}
-use Rattle.phase_moves.specs.Stands.{Stands, guard_row}
-use Rattle.phase_moves.proofs.Hand.{read_row, write_row, pushed_free, left_empty}
-use Rattle.phase_moves.proofs.Histories.{release_left}
-use Rattle.phase_acts.specs.Steps.{IsAwake, IsNext, HasStepped, step_of}
 use Rattle.phase_acts.proofs.Keeping.{none_with, guards_with}
 use Rattle.phase_acts.proofs.Lines.{legal_last, refusal_awake, gave_freed}
 use Rattle.phase_acts.proofs.Stepping.{stepped, still_next}

@@ -1,44 +1,14 @@
 -- What an attempt took is kept, or given back.
-use Rattle.std.proofs.Common.{◌≡◌, ◌∙◌, ◌<◌, ℕ, List, [], ◌∷◌, length, get_or, ap, sym, subst, refl, arith, Bool, true, false, None, Some}
-use Rattle.std.specs.Prelude.{◌==◌, MatchBool, if◌then◌else◌}
-use Rattle.phase_bits.specs.declared.phase.Phase.{Phase}
-use Rattle.phase_bits.specs.declared.holders.Holders.{Holders}
-use Rattle.phase_bits.specs.Number.{number}
-use Rattle.phase_locker.specs.Rows.{HasFree}
-use Rattle.phase_locker.specs.declared.tickets.ReadTicket.{ReadTicket}
-use Rattle.phase_locker.specs.declared.tickets.WriteTicket.{WriteTicket}
-use Rattle.phase_locker.specs.declared.ways.Given.{Given}
+use Rattle.phase_acts.proofs.Words.{[], ◌<◌, ◌==◌, ◌∙◌, ◌∷◌, ◌≡◌, Answer, answer_left, answer_tried, answered, ap, arith, Asked, Bool, Calls, cell_at, CellPlan, CellRow}
+use Rattle.phase_acts.proofs.Words.{changes_asked, changes_at, Content, content_tried, downgraded, Downgrades, effect, false, free_party, get_or, Given, given_first, GivesDown}
+use Rattle.phase_acts.proofs.Words.{GivesRead, GivesWrite, GivesWritten, Guard, HasFree, Holders, if◌then◌else◌, is_declined, IsCell, IsReader, IsSettled, IsSettling, IsWriter}
+use Rattle.phase_acts.proofs.Words.{KeptGuards, LeavesRead, LeavesWrite, left, left_empty, length, Line, List, LockerKind, MatchBool, MayDowngrade, MayGive, MayGiveDown}
+use Rattle.phase_acts.proofs.Words.{MayLeaveRead, MayLeaveWrite, None, none_on, number, numbered, Phase, phase_asked, pushed_free, Pushes, read_at, read_kept, reader, reads_on}
+use Rattle.phase_acts.proofs.Words.{ReadTicket, refl, Rests, Rows, seen_at, settled, Skips, Some, Standing, Stands, subst, sym, Taken, Target, tolerance_of, took, true, Turns}
+use Rattle.phase_acts.proofs.Words.{wait_removed, Want, without_guard, without_wait, write_kept, writer_asked, writes_on, WriteTicket, ℕ}
 use Rattle.phase_locker.specs.declared.ways.Given.TheVariants as given
-use Rattle.phase_locker.specs.declared.ways.LockerKind.{LockerKind}
-use Rattle.schedule_rules.specs.declared.line.Answer.{Answer}
-use Rattle.schedule_rules.specs.declared.line.Line.{Line}
-use Rattle.schedule_rules.specs.declared.plan.CellPlan.{CellPlan}
-use Rattle.schedule_rules.specs.declared.step.Want.{Want}
-use Rattle.schedule_rules.specs.declared.step.Want.TheVariants.{Calls, Turns}
-use Rattle.schedule_rules.specs.Changes.{Content, Asked, effect, is_declined}
-use Rattle.schedule_rules.specs.Guards.{Guard, numbered, reader, without_guard}
-use Rattle.schedule_rules.specs.Kinds.{cell_at, tolerance_of}
-use Rattle.phase_moves.specs.declared.rows.CellRow.{CellRow}
 use Rattle.phase_moves.specs.declared.rows.GuardRow.TheVariants as guard
-use Rattle.phase_moves.specs.declared.rows.Rows.{Rows}
-use Rattle.phase_moves.specs.declared.rows.Taken.{Taken}
 use Rattle.phase_moves.specs.declared.rows.Taken.TheVariants as taken
-use Rattle.phase_moves.specs.declared.rows.Target.{Target}
-use Rattle.phase_moves.specs.Exits.{Skips}
-use Rattle.phase_moves.specs.Gifts.{MayGive, MayGiveDown, GivesDown, GivesRead, GivesWrite}
-use Rattle.phase_moves.specs.Meets.{answer_left}
-use Rattle.phase_moves.specs.Moves.{Downgrades, IsReader, IsWriter, KeptGuards, LeavesRead, LeavesWrite, MayDowngrade, MayLeaveRead, MayLeaveWrite, Pushes, Rests}
-use Rattle.phase_moves.specs.Standing.{Standing, answered, took, left, downgraded, changes_asked, changes_at, content_tried, writer_asked}
-use Rattle.phase_moves.specs.Stands.{IsCell, Stands, seen_at}
-use Rattle.phase_moves.specs.Tries.{phase_asked}
-use Rattle.schedule_rules.specs.Waits.{without_wait}
-use Rattle.schedule_rules.proofs.Opened.{wait_removed}
-use Rattle.waiting_rows.proofs.GivenOn.{none_on}
-use Rattle.waiting_rows.proofs.RowCounts.{free_party}
-use Rattle.phase_moves.proofs.Hand.{pushed_free, left_empty}
-use Rattle.phase_moves.proofs.Places.{read_at}
-use Rattle.phase_acts.specs.Steps.{given_first}
-use Rattle.phase_acts.specs.Settles.{GivesWritten, IsSettling, IsSettled, answer_tried, read_kept, reads_on, settled, write_kept, writes_on}
 use Rattle.phase_acts.specs.Settles.{GivesRead as GivesReadSo}
 use Rattle.phase_acts.proofs.Pushing.{pushed_reader, pushed_writer}
 

@@ -1,26 +1,9 @@
 -- From the rows of a history to those of the longer one.
-use Rattle.std.proofs.Common.{◌≡◌, ◌∙◌, ◌<◌, List, ◌∷◌, length, sym, subst, arith, Some}
-use Rattle.std.specs.Prelude.{IsTrue, vec_capacity}
-use Rattle.phase_bits.specs.declared.holders.Holders.{Holders}
+use Rattle.phase_acts.proofs.Words.{◌<◌, ◌∙◌, ◌∷◌, ◌≡◌, arith, CellPlan, Event, HasStepped, Holders, IsLegalLine, IsNext, IsTrue, KeptWith, length, Line, List, LockerKind}
+use Rattle.phase_acts.proofs.Words.{names_known_cell, pushed_free, Pushes, Refusal, refusal, refused_stays, Rests, Rows, Some, Standing, standing, Step, subst, sym, vec_capacity}
 use Rattle.phase_locker.specs.declared.ways.Given.TheVariants as given
-use Rattle.phase_locker.specs.declared.ways.LockerKind.{LockerKind}
 use Rattle.schedule_rules.specs.declared.line.Answer.TheVariants as answer
-use Rattle.schedule_rules.specs.declared.line.Line.{Line}
-use Rattle.schedule_rules.specs.declared.line.Refusal.{Refusal}
-use Rattle.schedule_rules.specs.declared.plan.CellPlan.{CellPlan}
-use Rattle.schedule_rules.specs.declared.step.Step.{Step}
-use Rattle.schedule_rules.specs.History.{Event}
-use Rattle.schedule_rules.specs.Legal.{IsLegalLine}
-use Rattle.schedule_rules.specs.Refusals.{refusal}
-use Rattle.schedule_rules.specs.Transcripts.{names_known_cell}
 use Rattle.phase_moves.specs.declared.rows.GuardRow.TheVariants as guard
-use Rattle.phase_moves.specs.declared.rows.Rows.{Rows}
-use Rattle.phase_moves.specs.Histories.{standing}
-use Rattle.phase_moves.specs.Moves.{KeptWith, Pushes, Rests}
-use Rattle.phase_moves.specs.Standing.{Standing}
-use Rattle.phase_moves.proofs.Hand.{pushed_free}
-use Rattle.phase_moves.proofs.Histories.{refused_stays}
-use Rattle.phase_acts.specs.Steps.{IsNext, HasStepped}
 use Rattle.phase_acts.proofs.Exclusive.{exclusive}
 use Rattle.phase_acts.proofs.Keeping.{none_with}
 use Rattle.phase_acts.proofs.Lines.{legal_refused}

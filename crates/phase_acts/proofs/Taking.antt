@@ -1,21 +1,7 @@
 -- What was taken may be settled.
-use Rattle.std.proofs.Common.{◌≡◌, ◌∙◌, ℕ, length, ap, sym, subst, refl, arith}
-use Rattle.phase_bits.specs.declared.holders.Holders.{Holders}
-use Rattle.phase_locker.specs.declared.ways.Given.{Given}
-use Rattle.phase_locker.specs.declared.ways.LockerKind.{LockerKind}
-use Rattle.schedule_rules.specs.declared.line.Line.{Line}
-use Rattle.schedule_rules.specs.declared.step.Want.{Want}
-use Rattle.schedule_rules.specs.Guards.{numbered}
-use Rattle.phase_moves.specs.declared.rows.Rows.{Rows}
-use Rattle.phase_moves.specs.declared.rows.Taken.{Taken}
+use Rattle.phase_acts.proofs.Words.{◌∙◌, ◌≡◌, ap, arith, Given, Holders, IsSettled, IsSettling, IsTook, IsTried, IsTrying, KeptGuards, length, Line, LockerKind, numbered, refl}
+use Rattle.phase_acts.proofs.Words.{Rows, Standing, Stands, subst, sym, Taken, Target, took, Want, ℕ}
 use Rattle.phase_moves.specs.declared.rows.Taken.TheVariants as taken
-use Rattle.phase_moves.specs.declared.rows.Target.{Target}
-use Rattle.phase_moves.specs.Moves.{KeptGuards}
-use Rattle.phase_moves.specs.Standing.{Standing, took}
-use Rattle.phase_moves.specs.Stands.{Stands}
-use Rattle.phase_moves.specs.Tries.{IsTook}
-use Rattle.phase_acts.specs.Settles.{IsSettling, IsSettled}
-use Rattle.phase_acts.specs.Tries.{IsTried, IsTrying}
 
 -- no turn ends as something is taken
 same_turns : (n p c : ℕ) (w : Want) (g : Given) (b : Taken) (m : Standing) → (took n p c w g b m).turns ≡ m.turns

@@ -1,49 +1,18 @@
 -- What stands open after an attempt, with what became of what it took.
-use Rattle.std.proofs.Common.{◌≡◌, ◌≢◌, ◌∙◌, ◌+◌, ◌<◌, ℕ, List, ◌∷◌, length, ap, sym, refl, arith, Bool, true, false, None, ◌⊎◌, inl, inr}
-use Rattle.std.specs.Prelude.{MatchBool, if◌then◌else◌}
-use Rattle.std.specs.Option.{unwrap_or}
-use Rattle.std.specs.declared.option.Option.{Option}
-use Rattle.exit_registry.specs.Registry.{Registry}
-use Rattle.phase_bits.specs.Number.{phase_of}
-use Rattle.phase_bits.specs.declared.phase.Phase.{Phase}
-use Rattle.phase_locker.specs.declared.tickets.ReadTicket.{ReadTicket}
-use Rattle.phase_locker.specs.declared.tickets.WriteTicket.{WriteTicket}
-use Rattle.phase_locker.specs.declared.ways.Given.{Given}
+use Rattle.phase_acts.proofs.Words.{◌+◌, ◌<◌, ◌∙◌, ◌∷◌, ◌≡◌, ◌≢◌, ◌⊎◌, accepts, Act, Answer, answer_at, answer_left, answer_missed, answer_running, answer_settled, answer_tried}
+use Rattle.phase_acts.proofs.Words.{ap, arith, Bool, Call, call_left, Calls, cell_at, CellPlan, changes_at, Content, content_tried, count, downgraded, Event, event, false, Form}
+use Rattle.phase_acts.proofs.Words.{form_of, Given, given_first, given_on, GivesSettled, guarded, if◌then◌else◌, inl, inr, is_accessible, is_declined, is_to_read, IsCallOf, IsOf}
+use Rattle.phase_acts.proofs.Words.{IsUnlocked, left, length, List, MatchBool, MayGive, MayGiveDown, None, NoRun, Option, Phase, phase_at, phase_of, phase_reached, reaches, reader}
+use Rattle.phase_acts.proofs.Words.{reads_on, ReadTicket, refl, Registry, registry, settled, shares_read, shares_write, Standing, standing, sym, Taken, takes_none, takes_write}
+use Rattle.phase_acts.proofs.Words.{Target, tolerance_at, took, true, Turns, unlocked, unwrap_or, Wait, wait_of, waits, Want, without_wait, writer_asked, writes_on, WriteTicket, ℕ}
 use Rattle.phase_locker.specs.declared.ways.Given.TheVariants as given
-use Rattle.lazy_cells.specs.declared.call.Call.{Call}
-use Rattle.schedule_rules.specs.declared.form.Form.{Form}
 use Rattle.schedule_rules.specs.declared.form.Form.TheVariants.{Told, Shown, Held}
-use Rattle.schedule_rules.specs.declared.line.Answer.{Answer}
 use Rattle.schedule_rules.specs.declared.line.Answer.TheVariants as answer
-use Rattle.schedule_rules.specs.declared.plan.CellPlan.{CellPlan}
-use Rattle.schedule_rules.specs.declared.step.Act.{Act}
-use Rattle.schedule_rules.specs.declared.step.Want.{Want}
-use Rattle.schedule_rules.specs.declared.step.Want.TheVariants.{Calls, Turns}
-use Rattle.schedule_rules.specs.Answers.{answer_at}
-use Rattle.schedule_rules.specs.Changes.{Content, is_declined}
-use Rattle.schedule_rules.specs.Forms.{form_of, is_to_read}
-use Rattle.schedule_rules.specs.Phases.{NoRun, is_accessible, phase_reached}
-use Rattle.schedule_rules.specs.Exits.{registry}
-use Rattle.schedule_rules.specs.Gifts.{reaches}
-use Rattle.schedule_rules.specs.Guards.{reader}
-use Rattle.schedule_rules.specs.History.{Event, accepts, count}
-use Rattle.schedule_rules.specs.Kinds.{cell_at, tolerance_at}
-use Rattle.schedule_rules.specs.Replay.{phase_at}
-use Rattle.schedule_rules.specs.Waits.{Wait, waits, wait_of, without_wait, shares_read, shares_write}
-use Rattle.waiting_rows.specs.Given.{given_on}
 use Rattle.waiting_rows.proofs.Gave.{gave_share}
-use Rattle.phase_moves.specs.declared.rows.Taken.{Taken}
 use Rattle.phase_moves.specs.declared.rows.Taken.TheVariants as taken
-use Rattle.phase_moves.specs.declared.rows.Target.{Target}
-use Rattle.phase_moves.specs.Gifts.{MayGive, MayGiveDown}
-use Rattle.phase_moves.specs.Histories.{standing, event}
-use Rattle.phase_moves.specs.Meets.{IsCallOf, IsOf, IsUnlocked, answer_left, answer_missed, answer_running, takes_none, takes_write}
-use Rattle.phase_moves.specs.Standing.{Standing, content_tried, downgraded, guarded, took, left, changes_at, writer_asked}
-use Rattle.phase_moves.proofs.Asked.{call_left}
-use Rattle.phase_acts.specs.Settles.{answer_settled, answer_tried, reads_on, unlocked, settled, writes_on, GivesSettled}
-use Rattle.phase_acts.specs.Steps.{given_first}
 use Rattle.phase_acts.proofs.Settling.{first_alone}
-use Rattle.phase_acts.proofs.Trying.{IsAttempt, left_open, read_left, standing_at, try_cyclic, try_denied, try_falls_back, try_finalizes, try_missed, try_reads, try_runs, try_shown, try_skips, try_told, try_waits, try_writes, write_left}
+use Rattle.phase_acts.proofs.Trying.{IsAttempt, left_open, read_left, standing_at, try_cyclic, try_denied, try_falls_back, try_finalizes, try_missed, try_reads, try_runs}
+use Rattle.phase_acts.proofs.Trying.{try_shown, try_skips, try_told, try_waits, try_writes, write_left}
 
 -- ---- one gift of two
 

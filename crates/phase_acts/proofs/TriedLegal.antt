@@ -1,46 +1,18 @@
 -- The line of an attempt is legal.
-use Rattle.std.proofs.Common.{◌≡◌, ◌≢◌, ◌∙◌, ◌==◌, ℕ, List, [], length, ap, sym, subst, refl, Bool, true, false, None}
-use Rattle.std.specs.Prelude.{◌&&◌, ◌∷◌, IsTrue, MatchBool, if◌then◌else◌}
-use Rattle.std.specs.declared.option.Option.{Option}
-use Rattle.exit_registry.specs.Registry.{Registry}
+use Rattle.phase_acts.proofs.Words.{[], ◌&&◌, ◌==◌, ◌∙◌, ◌∷◌, ◌≡◌, ◌≢◌, accepts, Act, answer_at, answer_denied, answer_missed, answer_of, answer_of_attempt, answer_running}
+use Rattle.phase_acts.proofs.Words.{answer_settled, answer_tried, answered, ap, asks_to_read, attempt, Bool, Call, Calls, cell_at, CellPlan, changes_at, content_tried, downgraded}
+use Rattle.phase_acts.proofs.Words.{downgrades, due_answer, due_at, due_tried, Event, event, falls_back, false, First, Form, form_of, Given, given_concerned, given_first, given_on}
+use Rattle.phase_acts.proofs.Words.{GivesFirst, GivesLast, GivesSettled, if◌then◌else◌, is_accessible, is_to_read, IsCallOf, IsDown, IsGift, IsLegalLine, IsMet, IsOf, IsTrue}
+use Rattle.phase_acts.proofs.Words.{IsUnlocked, Last, left, length, Line, List, MatchBool, may_give, may_give_first, may_give_last, MayGive, MayGiveAt, MayGiveDown, meeting, meets}
+use Rattle.phase_acts.proofs.Words.{Moment, None, Option, Phase, phase_asked, reaches, reader, reads_on, refl, refusal, Registry, registry, settled, Standing, standing, step_of}
+use Rattle.phase_acts.proofs.Words.{subst, sym, Taken, takes_write, Target, TellsPhase, took, true, turn_ended, Turns, turns_back, Wait, waits, waits_at, Want, wanted_in}
+use Rattle.phase_acts.proofs.Words.{wants_to_write, without_wait, writer_asked, writes_on, ℕ}
 use Rattle.exit_registry.specs.declared.turns.Turn.TheVariants as turn
-use Rattle.phase_bits.specs.declared.phase.Phase.{Phase}
-use Rattle.phase_locker.specs.declared.ways.Given.{Given}
 use Rattle.phase_locker.specs.declared.ways.Given.TheVariants as given
-use Rattle.lazy_cells.specs.declared.call.Call.{Call}
-use Rattle.schedule_rules.specs.declared.form.Form.{Form}
 use Rattle.schedule_rules.specs.declared.form.Form.TheVariants.{Told, Shown, Held}
 use Rattle.schedule_rules.specs.declared.line.Answer.TheVariants as answer
-use Rattle.schedule_rules.specs.declared.line.Line.{Line}
-use Rattle.schedule_rules.specs.declared.plan.CellPlan.{CellPlan}
-use Rattle.schedule_rules.specs.declared.step.Act.{Act}
-use Rattle.schedule_rules.specs.declared.step.Want.{Want}
-use Rattle.schedule_rules.specs.declared.step.Want.TheVariants.{Calls, Turns}
-use Rattle.schedule_rules.specs.Answers.{answer_at, answer_denied, answer_of_attempt}
-use Rattle.schedule_rules.specs.Due.{due_answer, due_tried, meeting}
-use Rattle.schedule_rules.specs.Exits.{registry}
-use Rattle.schedule_rules.specs.Forms.{form_of, is_to_read}
-use Rattle.schedule_rules.specs.Gifts.{asks_to_read, downgrades, falls_back, may_give_first, may_give_last, reaches, turns_back}
-use Rattle.schedule_rules.specs.Guards.{reader}
-use Rattle.schedule_rules.specs.History.{Event, accepts}
-use Rattle.schedule_rules.specs.Holds.{wants_to_write}
-use Rattle.schedule_rules.specs.Kinds.{cell_at}
-use Rattle.schedule_rules.specs.Legal.{IsLegalLine, Moment, First, Last, answer_of, due_at, may_give}
-use Rattle.schedule_rules.specs.Phases.{is_accessible}
-use Rattle.schedule_rules.specs.Refusals.{refusal}
-use Rattle.schedule_rules.specs.Waits.{Wait, waits, without_wait, attempt}
-use Rattle.waiting_rows.specs.Given.{given_on}
-use Rattle.waiting_rows.proofs.GivenOn.{given_concerned}
-use Rattle.phase_moves.specs.declared.rows.Taken.{Taken}
 use Rattle.phase_moves.specs.declared.rows.Taken.TheVariants as taken
-use Rattle.phase_moves.specs.declared.rows.Target.{Target}
-use Rattle.phase_moves.specs.Gifts.{IsGift, MayGive, MayGiveDown}
-use Rattle.phase_moves.specs.Histories.{standing, event}
-use Rattle.phase_moves.specs.Meets.{GivesDown, GivesFirst, GivesLast, IsCallOf, IsDown, IsMet, IsOf, IsUnlocked, MayGiveAt, answer_missed, answer_running, meets, takes_write, waits_at, wanted_in}
-use Rattle.phase_moves.specs.Standing.{Standing, answered, content_tried, downgraded, took, left, turn_ended, changes_at, writer_asked}
-use Rattle.phase_moves.specs.Tries.{TellsPhase, phase_asked}
-use Rattle.phase_acts.specs.Settles.{answer_settled, answer_tried, reads_on, settled, writes_on, GivesSettled}
-use Rattle.phase_acts.specs.Steps.{step_of, given_first}
+use Rattle.phase_moves.specs.Meets.{GivesDown}
 use Rattle.phase_acts.proofs.Lines.{gave_freed, gave_readers}
 use Rattle.phase_acts.proofs.Settling.{first_alone}
 use Rattle.phase_acts.proofs.Tried.{after_tried, answer_call, last_none, nothing_left}

@@ -1,42 +1,17 @@
 -- What stands open after an attempt: of a call or a turn, a first one or one more.
-use Rattle.std.proofs.Common.{◌≡◌, ◌∙◌, ◌==◌, ℕ, List, [], ◌∷◌, ◌++◌, length, ap, sym, refl, arith, Bool, true, false, None, Some}
-use Rattle.std.specs.Prelude.{if◌then◌else◌}
-use Rattle.std.specs.declared.option.Option.{Option}
-use Rattle.exit_registry.specs.Registry.{Registry}
+use Rattle.phase_acts.proofs.Words.{[], ◌++◌, ◌==◌, ◌∙◌, ◌∷◌, ◌≡◌, accepts, Act, act_for, act_of, answer_missed, answered, ap, arith, Asked, attempt, back_by, Bool, Call}
+use Rattle.phase_acts.proofs.Words.{call_left, Calls, cell_at, cell_concerned, CellPlan, changes_asked, changes_at, Content, content_after_back, content_back, due_answer}
+use Rattle.phase_acts.proofs.Words.{due_tried, effect, ended_turns, Event, event, false, Given, given_concerned, given_first, given_on, Guard, guarded, guards, guards_by, How}
+use Rattle.phase_acts.proofs.Words.{if◌then◌else◌, is_declined, is_exit, is_fast, left, length, List, None, none_without, Option, owner, owner_by, Phase, phase_at, reader}
+use Rattle.phase_acts.proofs.Words.{ReadTicket, refl, Registry, registry, registry_asked, registry_by, registry_of_run, registry_taken, replay, sections, sections_by, Some}
+use Rattle.phase_acts.proofs.Words.{Standing, standing, step_of, sym, tolerance_at, took, true, turn_ended, Turns, turns_by, Wait, wait_of, waits, waits_given_with, Want}
+use Rattle.phase_acts.proofs.Words.{with_wait, without_guard, without_wait, writer, writer_asked, WriteTicket, ℕ}
 use Rattle.exit_registry.specs.declared.turns.Turn.TheVariants as turn
-use Rattle.phase_bits.specs.declared.phase.Phase.{Phase}
-use Rattle.phase_locker.specs.declared.tickets.ReadTicket.{ReadTicket}
-use Rattle.phase_locker.specs.declared.tickets.WriteTicket.{WriteTicket}
-use Rattle.phase_locker.specs.declared.ways.Given.{Given}
 use Rattle.phase_locker.specs.declared.ways.Given.TheVariants as given
-use Rattle.phase_locker.specs.declared.ways.How.{How}
 use Rattle.schedule_rules.specs.declared.line.Answer.TheVariants as answer
-use Rattle.lazy_cells.specs.declared.call.Call.{Call}
-use Rattle.schedule_rules.specs.declared.plan.CellPlan.{CellPlan}
-use Rattle.schedule_rules.specs.declared.step.Act.{Act}
 use Rattle.schedule_rules.specs.declared.step.Act.TheVariants as act
-use Rattle.schedule_rules.specs.declared.step.Want.{Want}
-use Rattle.schedule_rules.specs.declared.step.Want.TheVariants.{Calls, Turns}
-use Rattle.schedule_rules.specs.Calls.{is_fast}
-use Rattle.schedule_rules.specs.Changes.{Content, Asked, effect, is_declined}
-use Rattle.schedule_rules.specs.Due.{due_answer, due_tried}
-use Rattle.schedule_rules.specs.Exits.{registry, registry_taken, registry_of_run, registry_by, owner, owner_by, ended_turns, turns_by}
 use Rattle.schedule_rules.specs.Deeds.{Deed, Visits, deed_running, deed_phased, deed_read, deed_shown, deed_visited, deed_written, deed_waiting, is_of_exit}
-use Rattle.schedule_rules.specs.Guards.{Guard, guards, guards_by, reader, writer, without_guard}
-use Rattle.schedule_rules.specs.History.{Event, act_of, is_exit, accepts}
-use Rattle.schedule_rules.specs.Kinds.{cell_at, tolerance_at}
-use Rattle.schedule_rules.specs.Replay.{replay, phase_at, back_by, content_after_back}
-use Rattle.schedule_rules.specs.Sections.{sections, sections_by}
-use Rattle.schedule_rules.specs.Waits.{Wait, waits, wait_of, without_wait, with_wait, waits_given_with, attempt, act_for, cell_concerned}
-use Rattle.waiting_rows.specs.Given.{given_on}
-use Rattle.waiting_rows.proofs.Counted.{none_without}
-use Rattle.waiting_rows.proofs.GivenOn.{given_concerned}
 use Rattle.phase_moves.specs.declared.rows.Taken.TheVariants as taken
-use Rattle.phase_moves.specs.Histories.{standing, event}
-use Rattle.phase_moves.specs.Standing.{Standing, answered, guarded, took, left, turn_ended, changes_asked, changes_at, writer_asked, content_back, registry_asked}
-use Rattle.phase_moves.specs.Meets.{answer_missed}
-use Rattle.phase_moves.proofs.Asked.{call_left}
-use Rattle.phase_acts.specs.Steps.{step_of, given_first}
 
 -- the standing of a history, once the exit was taken so far
 abbrev pub standing_at : List CellPlan → List Event → Registry → Option ℕ → Standing

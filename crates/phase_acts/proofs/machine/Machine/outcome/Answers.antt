@@ -1,8 +1,6 @@
-use Rattle.std.proofs.Common.{◌∙◌, ap, subst, sym}
-use Rattle.schedule_rules.specs.Forms.{form_of}
-use Rattle.phase_moves.specs.Ends.{IsEnded}
-use Rattle.phase_moves.specs.Histories.{standing}
-use Rattle.phase_acts.proofs.Ending.{outcome_no_section, outcome_no_outcome, may_end, none_refused, never_none_run, how, its, run_ends, run_fails, run_leaves, run_may_leave, run_reads, run_writes}
+use Rattle.phase_acts.proofs.Words.{◌∙◌, ap, form_of, IsEnded, standing, subst, sym}
+use Rattle.phase_acts.proofs.Ending.{outcome_no_section, outcome_no_outcome, may_end, none_refused, never_none_run, how, its, run_ends, run_fails, run_leaves, run_may_leave}
+use Rattle.phase_acts.proofs.Ending.{run_reads, run_writes}
 use Rattle.phase_acts.proofs.machine.Machine.outcome.Goals as goal
 
 pub returns-in_default : goal.returns-in_default
