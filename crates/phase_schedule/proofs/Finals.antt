@@ -1,20 +1,7 @@
 -- What the cells are left with, read off rows that follow a history.
-use Rattle.std.proofs.Common.{zero, suc, ◌≡◌, ℕ, ◌<◌, List, [], ◌∷◌, length, map, get_or, refl, sym, ◌∙◌, ap, subst, arith, Some}
-use Rattle.std.specs.Prelude.{slice_get}
-use Rattle.std.proofs.lemmas.List.{length-map}
-use Rattle.std.proofs.lemmas.Option.{slice_get-get_or}
-use Rattle.phase_bits.specs.declared.holders.Holders.{Holders}
-use Rattle.phase_bits.specs.Number.{IsKnown}
-use Rattle.phase_locker.specs.declared.ways.LockerKind.{LockerKind}
-use Rattle.schedule_rules.specs.declared.plan.CellPlan.{CellPlan}
+use Rattle.phase_schedule.proofs.Words.{[], ◌<◌, ◌∙◌, ◌∷◌, ◌≡◌, ap, AreFinals, AreKnown, arith, CellPlan, CellRow, Event, final_of, final_of_row, Follows, get_or, Holders, IsKnown}
+use Rattle.phase_schedule.proofs.Words.{length, length-map, List, LockerKind, map, refl, Rows, slice_get, slice_get-get_or, Some, subst, suc, sym, zero, ℕ}
 use Rattle.schedule_rules.specs.declared.transcript.Final.{Final}
-use Rattle.schedule_rules.specs.History.{Event}
-use Rattle.schedule_rules.specs.Transcripts.{AreFinals, final_of}
-use Rattle.phase_moves.specs.declared.rows.CellRow.{CellRow}
-use Rattle.phase_moves.specs.declared.rows.Rows.{Rows}
-use Rattle.phase_acts.specs.Steps.{Follows}
-use Rattle.phase_schedule.specs.Finals.{final_of_row}
-use Rattle.phase_schedule.specs.Known.{AreKnown}
 use Rattle.phase_schedule.proofs.Phases.{published_known}
 use Rattle.phase_schedule.proofs.Rows.{cell_is}
 

@@ -1,3 +1,5 @@
+-- What the proofs speak of
+pub mod Words
 -- The causes for which a schedule does not run
 pub mod Unknown
 pub mod Valid

@@ -1,31 +1,11 @@
 -- Runs that have made a history, and engines.
-use Rattle.std.proofs.Common.{◌≡◌, ℕ, ◌+◌, ◌<◌, ◌≤◌, List, [], ◌∷◌, ◌++◌, length, sym, ◌∙◌, ap, subst, arith, get_or, Some}
-use Rattle.std.specs.Prelude.{map, slice_get, vec_capacity}
-use Rattle.std.proofs.lemmas.Grind.{common_steps}
-use Rattle.std.proofs.lemmas.Option.{slice_get-get_or}
-use Rattle.phase_bits.specs.declared.holders.Holders.{Holders}
-use Rattle.phase_locker.specs.declared.ways.LockerKind.{LockerKind}
-use Rattle.schedule_rules.specs.declared.plan.CellPlan.{CellPlan}
-use Rattle.schedule_rules.specs.declared.step.Step.{Step}
-use Rattle.schedule_rules.specs.declared.line.Line.{Line}
-use Rattle.schedule_rules.specs.Core.{core}
-use Rattle.schedule_rules.specs.History.{Event}
-use Rattle.schedule_rules.specs.Kinds.{cell_at}
-use Rattle.schedule_rules.specs.Transcripts.{AreFinals, NamesKnown, told}
-use Rattle.phase_moves.specs.declared.rows.CellRow.{CellRow}
-use Rattle.phase_moves.specs.declared.rows.Rows.{Rows}
+use Rattle.phase_schedule.proofs.Words.{[], ◌++◌, ◌+◌, ◌<◌, ◌∙◌, ◌∷◌, ◌≡◌, ◌≤◌, ap, AreFinals, arith, CanStep, cell_at, CellPlan, CellRow, common_steps, core, Ending, Ends, Event}
+use Rattle.phase_schedule.proofs.Words.{final_of_row, Follows, Frame, get_or, HasMade, history, Holders, IsStanding, kind_at, length, Line, List, LockerKind, NamesKnown, plans_of}
+use Rattle.phase_schedule.proofs.Words.{Progress, Rows, slice_get, slice_get-get_or, Some, Standing, standing, standing_of, Step, subst, sym, TellsKnown, told, vec_capacity, ℕ}
+use Rattle.std.specs.Prelude.{map}
 use Rattle.phase_moves.specs.Closing.{CanClose}
-use Rattle.phase_moves.specs.Histories.{standing}
-use Rattle.phase_moves.specs.Stands.{kind_at}
-use Rattle.phase_acts.specs.Steps.{Follows}
-use Rattle.phase_schedule.specs.declared.ending.Ending.{Ending}
 use Rattle.phase_schedule.specs.declared.engine.Engine.TheInside.{Inside}
-use Rattle.phase_schedule.specs.declared.progress.Progress.{Progress}
-use Rattle.phase_schedule.specs.Finals.{final_of_row}
-use Rattle.phase_schedule.specs.Inside.{IsStanding, frame_of, plans_of, standing_of}
-use Rattle.phase_schedule.specs.Known.{TellsKnown}
-use Rattle.phase_schedule.specs.Progress.{CanStep, Ends, Frame, HasMade}
-use Rattle.phase_schedule.specs.Standing.{Standing, history}
+use Rattle.phase_schedule.specs.Inside.{frame_of}
 use Rattle.phase_schedule.proofs.Finals.{finals_are, finals_known}
 use Rattle.phase_schedule.proofs.Phases.{line_known}
 use Rattle.phase_schedule.proofs.Records.{record_is}

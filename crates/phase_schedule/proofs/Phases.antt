@@ -1,48 +1,36 @@
 -- The phases that legal histories publish and tell have no bit above the eight flags.
-use Rattle.std.proofs.Common.{ℕ, List, [], ◌∷◌, sym, subst, arith, Bool, true, false, not, ◌&&◌, None, Some}
-use Rattle.std.specs.Prelude.{◌==◌, if◌then◌else◌, is_none}
-use Rattle.std.specs.declared.option.Option.{Option}
-use Rattle.phase_bits.specs.Number.{IsKnown, phase_of}
+use Rattle.phase_schedule.proofs.Words.{[], ◌&&◌, ◌==◌, ◌∷◌, accepts, arith, Attempt, attempt, Back, back_of_step, Bool, cell_at, CellPlan, content_after_back, Event, false}
+use Rattle.phase_schedule.proofs.Words.{holding_with, if◌then◌else◌, is_barred, is_none, IsKnown, Kind, Line, List, None, not, Option, other_waits, phase_of, Place, registry}
+use Rattle.phase_schedule.proofs.Words.{replay, Some, Step, subst, sym, TellsKnown, tolerance_of, true, Wait, waits_given, ℕ}
 use Rattle.exit_registry.specs.declared.registry.Look.{Look}
 use Rattle.exit_registry.specs.declared.registry.Look.TheVariants as look
 use Rattle.exit_registry.specs.Registry.{look_at}
 use Rattle.schedule_rules.specs.declared.line.Answer.TheVariants as answer
-use Rattle.schedule_rules.specs.declared.line.Line.{Line}
 use Rattle.phase_locker.specs.declared.tickets.LockNature.{LockNature}
 use Rattle.phase_locker.specs.declared.tickets.LockNature.TheVariants as nature
 use Rattle.phase_seq.specs.declared.tolerance.Tolerance.{Tolerance}
 use Rattle.phase_locker.specs.declared.ways.How.{How}
 use Rattle.lazy_cells.specs.declared.call.Call.{Call}
-use Rattle.lazy_cells.specs.declared.kind.Kind.{Kind}
 use Rattle.schedule_rules.specs.declared.form.Form.{Form}
 use Rattle.schedule_rules.specs.declared.form.Form.TheVariants.{Told, Shown, Held}
-use Rattle.schedule_rules.specs.declared.plan.Place.{Place}
 use Rattle.schedule_rules.specs.declared.plan.Place.TheVariants as place
 use Rattle.schedule_rules.specs.Forms.{form_of}
-use Rattle.schedule_rules.specs.declared.plan.CellPlan.{CellPlan}
 use Rattle.schedule_rules.specs.declared.step.Act.{Act}
 use Rattle.schedule_rules.specs.declared.step.Act.TheVariants as act
-use Rattle.schedule_rules.specs.declared.step.Step.{Step}
 use Rattle.schedule_rules.specs.declared.step.Want.{Want}
 use Rattle.schedule_rules.specs.declared.step.Want.TheVariants.{Calls, Turns}
-use Rattle.schedule_rules.specs.Answers.{Meeting, answer_admitted, answer_at, answer_barred, answer_lent, answer_made, answer_made_to_lend, answer_of_attempt, answer_of_made, begins_run, call_answer_admitted, drains_by, turn_answer_admitted, way_parked}
+use Rattle.schedule_rules.specs.Answers.{Meeting, answer_admitted, answer_at, answer_barred, answer_lent, answer_made, answer_made_to_lend, answer_of_attempt, answer_of_made}
+use Rattle.schedule_rules.specs.Answers.{begins_run, call_answer_admitted, drains_by, turn_answer_admitted, way_parked}
 use Rattle.schedule_rules.specs.Calls.{initializes, is_fast, lock_wanted}
 use Rattle.schedule_rules.specs.Changes.{Content, Ran, RanIfAsked, Ended, asks_to_lend, content_asked, content_to_lend, is_declined, effect}
 use Rattle.schedule_rules.specs.Due.{answer_of_look, due_answer, due_clone, due_finished, due_look, due_made, due_tried, meeting, phase_made}
-use Rattle.schedule_rules.specs.Exits.{registry}
 use Rattle.schedule_rules.specs.Guards.{Guard, guards, numbered}
-use Rattle.schedule_rules.specs.History.{Event, accepts}
-use Rattle.schedule_rules.specs.Holds.{holding_with, is_barred}
-use Rattle.schedule_rules.specs.Kinds.{cell_at, tolerance_of}
 use Rattle.schedule_rules.specs.Legal.{First, IsLegalLine, Last, Moment, answer_of, due_at}
 use Rattle.schedule_rules.specs.declared.line.Refusal.{Refusal}
 use Rattle.schedule_rules.specs.Phases.{is_accessible, phase_reached, NoRun}
 use Rattle.schedule_rules.specs.Refusals.{refusal}
-use Rattle.schedule_rules.specs.Replay.{Back, back_of_step, content_after_back, replay}
 use Rattle.schedule_rules.specs.Sections.{Section, innermost, sections}
-use Rattle.schedule_rules.specs.Waits.{Attempt, Wait, attempt, other_waits, waits_given}
 use Rattle.phase_moves.proofs.Known.{change_known, effect_known}
-use Rattle.phase_schedule.specs.Known.{TellsKnown}
 
 module _ (cells : List CellPlan) where
   after_back : (c : ℕ) (b : Option Back) (y : Content) → IsKnown (phase_of y.phase) → IsKnown (phase_of (content_after_back cells c b y).phase)

@@ -1,18 +1,10 @@
 -- The record of a locker is that of its cell's holders.
-use Rattle.std.proofs.Common.{zero, suc, ◌≡◌, ℕ, ◌+◌, ◌-◌, ◌<◌, ◌≤◌, List, [], ◌∷◌, ◌++◌, refl, sym, ◌∙◌, ap, arith, Bool, true, false, not, ◌||◌}
-use Rattle.std.specs.Prelude.{nat_lt}
+use Rattle.phase_schedule.proofs.Words.{[], ◌++◌, ◌+◌, ◌-◌, ◌<◌, ◌||◌, ◌∙◌, ◌∷◌, ◌≡◌, ◌≤◌, ap, AreShown, arith, Bool, CellPlan, core, count, drains_on, drains_with, Event, false}
+use Rattle.phase_schedule.proofs.Words.{Holders, is_locked_with, IsLocked, List, LockerKind, nat_lt, not, parked_readers, parked_writers, parks_to_read, parks_to_write, party_if}
+use Rattle.phase_schedule.proofs.Words.{phase_at, read_guards, readers_with, refl, shares_read, shares_write, suc, sym, true, Wait, waits, write_holds, writers_with, zero, ℕ}
 use Rattle.std.specs.List.{list_any}
-use Rattle.phase_bits.specs.declared.holders.Holders.{Holders}
-use Rattle.phase_locker.specs.declared.ways.LockerKind.{LockerKind}
 use Rattle.phase_locker.specs.Rows.{Rows as Parking, claims, is_empty, shares}
-use Rattle.schedule_rules.specs.declared.plan.CellPlan.{CellPlan}
-use Rattle.schedule_rules.specs.Core.{core, is_locked_with}
-use Rattle.schedule_rules.specs.History.{Event, count}
-use Rattle.schedule_rules.specs.Holds.{drains_with, read_guards, readers_with, write_holds, writers_with}
-use Rattle.schedule_rules.specs.Replay.{phase_at}
-use Rattle.schedule_rules.specs.Waits.{Wait, drains_on, parked_readers, parked_writers, parks_to_read, parks_to_write, party_if, shares_read, shares_write, waits}
 use Rattle.waiting_rows.proofs.RowCounts.{shares_shown, claims_shown}
-use Rattle.phase_moves.specs.Stands.{AreShown, IsLocked}
 
 -- a list that ends so is not empty
 not_empty : (ps : List ℕ) (p : ℕ) → is_empty (ps ++ p ∷ []) ≡ false

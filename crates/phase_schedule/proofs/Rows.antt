@@ -1,17 +1,6 @@
 -- What rows that follow a history tell of its cells.
-use Rattle.std.proofs.Common.{suc, ◌≡◌, ℕ, List, [], ◌∷◌, length, map, refl, arith, Some}
-use Rattle.std.specs.Prelude.{slice_get}
-use Rattle.phase_bits.specs.declared.holders.Holders.{Holders}
-use Rattle.phase_locker.specs.declared.ways.LockerKind.{LockerKind}
-use Rattle.schedule_rules.specs.declared.plan.CellPlan.{CellPlan}
-use Rattle.schedule_rules.specs.Kinds.{cell_at}
-use Rattle.schedule_rules.specs.History.{Event}
-use Rattle.phase_moves.specs.declared.rows.CellRow.{CellRow}
-use Rattle.phase_moves.specs.declared.rows.Rows.{Rows}
-use Rattle.phase_moves.specs.Histories.{standing}
-use Rattle.phase_moves.specs.Stands.{IsCell, seen_at}
-use Rattle.phase_acts.specs.Steps.{Follows}
-use Rattle.phase_schedule.specs.Inside.{plans_of}
+use Rattle.phase_schedule.proofs.Words.{[], ◌∷◌, ◌≡◌, arith, cell_at, CellPlan, CellRow, Event, Follows, Holders, IsCell, length, List, LockerKind, map, plans_of, refl, Rows}
+use Rattle.phase_schedule.proofs.Words.{seen_at, slice_get, Some, standing, suc, ℕ}
 
 module _ {L : Type 0} where
   -- rows of which each is of the plan at its place are of these plans

@@ -1,21 +1,10 @@
 -- Whole runs of schedules.
-use Rattle.std.proofs.Common.{zero, suc, ◌≡◌, ℕ, ◌+◌, ◌<◌, ◌≤◌, List, [], ◌∷◌, ◌++◌, drop, length, sym, ◌∙◌, ap, subst, arith, get_or, None, Some}
-use Rattle.std.specs.Prelude.{slice_get}
-use Rattle.std.specs.declared.option.Option.{Option}
-use Rattle.std.proofs.lemmas.Grind.{common_steps}
-use Rattle.std.proofs.lemmas.List.{length_push}
-use Rattle.std.proofs.lemmas.Option.{get_or_from_slice_get, slice_get-get_or, slice_get_within}
-use Rattle.phase_bits.specs.declared.holders.Holders.{Holders}
-use Rattle.phase_locker.specs.declared.ways.LockerKind.{LockerKind}
-use Rattle.schedule_rules.specs.declared.step.Step.{Step}
-use Rattle.schedule_rules.specs.declared.line.Line.{Line}
-use Rattle.schedule_rules.specs.Transcripts.{IsLegalTranscript, IsValid, NamesKnown, Schedule, told}
-use Rattle.phase_schedule.specs.declared.ending.Ending.{Ending}
-use Rattle.phase_schedule.specs.declared.progress.Progress.{Progress}
-use Rattle.phase_schedule.specs.declared.running.Run.{Run}
+use Rattle.phase_schedule.proofs.Words.{[], ◌++◌, ◌+◌, ◌<◌, ◌∙◌, ◌∷◌, ◌≡◌, ◌≤◌, account_with, ap, arith, CanStep, common_steps, drop, Ending, Ends, frame_of, get_or}
+use Rattle.phase_schedule.proofs.Words.{get_or_from_slice_get, GoesOn, GoesOnFrom, held_by, Holders, IsEnd, IsLegalTranscript, IsRun, IsValid, length, length_push, Line, List}
+use Rattle.phase_schedule.proofs.Words.{LockerKind, NamesKnown, None, Option, place_by, Progress, Run, Schedule, slice_get, slice_get-get_or, slice_get_within, Some, Step, subst}
+use Rattle.phase_schedule.proofs.Words.{suc, sym, told, zero, ℕ}
 use Rattle.phase_schedule.specs.Progress as progress
-use Rattle.phase_schedule.specs.Progress.{CanStep, Ends}
-use Rattle.phase_schedule.specs.Running.{GoesOn, GoesOnFrom, HasMade, IsEnd, IsRun, account_with, frame_of, held_by, place_by}
+use Rattle.phase_schedule.specs.Running.{HasMade}
 use Rattle.phase_schedule.proofs.Made.{told_known}
 use Rattle.phase_schedule.proofs.Told.{event, told_count, told_next, told_none}
 

@@ -1,10 +1,5 @@
 -- Steps and their lines, told one after another.
-use Rattle.std.proofs.Common.{◌≡◌, ◌+◌, ◌≤◌, List, [], ◌∷◌, ◌++◌, length, refl, ◌∙◌, ap, arith, Some}
-use Rattle.std.specs.Prelude.{slice_get}
-use Rattle.schedule_rules.specs.declared.step.Step.{Step}
-use Rattle.schedule_rules.specs.declared.line.Line.{Line}
-use Rattle.schedule_rules.specs.History.{Event}
-use Rattle.schedule_rules.specs.Transcripts.{told}
+use Rattle.phase_schedule.proofs.Words.{[], ◌++◌, ◌+◌, ◌∙◌, ◌∷◌, ◌≡◌, ◌≤◌, ap, arith, Event, length, Line, List, refl, slice_get, Some, Step, told}
 
 -- a step and its line
 abbrev pub event : Step → Line → Event

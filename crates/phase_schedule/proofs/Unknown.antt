@@ -1,9 +1,6 @@
 -- What is found first in a list, as a walk over it finds it.
-use Rattle.std.proofs.Common.{◌≡◌, ℕ, ◌+◌, ◌<◌, ◌≤◌, List, [], ◌∷◌, length, get_or, drop, sym, ◌∙◌, ap, arith, None, Some}
-use Rattle.std.proofs.lemmas.Grind.{common_steps}
-use Rattle.std.specs.declared.option.Option.{Option}
-use Rattle.phase_schedule.specs.declared.error.RunError.{RunError}
-use Rattle.phase_schedule.specs.Errors.{first_cause, first_found}
+use Rattle.phase_schedule.proofs.Words.{[], ◌+◌, ◌<◌, ◌∙◌, ◌∷◌, ◌≡◌, ◌≤◌, ap, arith, common_steps, drop, first_cause, first_found, get_or, length, List, None, Option, RunError}
+use Rattle.phase_schedule.proofs.Words.{Some, sym, ℕ}
 
 -- the rest of a list from an index on
 rest_at : {X : Type 0} (xs : List X) (i : ℕ) (d : X) → i < length xs → drop i xs ≡ get_or xs i d ∷ drop (i + 1) xs

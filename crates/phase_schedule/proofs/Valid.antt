@@ -1,22 +1,12 @@
 -- A schedule without a cause can be run.
-use Rattle.std.proofs.Common.{◌≡◌, ℕ, ◌+◌, ◌<◌, ◌^◌, List, [], ◌∷◌, length, refl, ap, arith, Bool, true, false, None, Some}
-use Rattle.std.specs.Prelude.{All, IsTrue, nat_lt, if◌then◌else◌}
+use Rattle.phase_schedule.proofs.Words.{[], ◌+◌, ◌<◌, ◌^◌, ◌∷◌, ◌≡◌, All, ap, AreShared, arith, Bool, cause_of, cause_of_plan, cell_at, CellPlan, crowd_of, false, first_cause}
+use Rattle.phase_schedule.proofs.Words.{first_found, get_or_past, if◌then◌else◌, is_owned, is_placed, IsTrue, IsValid, Kind, length, List, misplaced_of, most_parties}
+use Rattle.phase_schedule.proofs.Words.{names_known_cell, NamesKnown, nat_lt, no_cell, None, Option, Place, refl, RunError, Schedule, Some, Step, true, unknown_of, ℕ}
 use Rattle.std.proofs.lemmas.List.Elements.{All-nil, All-cons, All-head, All-tail}
-use Rattle.std.specs.declared.option.Option.{Option}
-use Rattle.schedule_rules.specs.declared.plan.CellPlan.{CellPlan}
-use Rattle.schedule_rules.specs.declared.step.Step.{Step}
-use Rattle.std.proofs.lemmas.List.{get_or_past}
-use Rattle.lazy_cells.specs.declared.kind.Kind.{Kind}
 use Rattle.lazy_cells.specs.declared.kind.Kind.TheVariants as kind
 use Rattle.lazy_cells.specs.Kinds.{is_finalizable}
-use Rattle.schedule_rules.specs.declared.plan.Place.{Place}
 use Rattle.schedule_rules.specs.declared.plan.Place.TheVariants as place
-use Rattle.schedule_rules.specs.Kinds.{cell_at, is_owned, is_placed, no_cell}
-use Rattle.phase_schedule.specs.Progress.{AreShared}
-use Rattle.schedule_rules.specs.Transcripts.{NamesKnown, IsValid, Schedule, most_parties, names_known_cell}
-use Rattle.phase_schedule.specs.declared.error.RunError.{RunError}
 use Rattle.phase_schedule.specs.declared.error.RunError.TheVariants as error
-use Rattle.phase_schedule.specs.Errors.{cause_of, cause_of_plan, crowd_of, first_cause, first_found, misplaced_of, unknown_of}
 
 neither : (a b : Option RunError) → first_cause a b ≡ None → (a ≡ None) × (b ≡ None)
 neither None b e = (refl, e)

@@ -1,5 +1,4 @@
-use Rattle.std.proofs.Common.{◌≡◌, drop, length}
-use Rattle.phase_schedule.specs.Errors.{first_found, misplaced_of}
+use Rattle.phase_schedule.proofs.Words.{◌≡◌, drop, first_found, length, misplaced_of}
 use Rattle.phase_schedule.proofs.cause.misplaced_cell.Given as goal
 
 abbrev pub invariant-loop-c : goal.invariant-loop-c

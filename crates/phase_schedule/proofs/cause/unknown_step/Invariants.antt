@@ -1,5 +1,4 @@
-use Rattle.std.proofs.Common.{◌≡◌, drop, length}
-use Rattle.phase_schedule.specs.Errors.{first_found, unknown_of}
+use Rattle.phase_schedule.proofs.Words.{◌≡◌, drop, first_found, length, unknown_of}
 use Rattle.phase_schedule.proofs.cause.unknown_step.Given as goal
 
 abbrev pub invariant-loop-i : goal.invariant-loop-i

@@ -1,5 +1,4 @@
-use Rattle.std.proofs.Common.{◌≡◌, ◌+◌, length}
-use Rattle.phase_schedule.specs.Errors.{first_found, unknown_of}
+use Rattle.phase_schedule.proofs.Words.{◌+◌, ◌≡◌, first_found, length, unknown_of}
 use Rattle.phase_schedule.proofs.cause.unknown_step_of_list.Given as goal
 
 abbrev pub invariant-loop-step : goal.invariant-loop-step

@@ -1,6 +1,4 @@
-use Rattle.std.proofs.Common.{◌≡◌, ◌≤◌, length, map, take}
-use Rattle.std.specs.Prelude.{vec_capacity}
-use Rattle.phase_schedule.specs.Finals.{final_of_row}
+use Rattle.phase_schedule.proofs.Words.{◌≡◌, ◌≤◌, final_of_row, length, map, take, vec_capacity}
 use Rattle.phase_schedule.proofs.progress.tell_finals.Given as goal
 
 abbrev pub invariant-loop-row : goal.invariant-loop-row

@@ -1,7 +1,4 @@
-use Rattle.std.proofs.Common.{◌≤◌, ◌∙◌, [], ap, length, subst, sym}
-use Rattle.schedule_rules.specs.Transcripts.{schedule_of, told}
-use Rattle.phase_schedule.specs.Progress.{HasMade}
-use Rattle.phase_schedule.specs.Running.{frame_of}
+use Rattle.phase_schedule.proofs.Words.{[], ◌∙◌, ◌≤◌, ap, frame_of, HasMade, length, schedule_of, subst, sym, told}
 use Rattle.phase_schedule.proofs.Runs.{all_told, can_step, few_told, made_none, one_more, step_at, steps_on, whole}
 use Rattle.phase_schedule.proofs.Made.{same_room}
 use Rattle.phase_schedule.proofs.Valid.{shared_cells, valid}

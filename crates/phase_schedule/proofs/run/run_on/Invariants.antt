@@ -1,8 +1,4 @@
-use Rattle.std.proofs.Common.{◌≡◌, ◌≤◌, [], length}
-use Rattle.std.specs.Prelude.{vec_capacity}
-use Rattle.schedule_rules.specs.Transcripts.{schedule_of, told}
-use Rattle.phase_schedule.specs.Progress.{HasMade}
-use Rattle.phase_schedule.specs.Running.{frame_of}
+use Rattle.phase_schedule.proofs.Words.{[], ◌≡◌, ◌≤◌, frame_of, HasMade, length, schedule_of, told, vec_capacity}
 use Rattle.phase_schedule.proofs.run.run_on.Given as goal
 
 abbrev pub invariant-loop-step : goal.invariant-loop-step

@@ -1,6 +1,4 @@
-use Rattle.std.proofs.Common.{◌≡◌, sym, ◌∙◌, None, Some}
-use Rattle.schedule_rules.specs.Transcripts.{schedule_of}
-use Rattle.phase_schedule.specs.declared.error.RunError.{RunError}
+use Rattle.phase_schedule.proofs.Words.{◌∙◌, ◌≡◌, None, RunError, schedule_of, Some, sym}
 use Rattle.phase_schedule.proofs.Valid.{valid, no_cause}
 use Rattle.phase_schedule.proofs.run.run_schedule.Goals as goal
 

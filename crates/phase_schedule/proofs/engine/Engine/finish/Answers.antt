@@ -1,8 +1,5 @@
-use Rattle.std.proofs.Common.{◌≡◌, subst}
-use Rattle.schedule_rules.specs.Exits.{ended_turns}
-use Rattle.schedule_rules.specs.Transcripts.{AreFinals}
-use Rattle.phase_schedule.specs.Inside.{frame_of, standing_of}
-use Rattle.phase_schedule.specs.Standing.{Standing, history}
+use Rattle.phase_schedule.proofs.Words.{◌≡◌, AreFinals, ended_turns, history, Standing, standing_of, subst}
+use Rattle.phase_schedule.specs.Inside.{frame_of}
 use Rattle.phase_schedule.proofs.engine.Engine.finish.Goals as goal
 
 pub returns-clause-finals : goal.returns-clause-finals

@@ -1,9 +1,4 @@
-use Rattle.std.proofs.Common.{◌≡◌, ◌<◌, ◌∙◌, ap, length, subst, sym}
-use Rattle.schedule_rules.specs.Core.{core}
-use Rattle.schedule_rules.specs.Kinds.{cell_at}
-use Rattle.phase_moves.specs.Stands.{kind_at}
-use Rattle.phase_schedule.specs.Standing.{Standing, history}
-use Rattle.phase_schedule.specs.Inside.{standing_of}
+use Rattle.phase_schedule.proofs.Words.{◌<◌, ◌∙◌, ◌≡◌, ap, cell_at, core, history, kind_at, length, Standing, standing_of, subst, sym}
 use Rattle.phase_schedule.proofs.Made.{holds, placed}
 use Rattle.phase_schedule.proofs.engine.Engine.locker.Goals as goal
 

@@ -1,5 +1,4 @@
-use Rattle.std.proofs.Common.{[], sym, ◌∙◌}
-use Rattle.phase_schedule.specs.Progress.{frame_of_plan}
+use Rattle.phase_schedule.proofs.Words.{[], ◌∙◌, frame_of_plan, sym}
 use Rattle.phase_schedule.proofs.Made.{same_room, stands_new}
 use Rattle.phase_schedule.proofs.Rows.{plans_are}
 use Rattle.phase_schedule.proofs.Valid.{shared}

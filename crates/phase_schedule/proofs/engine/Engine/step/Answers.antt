@@ -1,6 +1,5 @@
-use Rattle.std.proofs.Common.{◌∙◌, ap}
-use Rattle.phase_schedule.specs.Inside.{frame_of, standing_of}
-use Rattle.phase_schedule.specs.Standing.{Standing, history}
+use Rattle.phase_schedule.proofs.Words.{◌∙◌, ap, history, Standing, standing_of}
+use Rattle.phase_schedule.specs.Inside.{frame_of}
 use Rattle.phase_schedule.proofs.Made.{can_step, cells_stay, stands_more, told_known}
 use Rattle.phase_schedule.proofs.engine.Engine.step.Goals as goal
 

@@ -1,5 +1,4 @@
-use Rattle.std.proofs.Common.{◌∙◌, ap, map}
-use Rattle.phase_schedule.specs.Finals.{final_of_row}
+use Rattle.phase_schedule.proofs.Words.{◌∙◌, ap, final_of_row, map}
 use Rattle.phase_schedule.proofs.Made.{ends}
 use Rattle.phase_schedule.proofs.progress.Progress.finish.Goals as goal
 

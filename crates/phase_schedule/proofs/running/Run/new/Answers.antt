@@ -1,10 +1,5 @@
-use Rattle.std.proofs.Common.{◌≡◌, ◌∙◌, [], None, Some, refl, subst, sym}
-use Rattle.schedule_rules.specs.Transcripts.{schedule_of}
-use Rattle.phase_schedule.specs.declared.error.RunError.{RunError}
-use Rattle.phase_schedule.specs.Errors.{cause_of}
+use Rattle.phase_schedule.proofs.Words.{[], ◌∙◌, ◌≡◌, cause_of, frame_of_plan, held_by, None, place_by, refl, RunError, schedule_of, Some, subst, sym}
 use Rattle.phase_schedule.specs.Progress as progress
-use Rattle.phase_schedule.specs.Progress.{frame_of_plan}
-use Rattle.phase_schedule.specs.Running.{held_by, place_by}
 use Rattle.phase_schedule.proofs.Runs.{has_none}
 use Rattle.phase_schedule.proofs.Valid.{no_cause, shared_cells, valid}
 use Rattle.phase_schedule.proofs.running.Run.new.Goals as goal

@@ -1,7 +1,4 @@
-use Rattle.std.proofs.Common.{[], refl, Some}
-use Rattle.schedule_rules.specs.Transcripts.{told}
-use Rattle.phase_schedule.specs.declared.running.Run.{Run}
-use Rattle.phase_schedule.specs.Running.{frame_of}
+use Rattle.phase_schedule.proofs.Words.{[], frame_of, refl, Run, Some, told}
 use Rattle.phase_schedule.proofs.Runs.{can_go_on, goes_on, is_done, still_run}
 use Rattle.phase_schedule.proofs.running.Run.next_line.Goals as goal
 
