@@ -13,15 +13,11 @@ abbrev pub fits : SeqWant → Form → Bool
 fits want.Init f = takes_none f
 fits want.Read f = is_to_read f
 fits want.Write f = takes_write f
-fits want.ReadOnly f = false
-fits want.WriteOnly f = false
-fits want.Finalize f = false
+fits _ f = false
 
 form_own : (f : Form) → fits (form_as f) f ≡ true
-form_own (Told tests) = refl
-form_own Shown = refl
 form_own (Held true falls_back) = refl
-form_own (Held false falls_back) = refl
+form_own f = refl
 
 -- so does the run of each call
 pub form_fits : (q : Kind) (k : Call) → fits (call_as q k) (form_of q k) ≡ true
@@ -29,27 +25,21 @@ form_fits q k = by (seeks q k) (form_of q k) (sought_as q k)
   where
     by : (o : Option SeqWant) (f : Form) → seeks_as f o ≡ true → fits (if seeks_run o then unwrap_or o want.Write else form_as f) f ≡ true
     by None f e = form_own f
-    by (Some want.Init) f e = e
-    by (Some want.Read) f e = e
-    by (Some want.Write) f e = e
     by (Some want.ReadOnly) f e = form_own f
     by (Some want.WriteOnly) f e = form_own f
     by (Some want.Finalize) f e = absurd (cc)
+    by (Some w) f e = e
 
 -- ---- what a run that made a value answers then
 
 pub read_made : (f : Form) (v p : ℕ) → is_to_read f ≡ true → answer_made f v p ≡ answer.ReadGuard
-read_made (Told tests) v p e = absurd (cc)
-read_made Shown v p e = absurd (cc)
-read_made (Held true falls_back) v p e = absurd (cc)
 read_made (Held false falls_back) v p e = refl
+read_made f v p e = absurd (cc)
 
 -- one that keeps the lock to write
 pub write_made : (f : Form) (v p : ℕ) → takes_write f ≡ true → takes_none f ≡ false → answer_made f v p ≡ answer.WriteGuard
-write_made (Told tests) v p e g = absurd (cc)
-write_made Shown v p e g = absurd (cc)
 write_made (Held true falls_back) v p e g = refl
-write_made (Held false falls_back) v p e g = absurd (cc)
+write_made f v p e g = absurd (cc)
 
 -- one that keeps no lock
 pub back_made : (f : Form) (v p : ℕ) (q : Phase) → takes_none f ≡ true → q ≡ phase_of p → answer_made f v p ≡ answer_back f v q

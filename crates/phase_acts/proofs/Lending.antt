@@ -88,9 +88,7 @@ module _ {L : Type 0} (held : L → Holders) (place : L → LockerKind) (cells :
 
           empty : (z : Lent) → numbered (length old.guards.items) (lent_in c l z m).guards ≡ None
           empty lent.InUse = is.next.follows.rests.empty
-          empty (lent.Denied q) = is.next.follows.rests.empty
-          empty lent.Failed = is.next.follows.rests.empty
-          empty (lent.Found v) = is.next.follows.rests.empty
+          empty z = is.next.follows.rests.empty
 
           rests : Rests held place (lent_in c l r m) new
           rests = pushed_free held place (length old.guards.items) (lent_in c l r m) mid new k.stands (empty r) push
@@ -128,6 +126,4 @@ module _ {L : Type 0} (held : L → Holders) (place : L → LockerKind) (cells :
             where
               by : (z : Lent) → r ≡ z → HasStepped held place cells h old (step_of p (lending c l)) (record { answer = answer_of r; given = given.Nobody }) new
               by lent.InUse q = subst (λ (z : Lent). HasStepped held place cells h old (step_of p (lending c l)) (record { answer = answer_of z; given = given.Nobody }) new) (sym q) (used_line q)
-              by (lent.Denied u) q = free_line (ap was_used q)
-              by lent.Failed q = free_line (ap was_used q)
-              by (lent.Found v) q = free_line (ap was_used q)
+              by z q = free_line (ap was_used q)

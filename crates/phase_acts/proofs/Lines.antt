@@ -38,8 +38,7 @@ module _ (cells : List CellPlan) (h : List Event) (p : ℕ) (act : Act) (a : Ans
 
   pub gave_freed : (d : Given) → MayGive c (standing cells (event p act (record { answer = a; given = given.Nobody }) ∷ h)) d → waits cells (event p act (record { answer = a; given = given.Nobody }) ∷ h) ≡ other_waits cells h (step_of p act) → may_give_last cells h (step_of p act) a d ≡ true
   gave_freed given.Nobody k same = refl
-  gave_freed (given.Writer q) k same = freed (given.Writer q) k same
-  gave_freed given.Readers k same = freed given.Readers k same
+  gave_freed d k same = freed d k same
 
   -- where the step downgrades
   pub gave_readers : is_parking (cell_at cells c).place ≡ true → reaches c given.Readers (other_waits cells h (step_of p act)) ≡ true → downgrades cells h (step_of p act) a ≡ true → may_give_last cells h (step_of p act) a given.Readers ≡ true

@@ -8,20 +8,8 @@ use Rattle.phase_acts.proofs.Causes.{again_trying, again_steps}
 
 -- only an Again goes on
 refusal_other : (a : Act) → a ≢ act.Again → refusal_waiting a ≡ Some refused.Waits
-refusal_other (act.Call c k) ne = refl
 refusal_other act.Again ne = absurd (ne refl)
-refusal_other (act.Made v) ne = refl
-refusal_other act.MadeFailed ne = refl
-refusal_other (act.Finished left) ne = refl
-refusal_other (act.FinishFailed left) ne = refl
-refusal_other (act.Look g) ne = refl
-refusal_other (act.Set g v) ne = refl
-refusal_other (act.Release g) ne = refl
-refusal_other (act.Downgrade g) ne = refl
-refusal_other (act.Clone g) ne = refl
-refusal_other (act.GetMut c made left) ne = refl
-refusal_other (act.TryGetMut c left) ne = refl
-refusal_other act.Exit ne = refl
+refusal_other a ne = refl
 
 module _ {L : Type 0} (held : L → Holders) (place : L → LockerKind) (cells : List CellPlan) (h : List Event) (old : Rows L) (s : Step) (next : IsNext held place cells h old s) (r : Option Target) (tells : AwaitsBy held place old s.party r) where
   told : r ≡ target_of (wait_of s.party (waits cells h))

@@ -24,8 +24,7 @@ value_asked x (Calls k) o y = by (is_declined x.kind (tolerance_of x) k o y.phas
 -- given first, where nothing comes after
 pub first_alone : (g : Given) → given_first g given.Nobody ≡ g
 first_alone given.Nobody = refl
-first_alone (given.Writer q) = refl
-first_alone given.Readers = refl
+first_alone g = refl
 
 -- itself
 itself : (n : ℕ) → (n == n) ≡ true

@@ -5,13 +5,8 @@ use Rattle.phase_moves.specs.declared.rows.Taken.TheVariants as taken
 
 -- no turn ends as something is taken
 same_turns : (n p c : ℕ) (w : Want) (g : Given) (b : Taken) (m : Standing) → (took n p c w g b m).turns ≡ m.turns
-same_turns n p c w g (taken.Wait how) m = refl
-same_turns n p c w g taken.Missed m = refl
-same_turns n p c w g taken.Cyclic m = refl
-same_turns n p c w g (taken.Nothing q) m = refl
-same_turns n p c w g (taken.Read t q) m = refl
-same_turns n p c w g (taken.Write t q) m = refl
 same_turns n p c w g taken.Runs m = refl
+same_turns n p c w g b m = refl
 
 module _ {L : Type 0} (held : L → Holders) (place : L → LockerKind) (m : Standing) (old mid : Rows L) (p : ℕ) (t : Target) (waits : _) (b : Taken) (g : Given) (is : IsTrying held place m old p t waits) (k : IsTook held place m old p t b g mid) (kept : KeptGuards old mid) where
   mid_n : length mid.guards.items ≡ length old.guards.items

@@ -19,8 +19,7 @@ use Rattle.phase_acts.proofs.Trying.{try_shown, try_skips, try_told, try_waits, 
 -- nothing is given where something stands on the cell
 none_given : (c : ℕ) (m : Standing) (d : Given) → 0 < count (shares_read c) m.waits + count (shares_write c) m.waits → MayGive c m d → d ≡ given.Nobody
 none_given c m given.Nobody some k = refl
-none_given c m (given.Writer q) some k = let free = k.free in absurd (omega (arith, free, some))
-none_given c m given.Readers some k = let free = k.free in absurd (omega (arith, free, some))
+none_given c m d some k = let free = k.free in absurd (omega (arith, free, some))
 
 module _ (n p : ℕ) (t : Target) (g d : Given) (m : Standing) (reach : g ≢ given.Nobody → reaches t.cell g (without_wait p m.waits) ≡ true) where
   shared : g ≢ given.Nobody → 0 < count (shares_read t.cell) (given_on t.cell g (without_wait p m.waits)) + count (shares_write t.cell) (given_on t.cell g (without_wait p m.waits))
@@ -28,17 +27,13 @@ module _ (n p : ℕ) (t : Target) (g d : Given) (m : Standing) (reach : g ≢ gi
 
   -- a step that gave as it attempted, gives no more
   pub last_none : (b : Taken) → IsOf p t g m b → g ≢ given.Nobody → GivesSettled n p t.cell t.want g d b m → d ≡ given.Nobody
-  last_none (taken.Wait how) of ne k = k
-  last_none taken.Missed of ne k = k
-  last_none taken.Cyclic of ne k = k
-  last_none (taken.Nothing q) of ne k = k
   last_none (taken.Read l q) of ne k = by (reads_on (answer_tried t.cell t.want m)) k
     where
       by : (z : Bool) → MatchBool z (d ≡ given.Nobody) (MayGive t.cell (left (reader n p t.cell) given.Nobody (took n p t.cell t.want g (taken.Read l q) m)) d) → d ≡ given.Nobody
       by true k = k
       by false k = none_given t.cell (left (reader n p t.cell) given.Nobody (took n p t.cell t.want g (taken.Read l q) m)) d (shared ne) k
   last_none (taken.Write l q) of ne k = absurd (ne of.2)
-  last_none taken.Runs of ne k = k
+  last_none b of ne k = k
 
   one_of_two : (b : Taken) → IsOf p t g m b → GivesSettled n p t.cell t.want g d b m → (g ≡ given.Nobody) ⊎ (d ≡ given.Nobody)
   one_of_two b of k = by g refl
@@ -102,9 +97,9 @@ module _ (cells : List CellPlan) (h : List Event) (p : ℕ) (a : Act) (c : ℕ) 
 
     -- a call that keeps no lock has its section given back
     pub nothing_left : (f : Form) (b : Bool) → access ≡ b → takes_none f ≡ true → (d : Given) → after_answer (answer_at f b y) d ≡ lefts d
-    nothing_left (Told tests) true e is d = try_told cells h p a c w r o k j calls (same j calls) accepted (phase_of y.phase) d
     nothing_left (Told true) false e is d = try_denied cells h p a c w r o k j calls (same j calls) accepted (phase_of y.phase) d
     nothing_left (Told false) false e is d = try_told cells h p a c w r o k j calls (same j calls) accepted (phase_of y.phase) d
+    nothing_left (Told tests) b e is d = try_told cells h p a c w r o k j calls (same j calls) accepted (phase_of y.phase) d
     nothing_left Shown true e is d = try_shown cells h p a c w r o k j calls (same j calls) accepted (fine e) (unwrap_or y.value 0) d
     nothing_left Shown false e is d = try_denied cells h p a c w r o k j calls (same j calls) accepted (phase_of y.phase) d
     nothing_left (Held writes falls_back) b e is d = absurd (cc)
@@ -114,20 +109,17 @@ module _ (cells : List CellPlan) (h : List Event) (p : ℕ) (a : Act) (c : ℕ) 
     read_open (Held false falls_back) true e is d = try_reads cells h p a c w r o k j calls (same j calls) accepted (fine e) d
     read_open (Held false true) false e is d = try_falls_back cells h p a c w r o k j calls (same j calls) accepted d
     read_open (Held false false) false e is d = try_denied cells h p a c w r o k j calls (same j calls) accepted (phase_of y.phase) d
-    read_open (Held true falls_back) b e is d = absurd (cc)
-    read_open (Told tests) b e is d = absurd (cc)
-    read_open Shown b e is d = absurd (cc)
+    read_open f b e is d = absurd (cc)
 
     -- a call that gets the lock to write keeps it, reads on, or has its section given back
     pub write_open : (l : WriteTicket) (q : Phase) (f : Form) (b : Bool) → access ≡ b → takes_write f ≡ true → (d : Given) → after_answer (answer_at f b y) d ≡ (if writes_on (answer_at f b y) then took n p c w d (taken.Write l q) m else (if reads_on (answer_at f b y) then guarded (reader n p c) (lefts d) else lefts d))
     write_open l q (Held true falls_back) true e is d = try_writes cells h p a c w r o k j calls (same j calls) accepted (fine e) l q d
     write_open l q (Held true true) false e is d = try_falls_back cells h p a c w r o k j calls (same j calls) accepted d
     write_open l q (Held true false) false e is d = try_denied cells h p a c w r o k j calls (same j calls) accepted (phase_of y.phase) d
-    write_open l q (Told tests) true e is d = try_told cells h p a c w r o k j calls (same j calls) accepted (phase_of y.phase) d
     write_open l q (Told true) false e is d = try_denied cells h p a c w r o k j calls (same j calls) accepted (phase_of y.phase) d
     write_open l q (Told false) false e is d = try_told cells h p a c w r o k j calls (same j calls) accepted (phase_of y.phase) d
-    write_open l q (Held false falls_back) b e is d = absurd (cc)
-    write_open l q Shown b e is d = absurd (cc)
+    write_open l q (Told tests) b e is d = try_told cells h p a c w r o k j calls (same j calls) accepted (phase_of y.phase) d
+    write_open l q f b e is d = absurd (cc)
 
     -- so is its answer
     pub answer_call : answer_tried c w m ≡ answer_at (form_of (cell_at cells c).kind j) access y

@@ -62,9 +62,7 @@ module _ (cells : List CellPlan) (h : List Event) (p : ℕ) (a : Act) (c : ℕ) 
   downs : (j : Call) → w ≡ Calls j → is_to_read (form_of (cell_at cells c).kind j) ≡ true → wants_to_write (wanted_in c w m) ≡ true → (f : Form) → is_to_read f ≡ true → downgrades cells h (step_of p a) (answer_denied f (content_tried c w m).phase) ≡ true
   downs j calls reads wrote (Held false true) e = ap (falls_back cells h) k.attempted ∙ wrote
   downs j calls reads wrote (Held false false) e = ap (turns_back cells h) k.attempted ∙ ap (λ v. asks_to_read (cell_at cells c).kind v && wants_to_write (wanted_in c w m)) calls ∙ ap (λ b. b && wants_to_write (wanted_in c w m)) reads ∙ wrote
-  downs j calls reads wrote (Held true fb) e = absurd (cc)
-  downs j calls reads wrote (Told tests) e = absurd (cc)
-  downs j calls reads wrote Shown e = absurd (cc)
+  downs j calls reads wrote f e = absurd (cc)
 
   gave_down : (v : Want) → w ≡ v → IsCallOf (cell_at cells c).kind v is_to_read → IsDown p t m → may_give_last cells h (step_of p a) (answer_tried c w m) given.Readers ≡ true
   gave_down Turns e is f = absurd is
@@ -96,17 +94,12 @@ module _ (cells : List CellPlan) (h : List Event) (p : ℕ) (a : Act) (c : ℕ) 
 
           again : (z : Given) → MayGive c (answered p c given.Nobody [] m) z → MayGive c (standing cells (event p a (record { answer = answer.Skipped c; given = given.Nobody }) ∷ h)) z
           again given.Nobody gift = tt
-          again (given.Writer u) gift = subst (λ x. IsGift c x (given.Writer u)) (sym skips) (record { parks = gift.parks; reach = gift.reach; free = gift.free })
-          again given.Readers gift = subst (λ x. IsGift c x given.Readers) (sym skips) (record { parks = gift.parks; reach = gift.reach; free = gift.free })
+          again z gift = subst (λ x. IsGift c x z) (sym skips) (record { parks = gift.parks; reach = gift.reach; free = gift.free })
 
   -- what it gave as it gave its lock back
   module _ (g d : Given) (nobody : g ≡ given.Nobody) where
     -- it may give nothing
     none_settled : (b : Taken) → GivesSettled n p c w g given.Nobody b m
-    none_settled (taken.Wait how) = refl
-    none_settled taken.Missed = refl
-    none_settled taken.Cyclic = refl
-    none_settled (taken.Nothing q) = refl
     none_settled (taken.Read l q) = by (reads_on (answer_tried c w m))
       where
         by : (z : Bool) → MatchBool z (given.Nobody ≡ given.Nobody) (MayGive c (left (reader n p c) given.Nobody (took n p c w g (taken.Read l q) m)) given.Nobody)
@@ -118,7 +111,7 @@ module _ (cells : List CellPlan) (h : List Event) (p : ℕ) (a : Act) (c : ℕ) 
         by true u = refl
         by false true = tt
         by false false = tt
-    none_settled taken.Runs = refl
+    none_settled b = refl
 
     -- what stands open where nothing is given
     none_after : (b : Taken) → IsOf p t g m b → (b ≡ taken.Cyclic → ⊥) → standing cells (event p a (record { answer = answer_settled c w b m; given = given.Nobody }) ∷ h) ≡ settled n p c w g given.Nobody b m
@@ -135,14 +128,11 @@ module _ (cells : List CellPlan) (h : List Event) (p : ℕ) (a : Act) (c : ℕ) 
 
     -- a section that reads on was made a read lock
     downs_write : (f : Form) (b : Bool) → takes_write f ≡ true → wants_to_write (wanted_in c w m) ≡ true → reads_on (answer_at f b (content_tried c w m)) ≡ true → downgrades cells h (step_of p a) (answer_at f b (content_tried c w m)) ≡ true
-    downs_write (Held true fb) true e wrote reads = absurd (cc)
     downs_write (Held true true) false e wrote reads = ap (falls_back cells h) k.attempted ∙ wrote
     downs_write (Held true false) false e wrote reads = absurd (cc)
-    downs_write (Told tests) true e wrote reads = absurd (cc)
     downs_write (Told true) false e wrote reads = absurd (cc)
     downs_write (Told false) false e wrote reads = absurd (cc)
-    downs_write (Held false fb) b e wrote reads = absurd (cc)
-    downs_write Shown b e wrote reads = absurd (cc)
+    downs_write f b e wrote reads = absurd (cc)
 
     gave_reading : (v : Want) → w ≡ v → IsCallOf (cell_at cells c).kind v takes_write → wants_to_write (wanted_in c w m) ≡ true → reads_on (answer_tried c w m) ≡ true → (z : Given) → MayGiveDown c (record m { waits = given_on c g (without_wait p (waits cells h)) }) z → may_give_last cells h (step_of p a) (answer_tried c w m) z ≡ true
     gave_reading Turns e is wrote reads z may = absurd is
@@ -213,15 +203,11 @@ module _ (cells : List CellPlan) (h : List Event) (p : ℕ) (a : Act) (c : ℕ) 
 
     -- something was, for what the step gave back
     gave_late : (b : Taken) → IsOf p t g m b → (x : Given) → x ≢ given.Nobody → GivesLast p t b x m → may_give_last cells h (step_of p a) (answer_settled c w b m) x ≡ true
-    gave_late (taken.Wait how) of x ne gift = absurd (ne gift)
-    gave_late taken.Missed of x ne gift = absurd (ne gift)
-    gave_late taken.Cyclic of x ne gift = absurd (ne gift)
     gave_late (taken.Nothing q) of x ne gift = gave_back q x w refl of gift
+    gave_late (taken.Read l q) of given.Readers ne gift = gave_down w refl of gift
     gave_late (taken.Read l q) of given.Nobody ne gift = absurd (ne refl)
     gave_late (taken.Read l q) of (given.Writer u) ne gift = absurd gift
-    gave_late (taken.Read l q) of given.Readers ne gift = gave_down w refl of gift
-    gave_late (taken.Write l q) of x ne gift = absurd (ne gift)
-    gave_late taken.Runs of x ne gift = absurd (ne gift)
+    gave_late b of x ne gift = absurd (ne gift)
 
     legal_late : d ≡ given.Nobody → (x : Given) → g ≡ x → x ≢ given.Nobody → met.moment ≡ Last → GivesLast p t b x m → IsLegalLine cells h (step_of p a) line
     legal_late none x e ne mo_is gift =
@@ -236,8 +222,7 @@ module _ (cells : List CellPlan) (h : List Event) (p : ℕ) (a : Act) (c : ℕ) 
         legal_at First met.chosen (met.answered ∙ ap (λ y. answer_of_attempt (cell_at cells c) w (meets p c w (waits_at y p c g m) m) met.chosen) mo_is ∙ judged First g met.chosen ∙ ap (λ y. due_at cells First h (step_of p a) y met.chosen) (sym all))
         (ap (may_give_first cells h (step_of p a) (attempt cells h (step_of p a))) (all ∙ e) ∙ gave_first x gift)
     legal_gift none given.Nobody e ne Last mo_is gift = absurd (ne refl)
-    legal_gift none (given.Writer q) e ne Last mo_is gift = legal_late none (given.Writer q) e ne mo_is gift
-    legal_gift none given.Readers e ne Last mo_is gift = legal_late none given.Readers e ne mo_is gift
+    legal_gift none x e ne Last mo_is gift = legal_late none x e ne mo_is gift
 
     -- a gift reaches those that it is for
     pub gift_reaches : g ≢ given.Nobody → reaches c g (without_wait p (waits cells h)) ≡ true
@@ -245,8 +230,7 @@ module _ (cells : List CellPlan) (h : List Event) (p : ℕ) (a : Act) (c : ℕ) 
       where
         back : (x : Given) → g ≡ x → MayGive c (answered p c given.Nobody (changes_at c w m) m) x → reaches c x (without_wait p (waits cells h)) ≡ true
         back given.Nobody e gift = refl
-        back (given.Writer q) e gift = gift.reach
-        back given.Readers e gift = gift.reach
+        back x e gift = gift.reach
 
         down : (x : Given) → g ≡ x → GivesDown p t x m → reaches c x (without_wait p (waits cells h)) ≡ true
         down given.Nobody e gift = refl
@@ -254,13 +238,9 @@ module _ (cells : List CellPlan) (h : List Event) (p : ℕ) (a : Act) (c : ℕ) 
         down given.Readers e gift = gift.reaching.reach
 
         last : (b : Taken) → GivesLast p t b g m → reaches c g (without_wait p (waits cells h)) ≡ true
-        last (taken.Wait how) gift = absurd (ne gift)
-        last taken.Missed gift = absurd (ne gift)
-        last taken.Cyclic gift = absurd (ne gift)
         last (taken.Nothing q) gift = back g refl gift
         last (taken.Read l q) gift = down g refl gift
-        last (taken.Write l q) gift = absurd (ne gift)
-        last taken.Runs gift = absurd (ne gift)
+        last b gift = absurd (ne gift)
 
         at : (mo : Moment) → MayGiveAt mo p t b g m → reaches c g (without_wait p (waits cells h)) ≡ true
         at First gift = gift.reaching.reach

@@ -94,19 +94,7 @@ module _ (cells : List CellPlan) (h : List Event) (p : ℕ) (a : Act) (c : ℕ) 
       where
         by : (b : Act) → act_of h (step_of p b) ≡ act.Call c j → is_exit b ≡ false
         by act.Exit e = absurd (cc)
-        by (act.Call d i) e = refl
-        by act.Again e = refl
-        by (act.Made v) e = refl
-        by act.MadeFailed e = refl
-        by (act.Finished left) e = refl
-        by (act.FinishFailed left) e = refl
-        by (act.Look g) e = refl
-        by (act.Set g v) e = refl
-        by (act.Release g) e = refl
-        by (act.Downgrade g) e = refl
-        by (act.Clone g) e = refl
-        by (act.GetMut d made v) e = refl
-        by (act.TryGetMut d v) e = refl
+        by b e = refl
 
     its_own : owner h ≡ o
     its_own = ap (λ e. owner_by p e (owner h)) (sym no_exit) ∙ k.owned
