@@ -12,7 +12,7 @@ use Rattle.schedule_rules.proofs.Registered.{fresh-unknown, left-finalizable}
 use Rattle.schedule_rules.proofs.WaitsToLock.{attempted-has, waiting-asks, waiting-shared, waiting-slow}
 use Rattle.phase_acts.proofs.Attempting.{tried_steps}
 use Rattle.phase_acts.proofs.Calling.{below}
-use Rattle.phase_acts.proofs.Keeping.{guards_with}
+use Rattle.phase_acts.proofs.Stepping.{guards_with, same_guards}
 use Rattle.phase_acts.proofs.Lines.{refusal_awake}
 use Rattle.phase_acts.proofs.Trying.{IsAttempt, standing_at}
 
@@ -140,23 +140,16 @@ module _ {L : Type 0} (held : L → Holders) (place : L → LockerKind) (cells :
   -- ---- the first attempt of a turn
 
   module _ (c : ℕ) (is : IsAwake held place cells h old p act.Exit) (first : first_of (registry cells h).left ≡ Some c) (mine : owner_by p true (owner h) ≡ Some p) (free : refusal cells h (step_of p act.Exit) ≡ None) where
-    -- what stands open once the turn is taken
-    abbrev taken_so : Standing
-    taken_so = standing_at cells h (after_turn (registry cells h)) (Some p)
-
     turn_attempts : IsAttempt cells h p act.Exit c Turns (after_turn (registry cells h)) (Some p)
     turn_attempts = record { attempted = ap attempt_of_turn first; concerned = first; does = refl; tries = λ vs chosen. refl; taken = refl; owned = mine }
 
     module _ (mid : Rows L) (between : KeptGuards old mid) (stands : Stands held place (length old.guards.items) (standing_at cells h (after_turn (registry cells h)) (Some p)) mid) (inside : c < length old.cells.items) where
-      mid_n : length mid.guards.items ≡ length old.guards.items
-      mid_n = ap (λ (v : _). length v.items) between.guards
-
       pub turn_trying : IsTrying held place (standing_at cells h (after_turn (registry cells h)) (Some p)) mid p (record { cell = c; want = Turns }) false
       turn_trying =
           record {
             attempting =
                 record {
-                  rests = record { stands = subst (λ i. Stands held place i (standing_at cells h (after_turn (registry cells h)) (Some p)) mid) (sym mid_n) stands; empty = ap (λ i. numbered i (guards h)) mid_n ∙ is.next.follows.rests.empty };
+                  rests = record { stands = subst (λ i. Stands held place i (standing_at cells h (after_turn (registry cells h)) (Some p)) mid) (sym (same_guards between)) stands; empty = ap (λ i. numbered i (guards h)) (same_guards between) ∙ is.next.follows.rests.empty };
                   party = (let a = is.next.known.party in let b = between.kept.parties in omega (arith, a, b));
                   cell = (let b = between.kept.cells in omega (arith, inside, b));
                   had = refl;
@@ -171,4 +164,4 @@ module _ {L : Type 0} (held : L → Holders) (place : L → LockerKind) (cells :
       pub turn_steps : (l : Line) (new : Rows L) → IsTried held place (length mid.guards.items) (standing_at cells h (after_turn (registry cells h)) (Some p)) p (record { cell = c; want = Turns }) l new → KeptWith 1 mid new → HasStepped held place cells h old (step_of p act.Exit) l new
       turn_steps l new tried kept =
           tried_steps held place cells h old new p act.Exit c Turns (after_turn (registry cells h)) (Some p) turn_attempts is.next free (sym (open-accepts cells h is.next.follows.legal)) (λ j e. absurd (turn_no_call j e)) l
-          (subst (λ i. IsTried held place i (standing_at cells h (after_turn (registry cells h)) (Some p)) p (record { cell = c; want = Turns }) l new) mid_n tried) (guards_with old mid new 1 between kept) (λ legal e. is.awake)
+          (subst (λ i. IsTried held place i (standing_at cells h (after_turn (registry cells h)) (Some p)) p (record { cell = c; want = Turns }) l new) (same_guards between) tried) (guards_with between kept) (λ legal e. is.awake)

@@ -1,18 +1,17 @@
 -- The steps of the exit: who may make one, and the look for registered cells.
 use Rattle.phase_acts.proofs.Words.{[], ◌<◌, ◌==◌, ◌||◌, ◌∙◌, ◌∷◌, ◌≡◌, accepts, answer_of_look, ap, arith, attempt_of_turn, Bool, CellPlan, due_answer, due_tried, Event}
 use Rattle.phase_acts.proofs.Words.{exit_looks, false, first_of, HasStepped, Holders, innermost, is_closed, is_other, is_some, IsAwake, IsTurn, KeptGuards, KeptWith, length, Line}
-use Rattle.phase_acts.proofs.Words.{List, LockerKind, Looks, MayLook, MayTry, no_exit, None, not, open-accepts, Option, other_waits, owned, owner, owner_by, Owns, pushed_free}
-use Rattle.phase_acts.proofs.Words.{Pushes, refl, refusal, registry, rest_of, round_looked, Rows, Running, running_of, RunsBy, Section, sections, Some, Standing, standing, step_of}
-use Rattle.phase_acts.proofs.Words.{subst, sym, TakesTurn, Tries, true, turn_taken, Turns, vec_capacity, ℕ}
+use Rattle.phase_acts.proofs.Words.{List, LockerKind, Looks, MayLook, MayTry, no_exit, None, not, open-accepts, Option, other_waits, owned, owner, owner_by, Owns, Pushes, refl}
+use Rattle.phase_acts.proofs.Words.{refusal, registry, rest_of, round_looked, Rows, Running, running_of, RunsBy, Section, sections, Some, Standing, standing, step_of, subst, sym}
+use Rattle.phase_acts.proofs.Words.{TakesTurn, Tries, true, turn_taken, Turns, vec_capacity, ℕ}
 use Rattle.exit_registry.specs.declared.registry.Look.{Look}
 use Rattle.phase_locker.specs.declared.ways.Given.TheVariants as given
 use Rattle.schedule_rules.specs.declared.line.Refusal.TheVariants as refused
 use Rattle.schedule_rules.specs.declared.step.Act.TheVariants as act
 use Rattle.phase_moves.specs.declared.rows.GuardRow.TheVariants as guard
 use Rattle.phase_acts.proofs.Causes.{turn_trying, turn_steps}
-use Rattle.phase_acts.proofs.Keeping.{guards_both, guards_with}
-use Rattle.phase_acts.proofs.Lines.{legal_last, refusal_awake}
-use Rattle.phase_acts.proofs.Stepping.{stepped}
+use Rattle.phase_acts.proofs.Lines.{refusal_awake}
+use Rattle.phase_acts.proofs.Stepping.{ended_free, guards_both, guards_with}
 
 -- where there is no first, there is none
 none_first : (cs : List ℕ) → first_of cs ≡ None → cs ≡ []
@@ -84,7 +83,7 @@ module _ {L : Type 0} (held : L → Holders) (place : L → LockerKind) (old : R
           turn = takes n (owned p m) (owns n m is.next.follows.rests.stands)
 
           between : KeptGuards old next
-          between = guards_both old first next kept kept_on
+          between = guards_both kept kept_on
 
           -- ---- the turn of a cell
 
@@ -124,8 +123,4 @@ module _ {L : Type 0} (held : L → Holders) (place : L → LockerKind) (old : R
                 let k = looks n (turn_taken (owned p m)) turn.stands in
                 let due : due_answer cells h (step_of p act.Exit) (other_waits cells h (step_of p act.Exit)) false ≡ answer_of_look look =
                 ap (λ cs. due_tried cells h p (attempt_of_turn (first_of cs)) (other_waits cells h (step_of p act.Exit)) false) none_left ∙ ap answer_of_look (sym k.0) in
-                subst (λ z. HasStepped held place cells h old (step_of p act.Exit) z new) (sym line_is)
-                (stepped held place cells h old new (step_of p act.Exit) is.next (record { answer = answer_of_look look; given = given.Nobody }) (round_looked (owned p m)) (exit_looks cells h p not_other is.awake look)
-                (pushed_free held place n (round_looked (owned p m)) seen new k.1 is.next.follows.rests.empty push)
-                (guards_with old seen new 1 (guards_both old next seen between still) last)
-                (legal_last cells h (step_of p act.Exit) (answer_of_look look) given.Nobody none_refused due refl))
+                ended_free is none_refused (answer_of_look look) given.Nobody due line line_is (guards_with (guards_both between still) last) n seen push (round_looked (owned p m)) (exit_looks cells h p not_other is.awake look) k.1 is.next.follows.rests.empty refl

@@ -16,9 +16,8 @@ use Rattle.phase_moves.specs.declared.lend.Loan.{Loan}
 use Rattle.phase_moves.specs.declared.rows.GuardRow.TheVariants as guard
 use Rattle.phase_moves.specs.Lends.{IsLending, IsLent, Lends, MayLend, answer_due, answer_of, in_use, lending, lent_in, was_used}
 use Rattle.phase_acts.proofs.Calling.{below}
-use Rattle.phase_acts.proofs.Keeping.{guards_with}
-use Rattle.phase_acts.proofs.Lines.{legal_last, legal_refused, refusal_awake}
-use Rattle.phase_acts.proofs.Stepping.{stepped}
+use Rattle.phase_acts.proofs.Lines.{legal_refused, refusal_awake}
+use Rattle.phase_acts.proofs.Stepping.{ended_so, guards_with, stepped}
 
 -- the cell is one of the cells
 names_cell : (n c : ℕ) (l : Loan) → IsTrue (names_known_cell n (lending c l)) → IsTrue (nat_lt c n)
@@ -84,7 +83,7 @@ module _ {L : Type 0} (held : L → Holders) (place : L → LockerKind) (cells :
           k = lends (length old.guards.items) m is_lending
 
           all_kept : KeptWith 1 old new
-          all_kept = guards_with old mid new 1 between last
+          all_kept = guards_with between last
 
           empty : (z : Lent) → numbered (length old.guards.items) (lent_in c l z m).guards ≡ None
           empty lent.InUse = is.next.follows.rests.empty
@@ -96,14 +95,14 @@ module _ {L : Type 0} (held : L → Holders) (place : L → LockerKind) (cells :
           -- it is in use
           used_line : r ≡ lent.InUse → HasStepped held place cells h old (step_of p (lending c l)) (record { answer = answer.Refused refused.InUse; given = given.Nobody }) new
           used_line q =
-              stepped held place cells h old new (step_of p (lending c l)) is.next _ m (refused_stays cells h p (lending c l) refused.InUse given.Nobody) (subst (λ (z : Lent). Rests held place (lent_in c l z m) new) q rests) all_kept
+              stepped is.next _ m (refused_stays cells h p (lending c l) refused.InUse given.Nobody) (subst (λ (z : Lent). Rests held place (lent_in c l z m) new) q rests) all_kept
               (legal_refused cells h (step_of p (lending c l)) refused.InUse (refusal_used true (ap was_used (sym q) ∙ k.used)))
 
           -- it is not
           free_line : was_used r ≡ false → HasStepped held place cells h old (step_of p (lending c l)) (record { answer = answer_of r; given = given.Nobody }) new
           free_line free =
-              stepped held place cells h old new (step_of p (lending c l)) is.next _ (lent_in c l r m) (lent_at_once cells h p is.awake c l r agrees free fine) rests all_kept
-              (legal_last cells h (step_of p (lending c l)) (answer_of r) given.Nobody (refusal_used false (sym free ∙ k.used)) (due_lending (other_waits cells h (step_of p (lending c l))) ∙ ap (λ o. answer_due (cell_at cells c) l o (replay cells c h)) agrees ∙ k.due free) refl)
+              ended_so is (refusal_used false (sym free ∙ k.used)) (answer_of r) given.Nobody (due_lending (other_waits cells h (step_of p (lending c l))) ∙ ap (λ o. answer_due (cell_at cells c) l o (replay cells c h)) agrees ∙ k.due free) _ refl all_kept
+              (lent_in c l r m) (lent_at_once cells h p is.awake c l r agrees free fine) rests refl
             where
               agrees : accepts h ≡ (registry cells h).is_open
               agrees = sym (open-accepts cells h is.next.follows.legal)

@@ -3,8 +3,6 @@ pub mod Words
 -- What rows that stand for something tell of the holds of a cell
 pub mod Exclusive
 -- From one move to the next, and to the longer history
-pub mod Keeping
-pub mod Pushing
 pub mod Stepping
 -- What stands open after an attempt
 pub mod Trying

@@ -9,7 +9,7 @@ use Rattle.phase_acts.proofs.Words.{subst, sym, Taken, takes_write, Target, Tell
 use Rattle.phase_acts.proofs.Words.{wants_to_write, without_wait, writer_asked, writes_on, ℕ}
 use Rattle.exit_registry.specs.declared.turns.Turn.TheVariants as turn
 use Rattle.phase_locker.specs.declared.ways.Given.TheVariants as given
-use Rattle.schedule_rules.specs.declared.form.Form.TheVariants.{Told, Shown, Held}
+use Rattle.schedule_rules.specs.declared.form.Form.TheVariants.{Told, Held}
 use Rattle.schedule_rules.specs.declared.line.Answer.TheVariants as answer
 use Rattle.phase_moves.specs.declared.rows.Taken.TheVariants as taken
 use Rattle.phase_moves.specs.Meets.{GivesDown}

@@ -81,7 +81,6 @@ pub use Rattle.phase_moves.proofs.Hand.{left_empty, pushed_free, read_row, write
 pub use Rattle.phase_moves.proofs.Histories.{clone_barred, clone_beside, downgrade_read, exit_looks, final_ended, lent_at_once, look_stays, made_failed, made_read, made_shown}
 pub use Rattle.phase_moves.proofs.Histories.{made_told, made_write, refused_stays, release_left, set_puts, writer_left}
 pub use Rattle.phase_moves.proofs.Places.{read_at}
-pub use Rattle.phase_acts.specs.Settles.{answer_settled, answer_tried, GivesSettled, GivesWritten, IsSettled, IsSettling, read_kept, reads_on, settled, unlocked, write_kept}
-pub use Rattle.phase_acts.specs.Settles.{writes_on}
+pub use Rattle.phase_acts.specs.Settles.{answer_settled, answer_tried, GivesSettled, IsSettled, IsSettling, reads_on, settled, unlocked, writes_on}
 pub use Rattle.phase_acts.specs.Steps.{answer_back, given_first, HasStepped, IsAwake, IsNext, outcome, step_of}
 pub use Rattle.phase_acts.specs.Tries.{IsTaking, IsTried, IsTrying, MayTry, Tries}

@@ -1,4 +1,4 @@
-use Rattle.phase_moves.specs.Histories.{standing}
+use Rattle.phase_acts.proofs.Words.{standing}
 use Rattle.phase_acts.proofs.Calling.{call_allowed, call_not_had, call_not_owner}
 use Rattle.phase_acts.proofs.Causes.{call_trying, call_steps}
 use Rattle.phase_acts.proofs.machine.Machine.call.Goals as goal

@@ -1,4 +1,4 @@
-use Rattle.std.proofs.Common.{◌∙◌, sym, ap}
+use Rattle.phase_acts.proofs.Words.{◌∙◌, ap, sym}
 use Rattle.phase_locker.specs.declared.ways.Given.TheVariants as given
 use Rattle.phase_acts.proofs.Exiting.{exit_begun, exit_inside, may_turn, did_turn, may_look, did_look}
 use Rattle.phase_acts.proofs.machine.Machine.exit.Goals as goal

@@ -1,4 +1,4 @@
-use Rattle.std.proofs.Common.{◌∙◌, ap}
+use Rattle.phase_acts.proofs.Words.{◌∙◌, ap}
 use Rattle.phase_locker.specs.declared.ways.Given.TheVariants as given
 use Rattle.phase_acts.proofs.Lending.{did_lend, lend_not_had, lend_not_owner, may_lend}
 use Rattle.phase_acts.proofs.machine.Machine.lend.Goals as goal

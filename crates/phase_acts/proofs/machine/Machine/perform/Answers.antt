@@ -1,4 +1,4 @@
-use Rattle.phase_moves.specs.Histories.{standing}
+use Rattle.phase_acts.proofs.Words.{standing}
 use Rattle.phase_acts.proofs.Performing.{awake, waits_refused, may_go_on, went_on}
 use Rattle.phase_acts.proofs.machine.Machine.perform.Goals as goal
 

@@ -2,4 +2,4 @@ use Rattle.phase_acts.proofs.Stepping.{refused}
 use Rattle.phase_acts.proofs.machine.Machine.refuse.Goals as goal
 
 pub returns : goal.returns
-returns g c = λ cells h s n some. refused g.L.PhaseLocker.held g.L.PhaseLocker.place cells h c.args.self.now.rows _ s n c.args.refusal c.end_step.result c.end_step.ensures.line c.end_step.ensures.pushes c.end_step.ensures.kept some
+returns g c = λ cells h s n some. refused n c.args.refusal c.end_step.result c.end_step.ensures.line c.end_step.ensures.pushes c.end_step.ensures.kept some

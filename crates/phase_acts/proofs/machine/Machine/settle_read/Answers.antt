@@ -1,4 +1,4 @@
-use Rattle.std.proofs.Common.{◌<◌, ◌∙◌, length, sym, ap, arith}
+use Rattle.phase_acts.proofs.Words.{◌<◌, ◌∙◌, ap, arith, length, sym}
 use Rattle.phase_acts.proofs.Settling.{may_give_read, keeps_read, leaves_read}
 use Rattle.phase_acts.proofs.machine.Machine.settle_read.Goals as goal
 

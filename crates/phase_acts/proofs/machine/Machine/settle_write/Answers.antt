@@ -1,4 +1,4 @@
-use Rattle.std.proofs.Common.{◌<◌, ◌∙◌, length, sym, ap, arith}
+use Rattle.phase_acts.proofs.Words.{◌<◌, ◌∙◌, ap, arith, length, sym}
 use Rattle.phase_acts.proofs.Settling.{may_give_write, may_read_on, keeps_write, leaves_write, reads_write}
 use Rattle.phase_acts.proofs.machine.Machine.settle_write.Goals as goal
 

@@ -1,4 +1,4 @@
-use Rattle.phase_acts.proofs.Keeping.{guards_with, guards_room}
+use Rattle.phase_acts.proofs.Stepping.{guards_with, guards_room}
 use Rattle.phase_acts.proofs.Taking.{is_settling, is_tried}
 use Rattle.phase_acts.proofs.machine.Machine.tries.Goals as goal
 
@@ -9,7 +9,7 @@ settle-requires g c =
     record {
       m = c.requires.m;
       is = is_settling g.L.PhaseLocker.held g.L.PhaseLocker.place c.requires.m c.args.self.now.rows c.attempt-taken.new.self c.args.party c.args.target c.args.waits c.attempt-taken.result.0 c.attempt-taken.result.1 c.requires.is k r.kept;
-      room = guards_room c.args.self.now.rows c.attempt-taken.new.self c.attempt-taken.new.self r.kept c.requires.room;
+      room = guards_room r.kept c.requires.room;
     }
 
 pub returns-clause-tries : goal.returns-clause-tries
@@ -19,4 +19,4 @@ returns-clause-tries g c = λ m is.
     is_tried g.L.PhaseLocker.held g.L.PhaseLocker.place m c.args.self.now.rows c.attempt-taken.new.self c.args.party c.args.target c.args.waits c.attempt-taken.result.0 c.attempt-taken.result.1 is k r.kept c.settle.result c.settle.new.self.rows (c.settle.ensures.settles m (is_settling g.L.PhaseLocker.held g.L.PhaseLocker.place m c.args.self.now.rows c.attempt-taken.new.self c.args.party c.args.target c.args.waits c.attempt-taken.result.0 c.attempt-taken.result.1 is k r.kept))
 
 pub returns-clause-kept : goal.returns-clause-kept
-returns-clause-kept g c = guards_with c.args.self.now.rows c.attempt-taken.new.self _ 1 c.attempt-taken.ensures.kept c.settle.ensures.kept
+returns-clause-kept g c = guards_with c.attempt-taken.ensures.kept c.settle.ensures.kept
