@@ -11,7 +11,7 @@ use Rattle.phase_acts.proofs.Tried.{after_tried}
 use Rattle.phase_acts.proofs.TriedLegal.{legal_tried, gift_reaches}
 use Rattle.phase_acts.proofs.Trying.{IsAttempt, standing_at}
 
-module _ {L : Type 0} (held : L → Holders) (place : L → LockerKind) (cells : List CellPlan) (h : List Event) (old new : Rows L) (p : ℕ) (a : Act) (c : ℕ) (w : Want) (r : Registry) (o : Option ℕ) (k : IsAttempt cells h p a c w r o) (next : IsNext held place cells h old (step_of p a)) (free : refusal cells h (step_of p a) ≡ None) (accepted : accepts h ≡ r.is_open) (same : (j : Call) → w ≡ Calls j → r ≡ registry cells h) where
+module _ {L : Type 0} {held : L → Holders} {place : L → LockerKind} {cells : List CellPlan} {h : List Event} {old new : Rows L} {p : ℕ} {a : Act} (c : ℕ) (w : Want) (r : Registry) (o : Option ℕ) (k : IsAttempt cells h p a c w r o) (next : IsNext held place cells h old (step_of p a)) (free : refusal cells h (step_of p a) ≡ None) (accepted : accepts h ≡ r.is_open) (same : (j : Call) → w ≡ Calls j → r ≡ registry cells h) where
   -- it was tried: the rows follow the step
   pub tried_steps : (l : Line) → IsTried held place (length old.guards.items) (standing_at cells h r o) p (record { cell = c; want = w }) l new → KeptWith 1 old new → (IsLegalLine cells h (step_of p a) l → l.answer ≡ answer.Cyclic → wait_of p (waits cells h) ≡ None) → HasStepped held place cells h old (step_of p a) l new
   tried_steps l tried kept alone = subst (λ x. HasStepped held place cells h old (step_of p a) x new) (sym s.line) (stepped next line _ (after_tried cells h p a c w r o k accepted same tried.first s.last (gift_reaches cells h p a c w r o k accepted same free tried.taken tried.first s.last taking.told taking.met gives) tried.taken taking.met.wanted gives turned) s.rests kept legal)

@@ -1,8 +1,9 @@
 -- The holds of a cell exclude each other, where rows stand for what stands open.
-use Rattle.phase_acts.proofs.Words.{[], ◌+◌, ◌<◌, ◌==◌, ◌∙◌, ◌∷◌, ◌≡◌, ◌≤◌, AreInside, arith, Bool, cases_lt, CellPlan, CellRow, claims, claims_shown, cond, count, count_rows}
-use Rattle.phase_acts.proofs.Words.{drains, drains_at, drains_on, Event, false, found_counts, found_passes, Guard, Holders, How, if◌then◌else◌, inl, inr, is_drain, is_read_share}
-use Rattle.phase_acts.proofs.Words.{is_write_share, IsExclusive, IsLocked, length, List, LockerKind, most_readers, reads_cell, reads_in, refl, Rows, runs_in, Section, shares_read}
-use Rattle.phase_acts.proofs.Words.{shares_shown, shares_write, slice_get, Some, Standing, standing, Stands, subst, true, Wait, Want, writes_cell, writes_in, ℕ}
+use Rattle.phase_acts.proofs.Words.{[], ◌+◌, ◌<◌, ◌==◌, ◌∙◌, ◌∷◌, ◌≡◌, ◌≤◌, AreInside, arith, Bool, cases_lt, CellPlan, CellRow, claims, claims_shown, count, count_rows, drains}
+use Rattle.phase_acts.proofs.Words.{drains_at, drains_on, Event, false, found_passes, Guard, Holders, How, if◌then◌else◌, inl, inr, is_drain, is_read_share, is_write_share}
+use Rattle.phase_acts.proofs.Words.{IsExclusive, IsLocked, length, List, LockerKind, most_readers, None, Option, reads_cell, reads_in, refl, Rows, runs_in, Section, shares_read}
+use Rattle.phase_acts.proofs.Words.{shares_shown, shares_write, slice_get, Some, Standing, standing, Stands, true, Wait, Want, writes_cell, writes_in, ℕ}
+use Rattle.schedule_rules.proofs.Found.{none_counted, only_one}
 use Rattle.std.proofs.lemmas.Option.{slice_get_cases}
 use Rattle.std.specs.List.{find}
 use Rattle.phase_locker.specs.declared.ways.How.TheVariants as how
@@ -20,31 +21,15 @@ pub record Excludes (m : Standing) (c : ℕ) : Type 0 where
 
 -- what can be found by its number is on a known cell: nothing passes a test of a cell beyond
 none_beyond : {X : Type 0} (number cell : X → ℕ) (n c : ℕ) (f : X → Bool) (xs : List X) → ((x : X) → f x ≡ true → cell x ≡ c) → n ≤ c → ((g : ℕ) → count (λ x. number x == g) xs ≤ 1) → ((g : ℕ) (x : X) → find (λ x. number x == g) xs ≡ Some x → cell x < n) → count f xs ≡ 0
-none_beyond number cell n c f [] at beyond once inside = refl
-none_beyond number cell n c f (x ∷ xs) at beyond once inside = by (f x) refl (none_beyond number cell n c f xs at beyond less rest)
+none_beyond {X = X} number cell n c f xs at beyond once inside = none_counted f xs (by (find f xs) refl)
   where
-    here : find (λ y. number y == number x) (x ∷ xs) ≡ Some x
-    here = let e : (number x == number x) ≡ true = grind arith in rw e refl
-
-    lt : cell x < n
-    lt = inside (number x) x here
-
-    less : (g : ℕ) → count (λ y. number y == g) xs ≤ 1
-    less g = let k = once g in grind (arith, k)
-
-    rest : (g : ℕ) (y : _) → find (λ y. number y == g) xs ≡ Some y → cell y < n
-    rest g y e = other (number x == g) refl
-      where
-        other : (b : Bool) → (number x == g) ≡ b → cell y < n
-        other false q = inside g y (rw q e)
-        other true q = let some = found_counts (λ y. number y == g) (λ y. number y == g) xs y e (passes y e) in let k : cond true (count (λ y. number y == g) xs + 1) (count (λ y. number y == g) xs) ≤ 1 = subst (λ b. cond b (count (λ y. number y == g) xs + 1) (count (λ y. number y == g) xs) ≤ 1) q (once g) in absurd (omega (arith, some, k))
-          where
-            passes : (y : _) → find (λ y. number y == g) xs ≡ Some y → (number y == g) ≡ true
-            passes y e = found_passes (λ y. number y == g) xs y e
-
-    by : (b : Bool) → f x ≡ b → count f xs ≡ 0 → count f (x ∷ xs) ≡ 0
-    by true e r = let q = at x e in absurd (omega (arith, q, beyond, lt))
-    by false e r = rw (e, r) refl
+    by : (o : Option X) → find f xs ≡ o → find f xs ≡ None
+    by None e = e
+    by (Some x) e =
+        let same : (number x == number x) ≡ true = grind arith in
+        let q = at x (found_passes f xs x e) in
+        let lt = inside (number x) x (only_one f (λ y. number y == number x) xs x e same (once (number x))) in
+        absurd (omega (arith, q, beyond, lt))
 
 -- what passes a test of a cell is there
 if_at : (b : Bool) (d c : ℕ) → (if b then (d == c) else false) ≡ true → d ≡ c
@@ -57,18 +42,6 @@ reader_at c x e = by x.writes e
     by : (b : Bool) → (if b then false else (x.cell == c)) ≡ true → x.cell ≡ c
     by true e = absurd (cc)
     by false e = grind (arith, e)
-
-writer_at : (c : ℕ) (x : Guard) → writes_cell c x ≡ true → x.cell ≡ c
-writer_at c x e = if_at x.writes x.cell c e
-
-sharer_at : (c : ℕ) (w : Wait) → shares_read c w ≡ true → w.cell ≡ c
-sharer_at c w e = if_at (is_read_share w.way w.woken) w.cell c e
-
-claimer_at : (c : ℕ) (w : Wait) → shares_write c w ≡ true → w.cell ≡ c
-claimer_at c w e = if_at (is_write_share w.way w.woken) w.cell c e
-
-drainer_at : (c : ℕ) (w : Wait) → drains_on c w ≡ true → w.cell ≡ c
-drainer_at c w e = if_at (is_drain w.way) w.cell c e
 
 -- sections are in known cells
 no_run_beyond : (n c : ℕ) (ss : List Section) → n ≤ c → AreInside n ss → count (runs_in c) ss ≡ 0
@@ -85,12 +58,9 @@ row_drains : (c : ℕ) (w : Wait) → drains_at c (wait_row (Some w)) ≡ drains
 row_drains c w = by w.party w.cell w.want w.way w.woken
   where
     by : (p x : ℕ) (want : Want) (way : How) (woken : Bool) → drains_at c (wait_row (Some (record { party = p; cell = x; want = want; way = way; woken = woken }))) ≡ drains_on c (record { party = p; cell = x; want = want; way = way; woken = woken })
-    by p x want how.Spin woken = refl
     by p x want how.ParkedRead true = refl
-    by p x want how.ParkedRead false = refl
     by p x want how.ParkedWrite true = refl
-    by p x want how.ParkedWrite false = refl
-    by p x want how.Drain woken = refl
+    by p x want way woken = refl
 
 module _ (c : ℕ) (ws : List Wait) (s : Parking) (single : IsSingle ws) (shows : Shows ws s) where
   pub drains_shown : drains s c ≡ count (drains_on c) ws
@@ -168,11 +138,11 @@ module _ {L : Type 0} (held : L → Holders) (place : L → LockerKind) (hand : 
   beyond : length v.cells.items ≤ c → Excludes m c
   beyond le =
       let reads = no_guard (reads_cell c) (λ x. reader_at c x) le in
-      let writes = no_guard (writes_cell c) (λ x. writer_at c x) le in
+      let writes = no_guard (writes_cell c) (λ x. if_at x.writes x.cell c) le in
       let runs = no_run_beyond (length v.cells.items) c m.sections le t.sections in
-      let shared = no_wait (shares_read c) (λ x. sharer_at c x) le in
-      let claimed = no_wait (shares_write c) (λ x. claimer_at c x) le in
-      let drained = no_wait (drains_on c) (λ x. drainer_at c x) le in
+      let shared = no_wait (shares_read c) (λ x. if_at (is_read_share x.way x.woken) x.cell c) le in
+      let claimed = no_wait (shares_write c) (λ x. if_at (is_write_share x.way x.woken) x.cell c) le in
+      let drained = no_wait (drains_on c) (λ x. if_at (is_drain x.way) x.cell c) le in
       record {
         one_writer = omega (arith, writes, runs, claimed);
         no_reader = λ some. omega (arith, reads, shared);

@@ -11,7 +11,7 @@ refusal_other : (a : Act) → a ≢ act.Again → refusal_waiting a ≡ Some ref
 refusal_other act.Again ne = absurd (ne refl)
 refusal_other a ne = refl
 
-module _ {L : Type 0} (held : L → Holders) (place : L → LockerKind) (cells : List CellPlan) (h : List Event) (old : Rows L) (s : Step) (next : IsNext held place cells h old s) (r : Option Target) (tells : AwaitsBy held place old s.party r) where
+module _ {L : Type 0} {held : L → Holders} {place : L → LockerKind} {cells : List CellPlan} {h : List Event} {old : Rows L} {s : Step} (next : IsNext held place cells h old s) (r : Option Target) (tells : AwaitsBy held place old s.party r) where
   told : r ≡ target_of (wait_of s.party (waits cells h))
   told = tells (length old.guards.items) (standing cells h) next.follows.rests.stands next.known.party
 
@@ -34,15 +34,11 @@ module _ {L : Type 0} (held : L → Holders) (place : L → LockerKind) (cells :
 
     -- it goes on
     module _ (goes_on : s.act ≡ act.Again) where
-      step_is : s ≡ step_of s.party act.Again
-      step_is = λ i. record { party = s.party; act = goes_on i }
-
       next_is : IsNext held place cells h old (step_of s.party act.Again)
-      next_is = subst (IsNext held place cells h old) step_is next
+      next_is = subst (λ a. IsNext held place cells h old (step_of s.party a)) goes_on next
 
       pub may_go_on : IsTrying held place (standing cells h) old s.party t true
-      may_go_on = again_trying held place cells h old s.party t next_is (sym told ∙ some)
+      may_go_on = again_trying t next_is (sym told ∙ some)
 
       pub went_on : (l : Line) (new : Rows L) → IsTried held place (length old.guards.items) (standing cells h) s.party t l new → KeptWith 1 old new → HasStepped held place cells h old s l new
-      went_on l new tried kept =
-          subst (λ x. HasStepped held place cells h old x l new) (sym step_is) (again_steps held place cells h old s.party t next_is (sym told ∙ some) l new tried kept)
+      went_on l new tried kept = subst (λ a. HasStepped held place cells h old (step_of s.party a) l new) (sym goes_on) (again_steps t next_is (sym told ∙ some) l tried kept)

@@ -1,7 +1,7 @@
 -- The words of the definitions that these proofs speak of, from where they are defined.
 pub use Rattle.std.specs.declared.option.Option.{Option}
-pub use Rattle.std.proofs.Common.{[], ◌&&◌, ◌++◌, ◌+◌, ◌<◌, ◌==◌, ◌||◌, ◌∙◌, ◌∷◌, ◌≡◌, ◌≢◌, ◌≤◌, ◌⊎◌, ap, arith, Bool, cond, false, get_or, inl, inr, length, List, None, not, refl}
-pub use Rattle.std.proofs.Common.{Some, subst, sym, true, ℕ}
+pub use Rattle.std.proofs.Common.{[], ◌&&◌, ◌++◌, ◌+◌, ◌<◌, ◌==◌, ◌||◌, ◌∙◌, ◌∷◌, ◌≡◌, ◌≢◌, ◌≤◌, ◌⊎◌, ap, arith, Bool, false, get_or, inl, inr, length, List, None, not, refl, Some}
+pub use Rattle.std.proofs.Common.{subst, sym, true, ℕ}
 pub use Rattle.std.proofs.lemmas.Bool.{cases_lt, or_right}
 pub use Rattle.std.specs.Option.{unwrap_or}
 pub use Rattle.std.specs.Prelude.{if◌then◌else◌, is_none, is_some, IsTrue, MatchBool, nat_lt, slice_get, vec_capacity}
