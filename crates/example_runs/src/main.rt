@@ -6,7 +6,7 @@ use std::rt::Files;
 use std::{fs, io};
 
 /// The examples, by the names of their files.
-const NAMES: [&str; 18] = [
+const NAMES: [&str; 23] = [
     "first",
     "readers_and_a_writer",
     "nested_generators",
@@ -25,6 +25,11 @@ const NAMES: [&str; 18] = [
     "own_cells",
     "calls_that_do_not_wait",
     "a_value_lent",
+    "answers_of_each_kind",
+    "parked_readers_and_writers",
+    "values_lent_in_turn",
+    "a_finalizer_that_waits",
+    "turns_latest_first",
 ];
 
 /// More bytes than any of their transcripts has.

@@ -1,5 +1,5 @@
 -- The line of an attempt is legal.
-use Rattle.phase_acts.proofs.Words.{[], ◌&&◌, ◌==◌, ◌∙◌, ◌∷◌, ◌≡◌, ◌≢◌, accepts, Act, answer_at, answer_denied, answer_missed, answer_of, answer_of_attempt, answer_running}
+use Rattle.phase_acts.proofs.Words.{unlocked, [], ◌&&◌, ◌==◌, ◌∙◌, ◌∷◌, ◌≡◌, ◌≢◌, accepts, Act, answer_at, answer_denied, answer_missed, answer_of, answer_of_attempt, answer_running}
 use Rattle.phase_acts.proofs.Words.{answer_settled, answer_tried, answered, ap, asks_to_read, attempt, Bool, Call, Calls, cell_at, CellPlan, changes_at, content_tried, downgraded}
 use Rattle.phase_acts.proofs.Words.{downgrades, due_answer, due_at, due_tried, Event, event, falls_back, false, First, Form, form_of, Given, given_concerned, given_first, given_on}
 use Rattle.phase_acts.proofs.Words.{GivesFirst, GivesLast, GivesSettled, if◌then◌else◌, is_accessible, is_to_read, IsCallOf, IsDown, IsGift, IsLegalLine, IsMet, IsOf, IsTrue}
@@ -70,61 +70,48 @@ module _ (cells : List CellPlan) (h : List Event) (p : ℕ) (a : Act) (c : ℕ) 
       ap (λ x. may_give_last cells h (step_of p a) x given.Readers) (answer_call cells h p a c w r o k accepted same j calls ∙ ap (λ b. answer_at (form_of (cell_at cells c).kind j) b (content_tried c w m)) f.lacks)
       ∙ gave_readers cells h p a (answer_denied (form_of (cell_at cells c).kind j) (content_tried c w m).phase) c k.concerned f.reaching.parks f.reaching.reach (downs j calls is f.wrote (form_of (cell_at cells c).kind j) is)
 
-  -- what a call gave whose section was given back at once
-  gave_back : (q : Phase) (g : Given) (v : Want) → w ≡ v → IsUnlocked (cell_at cells c).kind v → MayGive c (answered p c given.Nobody (changes_at c w m) m) g → may_give_last cells h (step_of p a) (answer_tried c w m) g ≡ true
-  gave_back q g (Calls j) calls of gift =
-      ap (λ x. may_give_last cells h (step_of p a) x g) (answer_call cells h p a c w r o k accepted same j calls)
-      ∙ gave_freed cells h p a (answer_at (form_of (cell_at cells c).kind j) (is_accessible (cell_at cells c).kind (content_tried c w m).phase) (content_tried c w m)) c k.concerned g
-      (subst (λ z. MayGive c z g) (sym left_so) gift) (ap (λ (z : Standing). z.waits) left_so)
+  -- it may give nothing as it gives its lock back
+  none_settled : (g : Given) (b : Taken) → GivesSettled n p c w g given.Nobody b m
+  none_settled g (taken.Read l q) = by (reads_on (answer_tried c w m))
     where
-      left_so : standing cells (event p a (record { answer = answer_at (form_of (cell_at cells c).kind j) (is_accessible (cell_at cells c).kind (content_tried c w m).phase) (content_tried c w m); given = given.Nobody }) ∷ h) ≡ answered p c given.Nobody (changes_at c w m) m
-      left_so = nothing_left cells h p a c w r o k accepted same j calls (form_of (cell_at cells c).kind j) (is_accessible (cell_at cells c).kind (content_tried c w m).phase) refl of given.Nobody
-  gave_back q g Turns turns of gift = by g (skipped gift)
+      by : (z : Bool) → MatchBool z (given.Nobody ≡ given.Nobody) (MayGive c (left (reader n p c) given.Nobody (took n p c w g (taken.Read l q) m)) given.Nobody)
+      by true = refl
+      by false = tt
+  none_settled g (taken.Write l q) = by (writes_on (answer_tried c w m)) (reads_on (answer_tried c w m))
     where
-      skipped : MayGive c (answered p c given.Nobody (changes_at c w m) m) g → MayGive c (answered p c given.Nobody [] m) g
-      skipped = subst (λ v. MayGive c (answered p c given.Nobody (changes_at c v m) m) g) turns
+      by : (z u : Bool) → MatchBool z (given.Nobody ≡ given.Nobody) (MatchBool u (MayGiveDown c (took n p c w g (taken.Write l q) m) given.Nobody) (MayGive c (left (writer_asked n p c (changes_at c w m)) given.Nobody (took n p c w g (taken.Write l q) m)) given.Nobody))
+      by true u = refl
+      by false true = tt
+      by false false = tt
+  none_settled g b = refl
 
-      by : (z : Given) → MayGive c (answered p c given.Nobody [] m) z → may_give_last cells h (step_of p a) (answer_tried c w m) z ≡ true
-      by z gift =
-          ap (λ v. may_give_last cells h (step_of p a) (answer_tried c v m) z) turns
-          ∙ gave_freed cells h p a (answer.Skipped c) c k.concerned z (again z gift) (ap (λ (x : Standing). x.waits) skips)
-        where
-          skips : standing cells (event p a (record { answer = answer.Skipped c; given = given.Nobody }) ∷ h) ≡ turn_ended c turn.Skipped (took n p c w given.Nobody (taken.Nothing q) m)
-          skips = try_skips cells h p a c w r o k turns q given.Nobody
+  -- what stands open where nothing is given
+  none_after : (g : Given) → g ≡ given.Nobody → (b : Taken) → IsOf p t g m b → (b ≡ taken.Cyclic → ⊥) → standing cells (event p a (record { answer = answer_settled c w b m; given = given.Nobody }) ∷ h) ≡ settled n p c w g given.Nobody b m
+  none_after g nobody b of ne =
+      ap (λ z. standing cells (event p a (record { answer = answer_settled c w b m; given = z }) ∷ h)) (sym nobody ∙ sym (first_alone g))
+      ∙ after_tried cells h p a c w r o k accepted same g given.Nobody (λ some. absurd (some nobody)) b of (none_settled g b) (λ e. absurd (ne e))
 
-          again : (z : Given) → MayGive c (answered p c given.Nobody [] m) z → MayGive c (standing cells (event p a (record { answer = answer.Skipped c; given = given.Nobody }) ∷ h)) z
-          again given.Nobody gift = tt
-          again z gift = subst (λ x. IsGift c x z) (sym skips) (record { parks = gift.parks; reach = gift.reach; free = gift.free })
+  -- nothing stands on the cell then
+  gave_at : (x : Standing) → standing cells (event p a (record { answer = answer_tried c w m; given = given.Nobody }) ∷ h) ≡ x → x.waits ≡ without_wait p (waits cells h) → (d : Given) → MayGive c x d → may_give_last cells h (step_of p a) (answer_tried c w m) d ≡ true
+  gave_at x is ws d gift = gave_freed cells h p a (answer_tried c w m) c k.concerned d (subst (λ z. MayGive c z d) (sym is) gift) (ap (λ (z : Standing). z.waits) is ∙ ws)
+
+  -- a call gave so whose section was given back at once, or a turn that was skipped
+  gave_back : (q : Phase) (g : Given) → IsUnlocked (cell_at cells c).kind w → MayGive c (answered p c given.Nobody (changes_at c w m) m) g → may_give_last cells h (step_of p a) (answer_tried c w m) g ≡ true
+  gave_back q g of gift = gave_at _ (none_after given.Nobody refl (taken.Nothing q) of (λ e. absurd (cc))) (same_waits w) g (may w g gift)
+    where
+      same_waits : (v : Want) → (unlocked c v (answered p c given.Nobody (changes_at c w m) m)).waits ≡ without_wait p (waits cells h)
+      same_waits (Calls j) = refl
+      same_waits Turns = refl
+
+      may : (v : Want) (g : Given) → MayGive c (answered p c given.Nobody (changes_at c w m) m) g → MayGive c (unlocked c v (answered p c given.Nobody (changes_at c w m) m)) g
+      may (Calls j) g gift = gift
+      may Turns given.Nobody gift = tt
+      may Turns g gift = record { parks = gift.parks; reach = gift.reach; free = gift.free }
 
   -- what it gave as it gave its lock back
   module _ (g d : Given) (nobody : g ≡ given.Nobody) where
-    -- it may give nothing
-    none_settled : (b : Taken) → GivesSettled n p c w g given.Nobody b m
-    none_settled (taken.Read l q) = by (reads_on (answer_tried c w m))
-      where
-        by : (z : Bool) → MatchBool z (given.Nobody ≡ given.Nobody) (MayGive c (left (reader n p c) given.Nobody (took n p c w g (taken.Read l q) m)) given.Nobody)
-        by true = refl
-        by false = tt
-    none_settled (taken.Write l q) = by (writes_on (answer_tried c w m)) (reads_on (answer_tried c w m))
-      where
-        by : (z u : Bool) → MatchBool z (given.Nobody ≡ given.Nobody) (MatchBool u (MayGiveDown c (took n p c w g (taken.Write l q) m) given.Nobody) (MayGive c (left (writer_asked n p c (changes_at c w m)) given.Nobody (took n p c w g (taken.Write l q) m)) given.Nobody))
-        by true u = refl
-        by false true = tt
-        by false false = tt
-    none_settled b = refl
-
-    -- what stands open where nothing is given
-    none_after : (b : Taken) → IsOf p t g m b → (b ≡ taken.Cyclic → ⊥) → standing cells (event p a (record { answer = answer_settled c w b m; given = given.Nobody }) ∷ h) ≡ settled n p c w g given.Nobody b m
-    none_after b of ne =
-        ap (λ z. standing cells (event p a (record { answer = answer_settled c w b m; given = z }) ∷ h)) (sym nobody ∙ sym (first_alone g))
-        ∙ after_tried cells h p a c w r o k accepted same g given.Nobody (λ some. absurd (some nobody)) b of (none_settled b) (λ e. absurd (ne e))
-
     others_then : given_on c g (without_wait p (waits cells h)) ≡ without_wait p (waits cells h)
     others_then = ap (λ z. given_on c z (without_wait p (waits cells h))) nobody
-
-    -- nothing stands on the cell then
-    gave_after : (x : Standing) → standing cells (event p a (record { answer = answer_tried c w m; given = given.Nobody }) ∷ h) ≡ x → x.waits ≡ given_on c g (without_wait p (waits cells h)) → MayGive c x d → may_give_last cells h (step_of p a) (answer_tried c w m) d ≡ true
-    gave_after x is ws gift = gave_freed cells h p a (answer_tried c w m) c k.concerned d (subst (λ z. MayGive c z d) (sym is) gift) (ap (λ (z : Standing). z.waits) is ∙ ws ∙ others_then)
 
     -- a section that reads on was made a read lock
     downs_write : (f : Form) (b : Bool) → takes_write f ≡ true → wants_to_write (wanted_in c w m) ≡ true → reads_on (answer_at f b (content_tried c w m)) ≡ true → downgrades cells h (step_of p a) (answer_at f b (content_tried c w m)) ≡ true
@@ -158,8 +145,8 @@ module _ (cells : List CellPlan) (h : List Event) (p : ℕ) (a : Act) (c : ℕ) 
         by : (b : Bool) → reads_on (answer_tried c w m) ≡ b → MatchBool b (d ≡ given.Nobody) (MayGive c (left (reader n p c) given.Nobody (took n p c w g (taken.Read l q) m)) d) → may_give_last cells h (step_of p a) (answer_tried c w m) d ≡ true
         by true reads e = ap (may_give_last cells h (step_of p a) (answer_tried c w m)) e
         by false lacks gift =
-            gave_after (left (reader n p c) given.Nobody (took n p c w g (taken.Read l q) m))
-            (none_after (taken.Read l q) of (λ e. absurd (cc)) ∙ ap (λ b. if b then took n p c w g (taken.Read l q) m else left (reader n p c) given.Nobody (took n p c w g (taken.Read l q) m)) lacks) refl gift
+            gave_at (left (reader n p c) given.Nobody (took n p c w g (taken.Read l q) m))
+            (none_after g nobody (taken.Read l q) of (λ e. absurd (cc)) ∙ ap (λ b. if b then took n p c w g (taken.Read l q) m else left (reader n p c) given.Nobody (took n p c w g (taken.Read l q) m)) lacks) others_then d gift
     gave_settled (taken.Write l q) of gives = by (writes_on (answer_tried c w m)) refl (reads_on (answer_tried c w m)) refl gives
       where
         by : (b : Bool) → writes_on (answer_tried c w m) ≡ b → (u : Bool) → reads_on (answer_tried c w m) ≡ u
@@ -173,10 +160,10 @@ module _ (cells : List CellPlan) (h : List Event) (p : ℕ) (a : Act) (c : ℕ) 
             as_down (given.Writer u) may = absurd may
             as_down given.Readers may = record { parks = may.parks; reach = may.reach }
         by false lacks false reads gift =
-            gave_after (left (writer_asked n p c (changes_at c w m)) given.Nobody (took n p c w g (taken.Write l q) m))
-            (none_after (taken.Write l q) of (λ e. absurd (cc))
+            gave_at (left (writer_asked n p c (changes_at c w m)) given.Nobody (took n p c w g (taken.Write l q) m))
+            (none_after g nobody (taken.Write l q) of (λ e. absurd (cc))
             ∙ ap (λ b. if b then took n p c w g (taken.Write l q) m else (if reads_on (answer_tried c w m) then downgraded n (writer_asked n p c (changes_at c w m)) given.Nobody (took n p c w g (taken.Write l q) m) else left (writer_asked n p c (changes_at c w m)) given.Nobody (took n p c w g (taken.Write l q) m))) lacks
-            ∙ ap (λ b. if b then downgraded n (writer_asked n p c (changes_at c w m)) given.Nobody (took n p c w g (taken.Write l q) m) else left (writer_asked n p c (changes_at c w m)) given.Nobody (took n p c w g (taken.Write l q) m)) reads) refl gift
+            ∙ ap (λ b. if b then downgraded n (writer_asked n p c (changes_at c w m)) given.Nobody (took n p c w g (taken.Write l q) m) else left (writer_asked n p c (changes_at c w m)) given.Nobody (took n p c w g (taken.Write l q) m)) reads) others_then d gift
     gave_settled taken.Runs of e = ap (may_give_last cells h (step_of p a) (answer_running c w)) e
 
   -- ---- the line
@@ -203,7 +190,7 @@ module _ (cells : List CellPlan) (h : List Event) (p : ℕ) (a : Act) (c : ℕ) 
 
     -- something was, for what the step gave back
     gave_late : (b : Taken) → IsOf p t g m b → (x : Given) → x ≢ given.Nobody → GivesLast p t b x m → may_give_last cells h (step_of p a) (answer_settled c w b m) x ≡ true
-    gave_late (taken.Nothing q) of x ne gift = gave_back q x w refl of gift
+    gave_late (taken.Nothing q) of x ne gift = gave_back q x of gift
     gave_late (taken.Read l q) of given.Readers ne gift = gave_down w refl of gift
     gave_late (taken.Read l q) of given.Nobody ne gift = absurd (ne refl)
     gave_late (taken.Read l q) of (given.Writer u) ne gift = absurd gift

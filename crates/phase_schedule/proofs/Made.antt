@@ -1,9 +1,8 @@
 -- Runs that have made a history, and engines.
 use Rattle.phase_schedule.proofs.Words.{[], ◌++◌, ◌+◌, ◌<◌, ◌∙◌, ◌∷◌, ◌≡◌, ◌≤◌, ap, AreFinals, arith, CanStep, cell_at, CellPlan, CellRow, common_steps, core, Ending, Ends, Event}
 use Rattle.phase_schedule.proofs.Words.{final_of_row, Follows, Frame, get_or, HasMade, history, Holders, IsStanding, kind_at, length, Line, List, LockerKind, NamesKnown, plans_of}
-use Rattle.phase_schedule.proofs.Words.{Progress, Rows, slice_get, slice_get-get_or, Some, Standing, standing, standing_of, Step, subst, sym, TellsKnown, told, vec_capacity, ℕ}
+use Rattle.phase_schedule.proofs.Words.{Progress, Rows, slice_get, slice_get-get_or, Some, Standing, standing_of, Step, subst, sym, TellsKnown, told, vec_capacity, ℕ}
 use Rattle.std.specs.Prelude.{map}
-use Rattle.phase_moves.specs.Closing.{CanClose}
 use Rattle.phase_schedule.specs.declared.engine.Engine.TheInside.{Inside}
 use Rattle.phase_schedule.specs.Inside.{frame_of}
 use Rattle.phase_schedule.proofs.Finals.{finals_are, finals_known}
@@ -32,10 +31,6 @@ module _ {L : Type 0} (held : L → Holders) (place : L → LockerKind) where
   -- the line that was told last tells a phase that is known
   pub told_known : (f : Frame) (h : List Event) (s : Step) (l : Line) (p : Progress L) → HasMade held place f (event s l ∷ h) p → TellsKnown l.answer
   told_known f h s l p made = line_known f.cells h s l made.follows.legal.0
-
-  -- its rows can be closed
-  pub can_close : (f : Frame) (h : List Event) (p : Progress L) → HasMade held place f h p → CanClose held place p.machine.rows
-  can_close f h p made = record { m = standing f.cells h; rests = made.follows.rests }
 
   -- its end
   pub ends : (f : Frame) (h : List Event) (p : Progress L) (e : Ending) → HasMade held place f h p → e.finals.items ≡ map (final_of_row held) p.machine.rows.cells.items → e.exits.items ≡ p.machine.rows.exit.turns.items → Ends f.cells h e

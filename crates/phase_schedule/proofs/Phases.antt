@@ -50,15 +50,13 @@ module _ (cells : List CellPlan) where
 
   -- the phase that is told is that of the content
   at_known : (f : Form) (accessible : Bool) (y : Content) → IsKnown (phase_of y.phase) → TellsKnown (answer_at f accessible y)
-  at_known (Told tests) true y known = known
-  at_known (Told true) false y known = known
-  at_known (Told false) false y known = known
   at_known Shown true y known = tt
-  at_known Shown false y known = known
   at_known (Held true falls_back) true y known = tt
   at_known (Held false falls_back) true y known = tt
   at_known (Held writes true) false y known = tt
-  at_known (Held writes false) false y known = known
+  at_known (Told true) true y known = known
+  at_known (Told false) true y known = known
+  at_known f accessible y known = known
 
   call_known : (q : Kind) (t : Tolerance) (is_open : Bool) (k : Call) (y : Content) → IsKnown (phase_of y.phase) → TellsKnown (call_answer_admitted q t is_open k y)
   call_known q t is_open k y known = by (begins_run q t is_open k y.phase)
@@ -73,18 +71,15 @@ module _ (cells : List CellPlan) where
 
   turn_known : (n : LockNature) (c : ℕ) → TellsKnown (turn_answer_admitted n c)
   turn_known nature.None c = tt
-  turn_known nature.Read c = tt
-  turn_known nature.Write c = tt
+  turn_known n c = tt
 
   admitted_known : (q : Kind) (t : Tolerance) (c : ℕ) (is_open : Bool) (w : Want) (y : Content) → IsKnown (phase_of y.phase) → TellsKnown (answer_admitted q t c is_open w y)
   admitted_known q t c is_open (Calls k) y known = call_known q t is_open k y known
   admitted_known q t c is_open Turns y known = turn_known (lock_wanted q t Turns y.phase) c
 
   barred_known : (fast : Bool) (x : Place) (way : How) → TellsKnown (answer_barred fast x way)
-  barred_known true x way = tt
   barred_known false place.Park way = tt
-  barred_known false place.Spin way = tt
-  barred_known false (place.Own p) way = tt
+  barred_known fast x way = tt
 
   attempt_known : (x : CellPlan) (w : Want) (m : Meeting) (chosen : Bool) → IsKnown (phase_of m.content.phase) → TellsKnown (answer_of_attempt x w m chosen)
   attempt_known x w m chosen known = by (initializes x.kind w && m.own_run) (not m.kept && is_barred (lock_wanted x.kind (tolerance_of x) w m.content.phase) m.holding)
@@ -107,9 +102,8 @@ module _ (cells : List CellPlan) where
 
   form_known : (f : Form) (v p : ℕ) → IsKnown (phase_of p) → TellsKnown (answer_made f v p)
   form_known (Told tests) v p known = known
-  form_known Shown v p known = tt
   form_known (Held true falls_back) v p known = tt
-  form_known (Held false falls_back) v p known = tt
+  form_known f v p known = tt
 
   made_known : (q : Kind) (w : Want) (v p : ℕ) → IsKnown (phase_of p) → TellsKnown (answer_of_made q w v p)
   made_known q (Calls k) v p known = form_known (form_of q k) v p known
@@ -151,17 +145,14 @@ module _ (cells : List CellPlan) where
   due_known h p (act.Call c k) ws chosen = tried_known h p (attempt cells h (record { party = p; act = act.Call c k })) ws chosen
   due_known h p act.Again ws chosen = tried_known h p (attempt cells h (record { party = p; act = act.Again })) ws chosen
   due_known h p (act.Made v) ws chosen = section_known h v (innermost p (sections h))
-  due_known h p act.MadeFailed ws chosen = tt
   due_known h p (act.Finished left) ws chosen = finished_known h true (innermost p (sections h))
   due_known h p (act.FinishFailed left) ws chosen = finished_known h false (innermost p (sections h))
   due_known h p (act.GetMut c made left) ws chosen = made_to_lend_known (cell_at cells c) (accepts h) made (replay cells c h) (published_known c h)
   due_known h p (act.TryGetMut c left) ws chosen = lent_known (cell_at cells c).kind (replay cells c h) (published_known c h)
   due_known h p act.Exit ws chosen = tried_known h p (attempt cells h (record { party = p; act = act.Exit })) ws chosen
   due_known h p (act.Look g) ws chosen = seen_known h (numbered g (guards h))
-  due_known h p (act.Set g v) ws chosen = tt
-  due_known h p (act.Release g) ws chosen = tt
-  due_known h p (act.Downgrade g) ws chosen = tt
   due_known h p (act.Clone g) ws chosen = clone_known h ws (numbered g (guards h))
+  due_known h p a ws chosen = tt
 
   -- a legal line tells no other phase
   pub line_known : (h : List Event) (s : Step) (l : Line) → IsLegalLine cells h s l → TellsKnown l.answer

@@ -11,10 +11,6 @@ use Rattle.phase_schedule.proofs.Told.{event, told_count, told_next, told_none}
 -- ---- a schedule that is run, with lines for its first steps
 
 module _ {L : Type 0} (held : L → Holders) (place : L → LockerKind) (x : Schedule) (lines : List Line) (p : Progress L) (made : progress.HasMade held place (frame_of x) (told [] x.steps lines) p) (few : length lines ≤ length x.steps) where
-  -- one row of guards for each line
-  pub count_is : length p.machine.rows.guards.items ≡ length lines
-  count_is = let all : length (told [] x.steps lines) ≡ 0 + length lines = told_count [] x.steps lines few in let rows : _ = made.follows.steps in omega (arith, all, rows)
-
   -- its next step can be made
   pub can_step : (s : Step) → IsValid x → slice_get x.steps (length lines) ≡ Some s → CanStep held place (frame_of x) (told [] x.steps lines) p s
   can_step s valid at =

@@ -17,9 +17,7 @@ known_step parties cells n s e = by (nat_lt s.party parties) (names_known_cell c
   where
     by : (b d : Bool) → nat_lt s.party parties ≡ b → names_known_cell cells s.act ≡ d → (if b then (if d then None else Some (error.UnknownCell n)) else Some (error.UnknownParty n)) ≡ None → NamesKnown parties cells s
     by true true p a q = record { party = grind arith; cell = grind arith }
-    by true false p a q = absurd (cc)
-    by false true p a q = absurd (cc)
-    by false false p a q = absurd (cc)
+    by b d p a q = absurd (cc)
 
 none_found : {X : Type 0} (look : ℕ → X → Option RunError) (P : X → Type 0) → ((n : ℕ) (x : X) → look n x ≡ None → P x) → (n : ℕ) (xs : List X) → first_found look n xs ≡ None → All P xs
 none_found look P each n [] e = All-nil P
@@ -39,11 +37,7 @@ shared_cell parties q place.Park t e = refl
 shared_cell parties q place.Spin t e = refl
 shared_cell parties kind.Lazy (place.Own p) t e = absurd cc
 shared_cell parties kind.LockedLazy (place.Own p) t e = absurd cc
-shared_cell parties kind.LazyFinalize (place.Own p) t e = absurd (grind arith)
-shared_cell parties kind.LockedLazyFinalize (place.Own p) t e = absurd (grind arith)
-shared_cell parties kind.LockedLazyDroped (place.Own p) t e = absurd (grind arith)
-shared_cell parties kind.PrimedLockedLazy (place.Own p) t e = absurd (grind arith)
-shared_cell parties kind.PrimedLockedLazyDroped (place.Own p) t e = absurd (grind arith)
+shared_cell parties q p t e = absurd (grind arith)
 
 -- no cell of a plan without a cause is finalized and belongs to a party, and none that no plan has
 pub shared : (parties : ℕ) (cells : List CellPlan) → cause_of_plan parties cells ≡ None → AreShared cells

@@ -8,8 +8,6 @@ mod cause;
 mod ending;
 mod engine;
 mod error;
-#[cfg(test)]
-mod exit_tests;
 mod progress;
 mod run;
 mod running;

@@ -48,20 +48,6 @@ pub fn made(party: u32, value: u64) -> Step {
     }
 }
 
-pub fn look(party: u32, guard: u32) -> Step {
-    Step {
-        party,
-        act: Act::Look { guard },
-    }
-}
-
-pub fn set(party: u32, guard: u32, value: u64) -> Step {
-    Step {
-        party,
-        act: Act::Set { guard, value },
-    }
-}
-
 pub fn release(party: u32, guard: u32) -> Step {
     Step {
         party,
@@ -69,28 +55,9 @@ pub fn release(party: u32, guard: u32) -> Step {
     }
 }
 
-pub fn made_failed(party: u32) -> Step {
-    let act = Act::MadeFailed;
-    Step { party, act }
-}
-
 pub fn again(party: u32) -> Step {
     let act = Act::Again;
     Step { party, act }
-}
-
-pub fn downgrade(party: u32, guard: u32) -> Step {
-    Step {
-        party,
-        act: Act::Downgrade { guard },
-    }
-}
-
-pub fn clone(party: u32, guard: u32) -> Step {
-    Step {
-        party,
-        act: Act::Clone { guard },
-    }
 }
 
 pub fn get_mut(party: u32, cell: u32, made: Option<u64>, left: u64) -> Step {
@@ -100,25 +67,8 @@ pub fn get_mut(party: u32, cell: u32, made: Option<u64>, left: u64) -> Step {
     }
 }
 
-pub fn try_get_mut(party: u32, cell: u32, left: u64) -> Step {
-    Step {
-        party,
-        act: Act::TryGetMut { cell, left },
-    }
-}
-
 pub fn exit(party: u32) -> Step {
     let act = Act::Exit;
-    Step { party, act }
-}
-
-pub fn finished(party: u32) -> Step {
-    let act = Act::Finished { left: None };
-    Step { party, act }
-}
-
-pub fn finish_failed(party: u32) -> Step {
-    let act = Act::FinishFailed { left: None };
     Step { party, act }
 }
 
@@ -128,11 +78,6 @@ pub fn left(phase: Phase, value: u64) -> Final {
         phase,
         value: Some(value),
     }
-}
-
-/// A cell that is left with this phase, and without a value.
-pub fn empty(phase: Phase) -> Final {
-    Final { phase, value: None }
 }
 
 /// A plan of cells whose calls wait so, and whose generators are run again after they failed.

@@ -1,4 +1,4 @@
-use Rattle.phase_schedule.proofs.Words.{◌≡◌, drop, first_found, length, misplaced_of}
+use Rattle.phase_schedule.proofs.Words.{◌≡◌, drop, first_found, misplaced_of}
 use Rattle.phase_schedule.proofs.cause.misplaced_cell.Given as goal
 
 abbrev pub invariant-loop-c : goal.invariant-loop-c

@@ -1,4 +1,4 @@
-use Rattle.std.proofs.Common.{sym, ◌∙◌}
+use Rattle.phase_schedule.proofs.Words.{◌∙◌, sym}
 use Rattle.phase_schedule.proofs.Unknown.{found, later, none}
 use Rattle.phase_schedule.proofs.cause.unknown_step.Goals as goal
 

@@ -1,4 +1,4 @@
-use Rattle.std.proofs.Common.{◌≡◌, length, take}
+use Rattle.phase_schedule.proofs.Words.{◌≡◌, length, take}
 use Rattle.phase_schedule.proofs.test_runs.run_steps.Given as goal
 
 abbrev pub invariant-loop-s : goal.invariant-loop-s

@@ -1,4 +1,4 @@
-use Rattle.std.proofs.Common.{◌≡◌, length}
+use Rattle.phase_schedule.proofs.Words.{◌≡◌, length}
 use Rattle.phase_schedule.proofs.test_runs.steps_of.Given as goal
 
 abbrev pub invariant-loop-step : goal.invariant-loop-step

@@ -1,4 +1,4 @@
-use Rattle.phase_schedule.specs.Running.{IsRun}
+use Rattle.phase_schedule.proofs.Words.{IsRun}
 use Rattle.phase_schedule.proofs.test_runs.tells.Given as goal
 
 abbrev pub invariant-loop-line : goal.invariant-loop-line
