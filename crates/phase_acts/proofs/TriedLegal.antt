@@ -1,13 +1,12 @@
 -- The line of an attempt is legal.
-use Rattle.phase_acts.proofs.Words.{unlocked, [], ◌&&◌, ◌==◌, ◌∙◌, ◌∷◌, ◌≡◌, ◌≢◌, accepts, Act, answer_at, answer_denied, answer_missed, answer_of, answer_of_attempt, answer_running}
+use Rattle.phase_acts.proofs.Words.{◌&&◌, ◌==◌, ◌∙◌, ◌∷◌, ◌≡◌, ◌≢◌, accepts, Act, answer_at, answer_denied, answer_missed, answer_of, answer_of_attempt, answer_running}
 use Rattle.phase_acts.proofs.Words.{answer_settled, answer_tried, answered, ap, asks_to_read, attempt, Bool, Call, Calls, cell_at, CellPlan, changes_at, content_tried, downgraded}
 use Rattle.phase_acts.proofs.Words.{downgrades, due_answer, due_at, due_tried, Event, event, falls_back, false, First, Form, form_of, Given, given_concerned, given_first, given_on}
-use Rattle.phase_acts.proofs.Words.{GivesFirst, GivesLast, GivesSettled, if◌then◌else◌, is_accessible, is_to_read, IsCallOf, IsDown, IsGift, IsLegalLine, IsMet, IsOf, IsTrue}
-use Rattle.phase_acts.proofs.Words.{IsUnlocked, Last, left, length, Line, List, MatchBool, may_give, may_give_first, may_give_last, MayGive, MayGiveAt, MayGiveDown, meeting, meets}
-use Rattle.phase_acts.proofs.Words.{Moment, None, Option, Phase, phase_asked, reaches, reader, reads_on, refl, refusal, Registry, registry, settled, Standing, standing, step_of}
-use Rattle.phase_acts.proofs.Words.{subst, sym, Taken, takes_write, Target, TellsPhase, took, true, turn_ended, Turns, turns_back, Wait, waits, waits_at, Want, wanted_in}
-use Rattle.phase_acts.proofs.Words.{wants_to_write, without_wait, writer_asked, writes_on, ℕ}
-use Rattle.exit_registry.specs.declared.turns.Turn.TheVariants as turn
+use Rattle.phase_acts.proofs.Words.{GivesFirst, GivesLast, GivesSettled, if◌then◌else◌, is_accessible, is_to_read, IsCallOf, IsDown, IsLegalLine, IsMet, IsOf, IsTrue, IsUnlocked}
+use Rattle.phase_acts.proofs.Words.{Last, left, length, Line, List, MatchBool, may_give, may_give_first, may_give_last, MayGive, MayGiveAt, MayGiveDown, meeting, meets, Moment}
+use Rattle.phase_acts.proofs.Words.{None, Option, Phase, phase_asked, reaches, reader, reads_on, refl, refusal, Registry, registry, settled, Standing, standing, step_of, subst}
+use Rattle.phase_acts.proofs.Words.{sym, Taken, takes_write, Target, TellsPhase, took, true, Turns, turns_back, unlocked, Wait, waits, waits_at, Want, wanted_in, wants_to_write}
+use Rattle.phase_acts.proofs.Words.{without_wait, writer_asked, writes_on, ℕ}
 use Rattle.phase_locker.specs.declared.ways.Given.TheVariants as given
 use Rattle.schedule_rules.specs.declared.form.Form.TheVariants.{Told, Held}
 use Rattle.schedule_rules.specs.declared.line.Answer.TheVariants as answer
@@ -15,8 +14,8 @@ use Rattle.phase_moves.specs.declared.rows.Taken.TheVariants as taken
 use Rattle.phase_moves.specs.Meets.{GivesDown}
 use Rattle.phase_acts.proofs.Lines.{gave_freed, gave_readers}
 use Rattle.phase_acts.proofs.Settling.{first_alone}
-use Rattle.phase_acts.proofs.Tried.{after_tried, answer_call, last_none, nothing_left}
-use Rattle.phase_acts.proofs.Trying.{IsAttempt, standing_at, try_skips}
+use Rattle.phase_acts.proofs.Tried.{after_tried, answer_call, last_none}
+use Rattle.phase_acts.proofs.Trying.{IsAttempt, standing_at}
 
 module _ (cells : List CellPlan) (h : List Event) (p : ℕ) (a : Act) (c : ℕ) (w : Want) (r : Registry) (o : Option ℕ) (k : IsAttempt cells h p a c w r o) (accepted : accepts h ≡ r.is_open) (same : (j : Call) → w ≡ Calls j → r ≡ registry cells h) (free : refusal cells h (step_of p a) ≡ None) where
   abbrev m : Standing
