@@ -6,12 +6,11 @@ module _ {L : Type 0} where
   -- rows of which each is of the plan at its place are of these plans
   planned : (rows : List (CellRow L)) (cells : List CellPlan) → length rows ≡ length cells → ((c : ℕ) (row : CellRow L) → slice_get rows c ≡ Some row → row.plan ≡ cell_at cells c) → map (λ row. row.plan) rows ≡ cells
   planned [] [] e each = refl
-  planned [] (x ∷ xs) e each = absurd (omega (arith, e))
-  planned (r ∷ rs) [] e each = absurd (omega (arith, e))
   planned (r ∷ rs) (x ∷ xs) e each =
       let head : r.plan ≡ x = each 0 r refl in
       let tail : map (λ row. row.plan) rs ≡ xs = planned rs xs (omega (arith, e)) (λ c row is. each (suc c) row is) in
       λ i. head i ∷ tail i
+  planned rows cells e each = absurd (omega (arith, e))
 
   module _ (held : L → Holders) (place : L → LockerKind) (cells : List CellPlan) (h : List Event) (v : Rows L) (f : Follows held place cells h v) where
     -- the row of a cell

@@ -12,10 +12,9 @@ told_none h (s ∷ ss) = refl
 
 -- one event for each line
 pub told_count : (h : List Event) (ss : List Step) (ls : List Line) → length ls ≤ length ss → length (told h ss ls) ≡ length h + length ls
-told_count h [] [] le = omega arith
 told_count h [] (l ∷ ls) le = absurd (omega (arith, le))
-told_count h (s ∷ ss) [] le = omega arith
 told_count h (s ∷ ss) (l ∷ ls) le = let more : _ = told_count (event s l ∷ h) ss ls (omega (arith, le)) in omega (arith, more)
+told_count h ss ls le = omega arith
 
 -- the line of the next step
 pub told_next : (h : List Event) (ss : List Step) (ls : List Line) (s : Step) (l : Line) → slice_get ss (length ls) ≡ Some s → told h ss (ls ++ l ∷ []) ≡ event s l ∷ told h ss ls
@@ -26,6 +25,5 @@ told_next h (r ∷ ss) (k ∷ ls) s l e = told_next (event r k ∷ h) ss ls s l 
 -- a step more and its line
 pub told_more : (h : List Event) (ss : List Step) (ls : List Line) (s : Step) (l : Line) → length ls ≡ length ss → told h (ss ++ s ∷ []) (ls ++ l ∷ []) ≡ event s l ∷ told h ss ls
 told_more h [] [] s l e = refl
-told_more h [] (k ∷ ls) s l e = absurd (omega (arith, e))
-told_more h (r ∷ ss) [] s l e = absurd (omega (arith, e))
 told_more h (r ∷ ss) (k ∷ ls) s l e = told_more (event r k ∷ h) ss ls s l (omega (arith, e))
+told_more h ss ls s l e = absurd (omega (arith, e))

@@ -1,5 +1,5 @@
 -- A schedule without a cause can be run.
-use Rattle.phase_schedule.proofs.Words.{[], ◌+◌, ◌<◌, ◌^◌, ◌∷◌, ◌≡◌, All, ap, AreShared, arith, Bool, cause_of, cause_of_plan, cell_at, CellPlan, crowd_of, false, first_cause}
+use Rattle.phase_schedule.proofs.Words.{[], ◌+◌, ◌<◌, ◌^◌, ◌∙◌, ◌∷◌, ◌≡◌, All, ap, AreShared, arith, Bool, cause_of, cause_of_plan, cell_at, CellPlan, crowd_of, false, first_cause}
 use Rattle.phase_schedule.proofs.Words.{first_found, get_or_past, if◌then◌else◌, is_owned, is_placed, IsTrue, IsValid, Kind, length, List, misplaced_of, most_parties}
 use Rattle.phase_schedule.proofs.Words.{names_known_cell, NamesKnown, nat_lt, no_cell, None, Option, Place, refl, RunError, Schedule, Some, Step, true, unknown_of, ℕ}
 use Rattle.std.proofs.lemmas.List.Elements.{All-nil, All-cons, All-head, All-tail}
@@ -95,8 +95,11 @@ not_misplaced parties c x t = by (is_placed parties x.kind x.place) t
 not_many : (parties : ℕ) → parties < most_parties → crowd_of parties ≡ None
 not_many parties lt = grind arith
 
-pub no_cause : (x : Schedule) → IsValid x → cause_of x ≡ None
+no_cause : (x : Schedule) → IsValid x → cause_of x ≡ None
 no_cause x v =
     let plan : cause_of_plan x.parties x.cells ≡ None =
     rw (not_many x.parties v.parties) (not_found (misplaced_of x.parties) _ (not_misplaced x.parties) 0 x.cells v.placed) in
     rw plan (not_found (unknown_of x.parties (length x.cells)) _ (no_unknown_step x.parties (length x.cells)) 0 x.steps v.known)
+
+pub no_error : (x : Schedule) (e : RunError) → Some e ≡ cause_of x → IsValid x → ⊥
+no_error x e is v = let never : Some e ≡ None = is ∙ no_cause x v in cc

@@ -1,12 +1,9 @@
-use Rattle.phase_schedule.proofs.Words.{◌∙◌, ◌≡◌, None, RunError, schedule_of, Some, sym}
-use Rattle.phase_schedule.proofs.Valid.{valid, no_cause}
+use Rattle.phase_schedule.proofs.Words.{◌∙◌, schedule_of, sym}
+use Rattle.phase_schedule.proofs.Valid.{valid, no_error}
 use Rattle.phase_schedule.proofs.run.run_schedule.Goals as goal
 
 pub returns-clause-valid : goal.returns-clause-valid
 returns-clause-valid c = valid (schedule_of c.args.plan.now c.args.steps.now) c.requires.cells c.requires.steps (sym c.cause.ensures ∙ c.in_default.is)
 
-clash : (e : RunError) → Some e ≡ None → ⊥
-clash e same = cc
-
 pub returns-in-Some-clause-complete : goal.returns-in-Some-clause-complete
-returns-in-Some-clause-complete c = λ v. absurd (clash c.in-Some.error (c.in-Some.ensures ∙ no_cause (schedule_of c.args.plan.now c.args.steps.now) v))
+returns-in-Some-clause-complete c = λ v. absurd (no_error (schedule_of c.args.plan.now c.args.steps.now) c.in-Some.error c.in-Some.ensures v)

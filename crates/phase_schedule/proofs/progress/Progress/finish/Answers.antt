@@ -3,5 +3,4 @@ use Rattle.phase_schedule.proofs.Made.{ends}
 use Rattle.phase_schedule.proofs.progress.Progress.finish.Goals as goal
 
 pub returns : goal.returns
-returns g c =
-    λ f h made. ends g.L.PhaseLocker.held g.L.PhaseLocker.place f h c.args.self _ made (c.tell_finals.ensures ∙ ap (map (final_of_row g.L.PhaseLocker.held)) c.deref.ensures.value) c.close-exits.ensures
+returns g c = λ f h made. ends made _ (c.tell_finals.ensures ∙ ap (map (final_of_row g.L.PhaseLocker.held)) c.deref.ensures.value) c.close-exits.ensures
