@@ -20,7 +20,6 @@ pub mod Cloning
 -- Attempts
 pub mod Calling
 pub mod Settling
-pub mod Taking
 pub mod Tried
 pub mod TriedLegal
 pub mod Attempting

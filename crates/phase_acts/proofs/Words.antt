@@ -83,4 +83,4 @@ pub use Rattle.phase_moves.proofs.Histories.{made_told, made_write, refused_stay
 pub use Rattle.phase_moves.proofs.Places.{read_at}
 pub use Rattle.phase_acts.specs.Settles.{answer_settled, answer_tried, GivesSettled, IsSettled, IsSettling, reads_on, settled, unlocked, writes_on}
 pub use Rattle.phase_acts.specs.Steps.{answer_back, given_first, HasStepped, IsAwake, IsNext, outcome, step_of}
-pub use Rattle.phase_acts.specs.Tries.{IsTaking, IsTried, IsTrying, MayTry, Tries}
+pub use Rattle.phase_acts.specs.Tries.{IsTried, IsTrying, MayTry, Tries}

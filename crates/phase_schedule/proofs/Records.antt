@@ -1,7 +1,8 @@
 -- The record of a locker is that of its cell's holders.
-use Rattle.phase_schedule.proofs.Words.{[], ◌++◌, ◌+◌, ◌-◌, ◌<◌, ◌||◌, ◌∙◌, ◌∷◌, ◌≡◌, ◌≤◌, ap, AreShown, arith, Bool, CellPlan, core, count, drains_on, drains_with, Event, false}
-use Rattle.phase_schedule.proofs.Words.{Holders, is_locked_with, IsLocked, List, LockerKind, nat_lt, not, parked_readers, parked_writers, parks_to_read, parks_to_write, party_if}
-use Rattle.phase_schedule.proofs.Words.{phase_at, read_guards, readers_with, refl, shares_read, shares_write, suc, sym, true, Wait, waits, write_holds, writers_with, zero, ℕ}
+use Rattle.phase_schedule.proofs.Words.{[], ◌++◌, ◌+◌, ◌-◌, ◌<◌, ◌||◌, ◌∙◌, ◌∷◌, ◌≡◌, ◌≤◌, ap, AreShown, arith, Bool, cases_lt, CellPlan, core, count, drains_on, drains_with}
+use Rattle.phase_schedule.proofs.Words.{Event, false, Holders, inl, inr, is_locked_with, IsLocked, List, LockerKind, nat_lt, not, parked_readers, parked_writers, parks_to_read}
+use Rattle.phase_schedule.proofs.Words.{parks_to_write, party_if, phase_at, read_guards, readers_with, refl, shares_read, shares_write, suc, sym, true, Wait, waits, write_holds}
+use Rattle.phase_schedule.proofs.Words.{writers_with, zero, ℕ}
 use Rattle.std.specs.List.{list_any}
 use Rattle.phase_locker.specs.Rows.{Rows as Parking, claims, is_empty, shares}
 use Rattle.waiting_rows.proofs.RowCounts.{shares_shown, claims_shown}
@@ -50,31 +51,18 @@ module _ (cells : List CellPlan) (h : List Event) (c n : ℕ) (k : LockerKind) (
       claimed : claims s c ≡ count (shares_write c) ws + count (drains_on c) ws
       claimed = claims_shown c ws s w.single w.shows
 
+      none_held : x.locked ≡ false → write_holds c h ≡ 0
+      none_held e =
+          elim (cases_lt 0 (write_holds c h)) [
+            | inl lt ↦ absurd (let both : true ≡ false = sym (l.write_is lt).locked ∙ e in cc)
+            | inr le ↦ omega (arith, le)
+          ]
+
       -- locked: for an open hold or for a claim
-      by : (b : Bool) → x.locked ≡ b → b ≡ nat_lt 0 (writers_with c h ws) || nat_lt 0 (drains_with c ws)
-      by true e = some (claims s c) refl
-        where
-          some : (n : ℕ) → claims s c ≡ n → true ≡ nat_lt 0 (writers_with c h ws) || nat_lt 0 (drains_with c ws)
-          some zero none =
-              let held : 0 < write_holds c h = l.write_was (record { locked = e; unclaimed = none }) in
-              grind arith
-          some (suc n) one = let shown : _ = claimed in grind arith
-      by false e = none
-        where
-          no_claim : claims s c ≡ 0
-          no_claim = l.fits.locked e
-
-          no_hold : (n : ℕ) → write_holds c h ≡ n → write_holds c h ≡ 0
-          no_hold zero z = z
-          no_hold (suc n) z = absurd (clash (l.write_is (omega (arith, z))).locked)
-            where
-              clash : x.locked ≡ true → ⊥
-              clash t = let both : true ≡ false = sym t ∙ e in cc
-
-          none : false ≡ nat_lt 0 (writers_with c h ws) || nat_lt 0 (drains_with c ws)
-          none =
-              let a : _ = no_claim in let b : _ = claimed in let d : _ = no_hold (write_holds c h) refl in
-              grind arith
+      by : (b : Bool) → x.locked ≡ b → (n : ℕ) → claims s c ≡ n → b ≡ nat_lt 0 (writers_with c h ws) || nat_lt 0 (drains_with c ws)
+      by true e zero none = let held : 0 < write_holds c h = l.write_was (record { locked = e; unclaimed = none }) in grind arith
+      by true e (suc n) one = let shown : _ = claimed in grind arith
+      by false e n is = let a : _ = l.fits.locked e in let b : _ = claimed in let d : _ = none_held e in grind arith
 
       locked_is : x.locked ≡ is_locked_with c h ws
-      locked_is = by x.locked refl
+      locked_is = by x.locked refl (claims s c) refl

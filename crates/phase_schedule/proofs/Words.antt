@@ -1,7 +1,8 @@
 -- The words of the definitions that these proofs speak of, from where they are defined.
 pub use Rattle.std.specs.declared.option.Option.{Option}
-pub use Rattle.std.proofs.Common.{[], ◌&&◌, ◌++◌, ◌+◌, ◌-◌, ◌<◌, ◌^◌, ◌||◌, ◌∙◌, ◌∷◌, ◌≡◌, ◌≤◌, ap, arith, Bool, drop, false, get_or, length, List, map, None, not, refl, Some}
-pub use Rattle.std.proofs.Common.{subst, suc, sym, take, true, zero, ℕ}
+pub use Rattle.std.proofs.Common.{[], ◌&&◌, ◌++◌, ◌+◌, ◌-◌, ◌<◌, ◌^◌, ◌||◌, ◌∙◌, ◌∷◌, ◌≡◌, ◌≤◌, ap, arith, Bool, drop, false, get_or, inl, inr, length, List, map, None, not, refl}
+pub use Rattle.std.proofs.Common.{Some, subst, suc, sym, take, true, zero, ℕ}
+pub use Rattle.std.proofs.lemmas.Bool.{cases_lt}
 pub use Rattle.std.proofs.lemmas.Grind.{common_steps}
 pub use Rattle.std.proofs.lemmas.List.{get_or_past, length-map, length_push}
 pub use Rattle.std.proofs.lemmas.Option.{get_or_from_slice_get, slice_get-get_or, slice_get_within}
