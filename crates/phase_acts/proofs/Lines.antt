@@ -1,5 +1,5 @@
 -- Lines that are legal.
-use Rattle.phase_acts.proofs.Words.{◌&&◌, ◌==◌, ◌||◌, ◌∙◌, ◌∷◌, ◌≡◌, Act, Answer, answer_of, ap, cell_at, cell_concerned, CellPlan, downgrades, due_answer, Event, event, false}
+use Rattle.phase_acts.proofs.Words.{Option, ◌&&◌, ◌==◌, ◌||◌, ◌∙◌, ◌∷◌, ◌≡◌, Act, Answer, answer_of, ap, cell_at, cell_concerned, CellPlan, downgrades, due_answer, Event, event, false}
 use Rattle.phase_acts.proofs.Words.{Given, is_freed_last, is_parking, is_readers, is_some, IsGift, IsLegalLine, IsTrue, Last, List, may_give, may_give_last, may_give_on, MayGive}
 use Rattle.phase_acts.proofs.Words.{MayGiveDown, None, none_without, or_right, other_waits, reaches, refl, Refusal, refusal, refusal_by, refusal_free, Some, standing, Step}
 use Rattle.phase_acts.proofs.Words.{step_of, subst, sym, true, wait_of, waits, ℕ}
@@ -7,25 +7,16 @@ use Rattle.phase_locker.specs.declared.ways.Given.TheVariants as given
 use Rattle.schedule_rules.specs.declared.line.Answer.TheVariants as answer
 
 module _ (cells : List CellPlan) (h : List Event) (s : Step) where
+  legal_as : (a : Answer) (d : Given) (o : Option Refusal) → refusal cells h s ≡ o → answer_of o (due_answer cells h s (other_waits cells h s) false) ≡ a → IsTrue (may_give cells o Last h s (record { answer = a; given = d })) → IsLegalLine cells h s (record { answer = a; given = d })
+  legal_as a d o is due gave = record { moment = Last; chosen = false; answered = sym (ap (λ o. answer_of o (due_answer cells h s (other_waits cells h s) false)) is ∙ due); gave = subst (λ o. IsTrue (may_give cells o Last h s (record { answer = a; given = d }))) (sym is) gave }
+
   -- a step that is to be refused
   pub legal_refused : (r : Refusal) → refusal cells h s ≡ Some r → IsLegalLine cells h s (record { answer = answer.Refused r; given = given.Nobody })
-  legal_refused r some =
-      record {
-        moment = Last;
-        chosen = false;
-        answered = sym (ap (λ o. answer_of o (due_answer cells h s (other_waits cells h s) false)) some);
-        gave = subst (λ o. IsTrue (may_give cells o Last h s (record { answer = answer.Refused r; given = given.Nobody }))) (sym some) refl;
-      }
+  legal_refused r some = legal_as (answer.Refused r) given.Nobody (Some r) some refl refl
 
   -- a step that is not, gives last
   pub legal_last : (a : Answer) (d : Given) → refusal cells h s ≡ None → due_answer cells h s (other_waits cells h s) false ≡ a → may_give_last cells h s a d ≡ true → IsLegalLine cells h s (record { answer = a; given = d })
-  legal_last a d none due gave =
-      record {
-        moment = Last;
-        chosen = false;
-        answered = sym (ap (λ o. answer_of o (due_answer cells h s (other_waits cells h s) false)) none ∙ due);
-        gave = subst (λ o. IsTrue (may_give cells o Last h s (record { answer = a; given = d }))) (sym none) gave;
-      }
+  legal_last a d none due gave = legal_as a d None none due gave
 
 module _ (cells : List CellPlan) (h : List Event) (p : ℕ) (act : Act) (a : Answer) (c : ℕ) (concerned : cell_concerned cells h (step_of p act) ≡ Some c) where
   on_cell : (d : Given) → is_parking (cell_at cells c).place ≡ true → reaches c d (other_waits cells h (step_of p act)) ≡ true → ((is_readers d && downgrades cells h (step_of p act) a) || is_freed_last cells h (step_of p act) a c) ≡ true → may_give_on cells h (step_of p act) (cell_concerned cells h (step_of p act)) a d ≡ true
