@@ -10,18 +10,25 @@ use crate::test_calls::{Cell, ask, last, nothing, party, ready, writes};
 use exit_registry::ExitRegistry;
 use phase_bits::{Phase, Phased};
 use phase_locker::{Given, HolderLocker, LockerKind, Parks, PhaseLocker};
+use std::alloc::Global;
 use std::process::Abort;
 use std::test::Fail;
 
-#[test]
-fn a_finalizer_that_succeeds_leaves_its_flag(rt: HostRuntime) -> Result<(), Fail> {
-    let mut parks = Parks::new(rt.alloc(), 1, 2)?;
-    let mut registry = ExitRegistry::new(rt.alloc(), 1)?;
+/// A cell whose calls wait so is finalized, and is then written with this phase.
+fn is_finalized(
+    rt: &impl Abort,
+    alloc: Global,
+    kind: LockerKind,
+    fine: bool,
+    left: u32,
+) -> Result<(), Fail> {
+    let mut parks = Parks::new(alloc, 1, 2)?;
+    let mut registry = ExitRegistry::new(alloc, 1)?;
     let mut cell: Cell = LazySequentializer::new(HolderLocker::new(
-        LockerKind::Spin,
+        kind,
         Phase::INITIALIZED_AND_REGISTERED,
     ));
-    ready(&rt, cell.locker().phase(), &registry);
+    ready(rt, cell.locker().phase(), &registry);
     let (begun, given) = cell.begin(
         &mut parks,
         party(0),
@@ -29,20 +36,20 @@ fn a_finalizer_that_succeeds_leaves_its_flag(rt: HostRuntime) -> Result<(), Fail
         Some(&mut registry),
     );
     assert_eq!(rt; given, Given::Nobody);
-    let section = last(&rt, begun);
+    let section = last(rt, begun);
     assert_eq!(rt; section.who(), party(0));
     let fast = Ask {
         fast: true,
         ..ask(Want::Finalize, false)
     };
-    ready(&rt, cell.locker().phase(), &registry);
+    ready(rt, cell.locker().phase(), &registry);
     let (begun, _) = cell.begin(&mut parks, party(1), fast, Some(&mut registry));
     let Begun::Missed = begun else { rt.abort() };
-    let (phase, given) = cell.finish_final(&mut parks, section, true);
+    let (phase, given) = cell.finish_final(&mut parks, section, fine);
     assert_eq!(rt; given, Given::Nobody);
-    assert_eq!(rt; phase.bits(), 73);
+    assert_eq!(rt; phase.bits(), left);
     assert_eq!(rt; cell.locker().phase(), phase);
-    ready(&rt, cell.locker().phase(), &registry);
+    ready(rt, cell.locker().phase(), &registry);
     let (begun, given) = cell.begin(
         &mut parks,
         party(1),
@@ -50,8 +57,8 @@ fn a_finalizer_that_succeeds_leaves_its_flag(rt: HostRuntime) -> Result<(), Fail
         Some(&mut registry),
     );
     assert_eq!(rt; given, Given::Nobody);
-    let (ticket, phase) = writes(&rt, begun);
-    assert_eq!(rt; phase.bits(), 73);
+    let (ticket, phase) = writes(rt, begun);
+    assert_eq!(rt; phase.bits(), left);
     let given = cell
         .locker_mut()
         .release_write(&mut parks, 0, ticket, phase);
@@ -60,49 +67,13 @@ fn a_finalizer_that_succeeds_leaves_its_flag(rt: HostRuntime) -> Result<(), Fail
 }
 
 #[test]
+fn a_finalizer_that_succeeds_leaves_its_flag(rt: HostRuntime) -> Result<(), Fail> {
+    is_finalized(&rt, rt.alloc(), LockerKind::Spin, true, 73)
+}
+
+#[test]
 fn a_finalizer_that_fails_leaves_its_flag(rt: HostRuntime) -> Result<(), Fail> {
-    let mut parks = Parks::new(rt.alloc(), 1, 2)?;
-    let mut registry = ExitRegistry::new(rt.alloc(), 1)?;
-    let mut cell: Cell = LazySequentializer::new(HolderLocker::new(
-        LockerKind::Park,
-        Phase::INITIALIZED_AND_REGISTERED,
-    ));
-    ready(&rt, cell.locker().phase(), &registry);
-    let (begun, given) = cell.begin(
-        &mut parks,
-        party(0),
-        ask(Want::Finalize, false),
-        Some(&mut registry),
-    );
-    assert_eq!(rt; given, Given::Nobody);
-    let section = last(&rt, begun);
-    assert_eq!(rt; section.who(), party(0));
-    let fast = Ask {
-        fast: true,
-        ..ask(Want::Finalize, false)
-    };
-    ready(&rt, cell.locker().phase(), &registry);
-    let (begun, _) = cell.begin(&mut parks, party(1), fast, Some(&mut registry));
-    let Begun::Missed = begun else { rt.abort() };
-    let (phase, given) = cell.finish_final(&mut parks, section, false);
-    assert_eq!(rt; given, Given::Nobody);
-    assert_eq!(rt; phase.bits(), 137);
-    assert_eq!(rt; cell.locker().phase(), phase);
-    ready(&rt, cell.locker().phase(), &registry);
-    let (begun, given) = cell.begin(
-        &mut parks,
-        party(1),
-        ask(Want::WriteOnly, false),
-        Some(&mut registry),
-    );
-    assert_eq!(rt; given, Given::Nobody);
-    let (ticket, phase) = writes(&rt, begun);
-    assert_eq!(rt; phase.bits(), 137);
-    let given = cell
-        .locker_mut()
-        .release_write(&mut parks, 0, ticket, phase);
-    assert_eq!(rt; given, Given::Nobody);
-    Ok(())
+    is_finalized(&rt, rt.alloc(), LockerKind::Park, false, 137)
 }
 
 #[test]

@@ -7,6 +7,7 @@ use crate::test_calls::{Cell, ask, look, nothing, party, reads, ready, run, writ
 use exit_registry::{ExitRegistry, Look};
 use phase_bits::{Phase, Phased};
 use phase_locker::{Given, HolderLocker, LockerKind, Parks, PhaseLocker};
+use std::alloc::Global;
 use std::process::Abort;
 use std::test::Fail;
 
@@ -54,16 +55,13 @@ fn a_cell_is_registered_once(rt: HostRuntime) -> Result<(), Fail> {
     Ok(())
 }
 
-#[test]
-fn a_refused_cell_is_read_where_calls_spin(rt: HostRuntime) -> Result<(), Fail> {
-    let mut parks = Parks::new(rt.alloc(), 1, 1)?;
-    let mut registry = ExitRegistry::new(rt.alloc(), 1)?;
-    assert_eq!(rt; look(&rt, &mut registry), Look::Closed);
-    let mut cell: Cell = LazySequentializer::new(HolderLocker::new(
-        LockerKind::Spin,
-        Phase::empty(),
-    ));
-    ready(&rt, cell.locker().phase(), &registry);
+/// A cell whose calls wait so is refused, and is read, twice.
+fn is_read_refused(rt: &impl Abort, alloc: Global, kind: LockerKind) -> Result<(), Fail> {
+    let mut parks = Parks::new(alloc, 1, 1)?;
+    let mut registry = ExitRegistry::new(alloc, 1)?;
+    assert_eq!(rt; look(rt, &mut registry), Look::Closed);
+    let mut cell: Cell = LazySequentializer::new(HolderLocker::new(kind, Phase::empty()));
+    ready(rt, cell.locker().phase(), &registry);
     let (begun, given) = cell.begin(
         &mut parks,
         party(0),
@@ -71,14 +69,14 @@ fn a_refused_cell_is_read_where_calls_spin(rt: HostRuntime) -> Result<(), Fail> 
         Some(&mut registry),
     );
     assert_eq!(rt; given, Given::Nobody);
-    let (ticket, phase) = reads(&rt, begun);
+    let (ticket, phase) = reads(rt, begun);
     assert_eq!(rt; phase.bits(), REFUSED);
     assert_eq!(rt; cell.locker().phase(), phase);
     let given = cell.locker_mut().release_read(&mut parks, 0, ticket);
     assert_eq!(rt; given, Given::Nobody);
     assert!(rt; !registry.knows(0));
     assert!(rt; !registry.is_open());
-    ready(&rt, cell.locker().phase(), &registry);
+    ready(rt, cell.locker().phase(), &registry);
     let (begun, given) = cell.begin(
         &mut parks,
         party(0),
@@ -86,7 +84,7 @@ fn a_refused_cell_is_read_where_calls_spin(rt: HostRuntime) -> Result<(), Fail> 
         Some(&mut registry),
     );
     assert_eq!(rt; given, Given::Nobody);
-    let (ticket, phase) = reads(&rt, begun);
+    let (ticket, phase) = reads(rt, begun);
     assert_eq!(rt; phase.bits(), REFUSED);
     assert_eq!(rt; cell.locker().phase(), phase);
     let given = cell.locker_mut().release_read(&mut parks, 0, ticket);
@@ -97,45 +95,13 @@ fn a_refused_cell_is_read_where_calls_spin(rt: HostRuntime) -> Result<(), Fail> 
 }
 
 #[test]
+fn a_refused_cell_is_read_where_calls_spin(rt: HostRuntime) -> Result<(), Fail> {
+    is_read_refused(&rt, rt.alloc(), LockerKind::Spin)
+}
+
+#[test]
 fn a_refused_cell_is_read_where_calls_park(rt: HostRuntime) -> Result<(), Fail> {
-    let mut parks = Parks::new(rt.alloc(), 1, 1)?;
-    let mut registry = ExitRegistry::new(rt.alloc(), 1)?;
-    assert_eq!(rt; look(&rt, &mut registry), Look::Closed);
-    let mut cell: Cell = LazySequentializer::new(HolderLocker::new(
-        LockerKind::Park,
-        Phase::empty(),
-    ));
-    ready(&rt, cell.locker().phase(), &registry);
-    let (begun, given) = cell.begin(
-        &mut parks,
-        party(0),
-        ask(Want::Read, false),
-        Some(&mut registry),
-    );
-    assert_eq!(rt; given, Given::Nobody);
-    let (ticket, phase) = reads(&rt, begun);
-    assert_eq!(rt; phase.bits(), REFUSED);
-    assert_eq!(rt; cell.locker().phase(), phase);
-    let given = cell.locker_mut().release_read(&mut parks, 0, ticket);
-    assert_eq!(rt; given, Given::Nobody);
-    assert!(rt; !registry.knows(0));
-    assert!(rt; !registry.is_open());
-    ready(&rt, cell.locker().phase(), &registry);
-    let (begun, given) = cell.begin(
-        &mut parks,
-        party(0),
-        ask(Want::Read, false),
-        Some(&mut registry),
-    );
-    assert_eq!(rt; given, Given::Nobody);
-    let (ticket, phase) = reads(&rt, begun);
-    assert_eq!(rt; phase.bits(), REFUSED);
-    assert_eq!(rt; cell.locker().phase(), phase);
-    let given = cell.locker_mut().release_read(&mut parks, 0, ticket);
-    assert_eq!(rt; given, Given::Nobody);
-    assert!(rt; !registry.knows(0));
-    assert!(rt; !registry.is_open());
-    Ok(())
+    is_read_refused(&rt, rt.alloc(), LockerKind::Park)
 }
 
 #[test]
