@@ -1,8 +1,8 @@
 -- Where a generator runs, and where a value may not be accessed.
-use Rattle.schedule_rules.proofs.Words.{ℕ, arith, ◌≡◌, List, Bool, true, refl, false, Some, ◌∷◌, [], ◌∙◌, sym, ap, subst, inl, inr, ◌≢◌, not, if◌then◌else◌, has, initialized}
+use Rattle.schedule_rules.proofs.Words.{ℕ, List, ◌≡◌, arith, Bool, true, refl, false, Some, ◌∷◌, [], ◌∙◌, sym, ap, subst, inl, inr, ◌≢◌, not, if◌then◌else◌, has, initialized}
 use Rattle.schedule_rules.proofs.Words.{phase_of, Phase, Given, shall_init, Tolerance, Call, Answer, Line, CellPlan, Act, Step, cell_at, tolerance_at, Asked, is_declined}
 use Rattle.schedule_rules.proofs.Words.{content_asked, deed_visited, Event, accepts, sections, runs, guards, replay, phase_at, Back, back_of_step, back_by, cell_concerned, IsLegal}
-use Rattle.schedule_rules.proofs.Words.{IsLegalLine, lends_at, runs_to_lend, KeepsValues, IsTurnedAway}
+use Rattle.schedule_rules.proofs.Words.{IsLegalLine, lends_at, runs_to_lend, IsTurnedAway, KeepsValues}
 use Rattle.schedule_rules.proofs.Means.{Began, Unlent, Means, means}
 use Rattle.schedule_rules.proofs.Found.{found_passes, each_found}
 use Rattle.schedule_rules.proofs.Leaves.{back_here, asked_value}

@@ -1,7 +1,7 @@
 -- What holds of the answers that are due, by what holds of each that may be.
-use Rattle.schedule_rules.proofs.Words.{ℕ, arith, ◌≡◌, List, Bool, true, refl, false, ◌∙◌, ap, ◌&&◌, if◌then◌else◌, is_none, Option, Phase, Given, How, Tolerance, Call, Kind, Form}
+use Rattle.schedule_rules.proofs.Words.{ℕ, List, ◌≡◌, arith, Bool, true, false, ◌∙◌, ap, ◌&&◌, if◌then◌else◌, is_none, Option, Phase, Given, How, Tolerance, Call, Kind, Form}
 use Rattle.schedule_rules.proofs.Words.{Answer, Line, Refusal, CellPlan, Place, Step, is_owned, is_accessible, Content, asks_to_lend, content_to_lend, Event, Section, Guard, Wait}
-use Rattle.schedule_rules.proofs.Words.{refusal, answer_barred, answer_lent, answer_made_to_lend, answer_made, answer_denied, answer_opened, call_answer_admitted, due_answer}
+use Rattle.schedule_rules.proofs.Words.{refusal, answer_barred, answer_lent, answer_made_to_lend, answer_denied, answer_made, call_answer_admitted, answer_opened, due_answer}
 use Rattle.schedule_rules.proofs.Words.{due_clone, due_made, due_finished, due_look, IsLegalLine, answer_of, due_at, Moment, waits_judged}
 
 -- the answer that is due, where these calls of others wait
@@ -51,10 +51,7 @@ module _ (P : Answer → Type 0) where
   -- of one that is barred
   pub barred : (fast : Bool) (x : Place) (way : How) → (fast ≡ true → P Answer.Missed) → ((w : How) → P (Answer.Waiting w)) → (is_owned x ≡ true → P Answer.Borrowed)
       → P (answer_barred fast x way)
-  barred true x way m w b = m refl
-  barred false Place.Park way m w b = w way
-  barred false Place.Spin way m w b = w How.Spin
-  barred false (Place.Own p) way m w b = b refl
+  barred fast x way y z u = grind arith
 
   -- of a run that made a value
   pub made_so : IsShown → (f : Form) (v p : ℕ) → P (answer_made f v p)

@@ -1,11 +1,11 @@
 -- What an attempt at a cell is answered, case by case.
-use Rattle.schedule_rules.proofs.Words.{ℕ, arith, ◌≡◌, List, Bool, true, refl, false, Some, ◌∷◌, [], ◌∙◌, sym, ap, None, subst, inl, ◌<◌, inr, ◌&&◌, not, if◌then◌else◌, is_some}
+use Rattle.schedule_rules.proofs.Words.{ℕ, List, ◌≡◌, arith, Bool, true, refl, false, Some, ◌∷◌, [], ◌∙◌, sym, ap, None, subst, inl, ◌<◌, inr, ◌&&◌, not, if◌then◌else◌, is_some}
 use Rattle.schedule_rules.proofs.Words.{Option, has, initialized, phase_of, first_of, look_at, LockNature, How, shall_init, flags_refused, Tolerance, asking, Call, Kind, Form}
-use Rattle.schedule_rules.proofs.Words.{Held, Shown, Told, Answer, CellPlan, Act, Want, Turns, Calls, cell_at, tolerance_at, form_of, is_accessible, runs_generator, asks, is_fast}
+use Rattle.schedule_rules.proofs.Words.{Held, Shown, Told, Answer, CellPlan, Act, Want, Calls, Turns, cell_at, tolerance_at, form_of, is_accessible, runs_generator, asks, is_fast}
 use Rattle.schedule_rules.proofs.Words.{lock_wanted, initializes, Content, Event, accepts, latest_act, runs, replay, phase_at, registry, Wait, waits, wait_of, attempt_of_wait}
-use Rattle.schedule_rules.proofs.Words.{attempt_of_turn, act_for, write_holds, is_barred, read_guards, holding_with, readers, keeps, refusal, refusal_by, refusal_waiting}
-use Rattle.schedule_rules.proofs.Words.{refusal_free, answer_barred, answer_admitted, answer_at, turn_answer_admitted, answer_denied, answer_opened, call_answer_admitted}
-use Rattle.schedule_rules.proofs.Words.{due_attempt, due_tried, answer_of_look, IsExclusive}
+use Rattle.schedule_rules.proofs.Words.{attempt_of_turn, act_for, write_holds, read_guards, is_barred, holding_with, keeps, readers, refusal, refusal_by, refusal_waiting}
+use Rattle.schedule_rules.proofs.Words.{refusal_free, answer_barred, answer_admitted, answer_at, answer_denied, turn_answer_admitted, call_answer_admitted, answer_opened}
+use Rattle.schedule_rules.proofs.Words.{due_tried, answer_of_look, due_attempt, IsExclusive}
 use Rattle.schedule_rules.proofs.Found.{found_counts}
 use Rattle.schedule_rules.proofs.GoesOn.{Matches, wait-matches}
 use Rattle.schedule_rules.proofs.Answered.{barred}
@@ -22,9 +22,7 @@ none_first cs e = grind arith
 -- an attempt, by whether it is cyclic or barred
 in_turn : (Q : Answer → Type 0) (own barred : Bool) (w r : Answer) → Q Answer.Cyclic → Q w → (barred ≡ false → Q r)
     → Q (if own then Answer.Cyclic else if barred then w else r)
-in_turn Q true barred w r x y z = x
-in_turn Q false true w r x y z = y
-in_turn Q false false w r x y z = z refl
+in_turn Q own barred w r x y z = grind arith
 
 -- the same of one that is never cyclic
 waits_or : (Q : Answer → Type 0) (barred : Bool) (w r : Answer) → Q w → (barred ≡ false → Q r) → Q (if barred then w else r)

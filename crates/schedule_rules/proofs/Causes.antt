@@ -1,19 +1,17 @@
 -- Which answer a legal line has, by its cause.
-use Rattle.schedule_rules.proofs.Words.{ℕ, arith, ◌≡◌, List, Bool, true, refl, false, Some, ◌∙◌, sym, ap, None, ◌&&◌, ◌≢◌, not, ◌||◌, if◌then◌else◌, is_none, is_some, Option}
-use Rattle.schedule_rules.proofs.Words.{first_of, look_at, Given, How, Call, Answer, Line, Refusal, CellPlan, Place, Act, Step, Turns, Calls, cell_at, tolerance_at, is_owned, asks}
-use Rattle.schedule_rules.proofs.Words.{is_fast, lock_wanted, Event, accepts, is_exit, sections, innermost, Guard, guards, numbered, replay, phase_at, registry, Wait, waits}
-use Rattle.schedule_rules.proofs.Words.{wait_of, Attempt, attempt, attempt_of_wait, attempt_of_turn, is_barred, holding_with, refusal, refusal_by, answer_barred, answer_admitted}
-use Rattle.schedule_rules.proofs.Words.{drains_by, way_parked, due_answer, due_clone, due_attempt, due_tried, answer_of_look, keeps_own, is_nobody, IsLegalLine, answer_of, due_at}
-use Rattle.schedule_rules.proofs.Words.{Moment, may_give, waits_judged, is_attempted, is_waiting, is_cyclic, is_cyclic_step, is_borrowed, is_access, is_closing, is_finalizing}
-use Rattle.schedule_rules.proofs.Words.{is_denied_to_lend, is_skipped, is_missed, is_round, is_admitted, is_running, is_missing_step, is_round_step, is_barred_clone}
-use Rattle.schedule_rules.proofs.Words.{is_barred_attempt, is_of_own_run, looks, is_closing_step, is_borrowing_step, is_running_step, is_access_step, is_step_of, is_turn_step}
-use Rattle.schedule_rules.proofs.Words.{is_barred_step, is_initializing}
+use Rattle.schedule_rules.proofs.Words.{ℕ, List, ◌≡◌, arith, Bool, true, refl, false, Some, ◌∙◌, sym, ap, None, ◌&&◌, ◌≢◌, not, ◌||◌, if◌then◌else◌, is_none, is_some, Option}
+use Rattle.schedule_rules.proofs.Words.{first_of, look_at, Given, How, Call, Answer, Line, Refusal, CellPlan, Place, Act, Step, Calls, cell_at, tolerance_at, is_owned, asks}
+use Rattle.schedule_rules.proofs.Words.{is_fast, lock_wanted, Event, accepts, is_exit, Guard, guards, numbered, replay, phase_at, registry, Wait, waits, wait_of, Attempt, attempt}
+use Rattle.schedule_rules.proofs.Words.{attempt_of_wait, is_barred, holding_with, refusal, refusal_by, answer_barred, answer_admitted, way_parked, drains_by, due_answer, due_tried}
+use Rattle.schedule_rules.proofs.Words.{due_clone, answer_of_look, due_attempt, keeps_own, is_nobody, IsLegalLine, answer_of, due_at, Moment, may_give, waits_judged, is_attempted}
+use Rattle.schedule_rules.proofs.Words.{is_waiting, is_cyclic, is_denied_to_lend, is_finalizing, is_cyclic_step, is_running, is_borrowed, is_admitted, is_closing, is_round}
+use Rattle.schedule_rules.proofs.Words.{is_missed, is_skipped, is_access, looks, is_barred_step, is_closing_step, is_round_step, is_barred_clone, is_turn_step, is_running_step}
+use Rattle.schedule_rules.proofs.Words.{is_access_step, is_of_own_run, is_step_of, is_barred_attempt, is_borrowing_step, is_missing_step, is_initializing}
 use Rattle.schedule_rules.proofs.Tests.{none_asked, none_kept, look_closes, look_rounds, barred_borrows, barred_misses, barred_waits, parts_of_borrowing, parts_of_look}
 use Rattle.schedule_rules.proofs.Tests.{not_admitted, only_own, only_admitted, only_barred, is_refused, IsBeyond, IsOfTries, of_running, of_access, of_cyclic, of_finalizing}
 use Rattle.schedule_rules.proofs.Tests.{of_skipped, of_round, of_closing, of_waiting, of_missed, of_borrowed, of_refused, no_more, same_both, nothing_else, neither, unless_first}
 use Rattle.schedule_rules.proofs.Tests.{is_unlent, unlent_where_denied, shows, makes, admitted_runs, admitted_away, admitted_finalizes, admitted_skips, admitted_fails}
 use Rattle.schedule_rules.proofs.Tests.{fails_barred, calls_not}
-use Rattle.exit_registry.specs.declared.registry.Look.{Look}
 use Rattle.schedule_rules.proofs.Answered.{due_at-judged, lent, made_to_lend, made, finished, looked, cloned, legal_by}
 use Rattle.schedule_rules.proofs.Facts.{apart}
 
@@ -42,10 +40,7 @@ module _ (t : Answer → Bool) (cells : List CellPlan) (h : List Event) (p : ℕ
   attempt_passes a u x y e f g = by (is_of_own_run cells h p a) (keeps_own cells h p a) (bars a)
     where
       by : (own kept barred : Bool) → t (if own then Answer.Cyclic else if not kept && barred then where_barred a else where_admitted a) ≡ (if own then u else if not kept && barred then x else y)
-      by true kept barred = e
-      by false true barred = g
-      by false false true = f
-      by false false false = g
+      by own kept barred = grind arith
 
   -- it fails on what is admitted, and is passed by what is barred alone, or by what is cyclic alone
   admits_none : IsBeyond t → (a : Attempt) → t (where_admitted a) ≡ false
@@ -79,19 +74,7 @@ module _ (t : Answer → Bool) {denies : Bool} (is : IsOfTries t denies) (cells 
       → t (due_answer cells h (record { party = p; act = a }) ws chosen)
       ≡ (is_attempted cause (attempt cells h (record { party = p; act = a })) || ((is_barred_clone cells h a ws && t Answer.Borrowed) || (is_unlent cells h a && denies)))
   due p f (Act.Call c k) = f (Some (record { cell = c; want = Calls k })) ∙ sym (nothing_else _)
-  due p f Act.Again = f (attempt_of_wait (wait_of p (waits cells h))) ∙ sym (nothing_else _)
-  due p f Act.Exit = f (attempt_of_turn (first_of (registry cells h).left)) ∙ sym (nothing_else _)
-  due p f (Act.Made v) = made (λ a. t a ≡ false) cells h is.shown v (innermost p (sections h)) is.done is.failed
-  due p f Act.MadeFailed = is.failed
-  due p f (Act.Finished left) = finished (λ a. t a ≡ false) cells h is.shown true (innermost p (sections h)) is.done
-  due p f (Act.FinishFailed left) = finished (λ a. t a ≡ false) cells h is.shown false (innermost p (sections h)) is.done
-  due p f (Act.Look g) = looked (λ a. t a ≡ false) cells h is.shown (numbered g (guards h)) is.done
-  due p f (Act.Set g v) = is.done
-  due p f (Act.Release g) = is.done
-  due p f (Act.Downgrade g) = is.shown.read_guard
-  due p f (Act.Clone g) = clones g (numbered g (guards h)) refl ∙ sym (nothing_else _)
-  due p f (Act.GetMut c made left) = makes t is (cell_at cells c).kind (tolerance_at cells c) (accepts h) made (replay cells c h)
-  due p f (Act.TryGetMut c left) = shows t is (cell_at cells c).kind (replay cells c h)
+  due p x a = grind (arith, nothing_else, made, finished, looked, clones, makes, shows)
 
 module _ (t : Answer → Bool) {denies : Bool} (is : IsOfTries t denies) (refused : (q : Refusal) → t (Answer.Refused q) ≡ false) (cells : List CellPlan) (h : List Event) (s : Step) (l : Line) (k : IsLegalLine cells h s l) where
   abbrev judged : List Wait
@@ -234,21 +217,7 @@ module _ (t : Answer → Bool) (is : IsBeyond t) (missed : t Answer.Missed ≡ f
   looked_so Act.Again =
       elim (wait_of p (waits cells h)) as (λ o. (is_none (refusal_by cells (is_some o) h p Act.Again) && t (due_tried cells h p (attempt_of_wait o) ws chosen)) ≡ (is_none (refusal_by cells (is_some o) h p Act.Again) && false))
       [ None ↦ refl | Some w ↦ each (record { cell = w.cell; want = w.want }) ]
-  looked_so Act.Exit =
-      ap (λ b. free Act.Exit && b) (elim (first_of (registry cells h).left) as (λ o. t (due_tried cells h p (attempt_of_turn o) ws chosen) ≡ (is_none o && passes))
-      [ None ↦ refl | Some c ↦ each (record { cell = c; want = Turns }) ])
-  looked_so (Act.Made v) = ap (λ b. free (Act.Made v) && b) (made (λ a. t a ≡ false) cells h is.tries.shown v (innermost p (sections h)) is.tries.done is.tries.failed)
-  looked_so Act.MadeFailed = ap (λ b. free Act.MadeFailed && b) is.tries.failed
-  looked_so (Act.Finished left) = ap (λ b. free (Act.Finished left) && b) (finished (λ a. t a ≡ false) cells h is.tries.shown true (innermost p (sections h)) is.tries.done)
-  looked_so (Act.FinishFailed left) = ap (λ b. free (Act.FinishFailed left) && b) (finished (λ a. t a ≡ false) cells h is.tries.shown false (innermost p (sections h)) is.tries.done)
-  looked_so (Act.Look g) = ap (λ b. free (Act.Look g) && b) (looked (λ a. t a ≡ false) cells h is.tries.shown (numbered g (guards h)) is.tries.done)
-  looked_so (Act.Set g v) = ap (λ b. free (Act.Set g v) && b) is.tries.done
-  looked_so (Act.Release g) = ap (λ b. free (Act.Release g) && b) is.tries.done
-  looked_so (Act.Downgrade g) = ap (λ b. free (Act.Downgrade g) && b) is.tries.shown.read_guard
-  looked_so (Act.GetMut c made left) =
-      ap (λ b. free (Act.GetMut c made left) && b) (made_to_lend (λ a. t a ≡ false) is.tries.shown.value is.tries.access is.tries.failed (cell_at cells c).kind (tolerance_at cells c) (accepts h) made (replay cells c h))
-  looked_so (Act.TryGetMut c left) = ap (λ b. free (Act.TryGetMut c left) && b) (lent (λ a. t a ≡ false) is.tries.shown.value is.tries.access (cell_at cells c).kind (replay cells c h))
-  looked_so (Act.Clone g) = ap (λ b. free (Act.Clone g) && b) (cloned (λ a. t a ≡ false) cells h ws (numbered g (guards h)) is.tries.done borrowed is.tries.shown.read_guard)
+  looked_so a = grind (arith, each, made, finished, looked, made_to_lend, lent, cloned)
 
 module _ (cells : List CellPlan) (h : List Event) (s : Step) (l : Line) (k : IsLegalLine cells h s l) where
   -- it is passed exactly where the step looks, and the look passes it

@@ -1,12 +1,12 @@
 -- What a failed run leaves; and of a value that is lent, that nobody uses its cell, and what the step leaves.
-use Rattle.schedule_rules.proofs.Words.{ℕ, arith, ◌≡◌, List, Bool, true, refl, false, Some, ◌∷◌, [], ◌∙◌, sym, ap, None, subst, ◌⊎◌, inl, inr, ◌&&◌, ◌≢◌, length, list_any, ◌==◌}
+use Rattle.schedule_rules.proofs.Words.{ℕ, List, ◌≡◌, arith, Bool, true, refl, false, Some, ◌∷◌, [], ◌∙◌, sym, ap, None, subst, ◌⊎◌, inl, inr, ◌&&◌, length, ◌≢◌, list_any, ◌==◌}
 use Rattle.schedule_rules.proofs.Words.{if◌then◌else◌, is_none, is_some, Option, Given, Answer, Line, Refusal, CellPlan, Act, Step, cell_at, tolerance_at, is_parking}
 use Rattle.schedule_rules.proofs.Words.{is_accessible, Content, Change, effect, Ran, Put, RanIfAsked, Makes, Event, deed_of, accepts, count, sections, Section, innermost}
-use Rattle.schedule_rules.proofs.Words.{sections_by, guards, guards_by, replay, Back, back_of_step, back_of_section, content_after_back, Wait, waits, wait_of, without_wait}
-use Rattle.schedule_rules.proofs.Words.{cell_concerned, waits_given_with, attempt_with, cell_of_section, waits_answered, other_waits, waits_at, cell_concerned_with, refusal}
-use Rattle.schedule_rules.proofs.Words.{refusal_by, due_answer, may_give_last, may_give_on, may_give_first, reaches, IsLegalLine, answer_of, due_at, Moment, may_give, lends_at}
-use Rattle.schedule_rules.proofs.Words.{waits_judged, is_failed, is_failure, lends_in_use, is_refused_in_use, is_step_in_use, is_lent, RunsAtOnce, EndsRun, IsUnused}
-use Rattle.schedule_rules.proofs.Words.{ChangesCellAlone, IsFailedRun, Leaves}
+use Rattle.schedule_rules.proofs.Words.{sections_by, guards, guards_by, replay, Back, back_of_step, content_after_back, back_of_section, Wait, waits, wait_of, without_wait}
+use Rattle.schedule_rules.proofs.Words.{cell_concerned, attempt_with, waits_given_with, waits_answered, cell_of_section, other_waits, waits_at, cell_concerned_with, refusal}
+use Rattle.schedule_rules.proofs.Words.{refusal_by, due_answer, may_give_on, may_give_last, may_give_first, reaches, IsLegalLine, answer_of, due_at, Moment, may_give, lends_at}
+use Rattle.schedule_rules.proofs.Words.{waits_judged, is_failed, is_failure, is_refused_in_use, is_step_in_use, lends_in_use, is_lent, EndsRun, Leaves, IsFailedRun, IsUnused}
+use Rattle.schedule_rules.proofs.Words.{ChangesCellAlone, RunsAtOnce}
 use Rattle.schedule_rules.proofs.Cases.{step, IsTrying, trying, Lendable, Case, calling-tries, turning-tries}
 use Rattle.schedule_rules.proofs.Steps.{lendable, lendable_so, allowed}
 use Rattle.schedule_rules.proofs.Finds.{LendsSo, Both, finds, tells}
@@ -75,10 +75,9 @@ module _ (cells : List CellPlan) (h : List Event) where
         found (Some t) f d = let here : t.cell ≡ c = cc in (t.is_open, t.cell, here, inl (record { section = t; found = f; here = here; noted = refl }), ap (back_of_section (Makes None)) f)
 
         by : (a : Act) → is_failure cells h a ≡ true → cell_concerned cells h (record { party = s.party; act = a }) ≡ Some c → Gives (record { party = s.party; act = a })
-        by Act.MadeFailed f d = found (innermost s.party (sections h)) refl d
         by (Act.GetMut z made left) f d =
             let here : z ≡ c = cc in (accepts h, z, here, inr (record { lends = same_number z c here; asked = first _ _ f; now = refl }), refl)
-        by _ f d = absurd (cc)
+        by a x y = grind (arith, found)
 
     -- it leaves the value there and reaches the phase of a failed run, and changes no other cell
     pub fails_in : IsFailedRun cells h (record { step = s; line = record { answer = Answer.Failed; given = g } }) c
@@ -169,12 +168,7 @@ module _ (cells : List CellPlan) (h : List Event) (s : Step) (c : ℕ) (lends : 
         (λ q. record { in_sections = refl; in_guards = refl; in_waits = refl; elsewhere = λ d ne. refl })
         (record { in_sections = refl; in_guards = refl; in_waits = refl; elsewhere = λ d ne. back_elsewhere cells d _ (record { cell = z; changes = Ran (accepts h) None ∷ [] }) (replay cells d h) refl (other_number z c d (number_found z c e) ne) })
         (cell_at cells z).kind (tolerance_at cells z) (accepts h) made (replay cells z h)
-    alone (Act.TryGetMut z left) e ws chosen =
-        lent (Alone (Act.TryGetMut z left))
-        (λ v. record { in_sections = refl; in_guards = refl; in_waits = refl; elsewhere = λ d ne. back_elsewhere cells d _ (record { cell = z; changes = Put left ∷ [] }) (replay cells d h) refl (other_number z c d (number_found z c e) ne) })
-        (λ q. record { in_sections = refl; in_guards = refl; in_waits = refl; elsewhere = λ d ne. refl })
-        (cell_at cells z).kind (replay cells z h)
-    alone _ e ws chosen = absurd (apart (sym e))
+    alone a x ws chosen = grind (arith, lent, elsewhere, back_elsewhere, other_number, number_found)
 
     -- it leaves what is open and who waits, and changes its cell alone
     pub lent-alone : ChangesCellAlone cells h (record { step = s; line = l }) c

@@ -1,9 +1,8 @@
 -- A finalizer that ends marks the phase of its cell, and nothing else does.
-use Rattle.schedule_rules.proofs.Words.{ℕ, arith, ◌≡◌, List, Bool, true, refl, false, Some, ◌∷◌, [], ◌∙◌, sym, ap, subst, ◌⊎◌, inl, inr, and_or_apart, bit_or, ◌==◌, Option, has}
+use Rattle.schedule_rules.proofs.Words.{ℕ, List, ◌≡◌, arith, Bool, true, false, Some, ◌∷◌, [], ◌∙◌, sym, ap, subst, ◌⊎◌, inl, inr, and_or_apart, bit_or, ◌==◌, Option, has}
 use Rattle.schedule_rules.proofs.Words.{initialized, phase_of, Phase, Given, final_outcome, Answer, Line, CellPlan, Act, Step, Want, cell_at, phase_finalized, Content, Change}
-use Rattle.schedule_rules.proofs.Words.{effect, Ran, Ended, Deed, Visits, Makes, EndsToRead, Finishes, Ends, Lends, DropsToRead, Drops, Event, deed_of, accepts, sections, Section}
-use Rattle.schedule_rules.proofs.Words.{innermost, is_turn, Guard, guards, numbered, replay, phase_at, Back, back_of_step, finishing, cell_concerned, cell_of_section, IsLegal}
-use Rattle.schedule_rules.proofs.Words.{IsLegalLine, IsEndedTurn}
+use Rattle.schedule_rules.proofs.Words.{effect, Ran, Ended, Deed, Makes, EndsToRead, Ends, Finishes, Event, deed_of, sections, Section, innermost, is_turn, Guard, guards, numbered}
+use Rattle.schedule_rules.proofs.Words.{replay, phase_at, Back, back_of_step, finishing, cell_concerned, cell_of_section, IsLegal, IsLegalLine, IsEndedTurn}
 use Rattle.schedule_rules.specs.Laws.{Finishes as Finishes_so}
 use Rattle.schedule_rules.proofs.Exclusion.{alone}
 use Rattle.schedule_rules.proofs.Found.{each_found}
@@ -20,10 +19,7 @@ needs-value w x p d n = grind arith
 
 -- what a finalizer adds says how it ended
 same_outcome : (a fine : Bool) (p : ℕ) → has p (final_outcome fine) ≡ false → has (bit_or p (final_outcome a)) (final_outcome fine) ≡ true → a ≡ fine
-same_outcome true true p was m = refl
-same_outcome false false p was m = refl
-same_outcome true false p was m = absurd (apart (sym m ∙ ap (λ z. z == 128) (and_or_apart 128 p 64 refl) ∙ was))
-same_outcome false true p was m = absurd (apart (sym m ∙ ap (λ z. z == 64) (and_or_apart 64 p 128 refl) ∙ was))
+same_outcome a fine p x y = grind (arith, and_or_apart)
 
 module _ (cells : List CellPlan) (c : ℕ) where
   module _ (h : List Event) (p : ℕ) (i : Given) (legal : IsLegal cells h) where
@@ -40,10 +36,7 @@ module _ (cells : List CellPlan) (c : ℕ) where
 
     -- the two ends of a finalizer
     same_end : (a fine : Bool) (m left : Option ℕ) → finishing a m ≡ finishing fine left → a ≡ fine
-    same_end true true m left e = refl
-    same_end false false m left e = refl
-    same_end true false m left e = absurd (cc)
-    same_end false true m left e = absurd (cc)
+    same_end a fine m left x = grind arith
 
     turn_ends : (a : Act) (q : Phase) (m : Finished cells h p a q) → cell_concerned cells h (record { party = p; act = a }) ≡ Some c → IsEndedTurn cells h (event a (Answer.Phase q)) c m.fine
     turn_ends a q m n =
@@ -120,14 +113,8 @@ module _ (cells : List CellPlan) (c : ℕ) where
 
     gives : (d : Deed) (f : Finds cells h p d) → GivesOf cells h p (alone cells h legal) (Marks d) d f
     gives (Ends (Makes made)) f = ran f.section.cell (Ran f.section.is_open made ∷ []) tt
-    gives (Ends (Finishes b left)) f = λ was is. (same_outcome b fine (phase_at cells f.section.cell h) was is, ap cell_of_section f.found)
     gives (EndsToRead v) f = ran f.section.cell (Ran f.section.is_open (Some v) ∷ []) tt
-    gives (Drops g) f = λ w. ran f.guard.cell f.guard.changes (dropped g f.guard f.found)
-    gives (DropsToRead g) f = ran f.guard.cell f.guard.changes (dropped g f.guard f.found)
-    gives (Visits z chs reads) f = λ was is.
-        apart (sym (asked_before (final_outcome fine) (beside fine) (cell_at cells z) (accepts h) f.asked (replay cells z h) (subst (λ l. has (effect (cell_at cells z) l (replay cells z h)).phase (final_outcome fine) ≡ true) f.does is)) ∙ was)
-    gives (Lends z chs) f = lends z chs f
-    gives _ f = tt
+    gives d f = grind (arith, same_outcome, ran, dropped, asked_before, beside, lends)
 
     marks : (d : Deed) → Finds cells h p d → Marks d c (replay cells c h) (left_at cells h p d c)
     marks d f = moves cells h p (alone cells h legal) (Marks d) d f (stays d) (gives d f) c
@@ -140,5 +127,4 @@ module _ (cells : List CellPlan) (c : ℕ) where
     where
       by : (d : Deed) → Tells cells h e.step.party e.step.act e.line.answer d → IsEnding h e.step.party fine k.2 d c → IsEndedTurn cells h e c fine
       by (Ends (Finishes b left)) t i = subst (IsEndedTurn cells h e c) i.0 (ended-turn h e b left k t.0 t.1.0 t.1.1 i.1)
-      by (Ends (Makes made)) t i = absurd i
-      by _ t i = absurd i
+      by d x y = grind arith

@@ -1,9 +1,9 @@
 -- A phase that is not 0 never is 0 again; and a cell that was touched stays so: its phase is not 0, or a section runs in it,
 -- or a guard writes it.
-use Rattle.schedule_rules.proofs.Words.{ℕ, arith, ◌≡◌, List, Bool, true, false, Some, ◌∷◌, [], ◌∙◌, sym, None, subst, ◌⊎◌, inl, ◌<◌, inr, ◌≢◌, cond, and_or_self, bit_or, bit_and}
-use Rattle.schedule_rules.proofs.Words.{AllByRecursion, ◌==◌, Option, has, initialized, CellPlan, cell_at, Content, Change, effect, Ran, Asked, Put, Ended, content_after}
-use Rattle.schedule_rules.proofs.Words.{RanIfAsked, Deed, Visits, Makes, EndsToRead, Finishes, Ends, Lends, DropsToRead, Drops, Event, deed_of, sections, Section, Guard, guards}
-use Rattle.schedule_rules.proofs.Words.{numbered, replay, phase_at, Back, back_of_step, content_after_back, write_holds, IsLegal, IsExclusive}
+use Rattle.schedule_rules.proofs.Words.{ℕ, List, ◌≡◌, arith, Bool, true, Some, ◌∷◌, [], ◌∙◌, sym, None, subst, ◌⊎◌, inl, ◌<◌, inr, ◌≢◌, cond, and_or_self, bit_or, bit_and}
+use Rattle.schedule_rules.proofs.Words.{AllByRecursion, ◌==◌, Option, has, initialized, CellPlan, cell_at, Content, Change, effect, Ran, Asked, Put, content_after, Ended}
+use Rattle.schedule_rules.proofs.Words.{RanIfAsked, Deed, Makes, EndsToRead, Ends, Finishes, DropsToRead, Drops, Event, deed_of, sections, Section, Guard, guards, numbered, replay}
+use Rattle.schedule_rules.proofs.Words.{phase_at, Back, back_of_step, content_after_back, write_holds, IsLegal, IsExclusive}
 use Rattle.schedule_rules.proofs.Exclusion.{alone}
 use Rattle.schedule_rules.proofs.Found.{each_of, each_found}
 use Rattle.schedule_rules.proofs.Finds.{Finds, accessed_there, finds}
@@ -110,10 +110,7 @@ module _ (cells : List CellPlan) where
     gives (EndsToRead v) f k = λ n. inl (effect_touches (cell_at cells f.section.cell) (Ran f.section.is_open (Some v) ∷ []) (replay cells f.section.cell h) tt)
     gives (Drops g) f k = dropped (Drops g) g f.guard f.found k
     gives (DropsToRead g) f k = dropped (DropsToRead g) g f.guard f.found k f.way
-    gives (Visits c chs true) f k = λ n. inr (omega (arith, n))
-    gives (Visits c chs false) f k = λ n. inr (omega (arith, n))
-    gives (Lends c chs) f k = λ n. inr (omega (arith, n))
-    gives _ f k = tt
+    gives d f x = grind arith
 
     held-after : (d : Deed) (f : Finds cells h p d) → AllGood h → (c : ℕ) → Touches d c (replay cells c h) (left_at cells h p d c)
     held-after d f k c = moves cells h p alone (Touches d) d f (stays d f) (gives d f k) c

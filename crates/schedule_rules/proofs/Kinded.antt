@@ -1,7 +1,7 @@
 -- The sections and the guards of a legal history are of calls that the kinds of their cells have.
-use Rattle.schedule_rules.proofs.Words.{ℕ, arith, ◌≡◌, List, Bool, true, false, Some, ◌∷◌, [], sym, None, subst, AllByRecursion, has_call, is_primed, is_plain, Call, Kind, Answer}
-use Rattle.schedule_rules.proofs.Words.{CellPlan, Act, Turns, Calls, cell_at, form_of, Content, Deed, Visits, Opens, EndsToWrite, deed_waiting, Holds, deed_by, Event, deed_of}
-use Rattle.schedule_rules.proofs.Words.{accepts, is_exit, sections, Section, innermost, Guard, guards, replay, refusal, answer_of_value, IsLegal}
+use Rattle.schedule_rules.proofs.Words.{ℕ, List, ◌≡◌, arith, Bool, true, false, Some, ◌∷◌, [], sym, None, subst, AllByRecursion, has_call, is_plain, is_primed, Call, Kind, Answer}
+use Rattle.schedule_rules.proofs.Words.{CellPlan, Act, Calls, cell_at, form_of, Content, Deed, Visits, Opens, EndsToWrite, deed_waiting, deed_by, Holds, Event, deed_of, accepts}
+use Rattle.schedule_rules.proofs.Words.{is_exit, sections, Section, innermost, Guard, guards, replay, refusal, answer_of_value, IsLegal}
 use Rattle.schedule_rules.proofs.Finds.{Finds, finds}
 use Rattle.schedule_rules.proofs.Exclusion.{alone}
 use Rattle.schedule_rules.proofs.Leaves.{guards_left, sections_left, guards_say, sections_say, Says, NewOf}
@@ -76,11 +76,8 @@ module _ (cells : List CellPlan) where
     Unplain y x = IsUnplain x
 
     new : (d : Deed) (f : Finds cells h p d) → Kinds d → NewOf cells h p (alone cells h legal) Had Had Unplain Unplain d f
-    new (Opens c (Calls j) taken) f k = λ i e. let is : j ≡ i = cc in subst (HasCall c) is k
-    new (Opens c Turns taken) f k = λ i e. absurd (cc)
-    new (Holds c true) f k = λ w. k
     new (EndsToWrite v) f k = λ u w. let i : _ = k f.section f.found in written_not_plain (cell_at cells f.section.cell).kind i.0 (u i.0 i.1) i.2
-    new _ f k = tt
+    new d f x = grind arith
 
     after : (d : Deed) (f : Finds cells h p d) → Kinds d → AllByRecursion IsKinded (sections h) → AllByRecursion IsUnplain (guards h)
         → AllByRecursion IsKinded (sections_left cells h p d) × AllByRecursion IsUnplain (guards_left cells h p d)

@@ -1,10 +1,10 @@
 -- What a deed leaves: what is given back changes its own cell, what is published changes only where nothing holds the cell to
 -- write afterwards, and what stands open keeps what is said of it.
-use Rattle.schedule_rules.proofs.Words.{ℕ, arith, ◌≡◌, List, Bool, true, refl, false, Some, ◌∷◌, [], ◌∙◌, sym, ap, None, subst, ◌⊎◌, inl, ◌<◌, inr, length, ◌+◌, cond, ◌≤◌}
-use Rattle.schedule_rules.proofs.Words.{AllByRecursion, ◌==◌, if◌then◌else◌, Option, Call, CellPlan, cell_at, Content, Change, effect, Asked, Ended, content_after, Deed, Visits}
-use Rattle.schedule_rules.proofs.Words.{Makes, EndsToRead, Finishes, Ends, Lends, DropsToRead, Opens, EndsToWrite, Drops, Holds, Beside, Puts, Ending, Event, accepts, count}
-use Rattle.schedule_rules.proofs.Words.{sections, Section, innermost, runs_in, without_innermost, sections_by, Guard, guards, numbered, without_guard, guards_by, reader_beside}
-use Rattle.schedule_rules.proofs.Words.{reader_made, reader, writer_made, writer, carrier, replay, Back, back_by, back_of_section, content_after_back, change_of, back_of_guard}
+use Rattle.schedule_rules.proofs.Words.{ℕ, List, ◌≡◌, arith, Bool, true, refl, false, Some, ◌∷◌, [], ◌∙◌, sym, ap, None, subst, ◌⊎◌, inl, ◌<◌, inr, length, ◌+◌, cond, ◌≤◌}
+use Rattle.schedule_rules.proofs.Words.{AllByRecursion, ◌==◌, if◌then◌else◌, Option, Call, CellPlan, cell_at, Content, Change, effect, Asked, content_after, Ended, Deed, Makes}
+use Rattle.schedule_rules.proofs.Words.{EndsToRead, Ends, Visits, Finishes, Opens, EndsToWrite, DropsToRead, Lends, Drops, Beside, Holds, Puts, Ending, Event, accepts, count}
+use Rattle.schedule_rules.proofs.Words.{sections, Section, innermost, runs_in, without_innermost, sections_by, Guard, guards, numbered, without_guard, guards_by, reader_made}
+use Rattle.schedule_rules.proofs.Words.{reader_beside, reader, writer_made, carrier, writer, replay, Back, back_by, content_after_back, back_of_section, back_of_guard, change_of}
 use Rattle.schedule_rules.proofs.Words.{write_holds, writes_cell, IsExclusive}
 use Rattle.schedule_rules.proofs.Facts.{whether, apart, same_number, at_least}
 use Rattle.schedule_rules.proofs.Found.{each_counted, each_found, each_ended, each_removed, each_put}
@@ -107,9 +107,7 @@ module _ (cells : List CellPlan) (h : List Event) (p : ℕ) where
     settles (EndsToRead v) f c = ends (EndsToRead v) (Makes (Some v)) f.section c f.found refl refl (let e : _ = f.found in rw e refl)
     settles (Drops g) f c = drops (Drops g) g f.guard c f.found refl refl (λ z. refl)
     settles (DropsToRead g) f c = drops (DropsToRead g) g f.guard c f.found refl refl (λ z. let e : _ = f.found in rw e refl)
-    settles (Visits c chs reads) f z = visits c z chs reads f
-    settles (Lends c chs) f z = let u : _ = f.free.unheld in gives (Lends c chs) (record { cell = c; changes = chs }) z refl (omega (arith, u), omega (arith, u))
-    settles d f z = inl refl
+    settles d x c = grind (arith, visits, gives)
 
     -- ---- what holds a cell to write stays, or is given back
 
@@ -181,9 +179,6 @@ module _ (cells : List CellPlan) (h : List Event) (p : ℕ) where
         stays : (c : ℕ) → (GivenAt d c → ⊥) → left_at d c ≡ replay cells c h → R c (replay cells c h) (left_at d c)
         stays c n e = subst (R c (replay cells c h)) (sym e) (same c n)
 
-        nothing : (c : ℕ) → back_by p d (sections h) (guards h) ≡ None → R c (replay cells c h) (left_at d c)
-        nothing c e = stays c (λ g. let n : _ = g.given in cc) (nowhere d c e)
-
         back : (b : Back) (c : ℕ) → back_by p d (sections h) (guards h) ≡ Some b → R b.cell (replay cells b.cell h) (effect (cell_at cells b.cell) b.changes (replay cells b.cell h)) → R c (replay cells c h) (left_at d c)
         back b c e r = by (b.cell == c) refl
           where
@@ -197,23 +192,12 @@ module _ (cells : List CellPlan) (h : List Event) (p : ℕ) where
                 let is : left_at d c ≡ effect (cell_at cells c) b.changes (replay cells c h) = back_here cells c (back_by p d (sections h) (guards h)) b (replay cells c h) e here in
                 subst (R c (replay cells c h)) (sym is) (subst (λ z. R z (replay cells z h) (effect (cell_at cells z) b.changes (replay cells z h))) at r)
 
-        dropped : (g : ℕ) (x : Guard) (c : ℕ) → numbered g (guards h) ≡ Some x → back_by p d (sections h) (guards h) ≡ back_of_guard (numbered g (guards h))
-            → (x.writes ≡ true → R x.cell (replay cells x.cell h) (effect (cell_at cells x.cell) x.changes (replay cells x.cell h))) → R c (replay cells c h) (left_at d c)
-        dropped g x c f e r =
-            whether (x.writes)
-            (λ w. back (record { cell = x.cell; changes = x.changes }) c (e ∙ ap back_of_guard f ∙ ap (λ b. cond b (Some (record { cell = x.cell; changes = x.changes })) None) w) (r w))
-            (λ w. nothing c (e ∙ ap back_of_guard f ∙ ap (λ b. cond b (Some (record { cell = x.cell; changes = x.changes })) None) w))
-
       -- so it is of each cell, where it is said of those of which nothing is given back
       pub moves : (d : Deed) (f : Finds cells h p d) → ((c : ℕ) → (GivenAt d c → ⊥) → R c (replay cells c h) (replay cells c h)) → GivesOf d f → (c : ℕ) → R c (replay cells c h) (left_at d c)
       moves (Ends (Makes made)) f same r c = back (Ends (Makes made)) same (record { cell = f.section.cell; changes = change_of (Makes made) f.section ∷ [] }) c (ap (back_of_section (Makes made)) f.found) r
-      moves (Ends (Finishes fine left)) f same r c = back (Ends (Finishes fine left)) same (record { cell = f.section.cell; changes = Ended fine left ∷ [] }) c (ap (back_of_section (Finishes fine left)) f.found) r
       moves (EndsToRead v) f same r c = back (EndsToRead v) same (record { cell = f.section.cell; changes = change_of (Makes (Some v)) f.section ∷ [] }) c (ap (back_of_section (Makes (Some v))) f.found) r
-      moves (Drops g) f same r c = dropped (Drops g) same g f.guard c f.found refl r
-      moves (DropsToRead g) f same r c = dropped (DropsToRead g) same g f.guard c f.found refl (λ w. r)
       moves (Visits z chs reads) f same r c = back (Visits z chs reads) same (record { cell = z; changes = chs }) c refl r
-      moves (Lends z chs) f same r c = back (Lends z chs) same (record { cell = z; changes = chs }) c refl r
-      moves d f same r c = nothing d same c refl
+      moves d f x y c = grind arith
 
     -- ---- what is said of what stands open, by what is published at its cell
 

@@ -1,6 +1,6 @@
 -- What the answer of a legal line means.
-use Rattle.schedule_rules.proofs.Words.{ℕ, ◌≡◌, List, Bool, true, refl, false, sym, subst, ◌⊎◌, inl, inr, Option, has, initialized, phase_of, Phase, Call, Answer, Line, CellPlan}
-use Rattle.schedule_rules.proofs.Words.{Act, Step, phase_finalized, Event, Section, phase_at, finishing, IsLegalLine, lends_at, runs_to_lend, TurnsWhere, IsWithoutEffect}
+use Rattle.schedule_rules.proofs.Words.{ℕ, List, ◌≡◌, Bool, true, refl, false, sym, subst, ◌⊎◌, inl, inr, Option, has, initialized, phase_of, Phase, Call, Answer, Line, CellPlan}
+use Rattle.schedule_rules.proofs.Words.{Act, Step, phase_finalized, Event, Section, phase_at, finishing, IsLegalLine, lends_at, runs_to_lend, IsWithoutEffect, TurnsWhere}
 use Rattle.schedule_rules.proofs.Cases.{Visiting, IsCalling, Calling, Turning, Asking, Reach, Finalizing, Case}
 use Rattle.schedule_rules.proofs.Steps.{of_legal}
 use Rattle.schedule_rules.proofs.Facts.{same_number}

@@ -1,8 +1,8 @@
 -- A generator of a cell succeeds at most once.
-use Rattle.schedule_rules.proofs.Words.{ℕ, arith, ◌≡◌, List, Bool, true, refl, false, Some, ◌∷◌, [], ◌∙◌, sym, ap, None, subst, ◌⊎◌, inl, ◌<◌, inr, ◌&&◌, ◌+◌, cond, ◌≤◌, ◌||◌}
-use Rattle.schedule_rules.proofs.Words.{◌==◌, has, initialized, Answer, CellPlan, Act, cell_at, flags_kept, Content, Change, effect, Ran, Deed, Makes, EndsToRead, Finishes, Ends}
-use Rattle.schedule_rules.proofs.Words.{Lends, EndsToWrite, Event, deed_of, count, sections, Section, innermost, is_turn, runs_in, Guard, guards, numbered, replay, phase_at}
-use Rattle.schedule_rules.proofs.Words.{back_by, back_of_section, writes_cell, IsLegal, lends_at, runs_to_lend, is_failed, is_success, successes, is_lent_at}
+use Rattle.schedule_rules.proofs.Words.{ℕ, List, ◌≡◌, arith, Bool, true, refl, false, Some, ◌∷◌, [], ◌∙◌, sym, ap, subst, ◌⊎◌, inl, ◌<◌, inr, ◌&&◌, ◌+◌, cond, ◌≤◌, ◌||◌, ◌==◌, has}
+use Rattle.schedule_rules.proofs.Words.{initialized, Answer, CellPlan, Act, cell_at, flags_kept, Content, Change, effect, Ran, Deed, Makes, EndsToRead, Ends, EndsToWrite, Lends}
+use Rattle.schedule_rules.proofs.Words.{Event, deed_of, count, sections, Section, innermost, is_turn, runs_in, Guard, guards, numbered, replay, phase_at, back_by, back_of_section}
+use Rattle.schedule_rules.proofs.Words.{writes_cell, IsLegal, lends_at, runs_to_lend, is_failed, is_lent_at, successes, is_success}
 use Rattle.schedule_rules.proofs.Exclusion.{alone}
 use Rattle.schedule_rules.proofs.Found.{found_counts, each_found}
 use Rattle.schedule_rules.proofs.Leaves.{back_here, left_at, guards_left, GivenAt, Writing, writing, GivesOf, moves}
@@ -63,9 +63,7 @@ module _ (cells : List CellPlan) (c : ℕ) where
         let e : _ = f.found in
         let same : (f.section.cell == c) ≡ true = rw e at s in
         let here : f.section.cell ≡ c = grind arith in (f, here, inr (rw e (rw same (omega arith))))
-    succeeds (Ends (Makes None)) f s = absurd (cc)
-    succeeds (Ends (Finishes fine left)) f s = absurd (cc)
-    succeeds _ f s = absurd (cc)
+    succeeds d x y = grind arith
 
     -- where a value was made no generator of the cell runs
     made_rests : IsMade h → (t : Section) → innermost p (sections h) ≡ Some t → t.cell ≡ c → is_turn t.want ≡ false → ⊥

@@ -1,8 +1,8 @@
 -- A schedule of cells that do not park has at most one legal transcript.
-use Rattle.schedule_rules.proofs.Words.{ℕ, arith, ◌≡◌, List, Bool, true, refl, false, Some, ◌∷◌, [], ◌∙◌, sym, ap, None, subst, ◌<◌, length, get_or_past, same_lists, Option, Given}
-use Rattle.schedule_rules.proofs.Words.{Answer, Line, Refusal, CellPlan, Act, Step, Want, cell_at, is_parking, Event, ended_turns, Wait, Attempt, attempt, other_waits, refusal}
-use Rattle.schedule_rules.proofs.Words.{Meeting, answer_of_attempt, due_answer, due_tried, meeting, may_give_last, may_give_on, may_give_first, is_nobody, IsLegal, IsLegalLine}
-use Rattle.schedule_rules.proofs.Words.{answer_of, due_at, Moment, may_give, Last, First, told, Schedule, Account, IsLegalTranscript, final_of, AreFinals, NoneParks}
+use Rattle.schedule_rules.proofs.Words.{ℕ, List, ◌≡◌, arith, Bool, true, refl, false, Some, ◌∷◌, [], ◌∙◌, sym, ap, None, subst, ◌<◌, length, get_or_past, same_lists, Option, Given}
+use Rattle.schedule_rules.proofs.Words.{Answer, Line, Refusal, CellPlan, Act, Step, Want, cell_at, is_parking, Event, ended_turns, Wait, Attempt, other_waits, refusal, Meeting}
+use Rattle.schedule_rules.proofs.Words.{answer_of_attempt, due_answer, due_tried, meeting, may_give_on, is_nobody, may_give_last, may_give_first, IsLegal, IsLegalLine, answer_of}
+use Rattle.schedule_rules.proofs.Words.{due_at, Moment, may_give, Last, IsLegalTranscript, Schedule, Account, told, final_of, AreFinals, NoneParks}
 use Rattle.std.proofs.lemmas.Option.{get_or_from_slice_get}
 use Rattle.schedule_rules.specs.declared.transcript.Final.{Final}
 
@@ -23,9 +23,6 @@ line_by_answer a b g k e f = ap (λ x. line x g) e ∙ ap (λ x. line b x) f
 -- so an attempt there has one answer
 one_answer : (x : CellPlan) (w : Want) (m : Meeting) (b d : Bool) → is_parking x.place ≡ false → answer_of_attempt x w m b ≡ answer_of_attempt x w m d
 one_answer x w m b d e = grind arith
-
-apart : false ≡ true → ⊥
-apart e = cc
 
 module _ (cells : List CellPlan) (spins : NoneParks cells) where
   -- no cell parks, also none that no plan has
@@ -62,9 +59,8 @@ module _ (cells : List CellPlan) (spins : NoneParks cells) where
       where
         by : (o : Option Refusal) (m : Moment) → l.answer ≡ answer_of o (due_at cells m h s l.given k.chosen) → may_give cells o m h s l ≡ true
             → (l.answer ≡ answer_of o (due_answer cells h s (other_waits cells h s) false)) × (l.given ≡ Given.Nobody)
-        by (Some r) m e d = (e, nobody l.given d)
-        by None First e d = absurd (apart (sym (never_first (attempt cells h s) l.given) ∙ d))
         by None Last e d = (e ∙ due_alike s.party s.act (other_waits cells h s) k.chosen false, nothing_last l.answer l.given d)
+        by o m x y = grind (arith, nobody, never_first)
 
     -- two legal lines of one step are the same
     same_line : (l m : Line) → IsLegalLine cells h s l → IsLegalLine cells h s m → l ≡ m

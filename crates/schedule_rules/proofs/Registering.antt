@@ -1,6 +1,6 @@
 -- What a step registers.
-use Rattle.schedule_rules.proofs.Words.{ℕ, arith, ◌≡◌, List, Bool, true, false, ◌∷◌, ◌∙◌, sym, ap, ◌&&◌, ◌||◌, get_or-set_other, get_or-set_same, is_known, Call, CellPlan, Turns}
-use Rattle.schedule_rules.proofs.Words.{Calls, Change, Deed, Visits, Opens, Skips, Event, deed_of, accepts, registry, registry_by, registry_taken, IsLegal}
+use Rattle.schedule_rules.proofs.Words.{ℕ, List, ◌≡◌, arith, Bool, true, false, ◌∷◌, ◌∙◌, sym, ◌&&◌, ◌||◌, get_or-set_other, get_or-set_same, is_known, Call, CellPlan, Calls}
+use Rattle.schedule_rules.proofs.Words.{Change, Deed, Opens, Event, deed_of, accepts, registry, registry_by, IsLegal}
 use Rattle.schedule_rules.proofs.Registrations.{visit_registers, deed_registers, shows_registration}
 use Rattle.schedule_rules.proofs.Facts.{first}
 use Rattle.schedule_rules.proofs.Cases.{Asking}
@@ -34,10 +34,7 @@ module _ (cells : List CellPlan) (c : ℕ) (h : List Event) (p : ℕ) (legal : I
 
   pub registering : (d : Deed) → Finds cells h p d → IsRegistering d
   registering (Opens d (Calls j) taken) f = run_registers d j taken f
-  registering (Opens d Turns taken) f = rests (is_known (registry_taken taken (registry cells h)) c) (known_taken taken (registry cells h) c)
-  registering (Skips d taken) f = rests (is_known (registry_taken taken (registry cells h)) c) (known_taken taken (registry cells h) c)
-  registering (Visits d chs reads) f = sym (or_none (is_known (registry cells h) c)) ∙ ap (λ b. is_known (registry cells h) c || b) (sym (visits d chs reads f))
-  registering _ f = sym (or_none (is_known (registry cells h) c))
+  registering d x = grind (arith, rests, known_taken, or_none, visits)
 
 -- the registry knows a cell after a step where it did before, or where the step tries to register it and cells may be
 -- registered

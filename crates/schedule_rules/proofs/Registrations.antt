@@ -1,5 +1,5 @@
 -- Which lines show that their step tried to register a cell, and that it is tried at most once at a cell.
-use Rattle.schedule_rules.proofs.Words.{ℕ, arith, ◌≡◌, List, Bool, true, refl, false, Some, ◌∷◌, [], subst, ◌⊎◌, inl, ◌<◌, inr, ◌≢◌, ◌+◌, cond, ◌≤◌, ◌==◌, if◌then◌else◌, Option}
+use Rattle.schedule_rules.proofs.Words.{ℕ, List, ◌≡◌, arith, Bool, true, refl, false, Some, ◌∷◌, [], subst, ◌⊎◌, inl, ◌<◌, inr, ◌≢◌, ◌+◌, cond, ◌≤◌, ◌==◌, if◌then◌else◌, Option}
 use Rattle.schedule_rules.proofs.Words.{is_known, Call, Answer, Line, CellPlan, Step, Calls, cell_at, tolerance_at, asks, Change, Asked, Deed, Visits, Opens, Event, deed_of}
 use Rattle.schedule_rules.proofs.Words.{phase_at, registry, Attempt, write_holds, IsLegal, IsLegalLine, IsExclusive, is_attempted, asks_registration}
 use Rattle.schedule_rules.proofs.Exclusion.{alone}

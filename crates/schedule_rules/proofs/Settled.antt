@@ -1,8 +1,8 @@
 -- A phase that has INITIALIZED changes only where a finalizer of its cell ends, and of a plain cell the value stays.
-use Rattle.schedule_rules.proofs.Words.{ℕ, arith, ◌≡◌, List, Bool, true, refl, false, Some, ◌∷◌, [], ◌∙◌, sym, ap, ◌⊎◌, inl, inr, ◌≢◌, ◌++◌, All, All-head, All-tail, ◌==◌}
-use Rattle.schedule_rules.proofs.Words.{if◌then◌else◌, has, initialized, is_plain, is_hard, Kind, Answer, CellPlan, Act, cell_at, Content, Change, effect, Ran, Put, Deed, Visits}
-use Rattle.schedule_rules.proofs.Words.{Makes, EndsToRead, Finishes, Ends, Lends, DropsToRead, Drops, Event, deed_of, sections, innermost, Guard, guards, numbered, replay}
-use Rattle.schedule_rules.proofs.Words.{phase_at, cell_of_section, IsLegal, lends_at, IsEndedTurn}
+use Rattle.schedule_rules.proofs.Words.{ℕ, List, ◌≡◌, arith, Bool, true, refl, false, Some, ◌∷◌, [], ◌∙◌, sym, ◌⊎◌, inl, inr, ◌≢◌, ◌++◌, All, All-tail, All-head, ◌==◌, has}
+use Rattle.schedule_rules.proofs.Words.{initialized, is_plain, is_hard, Kind, Answer, CellPlan, Act, cell_at, Content, Change, effect, Ran, Put, Deed, Makes, EndsToRead, Ends}
+use Rattle.schedule_rules.proofs.Words.{Finishes, Lends, Event, deed_of, sections, innermost, Guard, guards, numbered, replay, phase_at, cell_of_section, IsLegal, lends_at}
+use Rattle.schedule_rules.proofs.Words.{IsEndedTurn}
 use Rattle.schedule_rules.proofs.Exclusion.{alone}
 use Rattle.schedule_rules.proofs.Found.{each_found}
 use Rattle.schedule_rules.proofs.Finds.{Visit, Lending, Finds, Tells, finds, tells}
@@ -11,7 +11,7 @@ use Rattle.schedule_rules.proofs.Grows.{HasRun, IsReady, lacks, sound, initializ
 use Rattle.schedule_rules.proofs.Opening.{IsOfRun, IsRunning, guards-run}
 use Rattle.schedule_rules.proofs.Kinded.{IsUnplain, unplain}
 use Rattle.schedule_rules.proofs.Finishing.{ended-turn}
-use Rattle.schedule_rules.proofs.Facts.{apart, same_number}
+use Rattle.schedule_rules.proofs.Facts.{apart}
 
 -- a section of sets alone keeps the phase
 puts_keep : (q : CellPlan) (chs : List Change) (y : Content) → IsOfRun chs → HasRun chs ⊎ ((effect q chs y).phase ≡ y.phase)
@@ -48,13 +48,8 @@ module _ (cells : List CellPlan) (h : List Event) (p : ℕ) (legal : IsLegal cel
 
   gives : (d : Deed) (f : Finds cells h p d) → GivesOf cells h p (alone cells h legal) (Settles d) d f
   gives (Ends (Makes made)) f = λ r. absurd (apart (sym r ∙ lacks cells h p (alone cells h legal) (sound cells h legal) f))
-  gives (Ends (Finishes b left)) f = λ r. inr (ap cell_of_section f.found)
   gives (EndsToRead v) f = λ r. absurd (apart (sym r ∙ lacks cells h p (alone cells h legal) (sound cells h legal) f))
-  gives (Drops g) f = λ w r. inl (dropped g f.guard f.found w r)
-  gives (DropsToRead g) f = λ r. inl (dropped g f.guard f.found f.way r)
-  gives (Visits z chs reads) f = λ r. inl (visits z chs reads f r)
-  gives (Lends z chs) f = λ r. inl (lends z chs f r)
-  gives _ f = tt
+  gives d f = grind (arith, dropped, visits, lends)
 
   settles : (d : Deed) → Finds cells h p d → (c : ℕ) → Settles d c (replay cells c h) (left_at cells h p d c)
   settles d f c = moves cells h p (alone cells h legal) (Settles d) d f (λ z n r. inl refl) (gives d f) c
@@ -74,13 +69,8 @@ module _ (cells : List CellPlan) (h : List Event) (p : ℕ) (legal : IsLegal cel
 
   keeps_plain : (d : Deed) (f : Finds cells h p d) → GivesOf cells h p (alone cells h legal) (KeepsPlain d) d f
   keeps_plain (Ends (Makes made)) f = λ n q r. absurd (apart (sym r ∙ lacks cells h p (alone cells h legal) (sound cells h legal) f))
-  keeps_plain (Ends (Finishes b left)) f = λ n q r. ap (λ (x : Bool). if x then left else (replay cells f.section.cell h).value) (plain_soft (cell_at cells f.section.cell).kind q)
   keeps_plain (EndsToRead v) f = λ n q r. absurd (apart (sym r ∙ lacks cells h p (alone cells h legal) (sound cells h legal) f))
-  keeps_plain (Drops g) f = λ w n q r. absurd (never g f.guard f.found w q)
-  keeps_plain (DropsToRead g) f = λ n q r. absurd (never g f.guard f.found f.way q)
-  keeps_plain (Visits z chs reads) f = λ n q r. ap (λ l. (effect (cell_at cells z) l (replay cells z h)).value) f.does ∙ asked_value (cell_at cells z) _ f.asked (replay cells z h)
-  keeps_plain (Lends z chs) f = λ n q r. absurd (apart (sym (same_number z z refl) ∙ n))
-  keeps_plain _ f = tt
+  keeps_plain d f = grind (arith, plain_soft, never, asked_value)
 
   kept_plain : (d : Deed) → Finds cells h p d → (c : ℕ) → KeepsPlain d c (replay cells c h) (left_at cells h p d c)
   kept_plain d f c = moves cells h p (alone cells h legal) (KeepsPlain d) d f (λ z n m q r. refl) (keeps_plain d f) c
@@ -112,8 +102,7 @@ settled cells h e c k ready moves = by (settles cells h e.step.party k.2 (deed_o
 
     ends : (d : Deed) → Tells cells h e.step.party e.step.act e.line.answer d → IsEnding cells h e.step.party k.2 d c → IsEndedTurn cells h e c true ⊎ IsEndedTurn cells h e c false
     ends (Ends (Finishes b left)) t i = turn b (ended-turn cells c h e b left k t.0 t.1.0 t.1.1 i)
-    ends (Ends (Makes made)) t i = absurd i
-    ends _ t i = absurd i
+    ends d x y = grind arith
 
     by : (phase_at cells c (e ∷ h) ≡ phase_at cells c h) ⊎ IsEnding cells h e.step.party k.2 (deed_of h e.step e.line.answer) c → IsEndedTurn cells h e c true ⊎ IsEndedTurn cells h e c false
     by (inl same) = absurd (moves same)

@@ -1,11 +1,11 @@
 -- What holds in each case, holds of each legal step.
-use Rattle.schedule_rules.proofs.Words.{ℕ, arith, ◌≡◌, List, Bool, true, refl, false, Some, ◌∙◌, sym, ap, None, subst, ◌&&◌, not, ◌==◌, if◌then◌else◌, is_none, Option, phase_of}
-use Rattle.schedule_rules.proofs.Words.{first_of, LockNature, is_primed, lends_value, is_finalizable, Call, Kind, Form, Held, Shown, Told, Answer, Line, Refusal, CellPlan, Act}
-use Rattle.schedule_rules.proofs.Words.{Step, Calls, cell_at, tolerance_at, is_accessible, finishes_so, phase_reached, Success, asks_to_lend, content_of_run, Event, accepts}
-use Rattle.schedule_rules.proofs.Words.{sections, Section, innermost, is_turn, Guard, guards, numbered, own, replay, phase_at, registry, finishing, Wait, waits, wait_of, is_barred}
-use Rattle.schedule_rules.proofs.Words.{holding_with, refusal, no_lending, no_call, no_writer, no_outcome, ends_run, writes_of, no_reader, refusal_to_lend, no_guard, ends_turn}
-use Rattle.schedule_rules.proofs.Words.{answer_of_value, answer_lent, answer_made_to_lend, answer_at, answer_made, answer_of_made, due_answer, due_clone, due_made, due_finished}
-use Rattle.schedule_rules.proofs.Words.{phase_made, IsLegalLine, answer_of, due_at, waits_judged}
+use Rattle.schedule_rules.proofs.Words.{ℕ, List, ◌≡◌, arith, Bool, true, refl, false, Some, ◌∙◌, sym, ap, None, subst, ◌&&◌, not, ◌==◌, if◌then◌else◌, is_none, Option, phase_of}
+use Rattle.schedule_rules.proofs.Words.{LockNature, is_finalizable, lends_value, is_primed, Call, Kind, Form, Held, Shown, Told, Answer, Line, Refusal, CellPlan, Act, Step, Calls}
+use Rattle.schedule_rules.proofs.Words.{cell_at, tolerance_at, is_accessible, finishes_so, phase_reached, Success, asks_to_lend, content_of_run, Event, accepts, sections, Section}
+use Rattle.schedule_rules.proofs.Words.{innermost, is_turn, Guard, guards, numbered, own, replay, phase_at, finishing, Wait, is_barred, holding_with, refusal, no_lending, no_call}
+use Rattle.schedule_rules.proofs.Words.{writes_of, no_writer, no_outcome, refusal_to_lend, no_reader, ends_turn, ends_run, no_guard, answer_of_value, answer_at, answer_lent}
+use Rattle.schedule_rules.proofs.Words.{answer_made_to_lend, answer_made, answer_of_made, due_answer, due_clone, due_made, due_finished, phase_made, IsLegalLine, answer_of, due_at}
+use Rattle.schedule_rules.proofs.Words.{waits_judged}
 use Rattle.schedule_rules.proofs.Cases.{step, Case, Generating, Lendable, AsksToLend, Reach, form_at, writes}
 use Rattle.schedule_rules.proofs.Attempts.{rests, mine_where_none, attempted, again, exits}
 use Rattle.schedule_rules.proofs.Answered.{due_at-judged}
@@ -115,7 +115,6 @@ module _ (cells : List CellPlan) (h : List Event) (p : ℕ) where
   allowed (Act.Call c j) ws chosen f =
       let r : _ = rests cells h p (Act.Call c j) (no_refusal _) f in
       attempted cells h p (Act.Call c j) c (Calls j) ws chosen (record { tried = refl; does = refl; acts = tt }) (mine_where_none cells h p c r.0)
-  allowed Act.Again ws chosen f = again cells h p (wait_of p (waits cells h)) refl f ws chosen
   allowed (Act.Made v) ws chosen f =
       let t : _ = generates (innermost p (sections h)) refl (rests cells h p (Act.Made v) (no_refusal _) f).1 in rw t.2 (makes v t.0 t.1 t.3)
   allowed Act.MadeFailed ws chosen f =
@@ -132,12 +131,8 @@ module _ (cells : List CellPlan) (h : List Event) (p : ℕ) where
   allowed (Act.Downgrade g) ws chosen f =
       let x : _ = is_opened no_writer p (numbered g (guards h)) (no_refusal _) (rests cells h p (Act.Downgrade g) (no_refusal _) f).1 in
       Case.downgraded g x.0 x.1 (is_writer x.0.writes x.2)
-  allowed (Act.Clone g) ws chosen f =
-      let x : _ = is_opened no_reader p (numbered g (guards h)) (no_refusal _) (rests cells h p (Act.Clone g) (no_refusal _) f).1 in
-      rw x.1 (clones g ws x.0 x.1 (is_reader x.0.writes x.2))
-  allowed (Act.GetMut c made left) ws chosen f = lends c made left (lendable cells h p c made left f)
   allowed (Act.TryGetMut c left) ws chosen f = let u : _ = lendable_so cells h p c left f in found (Act.TryGetMut c left) c (Case.lent c left u) (Case.unlent c left u)
-  allowed Act.Exit ws chosen f = exits cells h p (first_of (registry cells h).left) refl (rests cells h p Act.Exit (no_refusal _) f).0 ws chosen
+  allowed a ws chosen x = grind (arith, again, is_opened, no_refusal, rests, clones, is_reader, lends, lendable, exits)
 
 -- what holds in each case of a step that is not refused, and of a refused step, holds of a legal line
 pub of_legal : (cells : List CellPlan) (h : List Event) (s : Step) (l : Line) → IsLegalLine cells h s l → (P : Act → Answer → Type 0) → ((a : Act) (r : Refusal) → P a (Answer.Refused r))

@@ -1,11 +1,11 @@
 -- A phase that is not empty tells whether its cell is registered: which flags tell it, what runs and finalizers leave of them,
 -- and that it is so in legal histories.
-use Rattle.schedule_rules.proofs.Words.{ℕ, arith, ◌≡◌, List, Bool, true, refl, false, Some, ◌∷◌, [], ◌∙◌, sym, ap, None, subst, ◌⊎◌, inl, inr, ◌&&◌, ◌≢◌, not, ◌||◌, and_or_apart}
+use Rattle.schedule_rules.proofs.Words.{ℕ, List, ◌≡◌, arith, Bool, true, refl, false, Some, ◌∷◌, [], ◌∙◌, sym, ap, None, subst, ◌⊎◌, inl, inr, ◌&&◌, ◌≢◌, not, ◌||◌, and_or_apart}
 use Rattle.schedule_rules.proofs.Words.{and_assoc, bit_or, bit_and, AllByRecursion, ◌==◌, if◌then◌else◌, Option, has, initialized, is_known, registration, is_finalizable, Call}
-use Rattle.schedule_rules.proofs.Words.{CellPlan, Turns, Calls, cell_at, tolerance_at, tolerance_of, flags_kept, runs_generator, tries_registration, asks, Content, Change, effect}
-use Rattle.schedule_rules.proofs.Words.{Ran, Ended, content_after, is_declined, Deed, Visits, Makes, EndsToRead, Finishes, Ends, Lends, DropsToRead, Opens, EndsToWrite, Drops}
-use Rattle.schedule_rules.proofs.Words.{Holds, Skips, Event, deed_of, accepts, sections, Section, is_turn, runs_in, Guard, guards, numbered, replay, phase_at, registry}
-use Rattle.schedule_rules.proofs.Words.{registry_by, write_holds, writes_cell, IsLegal, TellsRegistration}
+use Rattle.schedule_rules.proofs.Words.{CellPlan, Calls, Turns, cell_at, tolerance_at, tolerance_of, flags_kept, runs_generator, tries_registration, asks, Content, Change, effect}
+use Rattle.schedule_rules.proofs.Words.{Ran, content_after, Ended, is_declined, Deed, Makes, EndsToRead, Ends, Visits, Finishes, Opens, EndsToWrite, DropsToRead, Drops, Skips}
+use Rattle.schedule_rules.proofs.Words.{Event, deed_of, accepts, sections, Section, is_turn, runs_in, Guard, guards, numbered, replay, phase_at, registry, registry_by, write_holds}
+use Rattle.schedule_rules.proofs.Words.{writes_cell, IsLegal, TellsRegistration}
 use Rattle.schedule_rules.proofs.Facts.{apart}
 use Rattle.schedule_rules.proofs.Exclusion.{alone}
 use Rattle.schedule_rules.proofs.Found.{each_none, each_found}
@@ -112,11 +112,8 @@ module _ (cells : List CellPlan) (c : ℕ) (kind : is_finalizable (cell_at cells
     IsOther _ = Unit {0}
 
     new : (d : Deed) (f : Finds cells h p d) → IsOther d → NewOf cells h p (alone cells h legal) (Begun (knows h)) (Begun (knows h)) (Seen (knows h)) (Seen (knows h)) d f
-    new (Opens d (Calls j) taken) f other = λ same. absurd (apart (sym same ∙ other))
-    new (Opens d Turns taken) f other = λ same n. absurd (apart n)
-    new (Holds d true) f other = λ same. phase_tells d same (has_none (phase_at cells d h) (accessed_there cells h d f))
     new (EndsToWrite v) f other = λ begun same. ran f.section (Some v) f.kind same begun
-    new _ f other = tt
+    new d f x = grind (arith, phase_tells, has_none, accessed_there)
 
     says : (d : Deed) (f : Finds cells h p d) → IsOther d → Says cells h p (alone cells h legal) (Begun (knows h)) (Begun (knows h)) (Seen (knows h)) (Seen (knows h)) d f
     says d f other = grind (arith, new)
@@ -166,8 +163,7 @@ module _ (cells : List CellPlan) (c : ℕ) (kind : is_finalizable (cell_at cells
     gives (Drops g) f = λ w same ne. dropped g f.guard f.found w same
     gives (DropsToRead g) f = λ same ne. dropped g f.guard f.found f.way same
     gives (Visits d chs reads) f = visits d chs reads f
-    gives (Lends d chs) f = λ same ne. absurd (apart (sym (kind_at d same) ∙ lent_unregistered (cell_at cells d).kind f.free.lends))
-    gives _ f = tt
+    gives d f = grind (arith, kind_at, lent_unregistered)
 
     others : (d : Deed) (f : Finds cells h p d) → IsOther d → ToldBy (knows h) d
     others d f other = record {

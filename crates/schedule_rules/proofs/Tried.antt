@@ -1,9 +1,9 @@
 -- A legal line shows that its step tried to register a cell exactly where it did.
-use Rattle.schedule_rules.proofs.Words.{ℕ, arith, ◌≡◌, List, Bool, true, refl, false, Some, ◌∷◌, [], ◌∙◌, sym, ap, None, subst, ◌⊎◌, inl, ◌&&◌, not, ◌+◌, ◌≤◌, ◌||◌, ◌==◌}
-use Rattle.schedule_rules.proofs.Words.{if◌then◌else◌, is_none, Option, phase_of, Phase, first_of, is_known, How, flags_refused, Call, Answer, Line, Refusal, CellPlan, Place, Act}
-use Rattle.schedule_rules.proofs.Words.{Step, Turns, Calls, deed_waiting, deed_by, Event, accepts, is_exit, replay, registry, Wait, waits, Attempt, attempt, attempt_of_turn}
-use Rattle.schedule_rules.proofs.Words.{attempt_with, refusal, answer_of_value, answer_barred, due_answer, due_attempt, IsLegal, IsLegalLine, answer_of, waits_judged, is_attempted}
-use Rattle.schedule_rules.proofs.Words.{is_admitted, asks_registration, registrations, tells_declined, tries_to_register}
+use Rattle.schedule_rules.proofs.Words.{ℕ, List, ◌≡◌, arith, Bool, true, refl, false, Some, ◌∷◌, [], ◌∙◌, sym, ap, None, subst, ◌⊎◌, inl, ◌&&◌, ◌+◌, not, ◌≤◌, ◌||◌, ◌==◌}
+use Rattle.schedule_rules.proofs.Words.{if◌then◌else◌, is_none, Option, phase_of, Phase, is_known, first_of, How, flags_refused, Call, Answer, Line, Refusal, CellPlan, Place, Act}
+use Rattle.schedule_rules.proofs.Words.{Step, Calls, Turns, deed_waiting, deed_by, Event, accepts, is_exit, replay, registry, Wait, waits, Attempt, attempt, attempt_with}
+use Rattle.schedule_rules.proofs.Words.{attempt_of_turn, refusal, answer_of_value, answer_barred, due_answer, due_attempt, IsLegal, IsLegalLine, answer_of, waits_judged}
+use Rattle.schedule_rules.proofs.Words.{is_attempted, is_admitted, asks_registration, registrations, tries_to_register, tells_declined}
 use Rattle.schedule_rules.proofs.Cases.{Visiting, step, Calling, Resting, Case}
 use Rattle.schedule_rules.proofs.Registrations.{asks_so, deed_registers, shows_registration, registrations_shown, tries-unknown, registered-once}
 use Rattle.schedule_rules.proofs.Answered.{due_at-judged, denied}
@@ -23,10 +23,7 @@ is_back (Answer.Refused q) = true
 is_back _ = false
 
 barred_back : (fast : Bool) (x : Place) (w : How) → is_back (answer_barred fast x w) ≡ true
-barred_back true x w = refl
-barred_back false Place.Park w = refl
-barred_back false Place.Spin w = refl
-barred_back false (Place.Own p) w = refl
+barred_back fast x w = grind arith
 
 beyond_back : IsBeyond is_back
 beyond_back = grind arith
@@ -112,12 +109,11 @@ module _ (cells : List CellPlan) (c : ℕ) where
 
         by : (r : Option Refusal) (o : Option Attempt) → attempt cells h s ≡ o → l.answer ≡ answer_of r (due_answer cells h s ws k.chosen)
             → (not (is_back l.answer) && asks_so cells c h o) ≡ (is_none r && is_attempted (λ a. is_admitted cells h s.party ws a && asks_registration cells c h a) o)
-        by (Some q) o e f = ap (λ r. not (is_back r) && asks_so cells c h o) f
-        by None None e f = sym (no_more (not (is_back l.answer)))
         by None (Some a) e f =
             ap (λ r. not (is_back r) && asks_registration cells c h a) (f ∙ due_of s.act a e)
             ∙ ap (λ b. not b && asks_registration cells c h a) (unless_admitted is_back cells h s.party ws k.chosen refl barred_back beyond_back a)
             ∙ ap (λ b. b && asks_registration cells c h a) (twice (is_admitted cells h s.party ws a))
+        by r o x y = grind (arith, asks_so, no_more)
 
     -- a legal line shows it exactly where the step tries
     pub shown_where_tried : shows_registration cells c h s l.answer ≡ tries_to_register cells c h s l.given k.moment

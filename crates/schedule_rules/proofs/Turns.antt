@@ -1,11 +1,11 @@
 -- Each registered cell has one turn: to come, waiting, going on or ended.
-use Rattle.schedule_rules.proofs.Words.{ℕ, arith, ◌≡◌, List, Bool, true, refl, false, Some, ◌∷◌, [], ◌∙◌, sym, ap, None, subst, ◌<◌, ◌&&◌, length, ◌+◌, cond, get_or-set_other}
-use Rattle.schedule_rules.proofs.Words.{get_or-set_same, ◌==◌, if◌then◌else◌, Option, cells_of_turns, first_of, is_known, occurs, rest_of, due, registered, Given, Call, Answer}
-use Rattle.schedule_rules.proofs.Words.{Refusal, CellPlan, Act, Turns, Calls, cell_at, is_owned, tries_registration, Deed, Makes, EndsToRead, Finishes, Ends, Opens, EndsToWrite}
+use Rattle.schedule_rules.proofs.Words.{ℕ, List, ◌≡◌, arith, Bool, true, refl, false, Some, ◌∷◌, [], ◌∙◌, sym, ap, None, subst, ◌<◌, ◌&&◌, length, ◌+◌, cond, get_or-set_other}
+use Rattle.schedule_rules.proofs.Words.{get_or-set_same, ◌==◌, if◌then◌else◌, Option, cells_of_turns, is_known, first_of, occurs, rest_of, due, registered, Given, Call, Answer}
+use Rattle.schedule_rules.proofs.Words.{Refusal, CellPlan, Act, Calls, Turns, cell_at, is_owned, tries_registration, Deed, Makes, EndsToRead, Ends, Finishes, Opens, EndsToWrite}
 use Rattle.schedule_rules.proofs.Words.{deed_waiting, deed_by, Skips, Takes, Looks, Event, deed_of, accepts, count, is_exit, sections, Section, innermost, without_innermost}
-use Rattle.schedule_rules.proofs.Words.{sections_by, replay, phase_at, registry, registry_by, ended_turns, registry_taken, turn_of_section, turn_of, turns_by, Wait, waits, wait_of}
-use Rattle.schedule_rules.proofs.Words.{without_wait, waits_given_with, attempt_with, with_wait, refusal, refusal_waiting, answer_of_value, IsLegal, turns_of, finalizes_in}
-use Rattle.schedule_rules.proofs.Words.{waits_to_turn}
+use Rattle.schedule_rules.proofs.Words.{sections_by, replay, phase_at, registry, registry_by, ended_turns, registry_taken, turns_by, turn_of, turn_of_section, Wait, waits, wait_of}
+use Rattle.schedule_rules.proofs.Words.{without_wait, attempt_with, waits_given_with, with_wait, refusal, refusal_waiting, answer_of_value, IsLegal, turns_of, waits_to_turn}
+use Rattle.schedule_rules.proofs.Words.{finalizes_in}
 use Rattle.schedule_rules.proofs.Facts.{whether, first, second, apart}
 use Rattle.schedule_rules.proofs.Exclusion.{alone}
 use Rattle.schedule_rules.proofs.Opened.{count_ended}
@@ -236,17 +236,12 @@ module _ (cells : List CellPlan) (c : ℕ) where
 
     has_turn : (d : Deed) (n : ℕ) → Finds cells h p d → WaitsSo h p i shared d n → HasTurnBy d n
     has_turn (Opens d (Calls j) taken) n f w = running d j taken n w f
-    has_turn (Opens d Turns taken) n f w = finalizes d n taken w
-    has_turn (Skips d taken) n f w = skips d n taken w
-    has_turn Takes n f w =
-        let taken : _ = taken_count w.0 (waiting h p i shared) true (w.1, refl) in let m : _ = w.2 in keeps Takes n refl (omega (arith, taken, m))
-    has_turn (Looks true) n f w = looks true n f.0 w
     has_turn (Looks false) n f w = looks false n f.0 w
     has_turn (Ends (Makes made)) n f w = run_ends (Ends (Makes made)) n f refl refl refl w
     has_turn (Ends (Finishes fine left)) n f w = turn_ends fine left n f w
     has_turn (EndsToRead v) n f w = run_ends (EndsToRead v) n f refl refl refl w
     has_turn (EndsToWrite v) n f w = run_ends (EndsToWrite v) n f refl refl refl w
-    has_turn d n f w = keeps d n refl (omega (arith, w))
+    has_turn d n x y = grind (arith, finalizes, skips, taken_count, keeps, looks)
 
   -- each registered cell has one turn, and no other cell has one
   pub one-turn : (h : List Event) → IsLegal cells h → HasTurn h

@@ -1,11 +1,11 @@
 -- A value that is shown is there.
-use Rattle.schedule_rules.proofs.Words.{ℕ, arith, ◌≡◌, List, Bool, true, refl, false, Some, ◌∷◌, [], ◌∙◌, sym, ap, None, subst, ◌⊎◌, inl, ◌<◌, inr, length, and_assoc, and_or_self}
-use Rattle.schedule_rules.proofs.Words.{and_le_r, AllByRecursion, ◌==◌, if◌then◌else◌, is_some, Option, has, initialized, is_primed, is_plain, Call, Answer, Line, CellPlan, Act}
-use Rattle.schedule_rules.proofs.Words.{Step, cell_at, tolerance_of, is_accessible, flags_kept, finishes_so, Content, Change, effect, Ran, Asked, Put, Ended, content_after}
-use Rattle.schedule_rules.proofs.Words.{asks_to_lend, RanIfAsked, content_of_run, is_declined, Deed, Visits, Makes, EndsToRead, DropsToRead, EndsToWrite, Drops, Holds, Beside}
-use Rattle.schedule_rules.proofs.Words.{Puts, Event, deed_of, sections, Section, Guard, guards, numbered, without_guard, guards_by, reader_beside, reader_made, writer_made, replay}
-use Rattle.schedule_rules.proofs.Words.{phase_at, Back, back_of_step, back_by, back_of_section, content_after_back, inside, change_of, back_of_guard, read_guards, reads_cell}
-use Rattle.schedule_rules.proofs.Words.{answer_of_value, IsLegal, IsLegalLine, lends_at, runs_to_lend, ShowsValue}
+use Rattle.schedule_rules.proofs.Words.{ℕ, List, ◌≡◌, arith, Bool, true, refl, false, Some, ◌∷◌, [], ◌∙◌, sym, ap, None, subst, ◌⊎◌, inl, ◌<◌, inr, length, and_or_self, and_assoc}
+use Rattle.schedule_rules.proofs.Words.{and_le_r, AllByRecursion, ◌==◌, if◌then◌else◌, is_some, Option, has, initialized, is_plain, is_primed, Call, Answer, Line, CellPlan, Act}
+use Rattle.schedule_rules.proofs.Words.{Step, cell_at, tolerance_of, is_accessible, finishes_so, flags_kept, Content, Change, effect, Ran, Asked, Put, content_after, Ended}
+use Rattle.schedule_rules.proofs.Words.{asks_to_lend, RanIfAsked, content_of_run, is_declined, Deed, Makes, EndsToRead, Visits, DropsToRead, Beside, Event, deed_of, sections}
+use Rattle.schedule_rules.proofs.Words.{Section, Guard, guards, numbered, without_guard, guards_by, reader_made, reader_beside, replay, phase_at, Back, back_of_step, back_by}
+use Rattle.schedule_rules.proofs.Words.{content_after_back, back_of_section, inside, back_of_guard, change_of, read_guards, reads_cell, answer_of_value, IsLegal, IsLegalLine}
+use Rattle.schedule_rules.proofs.Words.{lends_at, runs_to_lend, ShowsValue}
 use Rattle.std.specs.Option.{unwrap_or}
 use Rattle.schedule_rules.proofs.Cases.{step, Reach, Case}
 use Rattle.schedule_rules.proofs.Steps.{lent_unprimed, of_legal}
@@ -162,16 +162,11 @@ module _ (cells : List CellPlan) where
 
     -- each guard after the deed
     reads : (d : Deed) → deed_of h e.step e.line.answer ≡ d → Finds cells h p d → AllByRecursion (Reads (e ∷ h)) (guards_by (length h) p d (sections h) (guards h))
-    reads (Holds c false) is f = ((λ w. stays (Holds c false) c is refl (accessed-value c h f)), still)
-    reads (Holds c true) is f = ((λ w. absurd (cc)), still)
     reads (Visits c chs true) is f = ((λ w. primed-value c (e ∷ h) k (errs-primed cells h e c chs k is)), still)
-    reads (Visits c chs false) is f = still
     reads (EndsToRead v) is f =
         let here : HasValue (replay cells f.section.cell (e ∷ h)) =
         given (EndsToRead v) (record { cell = f.section.cell; changes = change_of (Makes (Some v)) f.section ∷ [] }) is (ap (back_of_section (Makes (Some v))) f.found) refl in
         subst (λ o. AllByRecursion (Reads (e ∷ h)) (reader_made (length h) p o (guards h))) (sym f.found) ((λ w. here), still)
-    reads (EndsToWrite v) is f = subst (λ o. AllByRecursion (Reads (e ∷ h)) (writer_made (length h) p v o (guards h))) (sym f.found) ((λ w. absurd (cc)), still)
-    reads (Drops g) is f = each_removed (Reads (e ∷ h)) g (guards h) still
     reads (DropsToRead g) is f =
         let here : HasValue (replay cells f.guard.cell (e ∷ h)) =
         given (DropsToRead g) (record { cell = f.guard.cell; changes = f.guard.changes }) is (ap back_of_guard f.found ∙ ap (λ b. if b then Some (record { cell = f.guard.cell; changes = f.guard.changes }) else None) f.way)
@@ -180,8 +175,7 @@ module _ (cells : List CellPlan) where
     reads (Beside g) is f =
         let here : HasValue (replay cells f.guard.cell (e ∷ h)) = each_found (λ y. y.number == g) (Reads (e ∷ h)) (guards h) f.guard f.found still f.way in
         subst (λ o. AllByRecursion (Reads (e ∷ h)) (reader_beside (length h) p o (guards h))) (sym f.found) ((λ w. here), still)
-    reads (Puts g v) is f = each_put (Reads (e ∷ h)) g v (guards h) (λ x r. r) still
-    reads d is f = still
+    reads d x y = grind (arith, stays, accessed-value, still, each_removed, each_put)
 
   all_read : (h : List Event) → IsLegal cells h → AllByRecursion (Reads h) (guards h)
   all_read [] k = tt
