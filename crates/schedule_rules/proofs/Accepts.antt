@@ -1,5 +1,5 @@
 -- The registry is open as long as a cell may be registered, and knows of each cell whether it was registered.
-use Rattle.schedule_rules.proofs.Words.{ℕ, List, ◌≡◌, arith, Bool, true, refl, false, ◌∷◌, [], ◌∙◌, length, not, length-replicate, length-set, closed, after_register, Registry}
+use Rattle.schedule_rules.proofs.Words.{ℕ, arith, List, ◌≡◌, Bool, true, refl, false, ◌∷◌, [], ◌∙◌, length, not, length-replicate, length-set, closed, Registry, after_register}
 use Rattle.schedule_rules.proofs.Words.{CellPlan, Deed, Event, deed_of, accepts, closed_by, is_closed, registry, registry_by, registry_taken, registry_of_run, IsLegal}
 use Rattle.schedule_rules.proofs.Finds.{Finds, finds}
 

@@ -1,8 +1,8 @@
 -- What holds of the answers that are due, by what holds of each that may be.
-use Rattle.schedule_rules.proofs.Words.{ℕ, List, ◌≡◌, arith, Bool, true, false, ◌∙◌, ap, ◌&&◌, if◌then◌else◌, is_none, Option, Phase, Given, How, Tolerance, Call, Kind, Form}
+use Rattle.schedule_rules.proofs.Words.{ℕ, arith, List, ◌≡◌, Bool, true, false, ◌∙◌, ap, ◌&&◌, if◌then◌else◌, is_none, Option, Phase, Given, How, Tolerance, Call, Kind, Form}
 use Rattle.schedule_rules.proofs.Words.{Answer, Line, Refusal, CellPlan, Place, Step, is_owned, is_accessible, Content, asks_to_lend, content_to_lend, Event, Section, Guard, Wait}
-use Rattle.schedule_rules.proofs.Words.{refusal, answer_barred, answer_lent, answer_made_to_lend, answer_denied, answer_made, call_answer_admitted, answer_opened, due_answer}
-use Rattle.schedule_rules.proofs.Words.{due_clone, due_made, due_finished, due_look, IsLegalLine, answer_of, due_at, Moment, waits_judged}
+use Rattle.schedule_rules.proofs.Words.{refusal, answer_barred, answer_made_to_lend, answer_lent, call_answer_admitted, answer_denied, answer_made, answer_opened, due_answer}
+use Rattle.schedule_rules.proofs.Words.{due_clone, due_finished, due_made, due_look, IsLegalLine, answer_of, due_at, Moment, waits_judged}
 
 -- the answer that is due, where these calls of others wait
 pub due_at-judged : (cells : List CellPlan) (m : Moment) (h : List Event) (s : Step) (g : Given) (chosen : Bool)

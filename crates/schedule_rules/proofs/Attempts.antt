@@ -1,11 +1,11 @@
 -- What an attempt at a cell is answered, case by case.
-use Rattle.schedule_rules.proofs.Words.{ℕ, List, ◌≡◌, arith, Bool, true, refl, false, Some, ◌∷◌, [], ◌∙◌, sym, ap, None, subst, inl, ◌<◌, inr, ◌&&◌, not, if◌then◌else◌, is_some}
+use Rattle.schedule_rules.proofs.Words.{ℕ, arith, List, ◌≡◌, Bool, true, refl, Some, false, ◌∷◌, [], ◌∙◌, sym, ap, None, subst, inl, ◌<◌, ◌&&◌, inr, not, if◌then◌else◌, is_some}
 use Rattle.schedule_rules.proofs.Words.{Option, has, initialized, phase_of, first_of, look_at, LockNature, How, shall_init, flags_refused, Tolerance, asking, Call, Kind, Form}
 use Rattle.schedule_rules.proofs.Words.{Held, Shown, Told, Answer, CellPlan, Act, Want, Calls, Turns, cell_at, tolerance_at, form_of, is_accessible, runs_generator, asks, is_fast}
 use Rattle.schedule_rules.proofs.Words.{lock_wanted, initializes, Content, Event, accepts, latest_act, runs, replay, phase_at, registry, Wait, waits, wait_of, attempt_of_wait}
 use Rattle.schedule_rules.proofs.Words.{attempt_of_turn, act_for, write_holds, read_guards, is_barred, holding_with, keeps, readers, refusal, refusal_by, refusal_waiting}
-use Rattle.schedule_rules.proofs.Words.{refusal_free, answer_barred, answer_admitted, answer_at, answer_denied, turn_answer_admitted, call_answer_admitted, answer_opened}
-use Rattle.schedule_rules.proofs.Words.{due_tried, answer_of_look, due_attempt, IsExclusive}
+use Rattle.schedule_rules.proofs.Words.{refusal_free, answer_barred, answer_at, answer_admitted, call_answer_admitted, turn_answer_admitted, answer_denied, answer_opened}
+use Rattle.schedule_rules.proofs.Words.{due_attempt, answer_of_look, due_tried, IsExclusive}
 use Rattle.schedule_rules.proofs.Found.{found_counts}
 use Rattle.schedule_rules.proofs.GoesOn.{Matches, wait-matches}
 use Rattle.schedule_rules.proofs.Answered.{barred}

@@ -1,7 +1,7 @@
 -- What a legal step may be, case by case.
-use Rattle.schedule_rules.proofs.Words.{ℕ, List, ◌≡◌, arith, Bool, true, false, Some, ◌∷◌, [], None, ◌⊎◌, length, if◌then◌else◌, Option, has, initialized, phase_of, Phase, How}
+use Rattle.schedule_rules.proofs.Words.{ℕ, arith, List, ◌≡◌, Bool, true, Some, false, ◌∷◌, [], None, ◌⊎◌, length, if◌then◌else◌, Option, has, initialized, phase_of, Phase, How}
 use Rattle.schedule_rules.proofs.Words.{shall_init, flags_refused, lends_value, Call, Form, Held, Answer, CellPlan, Act, Step, Want, Calls, Turns, cell_at, tolerance_at, is_owned}
-use Rattle.schedule_rules.proofs.Words.{form_of, is_accessible, finishes_so, runs_generator, phase_finalized, asks, is_fast, initializes, asks_to_lend, Event, accepts, count}
+use Rattle.schedule_rules.proofs.Words.{form_of, is_accessible, runs_generator, finishes_so, phase_finalized, asks, is_fast, initializes, asks_to_lend, Event, accepts, count}
 use Rattle.schedule_rules.proofs.Words.{act_of, sections, Section, innermost, is_turn, Guard, guards, numbered, replay, phase_at, inside, registry, finishing, waits, attempt}
 use Rattle.schedule_rules.proofs.Words.{waits_at, write_holds, read_guards, answer_of_value, IsExclusive}
 

@@ -1,12 +1,12 @@
 -- Which answer a legal line has, by its cause.
-use Rattle.schedule_rules.proofs.Words.{ℕ, List, ◌≡◌, arith, Bool, true, refl, false, Some, ◌∙◌, sym, ap, None, ◌&&◌, ◌≢◌, not, ◌||◌, if◌then◌else◌, is_none, is_some, Option}
+use Rattle.schedule_rules.proofs.Words.{ℕ, arith, List, ◌≡◌, Bool, true, refl, Some, false, ◌∙◌, sym, ap, None, ◌&&◌, ◌≢◌, not, ◌||◌, if◌then◌else◌, is_none, is_some, Option}
 use Rattle.schedule_rules.proofs.Words.{first_of, look_at, Given, How, Call, Answer, Line, Refusal, CellPlan, Place, Act, Step, Calls, cell_at, tolerance_at, is_owned, asks}
 use Rattle.schedule_rules.proofs.Words.{is_fast, lock_wanted, Event, accepts, is_exit, Guard, guards, numbered, replay, phase_at, registry, Wait, waits, wait_of, Attempt, attempt}
-use Rattle.schedule_rules.proofs.Words.{attempt_of_wait, is_barred, holding_with, refusal, refusal_by, answer_barred, answer_admitted, way_parked, drains_by, due_answer, due_tried}
-use Rattle.schedule_rules.proofs.Words.{due_clone, answer_of_look, due_attempt, keeps_own, is_nobody, IsLegalLine, answer_of, due_at, Moment, may_give, waits_judged, is_attempted}
-use Rattle.schedule_rules.proofs.Words.{is_waiting, is_cyclic, is_denied_to_lend, is_finalizing, is_cyclic_step, is_running, is_borrowed, is_admitted, is_closing, is_round}
-use Rattle.schedule_rules.proofs.Words.{is_missed, is_skipped, is_access, looks, is_barred_step, is_closing_step, is_round_step, is_barred_clone, is_turn_step, is_running_step}
-use Rattle.schedule_rules.proofs.Words.{is_access_step, is_of_own_run, is_step_of, is_barred_attempt, is_borrowing_step, is_missing_step, is_initializing}
+use Rattle.schedule_rules.proofs.Words.{attempt_of_wait, is_barred, holding_with, refusal, refusal_by, answer_barred, answer_admitted, drains_by, way_parked, due_answer, due_clone}
+use Rattle.schedule_rules.proofs.Words.{due_attempt, answer_of_look, due_tried, keeps_own, is_nobody, IsLegalLine, answer_of, due_at, Moment, may_give, waits_judged, is_attempted}
+use Rattle.schedule_rules.proofs.Words.{is_waiting, is_cyclic, is_closing, is_finalizing, is_access, is_skipped, is_missed, is_admitted, is_denied_to_lend, is_round}
+use Rattle.schedule_rules.proofs.Words.{is_cyclic_step, is_borrowed, is_running, is_running_step, is_missing_step, is_turn_step, is_barred_step, is_access_step, is_borrowing_step}
+use Rattle.schedule_rules.proofs.Words.{is_barred_clone, is_step_of, looks, is_closing_step, is_round_step, is_of_own_run, is_barred_attempt, is_initializing}
 use Rattle.schedule_rules.proofs.Tests.{none_asked, none_kept, look_closes, look_rounds, barred_borrows, barred_misses, barred_waits, parts_of_borrowing, parts_of_look}
 use Rattle.schedule_rules.proofs.Tests.{not_admitted, only_own, only_admitted, only_barred, is_refused, IsBeyond, IsOfTries, of_running, of_access, of_cyclic, of_finalizing}
 use Rattle.schedule_rules.proofs.Tests.{of_skipped, of_round, of_closing, of_waiting, of_missed, of_borrowed, of_refused, no_more, same_both, nothing_else, neither, unless_first}

@@ -1,7 +1,7 @@
 -- How many calls wait and how many turns there are, after one is taken off or added.
-use Rattle.schedule_rules.proofs.Words.{ℕ, List, ◌≡◌, arith, Bool, refl, Some, ◌∷◌, [], None, ◌+◌, cond, ◌≤◌, ◌++◌, ◌==◌, if◌then◌else◌, map, Option, cells_of_turns, first_of}
-use Rattle.schedule_rules.proofs.Words.{occurs, rest_of, Turn, Turned, Given, Answer, CellPlan, Step, Want, Turns, Event, count, Wait, waits, wait_of, Attempt, attempt_of_wait}
-use Rattle.schedule_rules.proofs.Words.{without_wait, waits_given_with, with_wait, waits_answered, attempt_of_turn, wait_woken}
+use Rattle.schedule_rules.proofs.Words.{ℕ, arith, List, ◌≡◌, Bool, refl, Some, ◌∷◌, [], None, ◌+◌, ◌≤◌, cond, ◌++◌, ◌==◌, if◌then◌else◌, map, Option, cells_of_turns, first_of}
+use Rattle.schedule_rules.proofs.Words.{rest_of, occurs, Turn, Turned, Given, Answer, CellPlan, Step, Want, Turns, Event, count, Wait, waits, wait_of, Attempt, attempt_of_wait}
+use Rattle.schedule_rules.proofs.Words.{without_wait, waits_given_with, with_wait, attempt_of_turn, waits_answered, wait_woken}
 
 -- 1 where the test holds
 abbrev pub one_if : Bool → ℕ

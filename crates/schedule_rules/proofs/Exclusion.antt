@@ -1,5 +1,5 @@
 -- The holds of a cell exclude each other: what holds it to write, is all that does.
-use Rattle.schedule_rules.proofs.Words.{ℕ, List, ◌≡◌, arith, true, refl, Some, ◌∷◌, [], ◌∙◌, ap, ◌+◌, cond, CellPlan, Event, count, sections, Section, innermost, runs_in}
+use Rattle.schedule_rules.proofs.Words.{ℕ, arith, List, ◌≡◌, true, refl, Some, ◌∷◌, [], ◌∙◌, ap, ◌+◌, cond, CellPlan, Event, count, sections, Section, innermost, runs_in}
 use Rattle.schedule_rules.proofs.Words.{without_innermost, Guard, guards, numbered, without_guard, writes_cell, IsLegal, IsExclusive}
 use Rattle.schedule_rules.proofs.Found.{found_counts}
 use Rattle.schedule_rules.proofs.Opened.{count_ended, count_removed}

@@ -1,5 +1,5 @@
 -- Small facts of truth values and numbers.
-use Rattle.schedule_rules.proofs.Words.{ℕ, ◌≡◌, arith, Bool, true, refl, false, ◌⊎◌, ◌&&◌, ◌≢◌, ◌+◌, cond, ◌≤◌, ◌||◌, ◌==◌}
+use Rattle.schedule_rules.proofs.Words.{ℕ, arith, ◌≡◌, Bool, true, refl, false, ◌⊎◌, ◌&&◌, ◌≢◌, ◌+◌, ◌≤◌, cond, ◌||◌, ◌==◌}
 
 pub apart : true ≡ false → ⊥
 apart x = cc

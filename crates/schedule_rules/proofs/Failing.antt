@@ -1,12 +1,12 @@
 -- What a failed run leaves; and of a value that is lent, that nobody uses its cell, and what the step leaves.
-use Rattle.schedule_rules.proofs.Words.{ℕ, List, ◌≡◌, arith, Bool, true, refl, false, Some, ◌∷◌, [], ◌∙◌, sym, ap, None, subst, ◌⊎◌, inl, inr, ◌&&◌, length, ◌≢◌, list_any, ◌==◌}
+use Rattle.schedule_rules.proofs.Words.{ℕ, arith, List, ◌≡◌, Bool, true, refl, Some, false, ◌∷◌, [], ◌∙◌, sym, ap, None, subst, ◌⊎◌, inl, ◌&&◌, inr, ◌≢◌, length, list_any, ◌==◌}
 use Rattle.schedule_rules.proofs.Words.{if◌then◌else◌, is_none, is_some, Option, Given, Answer, Line, Refusal, CellPlan, Act, Step, cell_at, tolerance_at, is_parking}
-use Rattle.schedule_rules.proofs.Words.{is_accessible, Content, Change, effect, Ran, Put, RanIfAsked, Makes, Event, deed_of, accepts, count, sections, Section, innermost}
-use Rattle.schedule_rules.proofs.Words.{sections_by, guards, guards_by, replay, Back, back_of_step, content_after_back, back_of_section, Wait, waits, wait_of, without_wait}
-use Rattle.schedule_rules.proofs.Words.{cell_concerned, attempt_with, waits_given_with, waits_answered, cell_of_section, other_waits, waits_at, cell_concerned_with, refusal}
-use Rattle.schedule_rules.proofs.Words.{refusal_by, due_answer, may_give_on, may_give_last, may_give_first, reaches, IsLegalLine, answer_of, due_at, Moment, may_give, lends_at}
-use Rattle.schedule_rules.proofs.Words.{waits_judged, is_failed, is_failure, is_refused_in_use, is_step_in_use, lends_in_use, is_lent, EndsRun, Leaves, IsFailedRun, IsUnused}
-use Rattle.schedule_rules.proofs.Words.{ChangesCellAlone, RunsAtOnce}
+use Rattle.schedule_rules.proofs.Words.{is_accessible, Content, effect, Change, Ran, Put, RanIfAsked, Makes, Event, deed_of, accepts, count, sections, Section, innermost}
+use Rattle.schedule_rules.proofs.Words.{sections_by, guards, guards_by, replay, Back, back_of_step, back_of_section, content_after_back, Wait, waits, wait_of, without_wait}
+use Rattle.schedule_rules.proofs.Words.{attempt_with, cell_concerned, waits_given_with, cell_of_section, waits_answered, other_waits, waits_at, cell_concerned_with, refusal}
+use Rattle.schedule_rules.proofs.Words.{refusal_by, due_answer, may_give_on, may_give_first, may_give_last, reaches, IsLegalLine, answer_of, due_at, Moment, may_give, lends_at}
+use Rattle.schedule_rules.proofs.Words.{waits_judged, is_failed, is_failure, is_step_in_use, is_refused_in_use, lends_in_use, is_lent, RunsAtOnce, EndsRun, IsFailedRun, Leaves}
+use Rattle.schedule_rules.proofs.Words.{IsUnused, ChangesCellAlone}
 use Rattle.schedule_rules.proofs.Cases.{step, IsTrying, trying, Lendable, Case, calling-tries, turning-tries}
 use Rattle.schedule_rules.proofs.Steps.{lendable, lendable_so, allowed}
 use Rattle.schedule_rules.proofs.Finds.{LendsSo, Both, finds, tells}

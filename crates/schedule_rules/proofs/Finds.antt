@@ -1,10 +1,10 @@
 -- What a legal step finds, deed by deed.
-use Rattle.schedule_rules.proofs.Words.{ℕ, List, ◌≡◌, arith, Bool, true, refl, false, Some, ◌∷◌, [], ◌∙◌, sym, ap, None, subst, ◌⊎◌, inl, inr, if◌then◌else◌, Option, has}
-use Rattle.schedule_rules.proofs.Words.{initialized, Phase, Call, Answer, Line, CellPlan, Act, Step, Calls, Turns, cell_at, is_accessible, finishes_so, Change, effect, Ran, Asked}
-use Rattle.schedule_rules.proofs.Words.{Put, content_after, RanIfAsked, content_of_run, Deed, Makes, EndsToRead, Ends, Visits, Finishes, Opens, EndsToWrite, DropsToRead}
-use Rattle.schedule_rules.proofs.Words.{deed_waiting, Lends, Drops, deed_by, Beside, Holds, Skips, Puts, Takes, Looks, Quiet, Event, deed_of, accepts, is_exit, act_of, sections}
-use Rattle.schedule_rules.proofs.Words.{Section, innermost, is_turn, Guard, guards, numbered, replay, phase_at, registry, finishing, write_holds, answer_of_value, IsLegalLine}
-use Rattle.schedule_rules.proofs.Words.{IsExclusive, lends_at, is_failed, is_lent}
+use Rattle.schedule_rules.proofs.Words.{ℕ, arith, List, ◌≡◌, Bool, true, refl, Some, false, ◌∷◌, [], ◌∙◌, sym, ap, None, subst, ◌⊎◌, inl, inr, if◌then◌else◌, Option, has}
+use Rattle.schedule_rules.proofs.Words.{initialized, Phase, Call, Answer, Line, CellPlan, Act, Step, Calls, Turns, cell_at, is_accessible, finishes_so, effect, Change, Ran, Asked}
+use Rattle.schedule_rules.proofs.Words.{Put, content_after, RanIfAsked, content_of_run, Deed, Makes, EndsToRead, Ends, Visits, Finishes, EndsToWrite, Opens, deed_waiting, Lends}
+use Rattle.schedule_rules.proofs.Words.{DropsToRead, Drops, deed_by, Skips, Holds, Beside, Takes, Looks, Puts, Quiet, Event, deed_of, accepts, is_exit, act_of, sections, Section}
+use Rattle.schedule_rules.proofs.Words.{innermost, is_turn, Guard, guards, numbered, replay, phase_at, registry, finishing, write_holds, answer_of_value, IsLegalLine, IsExclusive}
+use Rattle.schedule_rules.proofs.Words.{lends_at, is_failed, is_lent}
 use Rattle.schedule_rules.proofs.Cases.{Calling, step, Asking, Resting, Lendable, AsksToLend, Reach, form_at, Generating, Finalizing, Case, Visiting, errs}
 use Rattle.schedule_rules.proofs.Facts.{first, same_number}
 use Rattle.schedule_rules.proofs.Steps.{made_accessible, of_legal}

@@ -1,7 +1,7 @@
 -- A finalizer that ends marks the phase of its cell, and nothing else does.
-use Rattle.schedule_rules.proofs.Words.{ℕ, List, ◌≡◌, arith, Bool, true, false, Some, ◌∷◌, [], ◌∙◌, sym, ap, subst, ◌⊎◌, inl, inr, and_or_apart, bit_or, ◌==◌, Option, has}
-use Rattle.schedule_rules.proofs.Words.{initialized, phase_of, Phase, Given, final_outcome, Answer, Line, CellPlan, Act, Step, Want, cell_at, phase_finalized, Content, Change}
-use Rattle.schedule_rules.proofs.Words.{effect, Ran, Ended, Deed, Makes, EndsToRead, Ends, Finishes, Event, deed_of, sections, Section, innermost, is_turn, Guard, guards, numbered}
+use Rattle.schedule_rules.proofs.Words.{ℕ, arith, List, ◌≡◌, Bool, true, Some, false, ◌∷◌, [], ◌∙◌, sym, ap, subst, ◌⊎◌, inl, inr, and_or_apart, bit_or, ◌==◌, Option, has}
+use Rattle.schedule_rules.proofs.Words.{initialized, phase_of, Phase, Given, final_outcome, Answer, Line, CellPlan, Act, Step, Want, cell_at, phase_finalized, Content, effect}
+use Rattle.schedule_rules.proofs.Words.{Change, Ran, Ended, Deed, Makes, EndsToRead, Ends, Finishes, Event, deed_of, sections, Section, innermost, is_turn, Guard, guards, numbered}
 use Rattle.schedule_rules.proofs.Words.{replay, phase_at, Back, back_of_step, finishing, cell_concerned, cell_of_section, IsLegal, IsLegalLine, IsEndedTurn}
 use Rattle.schedule_rules.specs.Laws.{Finishes as Finishes_so}
 use Rattle.schedule_rules.proofs.Exclusion.{alone}

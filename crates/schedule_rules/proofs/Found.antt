@@ -1,5 +1,5 @@
 -- What a test finds in a list, how many pass it, and what holds of each.
-use Rattle.schedule_rules.proofs.Words.{ℕ, List, ◌≡◌, arith, Bool, true, refl, false, Some, ◌∷◌, [], None, subst, ◌<◌, ◌+◌, cond, ◌≤◌, AllByRecursion, find, ◌==◌, count, Section}
+use Rattle.schedule_rules.proofs.Words.{ℕ, arith, List, ◌≡◌, Bool, true, refl, Some, false, ◌∷◌, [], None, subst, ◌<◌, ◌+◌, ◌≤◌, cond, AllByRecursion, find, ◌==◌, count, Section}
 use Rattle.schedule_rules.proofs.Words.{without_innermost, Guard, without_guard, put_in}
 use Rattle.schedule_rules.proofs.Facts.{whether}
 use Rattle.schedule_rules.proofs.Opened.{put}

@@ -1,7 +1,7 @@
 -- A waiting call goes on with what its party did last: its wait says the same call as the party's latest act.
-use Rattle.schedule_rules.proofs.Words.{ℕ, List, ◌≡◌, arith, Bool, true, refl, false, Some, ◌∷◌, [], ◌∙◌, None, ◌==◌, if◌then◌else◌, map, Option, Given, How, Answer, Refusal}
-use Rattle.schedule_rules.proofs.Words.{CellPlan, Act, Step, Event, latest_act, newer_act, latest_act_after, Wait, waits, wait_of, Attempt, attempt, attempt_of_wait, without_wait}
-use Rattle.schedule_rules.proofs.Words.{attempt_with, waits_given_with, with_wait, waits_answered, wait_woken, act_for}
+use Rattle.schedule_rules.proofs.Words.{ℕ, arith, List, ◌≡◌, Bool, true, refl, Some, false, ◌∷◌, [], ◌∙◌, None, ◌==◌, if◌then◌else◌, map, Option, Given, How, Answer, Refusal}
+use Rattle.schedule_rules.proofs.Words.{CellPlan, Act, Step, Event, latest_act, latest_act_after, newer_act, Wait, waits, wait_of, Attempt, attempt, attempt_of_wait, without_wait}
+use Rattle.schedule_rules.proofs.Words.{attempt_with, waits_given_with, with_wait, waits_answered, act_for, wait_woken}
 use Rattle.schedule_rules.proofs.Facts.{numbers_apart, number_found}
 use Rattle.schedule_rules.proofs.Opened.{wait_removed, wait_kept}
 

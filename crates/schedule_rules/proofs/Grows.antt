@@ -1,7 +1,7 @@
 -- What a legal step leaves: each section stands on the phase that it needs, each holder of a write guard sees a value, and
 -- INITIALIZED is never cleared.
-use Rattle.schedule_rules.proofs.Words.{ℕ, List, ◌≡◌, arith, Bool, true, refl, false, Some, ◌∷◌, [], ap, and_or_apart, and_or_self, bit_or, bit_and, AllByRecursion, ◌==◌, has}
-use Rattle.schedule_rules.proofs.Words.{initialized, phase_of, shall_init, CellPlan, Want, Calls, Turns, cell_at, tolerance_of, Content, Change, effect, Ran, Deed, Event, deed_of}
+use Rattle.schedule_rules.proofs.Words.{ℕ, arith, List, ◌≡◌, Bool, true, refl, Some, false, ◌∷◌, [], ap, and_or_apart, and_or_self, bit_or, bit_and, AllByRecursion, ◌==◌, has}
+use Rattle.schedule_rules.proofs.Words.{initialized, phase_of, shall_init, CellPlan, Want, Calls, Turns, cell_at, tolerance_of, Content, effect, Change, Ran, Deed, Event, deed_of}
 use Rattle.schedule_rules.proofs.Words.{sections, Section, is_turn, Guard, guards, numbered, replay, phase_at, IsLegal, IsExclusive}
 use Rattle.schedule_rules.proofs.Found.{each_found}
 use Rattle.schedule_rules.proofs.Cases.{Asking, Resting, AsksToLend, Reach}

@@ -1,7 +1,7 @@
 -- A phase that is not 0 never is 0 again; and a cell that was touched stays so: its phase is not 0, or a section runs in it,
 -- or a guard writes it.
-use Rattle.schedule_rules.proofs.Words.{ℕ, List, ◌≡◌, arith, Bool, true, Some, ◌∷◌, [], ◌∙◌, sym, None, subst, ◌⊎◌, inl, ◌<◌, inr, ◌≢◌, cond, and_or_self, bit_or, bit_and}
-use Rattle.schedule_rules.proofs.Words.{AllByRecursion, ◌==◌, Option, has, initialized, CellPlan, cell_at, Content, Change, effect, Ran, Asked, Put, content_after, Ended}
+use Rattle.schedule_rules.proofs.Words.{ℕ, arith, List, ◌≡◌, Bool, true, Some, ◌∷◌, [], ◌∙◌, sym, None, subst, ◌⊎◌, inl, ◌<◌, inr, ◌≢◌, cond, and_or_self, bit_or, bit_and}
+use Rattle.schedule_rules.proofs.Words.{AllByRecursion, ◌==◌, Option, has, initialized, CellPlan, cell_at, Content, effect, Change, Ran, Asked, Put, content_after, Ended}
 use Rattle.schedule_rules.proofs.Words.{RanIfAsked, Deed, Makes, EndsToRead, Ends, Finishes, DropsToRead, Drops, Event, deed_of, sections, Section, Guard, guards, numbered, replay}
 use Rattle.schedule_rules.proofs.Words.{phase_at, Back, back_of_step, content_after_back, write_holds, IsLegal, IsExclusive}
 use Rattle.schedule_rules.proofs.Exclusion.{alone}

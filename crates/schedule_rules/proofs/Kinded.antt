@@ -1,6 +1,6 @@
 -- The sections and the guards of a legal history are of calls that the kinds of their cells have.
-use Rattle.schedule_rules.proofs.Words.{ℕ, List, ◌≡◌, arith, Bool, true, false, Some, ◌∷◌, [], sym, None, subst, AllByRecursion, has_call, is_plain, is_primed, Call, Kind, Answer}
-use Rattle.schedule_rules.proofs.Words.{CellPlan, Act, Calls, cell_at, form_of, Content, Deed, Visits, Opens, EndsToWrite, deed_waiting, deed_by, Holds, Event, deed_of, accepts}
+use Rattle.schedule_rules.proofs.Words.{ℕ, arith, List, ◌≡◌, Bool, true, Some, false, ◌∷◌, [], sym, None, subst, AllByRecursion, has_call, is_plain, is_primed, Call, Kind, Answer}
+use Rattle.schedule_rules.proofs.Words.{CellPlan, Act, Calls, cell_at, form_of, Content, Deed, Visits, EndsToWrite, Opens, deed_waiting, deed_by, Holds, Event, deed_of, accepts}
 use Rattle.schedule_rules.proofs.Words.{is_exit, sections, Section, innermost, Guard, guards, replay, refusal, answer_of_value, IsLegal}
 use Rattle.schedule_rules.proofs.Finds.{Finds, finds}
 use Rattle.schedule_rules.proofs.Exclusion.{alone}

@@ -1,10 +1,10 @@
 -- What a deed leaves: what is given back changes its own cell, what is published changes only where nothing holds the cell to
 -- write afterwards, and what stands open keeps what is said of it.
-use Rattle.schedule_rules.proofs.Words.{ℕ, List, ◌≡◌, arith, Bool, true, refl, false, Some, ◌∷◌, [], ◌∙◌, sym, ap, None, subst, ◌⊎◌, inl, ◌<◌, inr, length, ◌+◌, cond, ◌≤◌}
-use Rattle.schedule_rules.proofs.Words.{AllByRecursion, ◌==◌, if◌then◌else◌, Option, Call, CellPlan, cell_at, Content, Change, effect, Asked, content_after, Ended, Deed, Makes}
-use Rattle.schedule_rules.proofs.Words.{EndsToRead, Ends, Visits, Finishes, Opens, EndsToWrite, DropsToRead, Lends, Drops, Beside, Holds, Puts, Ending, Event, accepts, count}
-use Rattle.schedule_rules.proofs.Words.{sections, Section, innermost, runs_in, without_innermost, sections_by, Guard, guards, numbered, without_guard, guards_by, reader_made}
-use Rattle.schedule_rules.proofs.Words.{reader_beside, reader, writer_made, carrier, writer, replay, Back, back_by, content_after_back, back_of_section, back_of_guard, change_of}
+use Rattle.schedule_rules.proofs.Words.{ℕ, arith, List, ◌≡◌, Bool, true, refl, Some, false, ◌∷◌, [], ◌∙◌, sym, ap, None, subst, ◌⊎◌, inl, ◌<◌, inr, length, ◌+◌, ◌≤◌, cond}
+use Rattle.schedule_rules.proofs.Words.{AllByRecursion, ◌==◌, if◌then◌else◌, Option, Call, CellPlan, cell_at, Content, effect, Change, Asked, content_after, Ended, Deed, Makes}
+use Rattle.schedule_rules.proofs.Words.{EndsToRead, Ends, Visits, Finishes, EndsToWrite, Opens, Lends, DropsToRead, Drops, Holds, Beside, Puts, Ending, Event, accepts, count}
+use Rattle.schedule_rules.proofs.Words.{sections, Section, innermost, runs_in, without_innermost, sections_by, Guard, guards, numbered, without_guard, guards_by, reader_beside}
+use Rattle.schedule_rules.proofs.Words.{reader, reader_made, writer_made, writer, carrier, replay, Back, back_by, back_of_section, content_after_back, change_of, back_of_guard}
 use Rattle.schedule_rules.proofs.Words.{write_holds, writes_cell, IsExclusive}
 use Rattle.schedule_rules.proofs.Facts.{whether, apart, same_number, at_least}
 use Rattle.schedule_rules.proofs.Found.{each_counted, each_found, each_ended, each_removed, each_put}

@@ -18,7 +18,6 @@ pub mod OneSuccess
 mod OneTranscript
 pub mod NotCyclic
 pub mod WaitsToLock
-pub mod Access
 pub mod Answered
 mod Tests
 pub mod Causes
@@ -36,5 +35,4 @@ pub mod TurnRoom
 pub mod NeverBusy
 mod Settled
 pub mod Steady
-pub mod Registering
 pub mod Told

@@ -1,6 +1,6 @@
 -- No turn of the exit that ended is Busy.
-use Rattle.schedule_rules.proofs.Words.{ℕ, List, arith, Bool, ◌∷◌, [], ◌≢◌, ◌++◌, All-cons, All-nil, All-append, Option, Turn, Turned, Deed, Event, deed_of, sections, Section}
-use Rattle.schedule_rules.proofs.Words.{ended_turns, turns_by, turn_of, turn_of_section, NoneBusy, IsLegalTranscript, Schedule, Account, told}
+use Rattle.schedule_rules.proofs.Words.{ℕ, arith, List, Bool, ◌∷◌, [], ◌≢◌, ◌++◌, All-nil, All-cons, All-append, Option, Turn, Turned, Deed, Event, deed_of, sections, Section}
+use Rattle.schedule_rules.proofs.Words.{ended_turns, turn_of, turn_of_section, turns_by, NoneBusy, Account, Schedule, IsLegalTranscript, told}
 
 -- behind turns of which none is Busy, one more that is not
 one_more : (ts : List Turned) (c : ℕ) (t : Turn) → t ≢ Turn.Busy → NoneBusy ts → NoneBusy (ts ++ record { cell = c; turn = t } ∷ [])

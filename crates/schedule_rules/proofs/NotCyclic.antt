@@ -1,8 +1,8 @@
 -- A call that waits asks for no run of a generator that its own party is running.
-use Rattle.schedule_rules.proofs.Words.{ℕ, List, ◌≡◌, arith, Bool, true, refl, false, Some, ◌∷◌, [], ◌∙◌, sym, ap, subst, ◌&&◌, ◌≢◌, not, ◌≤◌, ◌==◌, is_none, Option, How, Answer}
+use Rattle.schedule_rules.proofs.Words.{ℕ, arith, List, ◌≡◌, Bool, true, refl, Some, false, ◌∷◌, [], ◌∙◌, sym, ap, subst, ◌&&◌, ◌≢◌, not, ◌≤◌, ◌==◌, is_none, Option, How, Answer}
 use Rattle.schedule_rules.proofs.Words.{Line, CellPlan, Act, Step, cell_at, initializes, Deed, deed_waiting, Event, deed_of, count, is_exit, sections, Section, is_turn, runs_in}
 use Rattle.schedule_rules.proofs.Words.{without_innermost, sections_by, runs, Wait, waits, wait_of, Attempt, attempt, attempt_of_wait, refusal, IsLegal, IsLegalLine, IsExclusive}
-use Rattle.schedule_rules.proofs.Words.{waits_judged, is_attempted, is_waiting, is_cyclic, is_made_to_wait, is_cyclic_step}
+use Rattle.schedule_rules.proofs.Words.{waits_judged, is_attempted, is_waiting, is_cyclic, is_cyclic_step, is_made_to_wait}
 use Rattle.schedule_rules.proofs.Exclusion.{alone}
 use Rattle.schedule_rules.proofs.Facts.{first, second, apart}
 use Rattle.schedule_rules.proofs.Found.{found_counts, found_passes, none_counted, only_one}

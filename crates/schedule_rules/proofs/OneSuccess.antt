@@ -1,8 +1,8 @@
 -- A generator of a cell succeeds at most once.
-use Rattle.schedule_rules.proofs.Words.{ℕ, List, ◌≡◌, arith, Bool, true, refl, false, Some, ◌∷◌, [], ◌∙◌, sym, ap, subst, ◌⊎◌, inl, ◌<◌, inr, ◌&&◌, ◌+◌, cond, ◌≤◌, ◌||◌, ◌==◌, has}
-use Rattle.schedule_rules.proofs.Words.{initialized, Answer, CellPlan, Act, cell_at, flags_kept, Content, Change, effect, Ran, Deed, Makes, EndsToRead, Ends, EndsToWrite, Lends}
+use Rattle.schedule_rules.proofs.Words.{ℕ, arith, List, ◌≡◌, Bool, true, refl, Some, false, ◌∷◌, [], ◌∙◌, sym, ap, subst, ◌⊎◌, inl, ◌<◌, ◌&&◌, inr, ◌+◌, ◌≤◌, cond, ◌||◌, ◌==◌, has}
+use Rattle.schedule_rules.proofs.Words.{initialized, Answer, CellPlan, Act, cell_at, flags_kept, Content, effect, Change, Ran, Deed, Makes, EndsToRead, Ends, EndsToWrite, Lends}
 use Rattle.schedule_rules.proofs.Words.{Event, deed_of, count, sections, Section, innermost, is_turn, runs_in, Guard, guards, numbered, replay, phase_at, back_by, back_of_section}
-use Rattle.schedule_rules.proofs.Words.{writes_cell, IsLegal, lends_at, runs_to_lend, is_failed, is_lent_at, successes, is_success}
+use Rattle.schedule_rules.proofs.Words.{writes_cell, IsLegal, lends_at, is_failed, runs_to_lend, successes, is_lent_at, is_success}
 use Rattle.schedule_rules.proofs.Exclusion.{alone}
 use Rattle.schedule_rules.proofs.Found.{found_counts, each_found}
 use Rattle.schedule_rules.proofs.Leaves.{back_here, left_at, guards_left, GivenAt, Writing, writing, GivesOf, moves}

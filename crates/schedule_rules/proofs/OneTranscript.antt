@@ -1,8 +1,8 @@
 -- A schedule of cells that do not park has at most one legal transcript.
-use Rattle.schedule_rules.proofs.Words.{ℕ, List, ◌≡◌, arith, Bool, true, refl, false, Some, ◌∷◌, [], ◌∙◌, sym, ap, None, subst, ◌<◌, length, get_or_past, same_lists, Option, Given}
+use Rattle.schedule_rules.proofs.Words.{ℕ, arith, List, ◌≡◌, Bool, true, refl, Some, false, ◌∷◌, [], ◌∙◌, sym, ap, None, subst, ◌<◌, length, get_or_past, same_lists, Option, Given}
 use Rattle.schedule_rules.proofs.Words.{Answer, Line, Refusal, CellPlan, Act, Step, Want, cell_at, is_parking, Event, ended_turns, Wait, Attempt, other_waits, refusal, Meeting}
-use Rattle.schedule_rules.proofs.Words.{answer_of_attempt, due_answer, due_tried, meeting, may_give_on, is_nobody, may_give_last, may_give_first, IsLegal, IsLegalLine, answer_of}
-use Rattle.schedule_rules.proofs.Words.{due_at, Moment, may_give, Last, IsLegalTranscript, Schedule, Account, told, final_of, AreFinals, NoneParks}
+use Rattle.schedule_rules.proofs.Words.{answer_of_attempt, due_answer, due_tried, meeting, may_give_on, may_give_first, may_give_last, is_nobody, IsLegal, IsLegalLine, answer_of}
+use Rattle.schedule_rules.proofs.Words.{due_at, Moment, may_give, Last, Account, Schedule, IsLegalTranscript, told, final_of, AreFinals, NoneParks}
 use Rattle.std.proofs.lemmas.Option.{get_or_from_slice_get}
 use Rattle.schedule_rules.specs.declared.transcript.Final.{Final}
 

@@ -1,5 +1,5 @@
 -- The lists of what is open after one is taken off, or changed.
-use Rattle.schedule_rules.proofs.Words.{ℕ, List, ◌≡◌, arith, Bool, refl, Some, ◌∷◌, [], None, ◌≢◌, ◌+◌, cond, Put, count, Section, innermost, without_innermost, Guard, numbered}
+use Rattle.schedule_rules.proofs.Words.{ℕ, arith, List, ◌≡◌, Bool, refl, Some, ◌∷◌, [], None, ◌≢◌, ◌+◌, cond, Put, count, Section, innermost, without_innermost, Guard, numbered}
 use Rattle.schedule_rules.proofs.Words.{without_guard, put_in, Wait, wait_of, without_wait, writes_cell, reads_cell}
 
 -- the party's wait is gone

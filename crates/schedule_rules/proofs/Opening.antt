@@ -1,7 +1,7 @@
 -- What holds of each open guard: what happened in its section, that it bears the number of an earlier step, and that no
 -- section of a cell is open while a guard reads it.
-use Rattle.schedule_rules.proofs.Words.{ℕ, List, ◌≡◌, arith, Bool, true, refl, false, Some, ◌∷◌, [], ◌∙◌, sym, ap, None, ◌<◌, length, ◌++◌, and_or_apart, and_assoc, bit_and}
-use Rattle.schedule_rules.proofs.Words.{AllByRecursion, ◌==◌, is_some, ◌-◌, ◌^◌, Option, has, Given, final_outcome, CellPlan, Step, flags_kept, Content, Change, effect, Ran, Asked}
+use Rattle.schedule_rules.proofs.Words.{ℕ, arith, List, ◌≡◌, Bool, true, refl, Some, false, ◌∷◌, [], ◌∙◌, sym, ap, None, ◌<◌, length, ◌++◌, and_or_apart, and_assoc, bit_and}
+use Rattle.schedule_rules.proofs.Words.{AllByRecursion, ◌==◌, is_some, ◌^◌, ◌-◌, Option, has, Given, final_outcome, CellPlan, Step, flags_kept, Content, effect, Change, Ran, Asked}
 use Rattle.schedule_rules.proofs.Words.{Put, Deed, Event, deed_of, sections, Guard, guards, numbered, guards_by, reader, cell_concerned, write_holds, read_guards, reads_cell}
 use Rattle.schedule_rules.proofs.Words.{turns_to_read, IsLegal, read_at}
 use Rattle.schedule_rules.proofs.Opened.{put}

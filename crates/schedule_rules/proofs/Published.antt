@@ -1,6 +1,6 @@
 -- What is published changes only while no guard reads the cell, and its phase where a section of the cell is given back.
-use Rattle.schedule_rules.proofs.Words.{ℕ, List, ◌≡◌, arith, Bool, true, refl, Some, ◌∷◌, ap, subst, ◌⊎◌, inl, ◌<◌, inr, ◌≢◌, ◌==◌, if◌then◌else◌, Answer, CellPlan, Step, cell_at}
-use Rattle.schedule_rules.proofs.Words.{Content, Change, effect, Deed, Visits, Lends, Event, deed_of, count, sections, Section, innermost, runs_in, Guard, guards, numbered, replay}
+use Rattle.schedule_rules.proofs.Words.{ℕ, arith, List, ◌≡◌, Bool, true, refl, Some, ◌∷◌, ap, subst, ◌⊎◌, inl, ◌<◌, inr, ◌≢◌, ◌==◌, if◌then◌else◌, Answer, CellPlan, Step, cell_at}
+use Rattle.schedule_rules.proofs.Words.{Content, effect, Change, Deed, Visits, Lends, Event, deed_of, count, sections, Section, innermost, runs_in, Guard, guards, numbered, replay}
 use Rattle.schedule_rules.proofs.Words.{phase_at, write_holds, writes_cell, read_guards, IsLegal, lends_at, GivesBack, DeclinesAt, LendsAt}
 use Rattle.schedule_rules.proofs.Facts.{whether, same_number, number_found}
 use Rattle.schedule_rules.proofs.Exclusion.{alone}

@@ -1,6 +1,6 @@
 -- A cell that the registry knows was touched, and is registered at most once.
-use Rattle.schedule_rules.proofs.Words.{ℕ, List, ◌≡◌, arith, Bool, true, refl, false, Some, ◌∷◌, [], ◌∙◌, sym, ◌⊎◌, inl, ◌<◌, inr, length, get_or_past, get_or-set_other}
-use Rattle.schedule_rules.proofs.Words.{length-replicate, get_or-replicate, AllByRecursion, ◌==◌, replicate, slice_index_or, is_known, first_of, rest_of, after_register, Registry}
+use Rattle.schedule_rules.proofs.Words.{ℕ, arith, List, ◌≡◌, Bool, true, refl, Some, false, ◌∷◌, [], ◌∙◌, sym, ◌⊎◌, inl, ◌<◌, inr, length, get_or_past, get_or-set_other}
+use Rattle.schedule_rules.proofs.Words.{length-replicate, get_or-replicate, AllByRecursion, ◌==◌, slice_index_or, replicate, first_of, is_known, rest_of, Registry, after_register}
 use Rattle.schedule_rules.proofs.Words.{is_finalizable, CellPlan, cell_at, Deed, Event, deed_of, count, sections, runs_in, sections_by, phase_at, registry, registry_by}
 use Rattle.schedule_rules.proofs.Words.{registry_taken, registry_of_run, write_holds, IsLegal}
 use Rattle.schedule_rules.proofs.Facts.{apart, first}

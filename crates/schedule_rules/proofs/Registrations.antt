@@ -1,14 +1,16 @@
 -- Which lines show that their step tried to register a cell, and that it is tried at most once at a cell.
-use Rattle.schedule_rules.proofs.Words.{ℕ, List, ◌≡◌, arith, Bool, true, refl, false, Some, ◌∷◌, [], subst, ◌⊎◌, inl, ◌<◌, inr, ◌≢◌, ◌+◌, cond, ◌≤◌, ◌==◌, if◌then◌else◌, Option}
-use Rattle.schedule_rules.proofs.Words.{is_known, Call, Answer, Line, CellPlan, Step, Calls, cell_at, tolerance_at, asks, Change, Asked, Deed, Visits, Opens, Event, deed_of}
-use Rattle.schedule_rules.proofs.Words.{phase_at, registry, Attempt, write_holds, IsLegal, IsLegalLine, IsExclusive, is_attempted, asks_registration}
+use Rattle.schedule_rules.proofs.Words.{ℕ, arith, List, ◌≡◌, Bool, true, refl, Some, false, ◌∷◌, [], ◌∙◌, sym, subst, ◌⊎◌, inl, ◌<◌, ◌&&◌, inr, ◌≢◌, ◌+◌, ◌≤◌, cond, ◌||◌}
+use Rattle.schedule_rules.proofs.Words.{get_or-set_other, get_or-set_same, ◌==◌, if◌then◌else◌, Option, is_known, Call, Answer, Line, CellPlan, Step, Calls, cell_at, tolerance_at}
+use Rattle.schedule_rules.proofs.Words.{asks, Change, Asked, Deed, Visits, Opens, Event, deed_of, accepts, phase_at, registry, registry_by, Attempt, write_holds, IsLegal}
+use Rattle.schedule_rules.proofs.Words.{IsLegalLine, IsExclusive, is_attempted, asks_registration}
 use Rattle.schedule_rules.proofs.Exclusion.{alone}
 use Rattle.schedule_rules.proofs.Cases.{Asking, Resting}
 use Rattle.schedule_rules.proofs.Finds.{Visit, Finds, finds}
 use Rattle.schedule_rules.proofs.Leaves.{left_at, holds_left}
 use Rattle.schedule_rules.proofs.Held.{IsHeld, held-stays}
-use Rattle.schedule_rules.proofs.Registered.{fresh-unknown}
+use Rattle.schedule_rules.proofs.Registered.{fresh-unknown, known_taken, finalizable-inside}
 use Rattle.schedule_rules.proofs.Facts.{first, second}
+use Rattle.schedule_rules.proofs.Accepts.{open-accepts, known-length}
 
 module _ (cells : List CellPlan) where
   -- something is attempted that asks for a run which registers the cell
@@ -97,3 +99,39 @@ module _ (cells : List CellPlan) (c : ℕ) where
   -- so registration is tried at most once
   pub registered-once : (h : List Event) → IsLegal cells h → registrations_shown cells c h ≤ 1
   registered-once h k = grind (arith, counted)
+
+-- ---- what a step registers
+
+or_none : (b : Bool) → (b || false) ≡ b
+or_none b = grind arith
+
+or_all : (b : Bool) → (b || true) ≡ true
+or_all b = grind arith
+
+module _ (cells : List CellPlan) (c : ℕ) (h : List Event) (p : ℕ) (legal : IsLegal cells h) where
+  -- after the deed the registry knows the cell where it did, or where the deed tries to register it and cells may be
+  -- registered
+  abbrev IsRegistering : Deed → Type 0
+  IsRegistering d = is_known (registry_by cells h d (registry cells h)) c ≡ (is_known (registry cells h) c || (deed_registers cells c h d && accepts h))
+
+  -- one that leaves what is known
+  leaves_known : (k : Bool) → k ≡ is_known (registry cells h) c → k ≡ (is_known (registry cells h) c || (false && accepts h))
+  leaves_known k e = e ∙ sym (or_none (is_known (registry cells h) c))
+
+  -- a call that leaves nothing open registers nothing
+  visits_none : (d : ℕ) (chs : List Change) (reads : Bool) (v : Visit cells h p d chs reads) → (visit_registers cells c h d chs && accepts h) ≡ false
+  visits_none d chs reads v = grind arith
+
+  -- a call that begins a run
+  run_registers : (d : ℕ) (j : Call) (taken : Bool) → Asking cells h p d j true → IsRegistering (Opens d (Calls j) taken)
+  run_registers d j taken q = grind (arith, open-accepts, finalizable-inside, first, known-length, get_or-set_same, get_or-set_other, or_all, or_none)
+
+  pub registering : (d : Deed) → Finds cells h p d → IsRegistering d
+  registering (Opens d (Calls j) taken) f = run_registers d j taken f
+  registering d x = grind (arith, leaves_known, known_taken, or_none, visits_none)
+
+-- the registry knows a cell after a step where it did before, or where the step tries to register it and cells may be
+-- registered
+pub known-by-trying : (cells : List CellPlan) (h : List Event) (e : Event) (c : ℕ) → IsLegal cells (e ∷ h)
+    → is_known (registry cells (e ∷ h)) c ≡ (is_known (registry cells h) c || (shows_registration cells c h e.step e.line.answer && accepts h))
+known-by-trying cells h e c k = registering cells c h e.step.party k.2 (deed_of h e.step e.line.answer) (finds cells h e.step e.line k.0)

@@ -1,6 +1,6 @@
 -- A phase that has INITIALIZED changes only where a finalizer of its cell ends, and of a plain cell the value stays.
-use Rattle.schedule_rules.proofs.Words.{ℕ, List, ◌≡◌, arith, Bool, true, refl, false, Some, ◌∷◌, [], ◌∙◌, sym, ◌⊎◌, inl, inr, ◌≢◌, ◌++◌, All, All-tail, All-head, ◌==◌, has}
-use Rattle.schedule_rules.proofs.Words.{initialized, is_plain, is_hard, Kind, Answer, CellPlan, Act, cell_at, Content, Change, effect, Ran, Put, Deed, Makes, EndsToRead, Ends}
+use Rattle.schedule_rules.proofs.Words.{ℕ, arith, List, ◌≡◌, Bool, true, refl, Some, false, ◌∷◌, [], ◌∙◌, sym, ◌⊎◌, inl, inr, ◌≢◌, ◌++◌, All, All-head, All-tail, ◌==◌, has}
+use Rattle.schedule_rules.proofs.Words.{initialized, is_plain, is_hard, Kind, Answer, CellPlan, Act, cell_at, Content, effect, Change, Ran, Put, Deed, Makes, EndsToRead, Ends}
 use Rattle.schedule_rules.proofs.Words.{Finishes, Lends, Event, deed_of, sections, innermost, Guard, guards, numbered, replay, phase_at, cell_of_section, IsLegal, lends_at}
 use Rattle.schedule_rules.proofs.Words.{IsEndedTurn}
 use Rattle.schedule_rules.proofs.Exclusion.{alone}

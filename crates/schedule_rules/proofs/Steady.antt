@@ -1,5 +1,5 @@
 -- What is published of a cell stays while a section of it is open.
-use Rattle.schedule_rules.proofs.Words.{ℕ, List, ◌≡◌, arith, true, refl, Some, ◌∷◌, [], ◌∙◌, sym, ap, ◌<◌, length, ◌≤◌, AllByRecursion, ◌==◌, CellPlan, cell_at, Content, effect}
+use Rattle.schedule_rules.proofs.Words.{ℕ, arith, List, ◌≡◌, true, refl, Some, ◌∷◌, [], ◌∙◌, sym, ap, ◌<◌, length, ◌≤◌, AllByRecursion, ◌==◌, CellPlan, cell_at, Content, effect}
 use Rattle.schedule_rules.proofs.Words.{Deed, Event, deed_of, before, sections, Section, innermost, Guard, guards, numbered, replay, inside, IsLegal, IsExclusive, IsAsAt}
 use Rattle.schedule_rules.proofs.Exclusion.{alone}
 use Rattle.schedule_rules.proofs.Found.{each_found}

@@ -1,11 +1,11 @@
 -- What holds in each case, holds of each legal step.
-use Rattle.schedule_rules.proofs.Words.{ℕ, List, ◌≡◌, arith, Bool, true, refl, false, Some, ◌∙◌, sym, ap, None, subst, ◌&&◌, not, ◌==◌, if◌then◌else◌, is_none, Option, phase_of}
-use Rattle.schedule_rules.proofs.Words.{LockNature, is_finalizable, lends_value, is_primed, Call, Kind, Form, Held, Shown, Told, Answer, Line, Refusal, CellPlan, Act, Step, Calls}
-use Rattle.schedule_rules.proofs.Words.{cell_at, tolerance_at, is_accessible, finishes_so, phase_reached, Success, asks_to_lend, content_of_run, Event, accepts, sections, Section}
+use Rattle.schedule_rules.proofs.Words.{ℕ, arith, List, ◌≡◌, Bool, true, refl, Some, false, ◌∙◌, sym, ap, None, subst, ◌&&◌, not, ◌==◌, if◌then◌else◌, is_none, Option, phase_of}
+use Rattle.schedule_rules.proofs.Words.{LockNature, is_primed, lends_value, is_finalizable, Call, Kind, Form, Held, Shown, Told, Answer, Line, Refusal, CellPlan, Act, Step, Calls}
+use Rattle.schedule_rules.proofs.Words.{cell_at, tolerance_at, is_accessible, finishes_so, Success, phase_reached, asks_to_lend, content_of_run, Event, accepts, sections, Section}
 use Rattle.schedule_rules.proofs.Words.{innermost, is_turn, Guard, guards, numbered, own, replay, phase_at, finishing, Wait, is_barred, holding_with, refusal, no_lending, no_call}
-use Rattle.schedule_rules.proofs.Words.{writes_of, no_writer, no_outcome, refusal_to_lend, no_reader, ends_turn, ends_run, no_guard, answer_of_value, answer_at, answer_lent}
-use Rattle.schedule_rules.proofs.Words.{answer_made_to_lend, answer_made, answer_of_made, due_answer, due_clone, due_made, due_finished, phase_made, IsLegalLine, answer_of, due_at}
-use Rattle.schedule_rules.proofs.Words.{waits_judged}
+use Rattle.schedule_rules.proofs.Words.{ends_run, writes_of, no_guard, no_outcome, no_reader, no_writer, refusal_to_lend, ends_turn, answer_of_value, answer_made_to_lend}
+use Rattle.schedule_rules.proofs.Words.{answer_at, answer_lent, answer_made, answer_of_made, due_answer, due_clone, due_finished, due_made, phase_made, IsLegalLine, answer_of}
+use Rattle.schedule_rules.proofs.Words.{due_at, waits_judged}
 use Rattle.schedule_rules.proofs.Cases.{step, Case, Generating, Lendable, AsksToLend, Reach, form_at, writes}
 use Rattle.schedule_rules.proofs.Attempts.{rests, mine_where_none, attempted, again, exits}
 use Rattle.schedule_rules.proofs.Answered.{due_at-judged}

@@ -1,9 +1,9 @@
 -- Tests of answers, and which answers of what is admitted pass them.
-use Rattle.schedule_rules.proofs.Words.{ℕ, List, ◌≡◌, arith, Bool, true, refl, false, sym, None, ◌&&◌, length, not, ◌||◌, ◌==◌, if◌then◌else◌, Option, has, initialized, Phase}
+use Rattle.schedule_rules.proofs.Words.{ℕ, arith, List, ◌≡◌, Bool, true, refl, false, sym, None, ◌&&◌, length, not, ◌||◌, ◌==◌, if◌then◌else◌, Option, has, initialized, Phase}
 use Rattle.schedule_rules.proofs.Words.{look_at, is_empty, LockNature, How, flags_refused, Tolerance, Call, Kind, Form, Answer, CellPlan, Place, Act, Want, Calls, Turns, cell_at}
 use Rattle.schedule_rules.proofs.Words.{tolerance_at, is_owned, form_of, denies, is_accessible, runs_generator, asks, lock_wanted, Content, Event, accepts, is_turn, replay}
-use Rattle.schedule_rules.proofs.Words.{refusal, answer_barred, answer_admitted, answer_at, answer_lent, answer_made_to_lend, turn_answer_admitted, answer_of_look, is_waiting}
-use Rattle.schedule_rules.proofs.Words.{is_cyclic, is_denied_to_lend, is_finalizing, is_running, is_borrowed, is_closing, is_round, is_missed, is_skipped, is_access, want_denies}
+use Rattle.schedule_rules.proofs.Words.{refusal, answer_barred, answer_made_to_lend, answer_at, answer_lent, answer_admitted, turn_answer_admitted, answer_of_look, is_waiting}
+use Rattle.schedule_rules.proofs.Words.{is_cyclic, is_closing, is_finalizing, is_access, is_skipped, is_missed, is_denied_to_lend, is_round, is_borrowed, is_running, want_denies}
 use Rattle.schedule_rules.proofs.Words.{is_initializing}
 use Rattle.schedule_rules.proofs.Answered.{IsShown, IsTold, admitted}
 

@@ -1,9 +1,9 @@
 -- A phase that is not empty tells whether its cell is registered: which flags tell it, what runs and finalizers leave of them,
 -- and that it is so in legal histories.
-use Rattle.schedule_rules.proofs.Words.{ℕ, List, ◌≡◌, arith, Bool, true, refl, false, Some, ◌∷◌, [], ◌∙◌, sym, ap, None, subst, ◌⊎◌, inl, inr, ◌&&◌, ◌≢◌, not, ◌||◌, and_or_apart}
+use Rattle.schedule_rules.proofs.Words.{ℕ, arith, List, ◌≡◌, Bool, true, refl, Some, false, ◌∷◌, [], ◌∙◌, sym, ap, None, subst, ◌⊎◌, inl, ◌&&◌, inr, ◌≢◌, not, ◌||◌, and_or_apart}
 use Rattle.schedule_rules.proofs.Words.{and_assoc, bit_or, bit_and, AllByRecursion, ◌==◌, if◌then◌else◌, Option, has, initialized, is_known, registration, is_finalizable, Call}
-use Rattle.schedule_rules.proofs.Words.{CellPlan, Calls, Turns, cell_at, tolerance_at, tolerance_of, flags_kept, runs_generator, tries_registration, asks, Content, Change, effect}
-use Rattle.schedule_rules.proofs.Words.{Ran, content_after, Ended, is_declined, Deed, Makes, EndsToRead, Ends, Visits, Finishes, Opens, EndsToWrite, DropsToRead, Drops, Skips}
+use Rattle.schedule_rules.proofs.Words.{CellPlan, Calls, Turns, cell_at, tolerance_at, tolerance_of, runs_generator, flags_kept, tries_registration, asks, Content, effect, Change}
+use Rattle.schedule_rules.proofs.Words.{Ran, content_after, Ended, is_declined, Deed, Makes, EndsToRead, Ends, Visits, Finishes, EndsToWrite, Opens, DropsToRead, Drops, Skips}
 use Rattle.schedule_rules.proofs.Words.{Event, deed_of, accepts, sections, Section, is_turn, runs_in, Guard, guards, numbered, replay, phase_at, registry, registry_by, write_holds}
 use Rattle.schedule_rules.proofs.Words.{writes_cell, IsLegal, TellsRegistration}
 use Rattle.schedule_rules.proofs.Facts.{apart}
@@ -14,7 +14,7 @@ use Rattle.schedule_rules.proofs.Steps.{lent_unregistered}
 use Rattle.schedule_rules.proofs.Finds.{Inside, Finishing, Visit, accessed_there, Finds, finds}
 use Rattle.schedule_rules.proofs.Leaves.{left_at, sections_left, guards_left, NewOf, Says, sections_say, guards_say, GivesOf, moves, rests}
 use Rattle.schedule_rules.proofs.Registered.{known_taken, fresh-unknown}
-use Rattle.schedule_rules.proofs.Registering.{registering}
+use Rattle.schedule_rules.proofs.Registrations.{registering}
 use Rattle.schedule_rules.proofs.Held.{has_none}
 use Rattle.schedule_rules.proofs.Finishing.{needs-value}
 use Rattle.schedule_rules.proofs.Grows.{IsStanding, sound}

@@ -1,17 +1,16 @@
 -- A legal line shows that its step tried to register a cell exactly where it did.
-use Rattle.schedule_rules.proofs.Words.{ℕ, List, ◌≡◌, arith, Bool, true, refl, false, Some, ◌∷◌, [], ◌∙◌, sym, ap, None, subst, ◌⊎◌, inl, ◌&&◌, ◌+◌, not, ◌≤◌, ◌||◌, ◌==◌}
-use Rattle.schedule_rules.proofs.Words.{if◌then◌else◌, is_none, Option, phase_of, Phase, is_known, first_of, How, flags_refused, Call, Answer, Line, Refusal, CellPlan, Place, Act}
+use Rattle.schedule_rules.proofs.Words.{ℕ, arith, List, ◌≡◌, Bool, true, refl, Some, false, ◌∷◌, [], ◌∙◌, sym, ap, None, subst, ◌⊎◌, inl, ◌&&◌, not, ◌+◌, ◌≤◌, ◌||◌, ◌==◌}
+use Rattle.schedule_rules.proofs.Words.{if◌then◌else◌, is_none, Option, phase_of, Phase, first_of, is_known, How, flags_refused, Call, Answer, Line, Refusal, CellPlan, Place, Act}
 use Rattle.schedule_rules.proofs.Words.{Step, Calls, Turns, deed_waiting, deed_by, Event, accepts, is_exit, replay, registry, Wait, waits, Attempt, attempt, attempt_with}
 use Rattle.schedule_rules.proofs.Words.{attempt_of_turn, refusal, answer_of_value, answer_barred, due_answer, due_attempt, IsLegal, IsLegalLine, answer_of, waits_judged}
 use Rattle.schedule_rules.proofs.Words.{is_attempted, is_admitted, asks_registration, registrations, tries_to_register, tells_declined}
 use Rattle.schedule_rules.proofs.Cases.{Visiting, step, Calling, Resting, Case}
-use Rattle.schedule_rules.proofs.Registrations.{asks_so, deed_registers, shows_registration, registrations_shown, tries-unknown, registered-once}
+use Rattle.schedule_rules.proofs.Registrations.{asks_so, deed_registers, shows_registration, registrations_shown, tries-unknown, registered-once, known-by-trying}
 use Rattle.schedule_rules.proofs.Answered.{due_at-judged, denied}
 use Rattle.schedule_rules.proofs.Steps.{of_legal}
 use Rattle.schedule_rules.proofs.Facts.{apart}
 use Rattle.schedule_rules.proofs.Tests.{IsBeyond}
 use Rattle.schedule_rules.proofs.Causes.{unless_admitted}
-use Rattle.schedule_rules.proofs.Registering.{known-by-trying}
 
 -- a step that is answered so was refused, or turned back or put off
 abbrev is_back : Answer → Bool

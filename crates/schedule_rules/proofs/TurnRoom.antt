@@ -1,6 +1,6 @@
 -- The turns of a legal history are no more than its cells.
-use Rattle.schedule_rules.proofs.Words.{ℕ, List, ◌≡◌, arith, Bool, true, refl, false, Some, ◌∷◌, [], ◌∙◌, ◌<◌, ◌&&◌, length, ◌+◌, ◌≤◌, ◌++◌, All, get_or_past, length-map}
-use Rattle.schedule_rules.proofs.Words.{length-append, All-cons, All-nil, ◌==◌, if◌then◌else◌, cells_of_turns, is_known, occurs, due, CellPlan, Step, Turns, Event, count, sections}
+use Rattle.schedule_rules.proofs.Words.{ℕ, arith, List, ◌≡◌, Bool, true, refl, Some, false, ◌∷◌, [], ◌∙◌, ◌<◌, ◌&&◌, length, ◌+◌, ◌≤◌, ◌++◌, All, get_or_past, length-map}
+use Rattle.schedule_rules.proofs.Words.{length-append, All-nil, All-cons, ◌==◌, if◌then◌else◌, cells_of_turns, is_known, occurs, due, CellPlan, Step, Turns, Event, count, sections}
 use Rattle.schedule_rules.proofs.Words.{Section, innermost, is_turn, registry, ended_turns, waits, attempt, IsLegal, turns_of, turns_at_hand}
 use Rattle.exit_registry.proofs.Exiting.{few_below}
 use Rattle.schedule_rules.proofs.Accepts.{known-length}

@@ -1,9 +1,9 @@
 -- Each registered cell has one turn: to come, waiting, going on or ended.
-use Rattle.schedule_rules.proofs.Words.{ℕ, List, ◌≡◌, arith, Bool, true, refl, false, Some, ◌∷◌, [], ◌∙◌, sym, ap, None, subst, ◌<◌, ◌&&◌, length, ◌+◌, cond, get_or-set_other}
-use Rattle.schedule_rules.proofs.Words.{get_or-set_same, ◌==◌, if◌then◌else◌, Option, cells_of_turns, is_known, first_of, occurs, rest_of, due, registered, Given, Call, Answer}
-use Rattle.schedule_rules.proofs.Words.{Refusal, CellPlan, Act, Calls, Turns, cell_at, is_owned, tries_registration, Deed, Makes, EndsToRead, Ends, Finishes, Opens, EndsToWrite}
+use Rattle.schedule_rules.proofs.Words.{ℕ, arith, List, ◌≡◌, Bool, true, refl, Some, false, ◌∷◌, [], ◌∙◌, sym, ap, None, subst, ◌<◌, ◌&&◌, length, ◌+◌, cond, get_or-set_other}
+use Rattle.schedule_rules.proofs.Words.{get_or-set_same, ◌==◌, if◌then◌else◌, Option, cells_of_turns, first_of, is_known, rest_of, occurs, due, registered, Given, Call, Answer}
+use Rattle.schedule_rules.proofs.Words.{Refusal, CellPlan, Act, Calls, Turns, cell_at, is_owned, tries_registration, Deed, Makes, EndsToRead, Ends, Finishes, EndsToWrite, Opens}
 use Rattle.schedule_rules.proofs.Words.{deed_waiting, deed_by, Skips, Takes, Looks, Event, deed_of, accepts, count, is_exit, sections, Section, innermost, without_innermost}
-use Rattle.schedule_rules.proofs.Words.{sections_by, replay, phase_at, registry, registry_by, ended_turns, registry_taken, turns_by, turn_of, turn_of_section, Wait, waits, wait_of}
+use Rattle.schedule_rules.proofs.Words.{sections_by, replay, phase_at, registry, registry_by, ended_turns, registry_taken, turn_of, turn_of_section, turns_by, Wait, waits, wait_of}
 use Rattle.schedule_rules.proofs.Words.{without_wait, attempt_with, waits_given_with, with_wait, refusal, refusal_waiting, answer_of_value, IsLegal, turns_of, waits_to_turn}
 use Rattle.schedule_rules.proofs.Words.{finalizes_in}
 use Rattle.schedule_rules.proofs.Facts.{whether, first, second, apart}

@@ -1,10 +1,10 @@
 -- A value that is shown is there.
-use Rattle.schedule_rules.proofs.Words.{ℕ, List, ◌≡◌, arith, Bool, true, refl, false, Some, ◌∷◌, [], ◌∙◌, sym, ap, None, subst, ◌⊎◌, inl, ◌<◌, inr, length, and_or_self, and_assoc}
+use Rattle.schedule_rules.proofs.Words.{ℕ, arith, List, ◌≡◌, Bool, true, refl, Some, false, ◌∷◌, [], ◌∙◌, sym, ap, None, subst, ◌⊎◌, inl, ◌<◌, inr, length, and_or_self, and_assoc}
 use Rattle.schedule_rules.proofs.Words.{and_le_r, AllByRecursion, ◌==◌, if◌then◌else◌, is_some, Option, has, initialized, is_plain, is_primed, Call, Answer, Line, CellPlan, Act}
-use Rattle.schedule_rules.proofs.Words.{Step, cell_at, tolerance_of, is_accessible, finishes_so, flags_kept, Content, Change, effect, Ran, Asked, Put, content_after, Ended}
-use Rattle.schedule_rules.proofs.Words.{asks_to_lend, RanIfAsked, content_of_run, is_declined, Deed, Makes, EndsToRead, Visits, DropsToRead, Beside, Event, deed_of, sections}
-use Rattle.schedule_rules.proofs.Words.{Section, Guard, guards, numbered, without_guard, guards_by, reader_made, reader_beside, replay, phase_at, Back, back_of_step, back_by}
-use Rattle.schedule_rules.proofs.Words.{content_after_back, back_of_section, inside, back_of_guard, change_of, read_guards, reads_cell, answer_of_value, IsLegal, IsLegalLine}
+use Rattle.schedule_rules.proofs.Words.{Step, cell_at, tolerance_of, is_accessible, finishes_so, flags_kept, Content, effect, Change, Ran, Asked, Put, content_after, Ended}
+use Rattle.schedule_rules.proofs.Words.{RanIfAsked, asks_to_lend, is_declined, content_of_run, Deed, Makes, EndsToRead, Visits, DropsToRead, Beside, Event, deed_of, sections}
+use Rattle.schedule_rules.proofs.Words.{Section, Guard, guards, numbered, without_guard, guards_by, reader_beside, reader_made, replay, phase_at, Back, back_of_step, back_by}
+use Rattle.schedule_rules.proofs.Words.{back_of_section, content_after_back, inside, change_of, back_of_guard, read_guards, reads_cell, answer_of_value, IsLegal, IsLegalLine}
 use Rattle.schedule_rules.proofs.Words.{lends_at, runs_to_lend, ShowsValue}
 use Rattle.std.specs.Option.{unwrap_or}
 use Rattle.schedule_rules.proofs.Cases.{step, Reach, Case}

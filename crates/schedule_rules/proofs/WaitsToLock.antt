@@ -1,5 +1,5 @@
 -- What waits: a call for a lock or a turn, which is not fast, at a cell of no party's own, whose kind has the call.
-use Rattle.schedule_rules.proofs.Words.{ℕ, List, ◌≡◌, arith, Bool, true, refl, false, Some, ◌∙◌, sym, ap, None, subst, not, find, ◌==◌, is_none, is_some, Option, asking, has_call}
+use Rattle.schedule_rules.proofs.Words.{ℕ, arith, List, ◌≡◌, Bool, true, refl, Some, false, ◌∙◌, sym, ap, None, subst, not, find, ◌==◌, is_none, is_some, Option, asking, has_call}
 use Rattle.schedule_rules.proofs.Words.{lends_value, Call, Answer, Line, Refusal, CellPlan, Act, Step, Calls, Turns, cell_at, tolerance_at, is_owned, is_of_other, is_fast, seeks}
 use Rattle.schedule_rules.proofs.Words.{lock_asked, Event, count, Wait, waits, wait_of, Attempt, attempt, attempt_of_wait, is_barred, is_in_use, refusal, refusal_by, no_lending}
 use Rattle.schedule_rules.proofs.Words.{refusal_free, no_call, IsLegal, IsLegalLine, answer_of, due_at, lends_at, waits_judged, is_attempted, is_waiting, is_made_to_wait}

@@ -1,4 +1,4 @@
-use Rattle.schedule_rules.proofs.Access.{keeps_values, turned_away}
+use Rattle.schedule_rules.proofs.Means.{keeps_values, turned_away}
 use Rattle.schedule_rules.proofs.laws.access_changes_no_value.Goals as goal
 
 pub returns-clause-changes : goal.returns-clause-changes

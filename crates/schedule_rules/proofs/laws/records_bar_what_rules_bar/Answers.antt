@@ -1,4 +1,4 @@
-use Rattle.schedule_rules.proofs.Words.{ℕ, List, ◌≡◌, arith, Bool, true, refl, false, ◌<◌, ◌&&◌, not, ◌||◌, ◌==◌, nat_lt, LockNature, CellPlan, Event, Wait, waits, is_barred}
+use Rattle.schedule_rules.proofs.Words.{ℕ, arith, List, ◌≡◌, Bool, true, refl, false, ◌<◌, ◌&&◌, not, ◌||◌, ◌==◌, nat_lt, LockNature, CellPlan, Event, Wait, waits, is_barred}
 use Rattle.schedule_rules.proofs.Words.{holding_with, readers_with, writers_with, drains_with}
 use Rattle.phase_bits.specs.Records.{most_readers, bars_read, bars_write}
 use Rattle.schedule_rules.specs.Core.{core_with}

@@ -1,4 +1,4 @@
-use Rattle.schedule_rules.proofs.Access.{begins_on_empty, runs_on_empty, lends_on_empty}
+use Rattle.schedule_rules.proofs.Means.{begins_on_empty, runs_on_empty, lends_on_empty}
 use Rattle.schedule_rules.proofs.laws.without_retry_one_run.Goals as goal
 
 pub returns-clause-begins : goal.returns-clause-begins
