@@ -1,8 +1,9 @@
 -- The holds of a cell exclude each other, where rows stand for what stands open.
-use Rattle.phase_acts.proofs.Words.{[], ◌+◌, ◌<◌, ◌==◌, ◌∙◌, ◌∷◌, ◌≡◌, ◌≤◌, AreInside, arith, Bool, cases_lt, CellPlan, CellRow, claims, claims_shown, count, count_rows, drains}
-use Rattle.phase_acts.proofs.Words.{drains_at, drains_on, Event, false, found_passes, Guard, Holders, How, if◌then◌else◌, inl, inr, is_drain, is_read_share, is_write_share}
-use Rattle.phase_acts.proofs.Words.{IsExclusive, IsLocked, length, List, LockerKind, most_readers, None, Option, reads_cell, reads_in, refl, Rows, runs_in, Section, shares_read}
-use Rattle.phase_acts.proofs.Words.{shares_shown, shares_write, slice_get, Some, Standing, standing, Stands, true, Wait, Want, writes_cell, writes_in, ℕ}
+use Rattle.phase_acts.proofs.Words.{[], ◌+◌, ◌<◌, ◌==◌, ◌∙◌, ◌∷◌, ◌≡◌, ◌≤◌, AreInside, arith, Bool, CellPlan, CellRow, claims, claims_shown, count, count_rows, drains, drains_at}
+use Rattle.phase_acts.proofs.Words.{drains_on, Event, false, found_passes, Guard, Holders, How, if◌then◌else◌, inl, inr, is_drain, is_read_share, is_write_share, IsExclusive}
+use Rattle.phase_acts.proofs.Words.{IsLocked, length, List, LockerKind, most_readers, None, Option, reads_cell, reads_in, refl, Rows, runs_in, Section, shares_read, shares_shown}
+use Rattle.phase_acts.proofs.Words.{shares_write, slice_get, Some, Standing, standing, Stands, true, Wait, Want, writes_cell, writes_in, ℕ}
+use Rattle.std.proofs.lemmas.Bool.{true_from_ne_false}
 use Rattle.schedule_rules.proofs.Found.{none_counted, only_one}
 use Rattle.std.proofs.lemmas.Option.{slice_get_cases}
 use Rattle.std.specs.List.{find}
@@ -66,68 +67,28 @@ module _ (c : ℕ) (ws : List Wait) (s : Parking) (single : IsSingle ws) (shows 
   pub drains_shown : drains s c ≡ count (drains_on c) ws
   drains_shown = count_rows (drains_at c) ws s.rows refl single shows.row ∙ count_test (λ (w : Wait). drains_at c (wait_row (Some w))) (drains_on c) ws (row_drains c)
 
-  module _ (k : LockerKind) (h : Holders) (r w p : ℕ) (l : IsLocked k h s c r w p) where
-    -- the readers of the record: guards and shares
-    pub readers_shown : h.readers ≡ r + count (shares_read c) ws
-    readers_shown =
-        let shown = shares_shown c ws s single shows in
-        let most = l.fits.shared in
-        let are = l.reads_are in
-        omega (arith, shown, most, are)
-
-    -- a claim locks the record
-    claim_locks : 0 < claims s c → h.locked ≡ true
-    claim_locks lt = by h.locked refl
-      where
-        by : (b : Bool) → h.locked ≡ b → b ≡ true
-        by true e = refl
-        by false e = let none = l.fits.locked e in absurd (omega (arith, none, lt))
-
-    -- a write hold has no claim beside it, and nothing reads
-    hold_alone : 0 < w → (claims s c ≡ 0) × (h.readers ≡ 0)
-    hold_alone lt = let o = l.write_is lt in (o.unclaimed, write_has_no_reader k h s c l.fits o)
-
-    -- a write share has no drain beside it, and nothing reads
-    share_alone : 0 < count (shares_write c) ws → (count (drains_on c) ws ≡ 0) × (h.readers ≡ 0)
-    share_alone lt =
-        let shown = claims_shown c ws s single shows in
-        let one = l.fits.one in
-        let none : count (drains_on c) ws ≡ 0 = omega (arith, shown, one, lt) in
-        (none, unread none)
-      where
-        unread : count (drains_on c) ws ≡ 0 → h.readers ≡ 0
-        unread none =
-            elim (cases_lt 0 h.readers) [
-              | inl some ↦ (let d = l.fits.drained (claim_locks (let shown = claims_shown c ws s single shows in omega (arith, shown, lt))) some in let e = drains_shown in absurd (omega (arith, d, e, none)))
-              | inr n ↦ omega (arith, n)
-            ]
-
-    write_alone : 0 < w + count (shares_write c) ws → (count (drains_on c) ws ≡ 0) × (h.readers ≡ 0) × (w + count (shares_write c) ws ≤ 1)
-    write_alone lt =
-        elim (cases_lt 0 w) [
-          | inl some ↦ (let a = hold_alone some in let shown = claims_shown c ws s single shows in let e = a.0 in let one = l.one in (omega (arith, shown, e), a.1, omega (arith, shown, e, one)))
-          | inr n ↦ (let a = share_alone (omega (arith, lt, n)) in let shown = claims_shown c ws s single shows in let one = l.fits.one in (a.0, a.1, omega (arith, shown, one, n)))
-        ]
-
-    one_writes : w + count (shares_write c) ws ≤ 1
-    one_writes =
-        elim (cases_lt 0 (w + count (shares_write c) ws)) [
-          | inl some ↦ (write_alone some).2
-          | inr n ↦ omega (arith, n)
-        ]
+  -- a claim locks the record, and a write hold has no claim beside it; where either stands, readers drain
+  pub stand_apart : (k : LockerKind) (h : Holders) (r w p : ℕ) → IsLocked k h s c r w p → (w + count (shares_write c) ws ≤ 1) × (0 < w + count (shares_write c) ws → r + count (shares_read c) ws ≡ 0) × (0 < w + count (shares_write c) ws → count (drains_on c) ws ≡ 0) × (r + count (shares_read c) ws ≤ most_readers)
+  stand_apart k h r w p l =
+      let claimed = claims_shown c ws s single shows in
+      let drained = drains_shown in
+      let shared = shares_shown c ws s single shows in
+      let one = l.fits.one in
+      let writes = l.one in
+      let most = l.limit in
+      let few = l.fits.shared in
+      let reads = l.reads_are in
+      let unclaimed : 0 < w → claims s c ≡ 0 = λ lt. (l.write_is lt).unclaimed in
+      let unread : 0 < w → h.readers ≡ 0 = λ lt. write_has_no_reader k h s c l.fits (l.write_is lt) in
+      let locks : 0 < claims s c → h.locked ≡ true = λ lt. true_from_ne_false h.locked (λ e. (let none = l.fits.locked e in absurd (omega (arith, none, lt)))) in
+      let drain : 0 < claims s c → 0 < h.readers → 0 < drains s c = λ lt some. (let d = l.fits.drained (locks lt) some in omega (arith, d)) in
+      (grind arith, λ lt. grind arith, λ lt. grind arith, grind arith)
 
 module _ {L : Type 0} (held : L → Holders) (place : L → LockerKind) (hand : ℕ) (m : Standing) (v : Rows L) (t : Stands held place hand m v) (c : ℕ) where
   known : (row : CellRow L) → slice_get v.cells.items c ≡ Some row → Excludes m c
   known row row_is =
-      let l = (t.cell c row row_is).locked in
-      let all = write_alone c m.waits v.parks t.waits.single t.waits.shows _ _ _ _ _ l in
-      let readers = readers_shown c m.waits v.parks t.waits.single t.waits.shows _ _ _ _ _ l in
-      record {
-        one_writer = one_writes c m.waits v.parks t.waits.single t.waits.shows _ _ _ _ _ l;
-        no_reader = λ some. (let none = (all some).1 in omega (arith, none, readers));
-        no_drain = λ some. (all some).0;
-        limit = (let most = l.limit in omega (arith, most, readers));
-      }
+      let all = stand_apart c m.waits v.parks t.waits.single t.waits.shows _ _ _ _ _ (t.cell c row row_is).locked in
+      record { one_writer = all.0; no_reader = all.1; no_drain = all.2; limit = all.3 }
 
   no_guard : (f : Guard → Bool) → ((x : Guard) → f x ≡ true → x.cell ≡ c) → length v.cells.items ≤ c → count f m.guards ≡ 0
   no_guard f at le = none_beyond (λ (x : Guard). x.number) (λ x. x.cell) (length v.cells.items) c f m.guards at le t.guards.once t.guards.in_cells

@@ -1,7 +1,7 @@
 -- Lines that are legal.
-use Rattle.phase_acts.proofs.Words.{Option, ◌&&◌, ◌==◌, ◌||◌, ◌∙◌, ◌∷◌, ◌≡◌, Act, Answer, answer_of, ap, cell_at, cell_concerned, CellPlan, downgrades, due_answer, Event, event, false}
+use Rattle.phase_acts.proofs.Words.{◌&&◌, ◌==◌, ◌||◌, ◌∙◌, ◌∷◌, ◌≡◌, Act, Answer, answer_of, ap, cell_at, cell_concerned, CellPlan, downgrades, due_answer, Event, event, false}
 use Rattle.phase_acts.proofs.Words.{Given, is_freed_last, is_parking, is_readers, is_some, IsGift, IsLegalLine, IsTrue, Last, List, may_give, may_give_last, may_give_on, MayGive}
-use Rattle.phase_acts.proofs.Words.{MayGiveDown, None, none_without, or_right, other_waits, reaches, refl, Refusal, refusal, refusal_by, refusal_free, Some, standing, Step}
+use Rattle.phase_acts.proofs.Words.{MayGiveDown, None, none_without, Option, or_right, other_waits, reaches, refl, Refusal, refusal, refusal_by, refusal_free, Some, standing, Step}
 use Rattle.phase_acts.proofs.Words.{step_of, subst, sym, true, wait_of, waits, ℕ}
 use Rattle.phase_locker.specs.declared.ways.Given.TheVariants as given
 use Rattle.schedule_rules.specs.declared.line.Answer.TheVariants as answer
