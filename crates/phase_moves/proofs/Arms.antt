@@ -17,7 +17,7 @@ use Rattle.phase_moves.proofs.Took.{rows_as as rows_as_of, told_as as told_as_of
 use Rattle.phase_moves.proofs.Took.{took_write as took_write_of, took_wait as took_wait_of, took_run as took_run_of}
 use Rattle.phase_moves.proofs.{Admitting.final_turns, Answered.answered as begun_as, Calling.answered_moved, Leaving.sound, Drafts.keeps_still, Looking.met_turned}
 use Rattle.phase_moves.proofs.{Meeting.met, Settling.IsSettled, Settling.call_settled, Moved.parties_set, Moved.moved, Places.read_at, Parking.shown_called}
-use Rattle.phase_moves.proofs.{Parking.freed_writers, Runs.none_runs}
+use Rattle.phase_moves.proofs.{Parking.freed_writers, Guards.none_runs}
 
 module _ {L : Type 0} (held : L → Holders) (place : L → LockerKind) where
   module _ (m : Standing) (v v' : Rows L) (p : ℕ) (t : Target) (waits : Bool) (is : IsAttempting held place m v p t waits) (row row' : CellRow L) (row_is : row ≡ get_or v.cells.items t.cell row) (of of' : PartyRow) (of_is : of ≡ get_or v.parties.items p of)

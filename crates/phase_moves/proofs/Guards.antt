@@ -1,7 +1,8 @@
--- The rows of guards, after one is taken off or opened.
+-- The rows of guards, after one is taken off or opened; the sections that run.
 use Rattle.phase_moves.proofs.Words.{◌≡◌, ◌≢◌, ◌==◌, ◌≤◌, ◌+◌, ◌∙◌, ℕ, List, ◌∷◌, ap, refl, arith, Bool, true, false, cond, None, Some, cases_eq, count, Guard, numbered}
 use Rattle.phase_moves.proofs.Words.{without_guard, reads_cell, writes_cell, Wait, wait_of, wait_woken, found_passes, none_found, none_counted, count_removed, guard_kept}
 use Rattle.phase_moves.proofs.Words.{Given, given_on, wait_readers, wait_writer, Standing, slot_row, target_of}
+use Rattle.phase_moves.proofs.Words.{◌<◌, [], Section, innermost, without_innermost, runs_in, cell_of_section, found_counts, innermost_kept, run_in, AreInside}
 
 -- a guard has its number
 pub its_number : (g : ℕ) (gs : List Guard) (x : Guard) → numbered g gs ≡ Some x → x.number ≡ g
@@ -58,3 +59,32 @@ target_woken b w = grind arith
 
 pub target_given : (c : ℕ) (g : Given) (ws : List Wait) (p : ℕ) → target_of (wait_of p (given_on c g ws)) ≡ target_of (wait_of p ws)
 target_given c g ws p = grind (arith, wait_writer, target_woken, wait_readers)
+
+-- ---- the sections that run
+
+-- where no section is counted none runs
+pub none_runs : (c : ℕ) (ss : List Section) → count (runs_in c) ss ≡ 0 → run_in c ss ≡ None
+none_runs c [] e = refl
+none_runs c (x ∷ ss) e = grind (arith, none_runs c ss)
+
+-- those of other cells are kept
+pub run_kept : (c p : ℕ) (ss : List Section) (s : Section) → innermost p ss ≡ Some s → c ≢ s.cell → run_in c (without_innermost p ss) ≡ run_in c ss
+run_kept c p [] s e ne = cc
+run_kept c p (x ∷ ss) s e ne = grind (arith, run_kept c p ss s, innermost_kept p x.party ss)
+
+-- the innermost section of a party runs in its cell
+pub run_top : (p : ℕ) (ss : List Section) (s : Section) → innermost p ss ≡ Some s → count (runs_in s.cell) ss ≤ 1 → run_in s.cell ss ≡ Some (record { section = s; outer = cell_of_section (innermost p (without_innermost p ss)) })
+run_top p [] s e n = cc
+run_top p (x ∷ ss) s e n = grind (arith, run_top p ss s, found_counts (λ y. y.party == p) (runs_in s.cell) ss s)
+
+-- they stay inside
+pub inside_ended : (n p : ℕ) (ss : List Section) → AreInside n ss → AreInside n (without_innermost p ss)
+inside_ended n p [] k = tt
+inside_ended n p (x ∷ ss) k = elim (x.party == p) as (λ v. AreInside n (cond v ss (x ∷ without_innermost p ss))) [ true ↦ k.1 | false ↦ (k.0, inside_ended n p ss k.1) ]
+
+-- one that is found is inside
+pub inside_found : (n p : ℕ) (ss : List Section) (s : Section) → AreInside n ss → innermost p ss ≡ Some s → s.cell < n
+inside_found n p [] s k e = absurd (cc)
+inside_found n p (x ∷ ss) s k e = by (x.party == p) e (inside_found n p ss s k.1) where
+  by : (b : Bool) → cond b (Some x) (innermost p ss) ≡ Some s → (innermost p ss ≡ Some s → s.cell < n) → s.cell < n
+  by b e rest = grind arith

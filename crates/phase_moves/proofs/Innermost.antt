@@ -4,7 +4,7 @@ use Rattle.phase_moves.proofs.Words.{phase_of, IsKnown, Turned, Given, LockerKin
 use Rattle.phase_moves.proofs.Words.{Section, innermost, without_innermost, runs_in, writes_cell, wait_of, cell_of_section, found_counts, found_passes, count_ended}
 use Rattle.phase_moves.proofs.Words.{innermost_kept, Shows, given_on, IsListed, shows_on, single_on, within_on, CellRow, OpenRun, PartyRow, Rows, Standing, Run, run_in}
 use Rattle.phase_moves.proofs.Words.{reads_in, closed, CountsWaits, seen_at, IsCell, IsLocked, IsExit, party_row, open_run, section_of, target_of, IsInnermost}
-use Rattle.phase_moves.proofs.Runs.{none_runs, run_kept, run_top, inside_ended, inside_found}
+use Rattle.phase_moves.proofs.Guards.{none_runs, run_kept, run_top, inside_ended, inside_found}
 use Rattle.phase_moves.proofs.{Lockers.writing_alone, Leaving.sound, Moved.IsMoved, Moved.HasParties, Moved.exit_kept, Moved.parties_set, Places.read_at, Waiting.count_given}
 
 module _ {L : Type 0} (held : L → Holders) (place : L → LockerKind) (m : Standing) (v : Rows L) (p c : ℕ) (s : Section) (is : IsInnermost held place m v p c s) (row : CellRow L) (row_is : row ≡ get_or v.cells.items c row) where

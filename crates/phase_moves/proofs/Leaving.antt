@@ -10,7 +10,7 @@ use Rattle.phase_moves.proofs.Guards.{count_same, count_less, slots_same, target
 use Rattle.phase_moves.proofs.Lockers.{locked_read, locked_write, locked_down, writing_alone, hands_writers, downgrades_writers}
 use Rattle.phase_moves.proofs.Moved.{IsCalled, IsMoved, HasParties, exit_kept, parties_same, moved}
 use Rattle.phase_moves.proofs.{Drafts.keeps_none, Drafts.keeps_still, Opening.guard_opened, Opening.seen_reader, Waiting.few_readers, Waiting.fewer_readers}
-use Rattle.phase_moves.proofs.{Waiting.count_given, Known.effect_known, Runs.none_runs, Places.read_at}
+use Rattle.phase_moves.proofs.{Waiting.count_given, Known.effect_known, Guards.none_runs, Places.read_at}
 
 -- rows that stand for something are sound
 pub sound : {L : Type 0} (held : L → Holders) (place : L → LockerKind) (hand : ℕ) (m : Standing) (v : Rows L) → Stands held place hand m v → IsSound v.parks

@@ -6,7 +6,7 @@ use Rattle.phase_moves.proofs.Words.{others_refl, lends_value, CellPlan, Content
 use Rattle.phase_moves.proofs.Words.{waits_at, claims_shown, shares_shown, Lent, Loan, Published, CellRow, Rows, Finds, IsFound, IsLending, IsLent, changed, changes_lent}
 use Rattle.phase_moves.proofs.Words.{content_of, in_use, lent_in, Standing, reads_in, writes_in, run_in, seen_at, IsCell, IsLocked, Stands, open_run}
 use Rattle.phase_moves.proofs.{Calling.answered_moved, Drafts.keeps_still, Drafts.none_writes, Leaving.parked_few, Lockers.locked_write, Moved.exit_kept, Moved.moved}
-use Rattle.phase_moves.proofs.{Moved.parties_same, Places.itself_eq, Places.read_at, Opening.no_more, Runs.none_runs}
+use Rattle.phase_moves.proofs.{Moved.parties_same, Places.itself_eq, Places.read_at, Opening.no_more, Guards.none_runs}
 
 -- ---- what waits at a cell has its shares and claims
 

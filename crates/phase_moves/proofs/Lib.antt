@@ -10,7 +10,6 @@ pub mod Moved
 pub mod Waiting
 pub mod Guards
 pub mod Drafts
-pub mod Runs
 pub mod Opening
 -- The moves on guards
 pub mod Hand
@@ -44,6 +43,5 @@ pub mod Judged
 pub mod Settling
 pub mod Barring
 pub mod Admitting
-pub mod GivenUp
 pub mod Sharing
 pub mod Meeting

@@ -5,7 +5,7 @@ use Rattle.phase_moves.proofs.Words.{wait_of, Running, CellRow, GuardRow, PartyR
 use Rattle.phase_moves.proofs.Words.{party_row, CountsWaits, KeepsDraft, AreInside, AreNumbered, AreShown, AreSized, IsCell, IsExit, Stands, seen_at, held_of, run_kept}
 use Rattle.phase_moves.proofs.Words.{running_kept, running_of, shown_by, value_drafted, value_kept, Rests, Phase, phase_of, runs, Want, initializes, seeks, seeks_run, Change}
 use Rattle.phase_moves.proofs.Words.{effect, none_without, Target, IsMet, IsAttempting, IsTook, MayWait_of_tries as MayWait, WaitsAt, ask_of, Given, Taken}
-use Rattle.phase_moves.proofs.{Innermost.row_run, Places.read_at, Runs.inside_found, Hand.row_shown, Admitting.runs_same, Asked.none_sought}
+use Rattle.phase_moves.proofs.{Innermost.row_run, Places.read_at, Guards.inside_found, Hand.row_shown, Admitting.runs_same, Asked.none_sought}
 
 is_there : {X : Type 0} (xs : List X) (i : ℕ) → i < length xs → slice_get xs i ≡ None → ⊥
 is_there xs i lt e = grind (arith, common_steps, gets, lt, e)

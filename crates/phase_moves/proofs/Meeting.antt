@@ -15,7 +15,7 @@ use Rattle.phase_moves.proofs.Judged.{IsBarred, IsClear, IsJudged, IsKept, IsWai
 use Rattle.phase_moves.proofs.Sharing.{gives_none, clear_none as clear_none_of, gives_first as gives_first_of, reaching as reaching_of, shown_given as shown_given_of}
 use Rattle.phase_moves.proofs.Settling.{IsDeclined, IsSettled, MayDecline, begun_declined, begun_settled}
 use Rattle.phase_moves.proofs.Admitting.{FitsSought, admitted_due, begun_met, judged_no, met_fits, runs_same}
-use Rattle.phase_moves.proofs.{Attempts.run_writes, Attempts.writes_begun, GivenUp.ran_asked, GivenUp.waits_by}
+use Rattle.phase_moves.proofs.{Attempts.run_writes, Attempts.writes_begun, Parking.ran_asked, Parking.waits_by}
 
 -- it waits, or it is barred and does not wait
 record Waits (e : Begun) : Type 0 where

@@ -1,8 +1,10 @@
--- The rows show who waits after a call.
+-- The rows show who waits after a call; what a call that waited gives up.
 use Rattle.phase_moves.proofs.Words.{◌≡◌, ◌<◌, ◌∙◌, ℕ, List, [], ◌∷◌, length, set, sym, subst, refl, arith, Some, length-set, Given, How, Who, Waiting, Row, Parking, row_of}
 use Rattle.phase_moves.proofs.Words.{freed, left, rows_handed, rows_waiting, freed_size, Want, Wait, without_wait, with_wait, most_parties, wait_removed, given_on, IsListed}
 use Rattle.phase_moves.proofs.Words.{shows_on, single_on, within_on, none_on, within_without, within_with, shows_freed, shows_waiting_at, single_without, single_with}
 use Rattle.phase_moves.proofs.Words.{sound_of, AreShown}
+use Rattle.phase_moves.proofs.Words.{◌≢◌, Bool, true, false, ◌||◌, ◌⊎◌, Phase, Holders, LockNature, got, NobodyParked, given_up, still_empty, Ask, Begun, asks_run, begun_of, is_run}
+use Rattle.phase_moves.proofs.Words.{is_drain, waiting_of}
 use Rattle.phase_locker.specs.Rows.{shared}
 use Rattle.phase_moves.proofs.Lockers.{handed_writers}
 
@@ -53,3 +55,27 @@ module _ (n : ℕ) (who : Who) (ws : List Wait) (s : Parking) (g : Given) (shown
         single = single_with who.party way (Some (record { cell = who.cell; want = want })) _ (none_on who.party who.cell g _ (wait_removed who.party ws)) shown_called.single;
         within = within_with n who.party way (record { cell = who.cell; want = want }) _ inside shown_called.within;
       }
+
+-- ---- what a call that waited gives up, and what was run of what was begun
+
+-- ---- what is given up
+
+-- a party that leaves its list leaves empty lists empty
+pub nobody_left : (v : Waiting) (c p : ℕ) (s : Parking) → c < length s.readers → length s.writers ≡ length s.readers → NobodyParked s c → NobodyParked (left v c p s) c
+nobody_left v c p s inside same e = grind (arith, still_empty)
+
+pub not_listed : (c : ℕ) (s : Parking) (g : Given) → NobodyParked s c → IsListed c s g → g ≢ Given.Nobody → ⊥
+not_listed c s g e l ne = grind arith
+
+-- what has no share and no drain gives nothing up
+pub own_or_not : (way : How) (woken : Bool) (h : Holders) → ((woken || is_drain way) ≡ true) ⊎ (given_up (waiting_of way woken) h ≡ h)
+own_or_not way woken h = grind arith
+
+-- the way that it waits
+abbrev pub waits_by : Begun → Bool
+waits_by (Begun.Wait way) = is_drain way
+waits_by _ = false
+
+-- what is run was asked
+pub ran_asked : (who : Who) (ask : Ask) (p : Phase) (n : LockNature) → is_run (begun_of who ask p (got n p)) ≡ true → asks_run ask p ≡ true
+ran_asked who ask p n e = grind arith

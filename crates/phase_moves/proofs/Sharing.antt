@@ -4,7 +4,7 @@ use Rattle.phase_moves.proofs.Words.{Given, Row, Who, LockerKind, Parking, row_o
 use Rattle.phase_moves.proofs.Words.{gives_up_freed, given_up_reads, left_writes, Ask, CellPlan, count, has_own, cell_at, is_parking, Wait, drains_on, wait_of, without_wait}
 use Rattle.phase_moves.proofs.Words.{most_parties, IsListed, given_on, wait_row, waiting_of, gave_share, listed_hand, reaches_given, claims_shown, shares_shown, Taken, Target}
 use Rattle.phase_moves.proofs.Words.{GivesFirst, GivesLast, IsReaching, keeps_in, readers_in, writers_in, Standing, reads_in, writes_in, AreShown, IsLocked, kind_at}
-use Rattle.phase_moves.proofs.{Giving.idle_at, Judged.IsClear, Parking.shown_called, GivenUp.nobody_left, GivenUp.not_listed, GivenUp.own_or_not}
+use Rattle.phase_moves.proofs.{Giving.idle_at, Judged.IsClear, Parking.shown_called, Parking.nobody_left, Parking.not_listed, Parking.own_or_not}
 
 -- what gives nothing then may do so
 pub gives_none : (p : ℕ) (t : Target) (m : Standing) (b : Taken) → GivesLast p t b Given.Nobody m

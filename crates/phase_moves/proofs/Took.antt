@@ -13,7 +13,7 @@ use Rattle.phase_moves.proofs.Attempts.{IsBegun, Tells, declines, phase_left, ph
 use Rattle.phase_moves.proofs.Opening.{guard_opened, seen_reader, seen_writer, no_more, opens, section_opened, wrote_all}
 use Rattle.phase_moves.proofs.{Calling.answered_moved, Drafts.keeps_first, Drafts.keeps_reader, Drafts.keeps_still, Drafts.shown_still, Guards.target_given}
 use Rattle.phase_moves.proofs.{Known.effect_known, Lockers.handed_writers, Moved.IsMoved, Moved.HasParties, Moved.parties_set, Moved.moved, Parking.shown_called}
-use Rattle.phase_moves.proofs.{Parking.shown_waiting, Parking.freed_writers, Parking.waiting_writers, Places.itself_eq, Places.read_at, Runs.none_runs, Waiting.count_beside}
+use Rattle.phase_moves.proofs.{Parking.shown_waiting, Parking.freed_writers, Parking.waiting_writers, Places.itself_eq, Places.read_at, Guards.none_runs, Waiting.count_beside}
 use Rattle.phase_moves.proofs.Waiting.{count_elsewhere, count_one_more, waited_here}
 
 module _ {L : Type 0} (held : L → Holders) (place : L → LockerKind) where
