@@ -6,7 +6,7 @@ use crate::ask::{Ask, Want};
 use crate::finalizer::{FinalFault, Finaly};
 use crate::section::Begun;
 use crate::sequentializer::LazySequentializer;
-use crate::test_calls::{Cell, ask, last, nothing, party, ready, writes};
+use crate::test_calls::{Cell, ask, last, nothing, party, ready};
 use exit_registry::ExitRegistry;
 use phase_bits::{Phase, Phased};
 use phase_locker::{Given, HolderLocker, LockerKind, Parks, PhaseLocker};
@@ -14,7 +14,7 @@ use std::alloc::Global;
 use std::process::Abort;
 use std::test::Fail;
 
-/// A cell whose calls wait so is finalized, and is then written with this phase.
+/// A cell whose calls wait so is finalized, and is left with this phase.
 fn is_finalized(
     rt: &impl Abort,
     alloc: Global,
@@ -49,20 +49,6 @@ fn is_finalized(
     assert_eq!(rt; given, Given::Nobody);
     assert_eq!(rt; phase.bits(), left);
     assert_eq!(rt; cell.locker().phase(), phase);
-    ready(rt, cell.locker().phase(), &registry);
-    let (begun, given) = cell.begin(
-        &mut parks,
-        party(1),
-        ask(Want::WriteOnly, false),
-        Some(&mut registry),
-    );
-    assert_eq!(rt; given, Given::Nobody);
-    let (ticket, phase) = writes(rt, begun);
-    assert_eq!(rt; phase.bits(), left);
-    let given = cell
-        .locker_mut()
-        .release_write(&mut parks, 0, ticket, phase);
-    assert_eq!(rt; given, Given::Nobody);
     Ok(())
 }
 

@@ -55,27 +55,12 @@ fn a_cell_is_registered_once(rt: HostRuntime) -> Result<(), Fail> {
     Ok(())
 }
 
-/// A cell whose calls wait so is refused, and is read, twice.
+/// A cell whose calls wait so is refused, and is read.
 fn is_read_refused(rt: &impl Abort, alloc: Global, kind: LockerKind) -> Result<(), Fail> {
     let mut parks = Parks::new(alloc, 1, 1)?;
     let mut registry = ExitRegistry::new(alloc, 1)?;
     assert_eq!(rt; look(rt, &mut registry), Look::Closed);
     let mut cell: Cell = LazySequentializer::new(HolderLocker::new(kind, Phase::empty()));
-    ready(rt, cell.locker().phase(), &registry);
-    let (begun, given) = cell.begin(
-        &mut parks,
-        party(0),
-        ask(Want::Read, false),
-        Some(&mut registry),
-    );
-    assert_eq!(rt; given, Given::Nobody);
-    let (ticket, phase) = reads(rt, begun);
-    assert_eq!(rt; phase.bits(), REFUSED);
-    assert_eq!(rt; cell.locker().phase(), phase);
-    let given = cell.locker_mut().release_read(&mut parks, 0, ticket);
-    assert_eq!(rt; given, Given::Nobody);
-    assert!(rt; !registry.knows(0));
-    assert!(rt; !registry.is_open());
     ready(rt, cell.locker().phase(), &registry);
     let (begun, given) = cell.begin(
         &mut parks,

@@ -271,14 +271,6 @@ fn a_writer_publishes_at_its_release(rt: HostRuntime) -> Result<(), Fail> {
         .release_write(&mut parks, 0, ticket, phase);
     assert_eq!(rt; given, Given::Writer(1));
     assert_eq!(rt; cell.locker().phase(), Phase::INITIALIZED);
-    let (begun, _) = cell.again(&mut parks, party(1), retry(Want::Write), None);
-    let Begun::Write(ticket, phase) = begun else {
-        rt.abort()
-    };
-    assert_eq!(rt; phase, Phase::INITIALIZED);
-    let given = cell
-        .locker_mut()
-        .release_write(&mut parks, 0, ticket, phase);
-    assert_eq!(rt; given, Given::Nobody);
+    assert_eq!(rt; parks.waiting(1), Waiting::ShareWrite);
     Ok(())
 }
