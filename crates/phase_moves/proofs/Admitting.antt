@@ -1,5 +1,5 @@
 -- What an attempt took that is admitted is the answer that is due.
-use Rattle.phase_moves.proofs.Words.{◌≡◌, ◌∙◌, ℕ, List, [], ◌∷◌, ap, sym, subst, refl, Bool, true, false, None, Some, not, ◌&&◌, if◌then◌else◌, MatchBool, ◌==◌, find, Option}
+use Rattle.phase_moves.proofs.Words.{arith, ◌≡◌, ◌∙◌, ℕ, List, [], ◌∷◌, ap, sym, subst, refl, Bool, true, false, None, Some, not, ◌&&◌, if◌then◌else◌, MatchBool, ◌==◌, find, Option}
 use Rattle.phase_moves.proofs.Words.{Phase, has, initialized, number, phase_of, Registry, Who, LockNature, LockResult, ReadTicket, WriteTicket, got, read_ticket, write_ticket}
 use Rattle.phase_moves.proofs.Words.{Ask, Sought, Begun, Tolerance, asks_run, finalizes, run_sought, nature_of, nature_where, shall_init, begun_of, begun_write, runs}
 use Rattle.phase_moves.proofs.Words.{section_by, is_run, unregistered, is_refused, Call, Answer, CellPlan, Want, Calls, Turns, answer_admitted, answer_at, begins_run}
@@ -11,8 +11,7 @@ use Rattle.phase_moves.proofs.{Asked.IsAsked, Asked.asks_same, Asked.call_left, 
 -- ---- the three answers of an attempt
 
 pub judged_no : {X : Type 0} (i k b b' : Bool) (x y z : X) → i ≡ false → k ≡ false → b ≡ b' → (if i then x else if not k && b then y else z) ≡ (if b' then y else z)
-judged_no false false b b' x y z e f g = ap (λ c. if c then y else z) g
-judged_no _ _ b b' x y z e f g = absurd (cc)
+judged_no i k b b' x y z e f g = grind (arith, e, f, g)
 
 -- ---- a call of its own run
 
@@ -69,16 +68,10 @@ module _ (who : Who) (o : Option Registry) (q : Phase) where
   begun_with ask run (LockResult.Write l) = if run then Begun.Run (section_by who ask.want unregistered l) else begun_write who ask.want q l
 
   got_is : (ask : Ask) (n : LockNature) → begun_of who ask q (got n q) ≡ begun_with ask (asks_run ask q) (got n q)
-  got_is ask LockNature.None = refl
-  got_is ask _ = refl
+  got_is ask n = grind (arith)
 
   by_cases : (s : Sought) (f : Bool) (t : Tolerance) (due there : Bool) → begun_settled (record { want = s; fast = f; tol = t }) o q (begun_with (record { want = s; fast = f; tol = t }) (run_sought s && due) (got (nature_where s due there) q)) ≡ met_as (record { want = s; fast = f; tol = t }) s due there
-  by_cases Sought.Init f t true there = refl
-  by_cases Sought.Init f t false there = refl
-  by_cases Sought.Read f t true there = refl
-  by_cases Sought.Write f t true there = refl
-  by_cases Sought.Finalize f t due true = refl
-  by_cases _ f t _ _ = refl
+  by_cases s f t due there = grind (arith)
 
   pub met_is : (ask : Ask) → begun_met ask ≡ met_as ask ask.want (shall_init ask.tol q) (has (number q) initialized)
   met_is ask = ap (begun_settled ask o q) (got_is ask (nature_of ask q)) ∙ by_cases ask.want ask.fast ask.tol (shall_init ask.tol q) (has (number q) initialized)
@@ -108,10 +101,7 @@ module _ (who : Who) (o : Option Registry) (q : Phase) where
   RunsOr runs b = MatchBool runs (is_run b ≡ true) (is_left b ≡ true)
 
   runs_declined : (r : Bool) (s : Sought) (x : _) → run_sought s ≡ true → RunsOr (not r) (if r then begun_declined s else Begun.Run x)
-  runs_declined true Sought.ReadOnly x e = absurd (cc)
-  runs_declined true Sought.WriteOnly x e = absurd (cc)
-  runs_declined true Sought.Finalize x e = absurd (cc)
-  runs_declined _ _ x e = refl
+  runs_declined r s x e = grind (arith, e)
 
   pub met_runs : (ask : Ask) → (ask.want ≡ Sought.Finalize → ⊥) → RunsOr (asks_run ask q && not (is_refused ask.tol.leak o q)) (begun_met ask)
   met_runs ask ne = subst (RunsOr (asks_run ask q && not (is_refused ask.tol.leak o q))) (sym (met_is ask)) (by ask.want refl (shall_init ask.tol q) refl (has (number q) initialized)) where

@@ -1,7 +1,7 @@
 -- What is asked of a cell is what the rules ask for it, and so is what a call that is declined leaves.
-use Rattle.phase_moves.proofs.Words.{◌≡◌, ◌∙◌, ℕ, [], ◌∷◌, refl, sym, ap, Bool, true, false, not, ◌&&◌, None, Some, length-set, if◌then◌else◌, ◌==◌, unwrap_or, Option, has}
-use Rattle.phase_moves.proofs.Words.{initialized, number, phase_of, Phase, Registry, after_register, registered, cells_of, Ask, Sought, Begun, Tolerance}
-use Rattle.phase_moves.proofs.Words.{asks_run as seq_asks_run, run_sought, nature_of, nature_where, shall_init, wake_of, is_run, flags_generate, flags_refused, flags_staying}
+use Rattle.phase_moves.proofs.Words.{arith, ◌≡◌, ◌∙◌, ℕ, [], ◌∷◌, refl, sym, ap, Bool, true, false, not, ◌&&◌, None, Some, length-set, if◌then◌else◌, unwrap_or, Option, has}
+use Rattle.phase_moves.proofs.Words.{initialized, number, phase_of, Phase, Registry, after_register, cells_of, Ask, Sought, Begun, Tolerance}
+use Rattle.phase_moves.proofs.Words.{asks_run as seq_asks_run, run_sought, nature_of, nature_where, shall_init, wake_of, is_run, flags_refused}
 use Rattle.phase_moves.proofs.Words.{after_asking, is_refused, Call, Kind, asking, is_finalizable, CellPlan, Want, Calls, Turns, form_of, tolerance_of, NoRun, phase_reached}
 use Rattle.phase_moves.proofs.Words.{runs_generator, tries_registration, asks, initializes, is_fast, lock_asked, lock_wanted, run_asked, seeks, seeks_run, wakes_as, woken_as}
 use Rattle.phase_moves.proofs.Words.{Content, Asked, content_asked, effect, is_declined, is_turn, registry_for, registry_begun, changes_asked, form_as, run_as, stays_in}
@@ -44,10 +44,7 @@ module _ (x : CellPlan) (w : Want) (ask : Ask) (is : IsAsked x w ask) where
 
   -- only a call asks a run
   pub run_calls : (p : Phase) → seq_asks_run ask p ≡ true → is_turn w ≡ false
-  run_calls p e = by w is.sought where
-    by : (v : Want) → seeks x.kind v ≡ Some ask.want → is_turn v ≡ false
-    by (Calls k) f = refl
-    by Turns f = absurd (let g : Sought.Finalize ≡ ask.want = cc in let h : false ≡ true = ap (λ s. run_sought s && shall_init ask.tol p) g ∙ e in cc)
+  run_calls p e = grind (arith, e, is)
 
   -- what asks for a run has its section run as it seeks
   pub asked_as : (p : Phase) → seq_asks_run ask p ≡ true → ask.want ≡ run_as x.kind w
@@ -61,11 +58,7 @@ module _ (x : CellPlan) (w : Want) (ask : Ask) (is : IsAsked x w ask) where
 
 -- the flags that stay beside those of a section
 pub stays_same : (x : CellPlan) (w : Want) (m : Registry) (p : ℕ) → is_turn w ≡ false → stays_asked (registry_for x.kind m) (phase_of p) ≡ stays_in x w m.is_open p
-stays_same x (Calls k) m p e = by (is_finalizable x.kind) where
-  by : (b : Bool) → stays_asked (if b then Some m else None) (phase_of p) ≡ phase_of (if b then flags_staying m.is_open p else 0)
-  by true = refl
-  by false = refl
-stays_same x Turns m p e = absurd (cc)
+stays_same x w m p e = grind (arith, e)
 
 -- whether it is declined
 abbrev pub declined : CellPlan → Want → Bool → ℕ → Bool
@@ -73,10 +66,7 @@ declined x (Calls k) is_open p = is_declined x.kind (tolerance_of x) k is_open p
 declined x Turns is_open p = false
 
 pub refuses_same : (x : CellPlan) (m : Registry) (p : ℕ) → is_refused x.leak (registry_for x.kind m) (phase_of p) ≡ not (runs_generator x.kind (tolerance_of x) m.is_open p)
-refuses_same x m p = by (is_finalizable x.kind) where
-  by : (b : Bool) → is_refused x.leak (if b then Some m else None) (phase_of p) ≡ not (if b then flags_generate x.leak (if b then flags_staying m.is_open p else 0) else true)
-  by true = refl
-  by false = refl
+refuses_same x m p = grind (arith)
 
 pub declines_same : (x : CellPlan) (w : Want) (ask : Ask) → IsAsked x w ask → (m : Registry) (p : ℕ) → declines ask (registry_for x.kind m) (phase_of p) ≡ declined x w m.is_open p
 declines_same x (Calls k) ask is m p =
@@ -100,8 +90,7 @@ call_left x k o y = by (is_declined x.kind (tolerance_of x) k o y.phase) refl wh
 
 -- the phase that it tells
 pub told_same : (d : Bool) (p : ℕ) → phase_told d (phase_of p) ≡ phase_of (if d then flags_refused else p)
-told_same true p = refl
-told_same false p = refl
+told_same d p = grind (arith)
 
 -- ---- the registry
 
@@ -111,12 +100,8 @@ registry_still k c p b m e = elim (is_finalizable k) as (λ f. (if f then after_
 
 -- a run registers its cell as the rules do
 pub registry_run : (x : CellPlan) (c p : ℕ) (b : Begun) (m : Registry) → is_run b ≡ true → registry_begun x.kind c (phase_of p) b m ≡ (if tries_registration x.kind p then after_register c m else m)
-registry_run x c p b m e = by (is_finalizable x.kind) where
-  by : (f : Bool) → (if f then after_asking (is_run b) c (phase_of p) m else m) ≡ (if f && (p == 0) then after_register c m else m)
-  by true = ap (λ r. after_asking r c (phase_of p) m) e
-  by false = refl
+registry_run x c p b m e = grind (arith, e)
 
 -- it stays for as many cells
 pub cells_stay : (c : ℕ) (b : Bool) (m : Registry) → cells_of (if b then after_register c m else m) ≡ cells_of m
-cells_stay c false m = refl
-cells_stay c true m = elim m.is_open as (λ o. cells_of (if o then registered c m else m) ≡ cells_of m) [ true ↦ length-set m.known c true | false ↦ refl ]
+cells_stay c b m = grind (arith, length-set m.known c true)

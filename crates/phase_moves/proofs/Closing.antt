@@ -1,6 +1,6 @@
 -- What is open is given back, one after another.
-use Rattle.phase_moves.proofs.Words.{◌≡◌, ◌≢◌, ◌<◌, ◌+◌, ◌∙◌, ℕ, List, [], ◌∷◌, ◌++◌, length, ◌==◌, ap, sym, subst, refl, arith, Bool, false, None, Some, common_steps, gets}
-use Rattle.phase_moves.proofs.Words.{slice_get_within, slice_get, if◌then◌else◌, Option, Holders, LockerKind, Given, ReadTicket, WriteTicket, IsWriteOpen, Parking}
+use Rattle.phase_moves.proofs.Words.{◌≡◌, ◌≢◌, ◌<◌, ◌+◌, ◌∙◌, ℕ, List, [], ◌∷◌, ◌++◌, length, ◌==◌, ap, sym, subst, refl, arith, false, None, Some, common_steps, gets}
+use Rattle.phase_moves.proofs.Words.{slice_get_within, slice_get, Option, Holders, LockerKind, Given, ReadTicket, WriteTicket, IsWriteOpen, Parking}
 use Rattle.phase_moves.proofs.Words.{fits_beside, SeqSection, LazySequentializer, Want, Guard, numbered, count, cell_at, Section, runs_in, CellRow, GuardRow, Rows, Run}
 use Rattle.phase_moves.proofs.Words.{Standing, left_of_standing as left, run_in, IsCell, Stands, guard_row, section_of, seen_at, slot_row, Rests, LeavesRead, LeavesWrite}
 use Rattle.phase_moves.proofs.Words.{IsReader, IsWriter, AreClosing, CanClose, IsClosing, IsOpenRun, IsPopped, RunsFor, StayBeside}
@@ -96,9 +96,7 @@ module _ {L : Type 0} (held : L → Holders) (place : L → LockerKind) where
 -- one that runs in the cell is counted
 runs_counted : (c : ℕ) (ss : List Section) (r : Run) → run_in c ss ≡ Some r → 0 < count (runs_in c) ss
 runs_counted c [] r e = absurd (cc)
-runs_counted c (s ∷ ss) r e = by (s.cell == c) refl (λ q. runs_counted c ss r q) where
-  by : (b : Bool) → (s.cell == c) ≡ b → (run_in c ss ≡ Some r → 0 < count (runs_in c) ss) → 0 < (if s.cell == c then count (runs_in c) ss + 1 else count (runs_in c) ss)
-  by b q rest = grind arith
+runs_counted c (s ∷ ss) r e = grind (arith, e, runs_counted c ss r)
 
 -- the section of the cell's sequentializer
 abbrev section_at : Standing → ℕ → Run → SeqSection

@@ -1,7 +1,7 @@
 -- A finalizer ends, and its turn with it.
-use Rattle.phase_moves.proofs.Words.{◌≡◌, ◌∙◌, ℕ, [], ◌∷◌, ◌++◌, length, set, get_or, ap, sym, subst, refl, Bool, true, None, Some, Option, Phase, Holders, phase_of}
+use Rattle.phase_moves.proofs.Words.{arith, ◌≡◌, ◌∙◌, ℕ, [], ◌∷◌, ◌++◌, length, set, get_or, ap, sym, subst, refl, Bool, true, None, Some, Option, Phase, Holders, phase_of}
 use Rattle.phase_moves.proofs.Words.{leave_write, Given, LockerKind, IsWriteOpen, open_reads, Hands, Left, finalizes, Kind, FinishesFinal, finalized_phase, IsFinalSection}
-use Rattle.phase_moves.proofs.Words.{Want, Calls, Turns, cell_at, Content, Ended, content_after, phase_finalized, value_finalized, Section, is_turn, listed_hand, CellRow}
+use Rattle.phase_moves.proofs.Words.{Want, cell_at, Content, Ended, content_after, phase_finalized, value_finalized, Section, is_turn, listed_hand, CellRow}
 use Rattle.phase_moves.proofs.Words.{OpenRun, PartyRow, Rows, Standing, runner_of, finalized, turn_of, Seen, seen_at, IsCell, IsExit, run_as, IsFinalizing, FinalizesAs}
 use Rattle.phase_moves.proofs.Words.{MayGive}
 use Rattle.phase_moves.proofs.Innermost.{in_cells, cell_here, runs_here, o_is, its_row, write_open, seen_closed, closed_moved, cell_ended, counted_ended, no_writers}
@@ -10,8 +10,7 @@ use Rattle.phase_moves.proofs.{Known.change_known, Leaving.parked_few, Lockers.l
 use Rattle.phase_moves.proofs.{Giving.gives_closed, Moved.moved}
 
 pub asked_final : (q : Kind) (w : Want) → is_turn w ≡ true → finalizes (run_as q w) ≡ true
-asked_final q (Calls k) e = absurd (cc)
-asked_final q Turns e = refl
+asked_final q w e = grind (arith, e)
 
 module _ {L : Type 0} (held : L → Holders) (place : L → LockerKind) (m : Standing) (v : Rows L) (p c : ℕ) (s : Section) (is : IsFinalizing held place m v p c s) (row : CellRow L) (row_is : row ≡ get_or v.cells.items c row) where
   abbrev n : ℕ

@@ -87,9 +87,7 @@ module _ {L : Type 0} (held : L → Holders) (place : L → LockerKind) (m : Sta
     gift_closed ne = grind (arith, listed_hand, parking, here, reaches_given, free)
 
     pub gives_closed : MayGive c n g
-    gives_closed = by g refl where
-      by : (d : Given) → g ≡ d → MayGive c n d
-      by d e = grind (arith, gift_closed)
+    gives_closed = grind (arith, gift_closed)
 
   -- at a section that a reader goes on from
   pub gives_down : (q : Phase) (g : Given) (h' : Holders) (s' : Parking) → Downgrades c q (held row.seq.locker) v.parks g h' s' → MayGiveDown c m g

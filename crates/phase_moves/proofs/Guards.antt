@@ -85,6 +85,4 @@ inside_ended n p (x ∷ ss) k = elim (x.party == p) as (λ v. AreInside n (cond 
 -- one that is found is inside
 pub inside_found : (n p : ℕ) (ss : List Section) (s : Section) → AreInside n ss → innermost p ss ≡ Some s → s.cell < n
 inside_found n p [] s k e = absurd (cc)
-inside_found n p (x ∷ ss) s k e = by (x.party == p) e (inside_found n p ss s k.1) where
-  by : (b : Bool) → cond b (Some x) (innermost p ss) ≡ Some s → (innermost p ss ≡ Some s → s.cell < n) → s.cell < n
-  by b e rest = grind arith
+inside_found n p (x ∷ ss) s k e = grind (arith, e, k, inside_found n p ss s)

@@ -1,5 +1,5 @@
 -- What the calls of a locker leave of a cell's record.
-use Rattle.phase_moves.proofs.Words.{◌≡◌, ◌<◌, ◌≤◌, ◌+◌, ◌∙◌, ℕ, length, ap, refl, arith, length-set, inl, inr, cases_lt, Phase, Holders, phase_of, leave_read, leave_write}
+use Rattle.phase_moves.proofs.Words.{◌≡◌, ◌<◌, ◌≤◌, ◌+◌, ◌∙◌, ℕ, length, ap, refl, arith, length-set, Phase, Holders, phase_of, leave_read, leave_write}
 use Rattle.phase_moves.proofs.Words.{downgrade, most_readers, Given, LockerKind, Parking, readers_of, Fits, IsWriteOpen, open_reads, Hands, Downgrades, MayHand, rows_handed}
 use Rattle.phase_moves.proofs.Words.{held_handed, SameAt, write_has_no_reader, IsLocked}
 
@@ -35,11 +35,7 @@ locked_same k h s s' d r w p same l = grind arith
 
 -- beside an open read nothing writes
 pub reading_alone : (k : LockerKind) (h : Holders) (s : Parking) (c r w p : ℕ) → IsLocked k h s c r w p → 0 < r → w ≡ 0
-reading_alone k h s c r w p l lt =
-    elim (cases_lt 0 w) [
-      | inl some ↦ (let o = write_has_no_reader k h s c l.fits (l.write_is some) in let a = l.reads_are in absurd (omega (arith, o, a, lt)))
-      | inr n ↦ omega (arith, n)
-    ]
+reading_alone k h s c r w p l lt = grind (arith, lt, l, write_has_no_reader k h s c l.fits)
 
 -- and beside a write nothing reads
 pub writing_alone : (k : LockerKind) (h : Holders) (s : Parking) (c r w p : ℕ) → IsLocked k h s c r w p → 0 < w → r ≡ 0

@@ -1,10 +1,10 @@
 -- What the rows tell of what stands open.
 use Rattle.phase_moves.proofs.Words.{◌≡◌, ◌==◌, ◌<◌, ◌∙◌, ℕ, List, length, get_or, ap, sym, subst, refl, arith, Bool, true, None, Some, [], ◌&&◌, gets, common_steps}
-use Rattle.phase_moves.proofs.Words.{slice_get, MatchBool, Option, Holders, LockerKind, CellPlan, Guard, guard_of, numbered, own, cell_at, Section, innermost, cell_of_section}
+use Rattle.phase_moves.proofs.Words.{slice_get, Option, Holders, LockerKind, CellPlan, Guard, guard_of, numbered, own, cell_at, Section, innermost, cell_of_section}
 use Rattle.phase_moves.proofs.Words.{wait_of, Running, CellRow, GuardRow, PartyRow, Rows, Standing, answered, changes_at, content_back, run_in, runner_of, seen_by, guard_row}
 use Rattle.phase_moves.proofs.Words.{party_row, CountsWaits, KeepsDraft, AreInside, AreNumbered, AreShown, AreSized, IsCell, IsExit, Stands, seen_at, held_of, run_kept}
 use Rattle.phase_moves.proofs.Words.{running_kept, running_of, shown_by, value_drafted, value_kept, Rests, Phase, phase_of, runs, Want, initializes, seeks, seeks_run, Change}
-use Rattle.phase_moves.proofs.Words.{effect, none_without, Target, IsMet, IsAttempting, IsTook, MayWait_of_tries as MayWait, WaitsAt, ask_of, Given, Taken}
+use Rattle.phase_moves.proofs.Words.{effect, none_without, Target, IsMet, IsAttempting, IsTook, ask_of, Given, Taken}
 use Rattle.phase_moves.proofs.{Innermost.row_run, Places.read_at, Guards.inside_found, Hand.row_shown, Admitting.runs_same, Asked.none_sought}
 
 is_there : {X : Type 0} (xs : List X) (i : ℕ) → i < length xs → slice_get xs i ≡ None → ⊥
@@ -107,9 +107,7 @@ module _ {L : Type 0} (held : L → Holders) (place : L → LockerKind) (m : Sta
   nothing = none_sought (cell_at m.plans t.cell) t.want (ap (λ (z : CellPlan). ask_of z t.want) (sym here.planned) ∙ none)
 
   free : wait_of p m.waits ≡ None
-  free = by waits is.waited is.waits_so where
-    by : (w : Bool) → MatchBool w (WaitsAt t.cell (wait_of p m.waits)) (wait_of p m.waits ≡ None) → (w ≡ true → MayWait (cell_at m.plans t.cell) t.want) → wait_of p m.waits ≡ None
-    by w k so = grind arith
+  free = grind (arith, is)
 
   same : m ≡ answered p t.cell Given.Nobody (changes_at t.cell t.want m) m
   same = λ i. record m { waits = sym (none_without p m.waits free) i; content = λ d. sym (still m t.cell d (changes_at t.cell t.want m) (unchanged m t.cell t.want nothing)) i }

@@ -1,31 +1,24 @@
 -- A cell is registered where a run of its generator begins, and not where the run is refused.
-use Rattle.phase_moves.proofs.Words.{◌≡◌, ℕ, ◌==◌, refl, Bool, true, false, ◌∙◌, ap, sym, not, ◌&&◌, ◌||◌, Some, if◌then◌else◌, has, without_flags, number, Phase, Registry}
-use Rattle.phase_moves.proofs.Words.{after_register, registered as registered_in, flags_generate, flags_staying, initialization_flags, registered_of_phases as registered}
+use Rattle.phase_moves.proofs.Words.{arith, ◌≡◌, ℕ, ◌==◌, refl, Bool, true, false, ◌∙◌, ap, sym, not, ◌&&◌, ◌||◌, Some, if◌then◌else◌, has, number, Phase, Registry}
+use Rattle.phase_moves.proofs.Words.{after_register, registered as registered_in, flags_generate, flags_staying, registered_of_phases as registered}
 use Rattle.phase_moves.proofs.Words.{registration, after_asking, is_refused}
 
 open_flag : (o : Bool) → has (registration o) registered ≡ false → o ≡ false
-open_flag true e = absurd (cc)
-open_flag false e = refl
+open_flag o e = grind (arith, e)
 
 neither : (a b : Bool) → (a || b) ≡ false → a ≡ false
-neither true b e = e
-neither false b e = refl
+neither a b e = grind (arith, e)
 
 -- a call that is refused at an empty phase met a closed registry
 refused_closed : (leak o : Bool) (n : ℕ) → (n == 0) ≡ true → not (flags_generate leak (flags_staying o n)) ≡ true → o ≡ false
-refused_closed leak o n z e =
-    open_flag o (neither (has (registration o) registered) leak (ap (λ b. has (if b then registration o else without_flags n initialization_flags) registered || leak) (sym z) ∙ off (flags_generate leak (flags_staying o n)) e)) where
-      off : (b : Bool) → not b ≡ true → b ≡ false
-      off true f = absurd (cc)
-      off false f = refl
+refused_closed leak o n z e = grind (arith, z, e)
 
 closed_stays : (c : ℕ) (m : Registry) → m.is_open ≡ false → after_register c m ≡ m
 closed_stays c m e = ap (λ b. if b then registered_in c m else m) e
 
 module _ (leak : Bool) (m : Registry) (c : ℕ) (p : Phase) where
   nothing : (runs z : Bool) → (number p == 0) ≡ z → not (flags_generate leak (flags_staying m.is_open (number p))) ≡ true → (if runs && z then after_register c m else m) ≡ m
-  nothing true true is e = closed_stays c m (refused_closed leak m.is_open (number p) is e)
-  nothing _ _ is e = refl
+  nothing runs z is e = grind (arith, is, e, closed_stays c m, refused_closed leak m.is_open (number p))
 
   -- the registry is as after a run that begins
   pub asked_as_run : (runs b : Bool) → b ≡ (if is_refused leak (Some m) p then false else runs) → after_asking runs c p m ≡ after_asking b c p m

@@ -1,5 +1,5 @@
 -- What the forms of calls seek, and what is left to what seeks that.
-use Rattle.phase_moves.proofs.Words.{◌≡◌, refl, Bool, true, false, Some, not, if◌then◌else◌, Option, Sought, Call, Kind, call_seeks, is_plain, Form, Told, form_of, is_to_read}
+use Rattle.phase_moves.proofs.Words.{arith, ◌≡◌, Bool, true, false, Some, Option, Sought, Call, Kind, call_seeks, Form, form_of, is_to_read}
 use Rattle.phase_moves.proofs.Words.{takes_none, takes_write}
 
 -- a call of this form may seek this
@@ -12,11 +12,7 @@ seeks_as f (Some Sought.Finalize) = false
 seeks_as f _ = takes_none f
 
 pub sought_as : (q : Kind) (k : Call) → seeks_as (form_of q k) (call_seeks q k) ≡ true
-sought_as q Call.Phase = refl
-sought_as q Call.TryGet = refl
-sought_as q Call.Get = refl
-sought_as q Call.Init = elim (is_plain q) as (λ b. seeks_as (Told (not b)) (Some (if b then Sought.Init else Sought.Write)) ≡ true) [ true ↦ refl | false ↦ refl ]
-sought_as q _ = refl
+sought_as q k = grind (arith)
 
 -- what is left to what seeks this: no lock, a lock to read, or the lock to write
 abbrev pub gets_none : Sought → Bool
