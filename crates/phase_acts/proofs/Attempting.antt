@@ -15,8 +15,7 @@ use Rattle.std.proofs.lemmas.Bool.{and_right}
 
 -- no turn ends as something is taken
 same_turns : (n p c : ℕ) (w : Want) (g : Given) (b : Taken) (m : Standing) → (took n p c w g b m).turns ≡ m.turns
-same_turns n p c w g taken.Runs m = refl
-same_turns n p c w g b m = refl
+same_turns n p c w g b m = grind (arith)
 
 module _ {L : Type 0} {held : L → Holders} {place : L → LockerKind} {m : Standing} {old mid : Rows L} {p : ℕ} {t : Target} {b : Taken} {g : Given} (k : IsTook held place m old p t b g mid) (kept : KeptGuards old mid) where
   pub is_settling : {waits : Bool} → IsTrying held place m old p t waits → IsSettling held place m mid p t b g

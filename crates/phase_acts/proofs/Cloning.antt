@@ -17,9 +17,7 @@ use Rattle.phase_acts.proofs.Stepping.{ended_free, ended_so, guards_with, pushed
 
 -- readers at their limit bar a reader
 full_bars : (w d : Bool) (r : ℕ) → r ≡ most_readers → is_barred nature.Read (record { readers = r; written = w; drained = d }) ≡ true
-full_bars true d r e = refl
-full_bars false true r e = grind (arith, e)
-full_bars false false r e = grind (arith, e)
+full_bars w d r e = grind (arith, e)
 
 -- one more reader is not barred beside another, where nothing writes and the limit is not reached
 beside_reader : (w r : ℕ) (d : Bool) → w ≡ 0 → 0 < r → r < most_readers → is_barred nature.Read (record { readers = r; written = nat_lt 0 w; drained = d }) ≡ false

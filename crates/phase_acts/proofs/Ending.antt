@@ -33,14 +33,10 @@ pub record Tells (m : Standing) (o : Option Section) (t : Running) : Type 0 wher
   pub wants : s.want ≡ t.want
 
 tells : (m : Standing) (o : Option Section) (t : Running) → Some t ≡ running_of m o → Tells m o t
-tells m None t e = absurd (cc)
-tells m (Some s) t e =
-    let f : t ≡ record { cell = s.cell; kind = (cell_at m.plans s.cell).kind; want = s.want } = cc in
-    record { s = s; is = refl; at = ap (λ (z : Running). z.cell) (sym f); kind = ap (λ (z : Running). z.kind) (sym f); wants = ap (λ (z : Running). z.want) (sym f) }
+tells m o t e = grind (arith, e)
 
 none_runs : (m : Standing) (o : Option Section) → None ≡ running_of m o → o ≡ None
-none_runs m None e = refl
-none_runs m (Some s) e = absurd (cc)
+none_runs m o e = grind (arith, e)
 
 -- what a party that does not wait is refused by its innermost section
 module _ {L : Type 0} {held : L → Holders} {place : L → LockerKind} {cells : List CellPlan} {h : List Event} {old : Rows L} {p : ℕ} {a : Act} (is : IsAwake held place cells h old p a) (r : Option Running) (told : RunsBy held place old p r) where
@@ -58,16 +54,13 @@ module _ {L : Type 0} {held : L → Holders} {place : L → LockerKind} {cells :
 
 module _ (cells : List CellPlan) (h : List Event) (p : ℕ) (left : Option ℕ) where
   pub turn_refusal : (fine : Bool) → refusal_free cells h p (finishing fine left) ≡ no_outcome (ends_turn cells fine left (innermost p (sections h)))
-  turn_refusal true = refl
-  turn_refusal false = refl
+  turn_refusal fine = grind (arith)
 
   turn_concerned : (fine : Bool) → cell_concerned cells h (step_of p (finishing fine left)) ≡ cell_of_section (innermost p (sections h))
-  turn_concerned true = refl
-  turn_concerned false = refl
+  turn_concerned fine = grind (arith)
 
   turn_due : (ws : List Wait) (fine : Bool) → due_answer cells h (step_of p (finishing fine left)) ws false ≡ due_finished cells h fine (innermost p (sections h))
-  turn_due ws true = refl
-  turn_due ws false = refl
+  turn_due ws fine = grind (arith)
 
 module _ {L : Type 0} {held : L → Holders} {place : L → LockerKind} {cells : List CellPlan} {h : List Event} {old : Rows L} {p : ℕ} (fine : Bool) (left : Option ℕ) (is : IsAwake held place cells h old p (finishing fine left)) (r : Option Running) (told : RunsBy held place old p r) (t : Running) (e : r ≡ Some t) where
   abbrev f : Tells (standing cells h) (innermost p (sections h)) t
@@ -108,8 +101,7 @@ module _ {L : Type 0} {held : L → Holders} {place : L → LockerKind} {cells :
 -- ---- so does a generator
 
 pub run_refusal : (cells : List CellPlan) (h : List Event) (p : ℕ) (made : Option ℕ) → refusal_free cells h p (outcome made) ≡ no_outcome (ends_run (innermost p (sections h)))
-run_refusal cells h p None = refl
-run_refusal cells h p (Some v) = refl
+run_refusal cells h p made = grind (arith)
 
 -- the run of this call ended so
 pub record HasRun {L : Type 0} (held : L → Holders) (place : L → LockerKind) (cells : List CellPlan) (h : List Event) (old mid : Rows L) (p : ℕ) (made : Option ℕ) (q : Kind) (k : Call) (c : ℕ) (x : Finished) (d : Given) : Type 0 where

@@ -1,5 +1,5 @@
 -- The steps of the exit: who may make one, and the look for registered cells.
-use Rattle.phase_acts.proofs.Words.{[], ◌==◌, ◌||◌, ◌∙◌, ◌∷◌, ◌≡◌, accepts, answer_of_look, ap, arith, attempt_of_turn, Bool, CellPlan, due_answer, due_tried, Event, exit_looks}
+use Rattle.phase_acts.proofs.Words.{[], ◌||◌, ◌∙◌, ◌≡◌, accepts, answer_of_look, ap, arith, attempt_of_turn, Bool, CellPlan, due_answer, due_tried, Event, exit_looks}
 use Rattle.phase_acts.proofs.Words.{false, first_of, HasStepped, Holders, innermost, is_closed, is_other, is_some, IsAwake, IsTrying, IsTurn, KeptGuards, KeptWith, length, Line}
 use Rattle.phase_acts.proofs.Words.{List, LockerKind, Looks, MayLook, MayTry, no_exit, None, not, open-accepts, Option, other_waits, owned, owner, owner_by, Owns, Pushes, refl}
 use Rattle.phase_acts.proofs.Words.{refusal, registry, rest_of, round_looked, Rows, Running, running_of, RunsBy, Section, sections, Some, Standing, standing, step_of, sym}
@@ -15,26 +15,18 @@ use Rattle.phase_acts.proofs.Stepping.{ended_free, guards_both, guards_room, gua
 
 -- where there is no first, there is none
 none_first : (cs : List ℕ) → first_of cs ≡ None → cs ≡ []
-none_first [] e = refl
-none_first (c ∷ cs) e = absurd (cc)
+none_first cs e = grind (arith, e)
 
 -- a party that runs a section is told one
 some_told : (m : Standing) (o : Option Section) → is_some (running_of m o) ≡ is_some o
-some_told m None = refl
-some_told m (Some s) = refl
+some_told m o = grind (arith)
 
 -- whom no other party owns, the party owns
 mine_first : (o : Option ℕ) (p : ℕ) → is_other o p ≡ false → owner_by p true o ≡ Some p
-mine_first None p e = refl
-mine_first (Some q) p e = ap (λ (z : ℕ). Some z) (by (q == p) refl e)
-  where
-    by : (d : Bool) → (q == p) ≡ d → not d ≡ false → q ≡ p
-    by true is f = grind arith
-    by false is f = absurd (cc)
+mine_first o p e = grind (arith, e)
 
 twice : (b : Bool) → not (not b) ≡ b
-twice true = refl
-twice false = refl
+twice b = grind (arith)
 
 module _ {L : Type 0} {held : L → Holders} {place : L → LockerKind} {old : Rows L} {p : ℕ} {cells : List CellPlan} {h : List Event} (is : IsAwake held place cells h old p act.Exit) where
   abbrev m : Standing

@@ -1,10 +1,9 @@
 -- What a run goes on as fits what its call answers with.
-use Rattle.phase_acts.proofs.Words.{◌≡◌, answer_back, answer_made, ap, Bool, Call, call_as, false, Form, form_as, form_of, if◌then◌else◌, is_to_read, Kind, None, Option, Phase}
-use Rattle.phase_acts.proofs.Words.{phase_of, refl, seeks_run, Some, sym, takes_none, takes_write, true, unwrap_or, ℕ}
+use Rattle.phase_acts.proofs.Words.{◌≡◌, answer_back, answer_made, arith, Bool, Call, call_as, false, Form, form_as, form_of, if◌then◌else◌, is_to_read, Kind, None, Option, Phase}
+use Rattle.phase_acts.proofs.Words.{phase_of, seeks_run, Some, takes_none, takes_write, true, unwrap_or, ℕ}
 use Rattle.lazy_cells.specs.Calls.{seeks}
 use Rattle.phase_seq.specs.declared.ask.Want.{Want as SeqWant}
 use Rattle.phase_seq.specs.declared.ask.Want.TheVariants as want
-use Rattle.schedule_rules.specs.declared.form.Form.TheVariants.{Told, Shown, Held}
 use Rattle.schedule_rules.specs.declared.line.Answer.TheVariants as answer
 use Rattle.phase_moves.proofs.Seeking.{seeks_as, sought_as}
 
@@ -16,8 +15,7 @@ fits want.Write f = takes_write f
 fits _ f = false
 
 form_own : (f : Form) → fits (form_as f) f ≡ true
-form_own (Held true falls_back) = refl
-form_own f = refl
+form_own f = grind (arith)
 
 -- so does the run of each call
 pub form_fits : (q : Kind) (k : Call) → fits (call_as q k) (form_of q k) ≡ true
@@ -33,16 +31,12 @@ form_fits q k = by (seeks q k) (form_of q k) (sought_as q k)
 -- ---- what a run that made a value answers then
 
 pub read_made : (f : Form) (v p : ℕ) → is_to_read f ≡ true → answer_made f v p ≡ answer.ReadGuard
-read_made (Held false falls_back) v p e = refl
-read_made f v p e = absurd (cc)
+read_made f v p e = grind (arith, e)
 
 -- one that keeps the lock to write
 pub write_made : (f : Form) (v p : ℕ) → takes_write f ≡ true → takes_none f ≡ false → answer_made f v p ≡ answer.WriteGuard
-write_made (Held true falls_back) v p e g = refl
-write_made f v p e g = absurd (cc)
+write_made f v p e g = grind (arith, e, g)
 
 -- one that keeps no lock
 pub back_made : (f : Form) (v p : ℕ) (q : Phase) → takes_none f ≡ true → q ≡ phase_of p → answer_made f v p ≡ answer_back f v q
-back_made (Told tests) v p q e same = ap (λ x. answer.Phase x) (sym same)
-back_made Shown v p q e same = refl
-back_made (Held writes falls_back) v p q e same = absurd (cc)
+back_made f v p q e same = grind (arith, e, same)

@@ -6,8 +6,7 @@ use Rattle.phase_acts.proofs.Lines.{refusal_awake}
 
 -- what is not so
 pub turned : (b c : Bool) → not b ≡ c → b ≡ not c
-turned true c e = ap not e
-turned b c e = ap not e
+turned b c e = grind (arith, e)
 
 -- a party's guard is found by its number, and is its own
 pub found_of : (g p : ℕ) (gs : List Guard) (x : Guard) → guard_of g p gs ≡ Some x → (numbered g gs ≡ Some x) × (x.party ≡ p)
@@ -23,8 +22,7 @@ found_of g p gs x e = by (numbered g gs) e
 
 -- nothing is seen where there is none
 none_held : (m : Standing) (o : Option Guard) → None ≡ held_of m o → o ≡ None
-none_held m None e = refl
-none_held m (Some x) e = absurd (cc)
+none_held m o e = grind (arith, e)
 
 -- and else this guard shows it
 pub record Shows (m : Standing) (o : Option Guard) (y : Held) : Type 0 where
@@ -35,10 +33,7 @@ pub record Shows (m : Standing) (o : Option Guard) (y : Held) : Type 0 where
   pub value : y.value ≡ (if x.writes then seen_by m x else m.content x.cell).value
 
 shows : (m : Standing) (o : Option Guard) (y : Held) → Some y ≡ held_of m o → Shows m o y
-shows m None y e = absurd (cc)
-shows m (Some x) y e =
-    let f : y ≡ record { cell = x.cell; writes = x.writes; value = (if x.writes then seen_by m x else m.content x.cell).value } = cc in
-    record { x = x; is = refl; at = ap (λ (z : Held). z.cell) f; writes = ap (λ (z : Held). z.writes) f; value = ap (λ (z : Held). z.value) f }
+shows m o y e = grind (arith, e)
 
 module _ {L : Type 0} {held : L → Holders} {place : L → LockerKind} {cells : List CellPlan} {h : List Event} {old : Rows L} {p : ℕ} {a : Act} (is : IsAwake held place cells h old p a) (g : ℕ) (r : Option Held) (by : HoldsBy held place old p g r) where
   abbrev its : Option Guard

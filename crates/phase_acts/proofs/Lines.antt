@@ -1,5 +1,5 @@
 -- Lines that are legal.
-use Rattle.phase_acts.proofs.Words.{◌&&◌, ◌==◌, ◌||◌, ◌∙◌, ◌∷◌, ◌≡◌, Act, Answer, answer_of, ap, cell_at, cell_concerned, CellPlan, downgrades, due_answer, Event, event, false}
+use Rattle.phase_acts.proofs.Words.{◌&&◌, ◌==◌, ◌||◌, ◌∙◌, ◌∷◌, ◌≡◌, Act, Answer, answer_of, ap, arith, cell_at, cell_concerned, CellPlan, downgrades, due_answer, Event, event, false}
 use Rattle.phase_acts.proofs.Words.{Given, is_freed_last, is_parking, is_readers, is_some, IsGift, IsLegalLine, IsTrue, Last, List, may_give, may_give_last, may_give_on, MayGive}
 use Rattle.phase_acts.proofs.Words.{MayGiveDown, None, none_without, Option, or_right, other_waits, reaches, refl, Refusal, refusal, refusal_by, refusal_free, Some, standing, Step}
 use Rattle.phase_acts.proofs.Words.{step_of, subst, sym, true, wait_of, waits, ℕ}
@@ -28,8 +28,7 @@ module _ (cells : List CellPlan) (h : List Event) (p : ℕ) (act : Act) (a : Ans
       on_cell d k.parks (ap (reaches c d) (sym same) ∙ k.reach) (or_right (is_readers d && downgrades cells h (step_of p act) a) (is_freed_last cells h (step_of p act) a c) (ap (λ n. n == 0) k.free))
 
   pub gave_freed : (d : Given) → MayGive c (standing cells (event p act (record { answer = a; given = given.Nobody }) ∷ h)) d → waits cells (event p act (record { answer = a; given = given.Nobody }) ∷ h) ≡ other_waits cells h (step_of p act) → may_give_last cells h (step_of p act) a d ≡ true
-  gave_freed given.Nobody k same = refl
-  gave_freed d k same = freed d k same
+  gave_freed d k same = grind (arith)
 
   -- where the step downgrades
   pub gave_readers : is_parking (cell_at cells c).place ≡ true → reaches c given.Readers (other_waits cells h (step_of p act)) ≡ true → downgrades cells h (step_of p act) a ≡ true → may_give_last cells h (step_of p act) a given.Readers ≡ true

@@ -1,5 +1,5 @@
 -- A step, by whether its party waits.
-use Rattle.phase_acts.proofs.Words.{◌∙◌, ◌≡◌, ◌≢◌, Act, ap, AwaitsBy, CellPlan, Event, HasStepped, Holders, is_some, IsAwake, IsNext, IsTried, IsTrying, KeptWith, length, Line}
+use Rattle.phase_acts.proofs.Words.{◌∙◌, ◌≡◌, ◌≢◌, Act, ap, arith, AwaitsBy, CellPlan, Event, HasStepped, Holders, is_some, IsAwake, IsNext, IsTried, IsTrying, KeptWith, length, Line}
 use Rattle.phase_acts.proofs.Words.{List, LockerKind, None, Option, refl, refusal, refusal_by, refusal_waiting, Rows, Some, standing, Step, step_of, subst, sym, Target, target_of}
 use Rattle.phase_acts.proofs.Words.{true, Wait, wait_of, waits}
 use Rattle.schedule_rules.specs.declared.line.Refusal.TheVariants as refused
@@ -8,8 +8,7 @@ use Rattle.phase_acts.proofs.Causes.{again_trying, again_steps}
 
 -- only an Again goes on
 refusal_other : (a : Act) → a ≢ act.Again → refusal_waiting a ≡ Some refused.Waits
-refusal_other act.Again ne = absurd (ne refl)
-refusal_other a ne = refl
+refusal_other a ne = grind (arith, ne)
 
 module _ {L : Type 0} {held : L → Holders} {place : L → LockerKind} {cells : List CellPlan} {h : List Event} {old : Rows L} {s : Step} (next : IsNext held place cells h old s) (r : Option Target) (tells : AwaitsBy held place old s.party r) where
   told : r ≡ target_of (wait_of s.party (waits cells h))

@@ -1,8 +1,8 @@
 -- A guard is given back.
-use Rattle.phase_acts.proofs.Words.{◌∙◌, ◌≡◌, ap, arith, Bool, cell_of_guard, CellPlan, Event, false, Given, GivesRead, GivesWrite, Guard, guard_of, guard_row, GuardRow, guards}
-use Rattle.phase_acts.proofs.Words.{HasStepped, Holders, if◌then◌else◌, IsAwake, IsNext, IsReader, IsWriter, KeptGuards, KeptWith, LeavesRead, LeavesWrite, left, left_empty}
+use Rattle.phase_acts.proofs.Words.{◌∙◌, ◌≡◌, ap, arith, cell_of_guard, CellPlan, Event, Given, GivesRead, GivesWrite, Guard, guard_of, guard_row, GuardRow, guards}
+use Rattle.phase_acts.proofs.Words.{HasStepped, Holders, IsAwake, IsNext, IsReader, IsWriter, KeptGuards, KeptWith, LeavesRead, LeavesWrite, left, left_empty}
 use Rattle.phase_acts.proofs.Words.{length, Line, List, LockerKind, MayGive, MayLeaveRead, MayLeaveWrite, no_guard, None, numbered, Option, Pushes, read_row, ReadTicket, refl}
-use Rattle.phase_acts.proofs.Words.{refusal, release_left, Rests, Rows, Some, Standing, standing, Stands, step_of, subst, sym, TakenAs, Takes, true, write_row, writes_of}
+use Rattle.phase_acts.proofs.Words.{refusal, release_left, Rests, Rows, Some, Standing, standing, Stands, step_of, subst, sym, TakenAs, Takes, write_row, writes_of}
 use Rattle.phase_acts.proofs.Words.{WriteTicket, ℕ}
 use Rattle.phase_locker.specs.declared.ways.Given.TheVariants as given
 use Rattle.schedule_rules.specs.declared.line.Answer.TheVariants as answer
@@ -15,12 +15,7 @@ use Rattle.phase_acts.proofs.Stepping.{ended_giving, guards_with, none_with, sti
 
 -- the row of no guard tells that there is none
 free_none : (o : Option Guard) → guard.Free ≡ guard_row o → o ≡ None
-free_none None e = refl
-free_none (Some x) e = by x.writes e
-  where
-    by : (b : Bool) → guard.Free ≡ (if b then guard_row (Some (record x { writes = true })) else guard_row (Some (record x { writes = false }))) → Some x ≡ None
-    by true e = absurd (cc)
-    by false e = absurd (cc)
+free_none o e = grind (arith, e)
 
 module _ {L : Type 0} {held : L → Holders} {place : L → LockerKind} {old mid : Rows L} {p g : ℕ} {row : GuardRow} (takes : Takes held place old p g row mid) {m : Standing} (r : Rests held place m old) where
   -- the party has no such guard: nothing was done

@@ -22,8 +22,7 @@ value_asked x (Calls k) o y = by (is_declined x.kind (tolerance_of x) k o y.phas
 
 -- given first, where nothing comes after
 pub first_alone : (g : Given) → given_first g given.Nobody ≡ g
-first_alone given.Nobody = refl
-first_alone g = refl
+first_alone g = grind (arith)
 
 -- itself
 itself : (n : ℕ) → (n == n) ≡ true

@@ -18,8 +18,7 @@ use Rattle.phase_acts.proofs.Trying.{try_shown, try_skips, try_told, try_waits, 
 
 -- nothing is given where something stands on the cell
 none_given : (c : ℕ) (m : Standing) (d : Given) → 0 < count (shares_read c) m.waits + count (shares_write c) m.waits → MayGive c m d → d ≡ given.Nobody
-none_given c m given.Nobody some k = refl
-none_given c m d some k = let free = k.free in absurd (omega (arith, free, some))
+none_given c m d some k = grind (arith, some, k)
 
 module _ (n p : ℕ) (t : Target) (g d : Given) (m : Standing) (reach : g ≢ given.Nobody → reaches t.cell g (without_wait p m.waits) ≡ true) where
   shared : g ≢ given.Nobody → 0 < count (shares_read t.cell) (given_on t.cell g (without_wait p m.waits)) + count (shares_write t.cell) (given_on t.cell g (without_wait p m.waits))

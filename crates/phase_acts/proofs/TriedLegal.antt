@@ -1,14 +1,13 @@
 -- The line of an attempt is legal.
-use Rattle.phase_acts.proofs.Words.{◌&&◌, ◌==◌, ◌∙◌, ◌∷◌, ◌≡◌, ◌≢◌, accepts, Act, answer_at, answer_denied, answer_missed, answer_of, answer_of_attempt, answer_running}
-use Rattle.phase_acts.proofs.Words.{answer_settled, answer_tried, answered, ap, asks_to_read, attempt, Bool, Call, Calls, cell_at, CellPlan, changes_at, content_tried, downgraded}
-use Rattle.phase_acts.proofs.Words.{downgrades, due_answer, due_at, due_tried, Event, event, falls_back, false, First, Form, form_of, Given, given_concerned, given_first, given_on}
+use Rattle.phase_acts.proofs.Words.{◌==◌, ◌∙◌, ◌∷◌, ◌≡◌, ◌≢◌, accepts, Act, answer_at, answer_denied, answer_missed, answer_of, answer_of_attempt, answer_running}
+use Rattle.phase_acts.proofs.Words.{answer_settled, answer_tried, answered, ap, arith, attempt, Bool, Call, Calls, cell_at, CellPlan, changes_at, content_tried, downgraded}
+use Rattle.phase_acts.proofs.Words.{downgrades, due_answer, due_at, due_tried, Event, event, false, First, Form, form_of, Given, given_first, given_on}
 use Rattle.phase_acts.proofs.Words.{GivesFirst, GivesLast, GivesSettled, if◌then◌else◌, is_accessible, is_to_read, IsCallOf, IsDown, IsLegalLine, IsMet, IsOf, IsTrue, IsUnlocked}
 use Rattle.phase_acts.proofs.Words.{Last, left, length, Line, List, MatchBool, may_give, may_give_first, may_give_last, MayGive, MayGiveAt, MayGiveDown, meeting, meets, Moment}
 use Rattle.phase_acts.proofs.Words.{None, Option, Phase, phase_asked, reaches, reader, reads_on, refl, refusal, Registry, registry, settled, Standing, standing, step_of, subst}
-use Rattle.phase_acts.proofs.Words.{sym, Taken, takes_write, Target, TellsPhase, took, true, Turns, turns_back, unlocked, Wait, waits, waits_at, Want, wanted_in, wants_to_write}
+use Rattle.phase_acts.proofs.Words.{sym, Taken, takes_write, Target, TellsPhase, took, true, Turns, unlocked, Wait, waits, waits_at, Want, wanted_in, wants_to_write}
 use Rattle.phase_acts.proofs.Words.{without_wait, writer_asked, writes_on, ℕ}
 use Rattle.phase_locker.specs.declared.ways.Given.TheVariants as given
-use Rattle.schedule_rules.specs.declared.form.Form.TheVariants.{Told, Held}
 use Rattle.schedule_rules.specs.declared.line.Answer.TheVariants as answer
 use Rattle.phase_moves.specs.declared.rows.Taken.TheVariants as taken
 use Rattle.phase_moves.specs.Meets.{GivesDown}
@@ -38,13 +37,11 @@ module _ (cells : List CellPlan) (h : List Event) (p : ℕ) (a : Act) (c : ℕ) 
 
   -- who waits as it is judged
   judged : (mo : Moment) (g : Given) (chosen : Bool) → answer_of_attempt (cell_at cells c) w (meets p c w (waits_at mo p c g m) m) chosen ≡ due_at cells mo h (step_of p a) g chosen
-  judged First g chosen = due_is (given_on c g (without_wait p (waits cells h))) chosen ∙ ap (λ vs. due_answer cells h (step_of p a) vs chosen) (sym (given_concerned cells (waits cells h) h (step_of p a) c g (without_wait p (waits cells h)) k.concerned))
-  judged Last g chosen = due_is (without_wait p (waits cells h)) chosen
+  judged mo g chosen = grind (arith)
 
   -- where it gave nothing both moments are one
   judged_last : (mo : Moment) (g d : Given) (chosen : Bool) → g ≡ given.Nobody → answer_of_attempt (cell_at cells c) w (meets p c w (waits_at mo p c g m) m) chosen ≡ due_at cells Last h (step_of p a) d chosen
-  judged_last First g d chosen e = ap (λ x. answer_of_attempt (cell_at cells c) w (meets p c w (given_on c x (without_wait p (waits cells h))) m) chosen) e ∙ due_is (without_wait p (waits cells h)) chosen
-  judged_last Last g d chosen e = due_is (without_wait p (waits cells h)) chosen
+  judged_last mo g d chosen e = grind (arith, e)
 
   -- ---- gifts
 
@@ -59,9 +56,7 @@ module _ (cells : List CellPlan) (h : List Event) (p : ℕ) (a : Act) (c : ℕ) 
 
   -- a section that reads on, or of a call that reads, was made a read lock
   downs : (j : Call) → w ≡ Calls j → is_to_read (form_of (cell_at cells c).kind j) ≡ true → wants_to_write (wanted_in c w m) ≡ true → (f : Form) → is_to_read f ≡ true → downgrades cells h (step_of p a) (answer_denied f (content_tried c w m).phase) ≡ true
-  downs j calls reads wrote (Held false true) e = ap (falls_back cells h) k.attempted ∙ wrote
-  downs j calls reads wrote (Held false false) e = ap (turns_back cells h) k.attempted ∙ ap (λ v. asks_to_read (cell_at cells c).kind v && wants_to_write (wanted_in c w m)) calls ∙ ap (λ b. b && wants_to_write (wanted_in c w m)) reads ∙ wrote
-  downs j calls reads wrote f e = absurd (cc)
+  downs j calls reads wrote f e = grind (arith, e, reads, wrote, calls)
 
   gave_down : (v : Want) → w ≡ v → IsCallOf (cell_at cells c).kind v is_to_read → IsDown p t m → may_give_last cells h (step_of p a) (answer_tried c w m) given.Readers ≡ true
   gave_down Turns e is f = absurd is
@@ -71,18 +66,7 @@ module _ (cells : List CellPlan) (h : List Event) (p : ℕ) (a : Act) (c : ℕ) 
 
   -- it may give nothing as it gives its lock back
   none_settled : (g : Given) (b : Taken) → GivesSettled n p c w g given.Nobody b m
-  none_settled g (taken.Read l q) = by (reads_on (answer_tried c w m))
-    where
-      by : (z : Bool) → MatchBool z (given.Nobody ≡ given.Nobody) (MayGive c (left (reader n p c) given.Nobody (took n p c w g (taken.Read l q) m)) given.Nobody)
-      by true = refl
-      by false = tt
-  none_settled g (taken.Write l q) = by (writes_on (answer_tried c w m)) (reads_on (answer_tried c w m))
-    where
-      by : (z u : Bool) → MatchBool z (given.Nobody ≡ given.Nobody) (MatchBool u (MayGiveDown c (took n p c w g (taken.Write l q) m) given.Nobody) (MayGive c (left (writer_asked n p c (changes_at c w m)) given.Nobody (took n p c w g (taken.Write l q) m)) given.Nobody))
-      by true u = refl
-      by false true = tt
-      by false false = tt
-  none_settled g b = refl
+  none_settled g b = grind (arith)
 
   -- what stands open where nothing is given
   none_after : (g : Given) → g ≡ given.Nobody → (b : Taken) → IsOf p t g m b → (b ≡ taken.Cyclic → ⊥) → standing cells (event p a (record { answer = answer_settled c w b m; given = given.Nobody }) ∷ h) ≡ settled n p c w g given.Nobody b m
@@ -114,11 +98,7 @@ module _ (cells : List CellPlan) (h : List Event) (p : ℕ) (a : Act) (c : ℕ) 
 
     -- a section that reads on was made a read lock
     downs_write : (f : Form) (b : Bool) → takes_write f ≡ true → wants_to_write (wanted_in c w m) ≡ true → reads_on (answer_at f b (content_tried c w m)) ≡ true → downgrades cells h (step_of p a) (answer_at f b (content_tried c w m)) ≡ true
-    downs_write (Held true true) false e wrote reads = ap (falls_back cells h) k.attempted ∙ wrote
-    downs_write (Held true false) false e wrote reads = absurd (cc)
-    downs_write (Told true) false e wrote reads = absurd (cc)
-    downs_write (Told false) false e wrote reads = absurd (cc)
-    downs_write f b e wrote reads = absurd (cc)
+    downs_write f b e wrote reads = grind (arith, e, wrote, reads)
 
     gave_reading : (v : Want) → w ≡ v → IsCallOf (cell_at cells c).kind v takes_write → wants_to_write (wanted_in c w m) ≡ true → reads_on (answer_tried c w m) ≡ true → (z : Given) → MayGiveDown c (record m { waits = given_on c g (without_wait p (waits cells h)) }) z → may_give_last cells h (step_of p a) (answer_tried c w m) z ≡ true
     gave_reading Turns e is wrote reads z may = absurd is

@@ -1,4 +1,4 @@
-use Rattle.phase_acts.proofs.Words.{ends_turn, false, true}
+use Rattle.phase_acts.proofs.Words.{ends_turn, false}
 use Rattle.phase_acts.proofs.Ending.{ends_so, finish_ends, finish_no_outcome, may_finalize, never_none_final, runs_none, turn_refusal}
 use Rattle.phase_acts.proofs.machine.Machine.finish.Goals as goal
 
