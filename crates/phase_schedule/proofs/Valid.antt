@@ -3,9 +3,7 @@ use Rattle.phase_schedule.proofs.Words.{[], ◌+◌, ◌<◌, ◌^◌, ◌∙◌
 use Rattle.phase_schedule.proofs.Words.{first_found, get_or_past, if◌then◌else◌, is_owned, is_placed, IsTrue, IsValid, Kind, length, List, misplaced_of, most_parties}
 use Rattle.phase_schedule.proofs.Words.{names_known_cell, NamesKnown, nat_lt, no_cell, None, Option, Place, refl, RunError, Schedule, Some, Step, true, unknown_of, ℕ}
 use Rattle.std.proofs.lemmas.List.Elements.{All-nil, All-cons, All-head, All-tail}
-use Rattle.lazy_cells.specs.declared.kind.Kind.TheVariants as kind
 use Rattle.lazy_cells.specs.Kinds.{is_finalizable}
-use Rattle.schedule_rules.specs.declared.plan.Place.TheVariants as place
 use Rattle.phase_schedule.specs.declared.error.RunError.TheVariants as error
 
 neither : (a b : Option RunError) → first_cause a b ≡ None → (a ≡ None) × (b ≡ None)
@@ -26,18 +24,10 @@ none_found look P each n (x ∷ xs) e =
     All-cons P x xs (each n x f.0) (none_found look P each (n + 1) xs f.1)
 
 placed : (parties c : ℕ) (x : CellPlan) → misplaced_of parties c x ≡ None → IsTrue (is_placed parties x.kind x.place)
-placed parties c x e = by (is_placed parties x.kind x.place) e
-  where
-    by : (b : Bool) → (if b then None else Some (error.BadPlan c)) ≡ None → IsTrue b
-    by true e = grind arith
-    by false e = absurd (cc)
+placed parties c x e = grind (arith, e)
 
 shared_cell : (parties : ℕ) (q : Kind) (p : Place) → IsTrue (is_placed parties q p) → is_finalizable q ≡ true → is_owned p ≡ false
-shared_cell parties q place.Park t e = refl
-shared_cell parties q place.Spin t e = refl
-shared_cell parties kind.Lazy (place.Own p) t e = absurd cc
-shared_cell parties kind.LockedLazy (place.Own p) t e = absurd cc
-shared_cell parties q p t e = absurd (grind arith)
+shared_cell parties q p t e = grind (arith, t, e)
 
 -- no cell of a plan without a cause is finalized and belongs to a party, and none that no plan has
 pub shared : (parties : ℕ) (cells : List CellPlan) → cause_of_plan parties cells ≡ None → AreShared cells
@@ -86,11 +76,7 @@ not_found look P each n [] k = refl
 not_found look P each n (x ∷ xs) k = rw (each n x (All-head P x xs k)) (not_found look P each (n + 1) xs (All-tail P x xs k))
 
 not_misplaced : (parties c : ℕ) (x : CellPlan) → IsTrue (is_placed parties x.kind x.place) → misplaced_of parties c x ≡ None
-not_misplaced parties c x t = by (is_placed parties x.kind x.place) t
-  where
-    by : (b : Bool) → IsTrue b → (if b then None else Some (error.BadPlan c)) ≡ None
-    by true t = refl
-    by false t = absurd (grind arith)
+not_misplaced parties c x t = grind (arith, t)
 
 not_many : (parties : ℕ) → parties < most_parties → crowd_of parties ≡ None
 not_many parties lt = grind arith
