@@ -9,8 +9,6 @@ use crate::log::Log;
 use crate::registry::ExitRegistry;
 use crate::turns::{Finalizable, Turn, Turned};
 
-#[cfg(test)]
-mod tests;
 
 /// The turn of this object.
 fn turn_of(object: &mut Box<dyn Finalizable>) -> Turn

@@ -7,8 +7,6 @@ mod rule;
 mod seat;
 mod spin_wait;
 mod table;
-#[cfg(test)]
-mod tests;
 mod view;
 mod wait_cell;
 

@@ -5,23 +5,13 @@
 
 mod ask;
 mod finalizer;
-#[cfg(test)]
-mod finalizer_tests;
 mod generator;
-#[cfg(test)]
-mod generator_tests;
 mod init_error;
 mod laws;
 mod once;
 mod phases;
-#[cfg(test)]
-mod registry_tests;
 mod section;
 mod sequentializer;
-#[cfg(test)]
-mod test_calls;
-#[cfg(test)]
-mod tests;
 mod tolerance;
 
 pub use ask::{Ask, Want};

@@ -3,9 +3,7 @@
 ghost use Rattle.std.specs.Prelude.{◌≡◌, [], ◌<◌, length};
 ghost use Rattle.exit_registry.specs.Turns.{Meanings};
 
-use crate::log::Log;
-use crate::registry::{ExitRegistry, Look};
-use crate::turns::{Finalizable, Turn, Turned};
+use exit_registry::{ExitRegistry, Finalizable, Log, Look, Turn, Turned};
 use std::alloc::{AllocError, Global};
 use std::process::Abort;
 use std::test::Fail;

@@ -2,14 +2,11 @@
 
 ghost use Rattle.std.specs.Prelude.{◌≡◌, is_ok};
 
-use crate::ask::{Ask, Want};
-use crate::finalizer::{FinalFault, Finaly};
-use crate::section::Begun;
-use crate::sequentializer::LazySequentializer;
-use crate::test_calls::{Cell, ask, last, nothing, party, ready};
+use crate::calls::{Cell, ask, last, nothing, party, ready};
 use exit_registry::ExitRegistry;
 use phase_bits::{Phase, Phased};
 use phase_locker::{Given, HolderLocker, LockerKind, Parks, PhaseLocker};
+use phase_seq::{Ask, Begun, FinalFault, Finaly, LazySequentializer, Want};
 use std::alloc::Global;
 use std::process::Abort;
 use std::test::Fail;

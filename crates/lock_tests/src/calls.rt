@@ -4,14 +4,10 @@ ghost use Rattle.std.specs.Prelude.{◌≡◌, ◌<◌, false};
 ghost use Rattle.phase_bits.specs.Number.{number};
 ghost use Rattle.exit_registry.specs.Registry.{cells_of, is_known};
 
-use crate::ask::{Ask, Want};
-use crate::generator::DefaultGenerator;
-use crate::section::{Begun, Section};
-use crate::sequentializer::LazySequentializer;
-use crate::tolerance::Tolerance;
 use exit_registry::{ExitRegistry, Look};
 use phase_bits::Phase;
 use phase_locker::{HolderLocker, ReadTicket, Who, WriteTicket};
+use phase_seq::{Ask, Begun, DefaultGenerator, LazySequentializer, Section, Tolerance, Want};
 use std::process::Abort;
 
 pub(crate) type Cell = LazySequentializer<HolderLocker, DefaultGenerator>;

@@ -1,9 +1,9 @@
 //! Generators, called.
 
-use crate::generator::{DefaultGenerator, Generator, GeneratorTolerance, InitFault};
-use crate::laws::{promised_faults_come, promised_values_come};
-use crate::once::OnceGenerator;
-use crate::tolerance::{Tolerance, tolerance_of};
+use phase_seq::{
+    DefaultGenerator, Generator, GeneratorTolerance, InitFault, OnceGenerator, Tolerance,
+    promised_faults_come, promised_values_come, tolerance_of,
+};
 
 /// The tolerance of the cells of this generator.
 fn tolerance<G: GeneratorTolerance>(_generator: &G) -> Tolerance {

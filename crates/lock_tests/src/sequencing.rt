@@ -2,13 +2,11 @@
 
 ghost use Rattle.std.specs.Prelude.{◌≡◌, false};
 
-use crate::ask::{Ask, Want};
-use crate::generator::DefaultGenerator;
-use crate::section::{Begun, Finished, Section};
-use crate::sequentializer::LazySequentializer;
-use crate::tolerance::Tolerance;
 use phase_bits::{Phase, Phased};
 use phase_locker::{Given, HolderLocker, How, LockerKind, Parks, PhaseLocker, Waiting, Who};
+use phase_seq::{
+    Ask, Begun, DefaultGenerator, Finished, LazySequentializer, Section, Tolerance, Want,
+};
 use std::process::Abort;
 use std::test::Fail;
 

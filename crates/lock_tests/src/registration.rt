@@ -1,12 +1,10 @@
 //! Calls of the sequentializer on cells that are registered for the exit.
 
-use crate::ask::Want;
-use crate::section::{Begun, Finished};
-use crate::sequentializer::LazySequentializer;
-use crate::test_calls::{Cell, ask, look, nothing, party, reads, ready, run, writes};
+use crate::calls::{Cell, ask, look, nothing, party, reads, ready, run, writes};
 use exit_registry::{ExitRegistry, Look};
 use phase_bits::{Phase, Phased};
 use phase_locker::{Given, HolderLocker, LockerKind, Parks, PhaseLocker};
+use phase_seq::{Begun, Finished, LazySequentializer, Want};
 use std::alloc::Global;
 use std::process::Abort;
 use std::test::Fail;

@@ -6,10 +6,7 @@ ghost use Rattle.lazy_threads.specs.Seats.{IsSeatOf, view_of};
 ghost use Rattle.lazy_threads.specs.Views.{HasInitialized};
 ghost use Rattle.lazy_threads.specs.declared.view.Hold.TheVariants as hold;
 
-use crate::seat::CellSeat;
-use crate::spin_wait::SpinWait;
-use crate::table::SyncTable;
-use crate::wait_cell::WaitCell;
+use lazy_threads::{CellSeat, SpinWait, SyncTable, WaitCell};
 use phase_bits::Phase;
 use phase_locker::{LockNature, LockResult};
 use std::process::Abort;

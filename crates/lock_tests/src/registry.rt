@@ -1,6 +1,6 @@
 //! Registration and rounds.
 
-use crate::registry::{ExitRegistry, Look};
+use exit_registry::{ExitRegistry, Look};
 use std::test::Fail;
 
 /// A call of the registry.
