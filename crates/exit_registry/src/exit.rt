@@ -9,7 +9,6 @@ use crate::log::Log;
 use crate::registry::ExitRegistry;
 use crate::turns::{Finalizable, Turn, Turned};
 
-
 /// The turn of this object.
 fn turn_of(object: &mut Box<dyn Finalizable>) -> Turn
     ensures answers { Answers (meanings object.old) result }

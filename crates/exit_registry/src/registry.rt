@@ -6,7 +6,6 @@ ghost use Rattle.exit_registry.specs.Registry.{Registry, IsSound, new_registry, 
 use std::alloc::{AllocError, Global};
 use std::marker::Model;
 
-
 /// What a look answers. This project's own.
 #[derive(Clone, Copy, PartialEq, Eq, Debug)]
 pub enum Look {

@@ -10,16 +10,10 @@ use phase_locker::UnSyncPhaseLocker;
 use phase_seq::LazySequentializer;
 use std::marker::Model;
 
-#[cfg(test)]
-mod call_table_tests;
-#[cfg(test)]
-mod exit_tests;
 mod finalize;
 mod lending;
 mod making;
 mod no_exit;
-#[cfg(test)]
-mod tests;
 mod with_exit;
 
 /// A plain cell: a value that its generator makes when the first user asks for it. The marker `P` names its kind and its

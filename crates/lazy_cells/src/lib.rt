@@ -16,11 +16,7 @@ mod markers;
 mod names;
 mod policy;
 mod start_list;
-#[cfg(test)]
-mod start_tests;
 mod started;
-#[cfg(test)]
-mod started_exit_tests;
 
 pub use access::{Lazy, LazyAccess, LazyFinalize, UnSyncLazy};
 pub use call::{Call, ask_of, has_call};

@@ -4,15 +4,11 @@ use crate::guarded::Guarded;
 use crate::markers::Reach;
 use std::marker::Model;
 
-#[cfg(test)]
-mod exit_tests;
 mod finalize;
 mod lending;
 mod making;
 mod no_exit;
 mod primed;
-#[cfg(test)]
-mod tests;
 mod tickets;
 mod trying;
 mod with_exit;

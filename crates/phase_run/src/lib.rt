@@ -14,8 +14,6 @@ mod standard;
 mod status;
 mod stop;
 mod tell;
-#[cfg(test)]
-mod tests;
 mod write;
 
 pub use failed::Failed;

@@ -11,10 +11,6 @@ mod error;
 mod progress;
 mod run;
 mod running;
-#[cfg(test)]
-mod test_runs;
-#[cfg(test)]
-mod tests;
 
 pub use ending::Ending;
 pub use engine::Engine;

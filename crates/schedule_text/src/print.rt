@@ -15,8 +15,6 @@ mod line;
 mod numeral;
 mod page;
 mod phase;
-#[cfg(test)]
-mod tests;
 
 pub use page::Page;
 use schedule_rules::{Final, Line, Transcript, Turned};

@@ -57,8 +57,3 @@ pub fn read_schedule(alloc: Global, text: &[u8]) -> Result<(Plan, StepList), Rea
     }
     Ok((Plan { parties, cells }, steps))
 }
-
-#[cfg(test)]
-mod bad_line_tests;
-#[cfg(test)]
-mod tests;

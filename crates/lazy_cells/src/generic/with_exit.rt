@@ -30,6 +30,13 @@ impl<T: Drop, G: Generator<T>, Q> GenericLazy<T, G, WithExit<Q>> {
         GenericLazy::empty(generator, WithExit::new(cell))
     }
 
+    /// The number of the cell in the registry.
+    pub fn cell(this: &Self) -> u32
+        ensures { result ≡ this.now.marker.cell }
+    {
+        this.marker.cell
+    }
+
     /// Initializes the cell: where a run is due, the cell is registered, if its phase is empty, and the generator runs.
     /// Where it can't be registered, and does not put up with that, no generator runs, and the phase says so.
     ///

@@ -1,12 +1,8 @@
 //! Tries the program over memory and over std's readers and writers.
 
-use crate::failed::Failed;
-use crate::memory::{MemSink, MemSource};
-use crate::program::run_program;
-use crate::sink::Sink;
-use crate::source::Source;
-use crate::standard::{StdSink, StdSource};
-use crate::status::Status;
+use phase_run::{
+    Failed, MemSink, MemSource, Sink, Source, Status, StdSink, StdSource, run_program,
+};
 use std::alloc::{AllocError, Global};
 use std::io;
 use std::io::{Read, Write};

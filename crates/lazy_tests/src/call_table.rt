@@ -3,10 +3,10 @@
 ghost use Rattle.std.specs.Prelude.{true, false};
 ghost use Rattle.lazy_cells.specs.Cells.{MayBeRegistered};
 
-use crate::access::LazyFinalize;
-use crate::generic::call_table_tests::Past::{Called, Finalized, Nothing};
-use crate::generic::call_table_tests::Told::{Access, At, Failed, Value};
+use crate::call_table::Past::{Called, Finalized, Nothing};
+use crate::call_table::Told::{Access, At, Failed, Value};
 use exit_registry::{ExitRegistry, Finalizable};
+use lazy_cells::LazyFinalize;
 use phase_bits::Phase;
 use phase_seq::{FinalFault, Finaly, Generator, GeneratorTolerance, InitError, InitFault};
 use std::alloc::Global;
@@ -126,7 +126,12 @@ fn init<const RETRY: bool, const LEAK: bool>(
     lazy: &mut LazyFinalize<Even, Late<RETRY, LEAK>>,
     registry: &mut ExitRegistry,
 ) -> Told {
-    ready(rt, lazy.marker.cell, LazyFinalize::phase(lazy), registry);
+    ready(
+        rt,
+        LazyFinalize::cell(lazy),
+        LazyFinalize::phase(lazy),
+        registry,
+    );
     match LazyFinalize::init(lazy, registry) {
         Ok(phase) => Told::At(phase.bits()),
         Err(error) => shown(Err(error)),
@@ -139,7 +144,12 @@ fn get<const RETRY: bool, const LEAK: bool>(
     lazy: &mut LazyFinalize<Even, Late<RETRY, LEAK>>,
     registry: &mut ExitRegistry,
 ) -> Told {
-    ready(rt, lazy.marker.cell, LazyFinalize::phase(lazy), registry);
+    ready(
+        rt,
+        LazyFinalize::cell(lazy),
+        LazyFinalize::phase(lazy),
+        registry,
+    );
     match LazyFinalize::get(lazy, registry) {
         Ok(value) => Told::Value(value.0),
         Err(error) => shown(Err(error)),

@@ -2,10 +2,8 @@
 
 ghost use Rattle.std.specs.Prelude.{◌≡◌, true, false};
 
-use crate::lesser::Lesser;
-use crate::names::{LesserLockedLazyDroped, PrimedLesserLockedLazyDroped};
-use crate::started::start;
 use exit_registry::{ExitRegistry, Finalizable, Log, Turn, Turned};
+use lazy_cells::{Lesser, LesserLockedLazyDroped, PrimedLesserLockedLazyDroped, start};
 use phase_bits::{AccessError, Phase};
 use phase_seq::{FinalFault, Generator, GeneratorTolerance, InitError, InitFault, Uninit};
 use std::alloc::Global;

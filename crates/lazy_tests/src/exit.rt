@@ -3,8 +3,8 @@
 ghost use Rattle.std.specs.Prelude.{true, false};
 ghost use Rattle.lazy_cells.specs.Cells.{MayBeRegistered};
 
-use crate::access::{Lazy, LazyFinalize};
 use exit_registry::{ExitRegistry, Finalizable, Log, Look, Turn, Turned};
+use lazy_cells::{Lazy, LazyFinalize};
 use phase_bits::{AccessError, Phase};
 use phase_seq::{FinalFault, Finaly, Generator, GeneratorTolerance, InitError, InitFault};
 use std::alloc::Global;
@@ -115,7 +115,12 @@ fn get<G: Generator<Even>>(
     requires { G.may_call lazy.old.generator }
     ensures { G.may_call lazy.new.generator }
 {
-    ready(rt, lazy.marker.cell, LazyFinalize::phase(lazy), registry);
+    ready(
+        rt,
+        LazyFinalize::cell(lazy),
+        LazyFinalize::phase(lazy),
+        registry,
+    );
     LazyFinalize::init(lazy, registry)?;
     match LazyFinalize::try_get(lazy) {
         Ok(value) => Ok(value.0),

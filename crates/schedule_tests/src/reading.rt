@@ -1,5 +1,8 @@
-use super::*;
-use schedule_rules::{Act, Call, CellPlan, Kind, Place, Step};
+//! Schedules are read from their texts.
+
+use schedule_rules::{Act, Call, CellPlan, Kind, Place, Plan, Step};
+use schedule_text::{ReadError, read_schedule};
+use std::alloc::Global;
 use std::test::Fail;
 
 const NOTHING: &[u8] = b"schedule 1\nparties 0\nsteps\nend\n";
@@ -101,7 +104,7 @@ end
 ";
 
 /// What the text is read as, where it has at most a thousand bytes.
-pub(super) fn read(alloc: Global, text: &[u8]) -> Result<(Plan, Vec<Step>), ReadError> {
+pub(crate) fn read(alloc: Global, text: &[u8]) -> Result<(Plan, Vec<Step>), ReadError> {
     if text.len() > 1000 {
         return Err(ReadError::Memory);
     }

@@ -1,5 +1,7 @@
-use super::tests::read;
-use super::*;
+//! Texts that are no schedules.
+
+use crate::reading::read;
+use schedule_text::ReadError;
 
 /// Texts of which one line or more is bad.
 const BAD: [&[u8]; 101] = [

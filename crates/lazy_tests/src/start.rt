@@ -2,11 +2,10 @@
 
 ghost use Rattle.std.specs.Prelude.{true, false};
 
-use crate::lesser::Lesser;
-use crate::names::{LesserLazy, LesserLockedLazy, PrimedLesserLockedLazy};
-use crate::start_list::start_all;
-use crate::started::{Started, start};
 use exit_registry::ExitRegistry;
+use lazy_cells::{
+    Lesser, LesserLazy, LesserLockedLazy, PrimedLesserLockedLazy, Started, start, start_all,
+};
 use phase_bits::Phase;
 use phase_seq::{Generator, GeneratorTolerance, InitError, InitFault};
 use std::test::Fail;

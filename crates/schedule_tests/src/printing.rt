@@ -1,8 +1,10 @@
+//! Transcripts are printed.
+
 ghost use Rattle.schedule_rules.specs.Exits.{NoneBusy};
 
-use super::print_transcript;
 use phase_bits::Phase;
 use schedule_rules::{Answer, Final, Given, How, Line, Refusal, Transcript, Turn, Turned};
+use schedule_text::print_transcript;
 use std::alloc::{AllocError, Global};
 use std::test::Fail;
 

@@ -1,5 +1,6 @@
-use Rattle.phase_schedule.proofs.Words.{◌≡◌, length, take}
-use Rattle.phase_schedule.proofs.test_runs.seen_after.Given as goal
+use Rattle.std.proofs.Common.{◌≡◌, length}
+use Rattle.std.specs.List.{take}
+use Rattle.schedule_tests.proofs.ways.run_steps.Given as goal
 
 abbrev pub invariant-loop-s : goal.invariant-loop-s
 invariant-loop-s l =

@@ -1,9 +1,7 @@
 //! Whole runs, runs line by line and engines agree, on a hand-over and on an exit, and the causes for which a schedule does
 //! not run. What each act answers is told by the `examples/`, which the program runs.
 
-use crate::error::RunError;
-use crate::run::run_schedule;
-use crate::test_runs::{
+use crate::ways::{
     again, call, exit, expect_rows, expect_waits, get_mut, gives, left, made, plan, plan_of,
     release, row,
 };
@@ -11,6 +9,7 @@ use exit_registry::{Turn, Turned};
 use phase_bits::Phase;
 use phase_locker::Waiting;
 use phase_moves::GuardRow;
+use phase_schedule::{RunError, run_schedule};
 use schedule_rules::{Answer, Call, CellPlan, Given, How, Kind, Place, Refusal};
 use std::process::Abort;
 use std::test::Fail;

@@ -4,13 +4,10 @@ ghost use Rattle.std.specs.Prelude.{◌≡◌, ◌<◌, ◌^◌, length, IfOk};
 ghost use Rattle.schedule_rules.specs.Transcripts.{schedule_of, IsValid};
 ghost use Rattle.phase_schedule.specs.Running.{IsRun};
 
-use crate::engine::Engine;
-use crate::error::RunError;
-use crate::run::run_schedule;
-use crate::running::Run;
 use exit_registry::Turned;
 use phase_bits::Phase;
 use phase_locker::{HolderLocker, Parks, PhaseLocker, Waiting};
+use phase_schedule::{Engine, Run, RunError, run_schedule};
 use schedule_rules::{
     Act, Answer, Call, CellPlan, Final, Given, Kind, Line, Place, Plan, Step, Transcript,
 };

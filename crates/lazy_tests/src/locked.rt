@@ -2,7 +2,7 @@
 
 ghost use Rattle.std.specs.Prelude.{◌≡◌, true};
 
-use crate::names::{LockedLazy, PrimedLockedLazy};
+use lazy_cells::{LockedLazy, PrimedLockedLazy};
 use phase_bits::{AccessError, Phase};
 use phase_locker::{ReadTicket, WriteTicket};
 use phase_seq::{Generator, InitError, InitFault};

@@ -3,10 +3,8 @@
 ghost use Rattle.std.specs.Prelude.{◌≡◌, ◌<◌, IfOk};
 ghost use Rattle.lazy_cells.specs.Cells.{MayBeRegistered};
 
-use crate::locked::GenericLockedLazy;
-use crate::markers::{Content, WithExit};
-use crate::names::{LockedLazyDroped, PrimedLockedLazyDroped};
 use exit_registry::{ExitRegistry, Finalizable, Turn};
+use lazy_cells::{Content, GenericLockedLazy, LockedLazyDroped, PrimedLockedLazyDroped, WithExit};
 use phase_bits::{AccessError, Phase};
 use phase_locker::ReadTicket;
 use phase_seq::{FinalFault, Generator, InitError, InitFault, Uninit};

@@ -1,4 +1,4 @@
-use Rattle.phase_schedule.proofs.test_runs.run_steps.Goals as goal
+use Rattle.schedule_tests.proofs.ways.run_steps.Goals as goal
 
 pub step-line-requires-clause-known : goal.step-line-requires-clause-known
 step-line-requires-clause-known c = rw (c.loop-s.invariant.parties, c.loop-s.invariant.cells) (c.requires.known c.loop-s.s-index _ c.loop-s-test.true)
