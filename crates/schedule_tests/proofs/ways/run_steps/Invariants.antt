@@ -1,5 +1,4 @@
-use Rattle.std.proofs.Common.{◌≡◌, length}
-use Rattle.std.specs.List.{take}
+use Rattle.std.proofs.Common.{◌≡◌, length, take}
 use Rattle.schedule_tests.proofs.ways.run_steps.Given as goal
 
 abbrev pub invariant-loop-s : goal.invariant-loop-s
